@@ -1,0 +1,16 @@
+use Rattle.std.proofs.Common.{◌≡◌, length}
+use Rattle.cap_bytes.proofs.Putting.{Putting}
+use Rattle.cap_bytes.proofs.devices.put_all.Given as goal
+
+-- what was written so far is a front of the bytes, and the rest is what is left of them
+abbrev pub invariant-loop-rest : goal.invariant-loop-rest
+invariant-loop-rest g l =
+    let old = l.fn.writer in
+    let new = l.writer in
+    Putting (record { told = g.W.Sink.tells_held old; can_fail = g.W.Device.can_fail old; held = g.W.Sink.held old })
+    (record { told = g.W.Sink.tells_held new; can_fail = g.W.Device.can_fail new; held = g.W.Sink.held new })
+    l.fn.bytes l.rest
+    × (g.W.Device.has_failed new ≡ g.W.Device.has_failed old)
+
+abbrev pub decreases-loop-rest : goal.decreases-loop-rest
+decreases-loop-rest g l = length l.rest

@@ -1,0 +1,20 @@
+-- What a call of a device does to the bytes that it tells.
+use Rattle.std.specs.Prelude.{◌≡◌, ◌<◌, ℕ, List, [], ◌++◌, length, take, Result, Ok, Err}
+use Rattle.cap_bytes.specs.declared.faults.Fault.{Fault}
+use Rattle.cap_bytes.specs.declared.devices.Broken.{Broken}
+
+-- A reader gave the front of the buffer, and none only at its end or where there is no room. Where it
+-- failed it gave none.
+abbrev pub Takes : List ℕ → Result ℕ Broken → List ℕ → List ℕ → Type 0
+Takes old (Ok n) new buffer = (old ≡ take n buffer ++ new) × (n ≡ 0 → 0 < length buffer → old ≡ [])
+Takes old (Err _) new buffer = new ≡ old
+
+-- A writer took the first n bytes. Where it failed it took none.
+abbrev pub Gives : List ℕ → Result ℕ Broken → List ℕ → List ℕ → Type 0
+Gives old (Ok n) new bytes = new ≡ old ++ take n bytes
+Gives old (Err _) new bytes = new ≡ old
+
+-- All the bytes were written, or, at a fault, some number of the first.
+abbrev pub Puts : {A : Type 0} → List ℕ → Result A Fault → List ℕ → List ℕ → Type 0
+Puts old (Ok _) new bytes = new ≡ old ++ bytes
+Puts old (Err _) new bytes = (n : ℕ) × (new ≡ old ++ take n bytes)

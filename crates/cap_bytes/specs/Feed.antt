@@ -1,0 +1,43 @@
+-- What a reader is at one moment, and what reading from it into a buffer does.
+use Rattle.std.specs.Prelude.{◌≡◌, ◌+◌, ◌≤◌, ◌<◌, ℕ, List, [], ◌++◌, length, take, drop, Bool, IsTrue}
+use Rattle.cap_bytes.specs.declared.buffers.Discarded.{Discarded}
+use Rattle.cap_bytes.specs.declared.buffers.Filling.{Filling}
+use Rattle.cap_bytes.specs.declared.buffers.Filling.TheVariants.{Whole, Ended, Failed}
+
+-- a reader: whether it tells the bytes to come, which they are, whether it has failed, whether it can
+pub record Feed : Type 0 where
+  pub told : Bool
+  pub coming : List ℕ
+  pub failed : Bool
+  pub can_fail : Bool
+
+-- a reader by its ghost members
+abbrev pub feed_of : {S : Type 0} → (S → Bool) → (S → List ℕ) → (S → Bool) → (S → Bool) → S → Feed
+feed_of told coming failed can_fail s =
+    record { told = told s; coming = coming s; failed = failed s; can_fail = can_fail s }
+
+-- bytes were read behind those that stood in a buffer, so that `whole` stands there now
+pub record Reads (old new : Feed) (front whole : List ℕ) : Type 0 where
+  pub front_stays : take (length front) whole ≡ front
+  pub bytes : IsTrue old.told → whole ++ new.coming ≡ front ++ old.coming
+  pub told : IsTrue old.told → IsTrue new.told
+  pub cannot : IsTrue new.can_fail → IsTrue old.can_fail
+
+-- how reading up to n bytes ended, `count` being there
+abbrev pub Fills : ℕ → ℕ → Filling → Feed → Feed → Type 0
+Fills n count Whole old new = (n ≤ count) × (new.failed ≡ old.failed)
+Fills n count Ended old new = (count < n) × (IsTrue old.told → new.coming ≡ []) × (new.failed ≡ old.failed)
+Fills n count Failed old new = IsTrue new.failed × IsTrue old.can_fail
+
+-- How dropping the next n bytes of a reader ended: `rest` was read behind them.
+abbrev pub DiscardsBy : ℕ → Filling → ℕ → Feed → Feed → List ℕ → Type 0
+DiscardsBy n Whole left old new rest =
+    (left ≡ 0) × (new.failed ≡ old.failed) × (IsTrue old.told → n ≤ length old.coming)
+    × (IsTrue old.told → rest ++ new.coming ≡ drop n old.coming)
+DiscardsBy n Ended left old new rest =
+    (0 < left) × (new.failed ≡ old.failed) × (rest ≡ []) × (IsTrue old.told → n ≡ left + length old.coming)
+    × (IsTrue old.told → new.coming ≡ [])
+DiscardsBy n Failed left old new rest = IsTrue new.failed × IsTrue old.can_fail
+
+abbrev pub Discards : ℕ → Discarded → Feed → Feed → List ℕ → Type 0
+Discards n result old new rest = DiscardsBy n result.filling result.left old new rest

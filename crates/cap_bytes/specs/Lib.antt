@@ -1,0 +1,6 @@
+pub mod Device
+pub mod Feed
+pub mod Number
+pub mod Rules
+pub mod Tracked
+pub mod Window

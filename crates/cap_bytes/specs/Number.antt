@@ -1,0 +1,15 @@
+-- Numbers as the bytes that spell them. A list of bytes is a list of numbers below 256.
+use Rattle.std.specs.Prelude.{ℕ, List}
+use Rattle.byteorder.specs.Endian.{big_bytes, big_number, little_bytes, little_number}
+use Rattle.cap_bytes.specs.declared.numbers.Order.{Order}
+use Rattle.cap_bytes.specs.declared.numbers.Order.TheVariants.{Big, Little}
+
+-- the number that the first n bytes spell in an order
+unfoldable pub number : Order → ℕ → List ℕ → ℕ
+number Big n bytes = big_number n bytes
+number Little n bytes = little_number n bytes
+
+-- the n bytes that spell a number in an order
+unfoldable pub bytes_of : Order → ℕ → ℕ → List ℕ
+bytes_of Big n x = big_bytes n x
+bytes_of Little n x = little_bytes n x

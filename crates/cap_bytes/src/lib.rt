@@ -1,0 +1,20 @@
+//! Numbers, faults, devices and windows: what every reader and writer of captures stands on.
+#![tactic(auto)]
+
+mod buffers;
+mod devices;
+mod faults;
+mod memory;
+mod numbers;
+mod streams;
+mod windows;
+
+pub use crate::devices::{Broken, Device, Sink, Source, put_all};
+pub use crate::faults::{Fault, Refusal, Rule, Tail};
+pub use crate::memory::{Pieces, Room};
+pub use crate::numbers::{Order, u16_at, u32_at, u64_at};
+pub use crate::streams::Tracked;
+pub use crate::windows::Window;
+
+#[cfg(test)]
+mod tests;

@@ -1,0 +1,131 @@
+//! Devices over memory, which cut and fail as they are told.
+ghost use Rattle.std.specs.Prelude.{◌≡◌, ◌≤◌, ◌<◌, ◌++◌, [], take, drop, length, true, false, is_some, vec_len, vec_capacity};
+
+use crate::devices::{Broken, Device, Sink, Source};
+use std::cmp::min;
+
+/// A reader of a vector. It gives at most `piece` bytes at a time, and may fail at one call.
+#[derive(Drop)]
+pub struct Pieces {
+    bytes: Vec<u8>,
+    at: usize,
+    piece: usize,
+    failing: Option<u64>,
+    failed: bool,
+    ghost within: { at ≤ vec_len bytes },
+    ghost some: { 1 ≤ piece },
+}
+
+impl Pieces {
+    /// A reader of `bytes` by at most `piece` a call. The call number `failing`, from 1, fails and
+    /// takes nothing; those after it go on.
+    pub fn new(bytes: Vec<u8>, piece: usize, failing: Option<u64>) -> Pieces
+        requires { 1 ≤ piece }
+        ensures coming { ⟦<Pieces as Source>⟧.coming result ≡ bytes.items }
+        ensures fresh { ⟦<Pieces as Device>⟧.has_failed result ≡ false }
+        ensures can_fail { ⟦<Pieces as Device>⟧.can_fail result ≡ is_some failing }
+    {
+        Pieces {
+            bytes,
+            at: 0,
+            piece,
+            failing,
+            failed: false,
+        }
+    }
+}
+
+impl Device for Pieces {
+    ghost has_failed = { λ p. p.failed };
+
+    ghost can_fail = { λ p. is_some p.failing };
+
+    fn failed(&self) -> bool {
+        self.failed
+    }
+}
+
+impl Source for Pieces {
+    ghost tells_coming = { λ _. true };
+
+    ghost coming = { λ p. drop p.at p.bytes.items };
+
+    #[tactic(auto, using(crate::proofs::Lists::drop_more))]
+    fn take(&mut self, buffer: &mut [u8]) -> Result<usize, Broken> {
+        if self.failing == Some(1) {
+            self.failing = None;
+            self.failed = true;
+            return Err(Broken);
+        }
+        self.failing = self.failing.map(|call| call.saturating_sub(1));
+        let (_, rest) = self.bytes.split_at(self.at);
+        let count = copy_front(rest, self.piece, buffer);
+        self.at += count;
+        Ok(count)
+    }
+}
+
+// Puts the first bytes of `rest`, at most `most`, at the front of `buffer`, and answers how many.
+fn copy_front(rest: &[u8], most: usize, buffer: &mut [u8]) -> usize
+    ensures within { result ≤ length rest.now }
+    ensures front { rest.now ≡ take result buffer.new ++ drop result rest.now }
+    ensures none { result ≡ 0 → 0 < length buffer.old → 0 < most → rest.now ≡ [] }
+    ensures count { result ≤ length buffer.new }
+{
+    let count = min(min(most, buffer.len()), rest.len());
+    let (front, _) = rest.split_at(count);
+    let (room, _) = buffer.split_at_mut(count);
+    room.copy_from_slice(front);
+    count
+}
+
+/// A writer into a vector, which takes what the vector's capacity has room for and then fails.
+#[derive(Drop)]
+pub struct Room {
+    bytes: Vec<u8>,
+    full: bool,
+}
+
+impl Room {
+    /// A writer to the end of `bytes`, up to its capacity.
+    pub fn new(bytes: Vec<u8>) -> Room
+        ensures held { ⟦<Room as Sink>⟧.held result ≡ bytes.items }
+        ensures fresh { ⟦<Room as Device>⟧.has_failed result ≡ false }
+    {
+        Room { bytes, full: false }
+    }
+
+    /// The bytes that it holds.
+    pub fn bytes(&self) -> &[u8]
+        ensures { result.now ≡ ⟦<Room as Sink>⟧.held self.now }
+    {
+        &self.bytes
+    }
+}
+
+impl Device for Room {
+    ghost has_failed = { λ r. r.full };
+
+    ghost can_fail = { λ _. true };
+
+    fn failed(&self) -> bool {
+        self.full
+    }
+}
+
+impl Sink for Room {
+    ghost tells_held = { λ _. true };
+
+    ghost held = { λ r. r.bytes.items };
+
+    fn give(&mut self, bytes: &[u8]) -> Result<usize, Broken> {
+        let count = min(bytes.len(), self.bytes.capacity() - self.bytes.len());
+        if count == 0 && !bytes.is_empty()
+            || self.bytes.extend_from_slice(&bytes[..count]).is_err()
+        {
+            self.full = true;
+            return Err(Broken);
+        }
+        Ok(count)
+    }
+}

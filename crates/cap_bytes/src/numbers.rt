@@ -1,0 +1,53 @@
+//! Unsigned numbers at a place in bytes, in either byte order.
+ghost use Rattle.std.specs.Prelude.{◌≡◌, ◌+◌, ◌≤◌, length, drop};
+ghost use Rattle.cap_bytes.specs.Number.{number};
+
+use byteorder::{BigEndian, ByteOrder, LittleEndian};
+
+/// The order of a number's bytes.
+#[derive(Clone, Copy, Debug, PartialEq, Eq)]
+pub enum Order {
+    /// The highest byte first.
+    Big,
+    /// The lowest byte first.
+    Little,
+}
+
+/// The number in the 2 bytes from `place` on.
+#[tactic(auto, unfolding(crate::specs::Number::number))]
+pub fn u16_at(order: Order, bytes: &[u8], place: usize) -> u16
+    requires { place + 2 ≤ length bytes.now }
+    ensures { result ≡ number order 2 (drop place bytes.now) }
+{
+    let (_, rest) = bytes.split_at(place);
+    match order {
+        Order::Big => BigEndian::read_u16(rest),
+        Order::Little => LittleEndian::read_u16(rest),
+    }
+}
+
+/// The number in the 4 bytes from `place` on.
+#[tactic(auto, unfolding(crate::specs::Number::number))]
+pub fn u32_at(order: Order, bytes: &[u8], place: usize) -> u32
+    requires { place + 4 ≤ length bytes.now }
+    ensures { result ≡ number order 4 (drop place bytes.now) }
+{
+    let (_, rest) = bytes.split_at(place);
+    match order {
+        Order::Big => BigEndian::read_u32(rest),
+        Order::Little => LittleEndian::read_u32(rest),
+    }
+}
+
+/// The number in the 8 bytes from `place` on.
+#[tactic(auto, unfolding(crate::specs::Number::number))]
+pub fn u64_at(order: Order, bytes: &[u8], place: usize) -> u64
+    requires { place + 8 ≤ length bytes.now }
+    ensures { result ≡ number order 8 (drop place bytes.now) }
+{
+    let (_, rest) = bytes.split_at(place);
+    match order {
+        Order::Big => BigEndian::read_u64(rest),
+        Order::Little => LittleEndian::read_u64(rest),
+    }
+}

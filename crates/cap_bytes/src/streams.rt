@@ -1,0 +1,86 @@
+//! Devices over `Read` and `Write` of the standard library.
+ghost use Rattle.std.specs.Prelude.{◌≡◌, false};
+
+use crate::devices::{Broken, Device, Sink, Source};
+use std::io::{Read, Write};
+
+/// A `Read` or a `Write` of the standard library as a device. Any error is a failure, also
+/// `Interrupted`, and so is a write that takes none of some bytes.
+#[derive(Drop)]
+pub struct Tracked<T> {
+    inner: T,
+    failed: bool,
+}
+
+impl<T> Tracked<T> {
+    ghost use Rattle.cap_bytes.specs.Tracked.{inner_of, has_failed};
+
+    /// A device over `inner` that hasn't failed.
+    pub fn new(inner: T) -> Tracked<T>
+        ensures inner { inner_of result ≡ inner }
+        ensures fresh { has_failed result ≡ false }
+    {
+        Tracked {
+            inner,
+            failed: false,
+        }
+    }
+
+    /// What it reads from or writes to.
+    pub fn into_inner(self) -> T
+        ensures { result ≡ inner_of self }
+    {
+        self.inner
+    }
+}
+
+impl<T: Drop> Device for Tracked<T> {
+    ghost use Rattle.std.specs.Prelude.{true};
+    ghost use Rattle.cap_bytes.specs.Tracked.{has_failed as failed_of};
+
+    ghost has_failed = { λ t. failed_of t };
+
+    ghost can_fail = { λ _. true };
+
+    fn failed(&self) -> bool {
+        self.failed
+    }
+}
+
+impl<T: Read + Drop> Source for Tracked<T> {
+    ghost use Rattle.std.specs.Prelude.{is_some, unwrap_or, []};
+    ghost use Rattle.cap_bytes.specs.Tracked.{inner_of};
+
+    ghost tells_coming = { λ t. is_some (T.remaining (inner_of t)) };
+
+    ghost coming = { λ t. unwrap_or (T.remaining (inner_of t)) [] };
+
+    fn take(&mut self, buffer: &mut [u8]) -> Result<usize, Broken> {
+        match self.inner.read(buffer) {
+            Ok(count) => Ok(count),
+            Err(_) => {
+                self.failed = true;
+                Err(Broken)
+            }
+        }
+    }
+}
+
+impl<T: Write + Drop> Sink for Tracked<T> {
+    ghost use Rattle.std.specs.Prelude.{is_some, unwrap_or, []};
+    ghost use Rattle.cap_bytes.specs.Tracked.{inner_of};
+
+    ghost tells_held = { λ t. is_some (T.contents (inner_of t)) };
+
+    ghost held = { λ t. unwrap_or (T.contents (inner_of t)) [] };
+
+    fn give(&mut self, bytes: &[u8]) -> Result<usize, Broken> {
+        match self.inner.write(bytes) {
+            Ok(count) if count > 0 || bytes.is_empty() => Ok(count),
+            _ => {
+                self.failed = true;
+                Err(Broken)
+            }
+        }
+    }
+}

@@ -1,0 +1,242 @@
+//! Values from outside: what the rules are called, and inputs that are cut, fail or are refused
+//! memory at every place.
+ghost use Rattle.std.specs.Prelude.{◌≤◌};
+
+use crate::{
+    Device, Fault, Order, Pieces, Refusal, Room, Rule, Source, Tracked, Window, put_all, u16_at,
+    u32_at, u64_at,
+};
+use std::alloc::Global;
+use std::io;
+use std::io::Write;
+use std::process::Abort;
+use std::test::Fail;
+
+const RULES: [(Rule, u8, &str); 21] = [
+    (Rule::Magic, 1, "magic"),
+    (Rule::Version, 2, "version"),
+    (Rule::Cut, 3, "cut"),
+    (Rule::PacketLong, 4, "packet-long"),
+    (Rule::BlockLength, 5, "block-length"),
+    (Rule::BlockTrailer, 6, "block-trailer"),
+    (Rule::OrderMagic, 7, "order-magic"),
+    (Rule::Captured, 8, "captured"),
+    (Rule::InterfaceUnknown, 9, "interface-unknown"),
+    (Rule::OptionEnd, 10, "option-end"),
+    (Rule::OptionLength, 11, "option-length"),
+    (Rule::Resolution, 12, "resolution"),
+    (Rule::InterfaceLimit, 13, "interface-limit"),
+    (Rule::FileLimit, 14, "file-limit"),
+    (Rule::OpenLimit, 15, "open-limit"),
+    (Rule::TalkLimit, 16, "talk-limit"),
+    (Rule::NoTime, 17, "no-time"),
+    (Rule::LinkMixed, 18, "link-mixed"),
+    (Rule::Inexact, 19, "inexact"),
+    (Rule::TimeRange, 20, "time-range"),
+    (Rule::NoInterface, 21, "no-interface"),
+];
+
+#[test]
+fn rules_have_their_numbers_and_names(rt: HostRuntime) {
+    for (rule, number, name) in RULES {
+        assert_eq!(rt; rule.number(), number);
+        assert_eq!(rt; rule.name(), name);
+    }
+}
+
+#[test]
+fn faults_print_one_line(rt: HostRuntime) -> Result<(), Fail> {
+    let refusal = Refusal {
+        file: 2,
+        offset: 24,
+        rule: Rule::BlockTrailer,
+    };
+    let read = Fault::Read {
+        file: 1,
+        offset: 24,
+    };
+    let refused = format!(in rt.alloc(); "{}", Fault::Refused(refusal))?;
+    assert_eq!(rt;
+        refused.as_str(),
+        "refused: file 2 offset 24 rule 6 block-trailer"
+    );
+    let read = format!(in rt.alloc(); "{read}")?;
+    assert_eq!(rt; read.as_str(), "fault: read file 1 offset 24");
+    let write = format!(in rt.alloc(); "{}", Fault::Write)?;
+    assert_eq!(rt; write.as_str(), "fault: write");
+    let memory = format!(in rt.alloc(); "{}", Fault::Memory)?;
+    assert_eq!(rt; memory.as_str(), "fault: memory");
+    Ok(())
+}
+
+#[test]
+fn numbers_in_both_orders(rt: HostRuntime) {
+    let bytes = [9, 1, 2, 3, 4, 5, 6, 7, 8];
+    assert_eq!(rt; u16_at(Order::Big, &bytes, 1), 0x0102);
+    assert_eq!(rt; u16_at(Order::Little, &bytes, 1), 0x0201);
+    assert_eq!(rt; u32_at(Order::Big, &bytes, 1), 0x0102_0304);
+    assert_eq!(rt; u32_at(Order::Little, &bytes, 1), 0x0403_0201);
+    assert_eq!(rt; u64_at(Order::Big, &bytes, 1), 0x0102_0304_0506_0708);
+    assert_eq!(rt; u64_at(Order::Little, &bytes, 1), 0x0807_0605_0403_0201);
+}
+
+// The bytes 0, 1, 2, .. of a file that is `length` long; the byte at a place is the place modulo 251.
+fn counted(alloc: Global, length: usize) -> Result<Vec<u8>, Fail> {
+    let mut bytes = match Vec::with_capacity(alloc, length) {
+        Ok(bytes) => bytes,
+        // Only one allocation is refused.
+        Err(_) => Vec::with_capacity(alloc, length)?,
+    };
+    for place in 0..length {
+        bytes.push((place % 251) as u8)?;
+    }
+    Ok(bytes)
+}
+
+// Drops n bytes where they are shown.
+fn pass_shown<R: Source>(window: &mut Window<R>, n: usize) -> bool {
+    if window.offset() <= 1 << 30 && n <= 1 << 20 && n <= window.bytes().len() {
+        window.pass(n);
+        return true;
+    }
+    false
+}
+
+// A call again, where the first was refused memory: what a growth refused in turn leaves.
+fn need<R: Source>(window: &mut Window<R>, n: usize) -> Result<bool, Fault>
+    requires { n ≤ 524288 }
+{
+    match window.need(n) {
+        Err(Fault::Memory) => window.need(n),
+        answer => answer,
+    }
+}
+
+// The same of a skip, of a place that is far from the limit of a file.
+fn skip<R: Source>(window: &mut Window<R>, n: u32) -> Result<bool, Fault> {
+    if window.offset() > 1 << 30 {
+        return Ok(false);
+    }
+    match window.skip(u64::from(n)) {
+        Err(Fault::Memory) if window.offset() <= 1 << 30 => window.skip(u64::from(n)),
+        answer => answer,
+    }
+}
+
+#[test]
+fn a_window_shows_the_next_bytes_or_the_end(rt: HostRuntime) -> Result<(), Fail> {
+    for piece in [1, 2, 4_096] {
+        let mut window = Window::new(
+            rt.alloc(),
+            Pieces::new(counted(rt.alloc(), 70_000)?, piece, None),
+            7,
+        );
+        assert!(rt; need(&mut window, 3)?);
+        assert_eq!(rt; window.bytes().first().copied(), Some(0));
+        assert!(rt; pass_shown(&mut window, 3));
+        assert_eq!(rt; window.offset(), 3);
+        assert!(rt; need(&mut window, 66_000)?);
+        assert_eq!(rt; window.bytes().first().copied(), Some(3));
+        assert_eq!(rt;
+            window.bytes().get(65_999).copied(),
+            Some((66_002 % 251) as u8)
+        );
+        assert!(rt; window.held() >= 66_000 && window.held() <= 524_288);
+        assert!(rt; skip(&mut window, 69_990)?);
+        assert_eq!(rt; window.offset(), 69_993);
+        assert!(rt; need(&mut window, 7)?);
+        assert_eq!(rt; window.bytes().first().copied(), Some((69_993 % 251) as u8));
+        assert!(rt; !need(&mut window, 8)?);
+        assert_eq!(rt; window.bytes().len(), 7);
+        assert!(rt; !skip(&mut window, 8)?);
+        assert_eq!(rt; window.offset(), 70_000);
+        assert!(rt; window.bytes().is_empty());
+        assert_eq!(rt; window.file(), 7);
+        assert!(rt; !window.failed());
+    }
+    Ok(())
+}
+
+// Reads 10 bytes by a window: shows 4, drops them, and skips 6.
+fn walk(window: &mut Window<Pieces>) -> Result<bool, Fault> {
+    if !need(window, 4)? || !pass_shown(window, 4) {
+        return Ok(false);
+    }
+    skip(window, 6)
+}
+
+#[test]
+fn a_window_that_failed_answers_so_again(rt: HostRuntime) -> Result<(), Fail> {
+    for failing in 1..=10 {
+        let pieces = Pieces::new(counted(rt.alloc(), 10)?, 1, Some(failing));
+        let mut window = Window::new(rt.alloc(), pieces, 3);
+        // A look at the first 4 bytes stands at 0; a skip stands where it has come to.
+        let offset = if failing <= 4 { 0 } else { failing - 1 };
+        let fault = Fault::Read { file: 3, offset };
+        assert_eq!(rt; walk(&mut window), Err(fault));
+        assert!(rt; window.failed());
+        assert_eq!(rt; window.need(0), Err(fault));
+        assert_eq!(rt; skip(&mut window, 1), Err(fault));
+    }
+    let pieces = Pieces::new(counted(rt.alloc(), 10)?, 1, Some(11));
+    assert_eq!(rt; walk(&mut Window::new(rt.alloc(), pieces, 3)), Ok(true));
+    Ok(())
+}
+
+#[test]
+fn a_writer_that_fails_has_taken_a_prefix(rt: HostRuntime) -> Result<(), Fail> {
+    let text = b"0123456789";
+    for room in 0..10 {
+        let mut writer = Room::new(Vec::with_capacity(rt.alloc(), room)?);
+        assert_eq!(rt; put_all(&mut writer, text), Err(Fault::Write));
+        assert!(rt; writer.failed());
+        assert_eq!(rt; writer.bytes().len(), room);
+        assert!(rt; text.starts_with(writer.bytes()));
+    }
+    let mut writer = Room::new(Vec::with_capacity(rt.alloc(), 10)?);
+    assert_eq!(rt; put_all(&mut writer, text), Ok(()));
+    assert_eq!(rt; writer.bytes(), text.as_slice());
+    Ok(())
+}
+
+// Takes bytes one by one, and none once `left` is 0.
+#[derive(Drop)]
+struct Full {
+    left: u32,
+}
+
+impl Write for Full {
+    fn write(&mut self, bytes: &[u8]) -> io::Result<usize> {
+        if self.left == 0 || bytes.is_empty() {
+            return Ok(0);
+        }
+        self.left -= 1;
+        Ok(1)
+    }
+
+    fn flush(&mut self) -> io::Result<()> {
+        Ok(())
+    }
+}
+
+#[test]
+fn a_writer_that_takes_nothing_has_failed(rt: HostRuntime) {
+    for left in 0..10 {
+        let mut writer = Tracked::new(Full { left });
+        assert_eq!(rt; put_all(&mut writer, b"0123456789"), Err(Fault::Write));
+        assert!(rt; writer.failed());
+    }
+    let mut writer = Tracked::new(Full { left: 10 });
+    assert_eq!(rt; put_all(&mut writer, b"0123456789"), Ok(()));
+    assert!(rt; !writer.failed());
+}
+
+#[test]
+fn a_standard_reader_is_read_to_its_end(rt: HostRuntime) -> Result<(), Fail> {
+    let bytes = b"0123456789";
+    let mut window = Window::new(rt.alloc(), Tracked::new(bytes.as_slice()), 1);
+    assert!(rt; need(&mut window, 10)?);
+    assert_eq!(rt; window.bytes(), bytes.as_slice());
+    assert!(rt; !need(&mut window, 11)?);
+    Ok(())
+}

@@ -1,0 +1,3 @@
+pub mod PrintedForm
+pub mod WholeUnits
+pub mod StampForms

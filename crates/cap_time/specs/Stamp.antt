@@ -1,0 +1,55 @@
+-- What contracts see of a `Stamp`: its printed form, its time, and how stamps compare.
+use Rattle.std.specs.Prelude.{ℕ, ◌*◌, ◌/◌, ◌%◌, ℤ, pos, ◌+ℤ◌, Bool, Option, Some, None, ◌==◌, if◌then◌else◌}
+use Rattle.std.proofs.lemmas.Nat.{mod_below}
+use Rattle.std.specs.Ordering.{eq_by_cmp}
+use Rattle.std.specs.declared.cmp.Ordering.{Ordering}
+use Rattle.cap_time.specs.declared.resolutions.Interface.{Interface}
+use Rattle.cap_time.specs.declared.stamps.Stamp.{Stamp}
+use Rattle.cap_time.specs.Resolution.{units_of}
+use Rattle.cap_time.specs.ResolutionLaws.{units_positive}
+use Rattle.cap_time.specs.Time.{Time, Printed, time_at, time_cmp}
+
+-- the three numbers of the printed form
+abbrev pub seconds_of : Stamp → ℤ
+seconds_of stamp = stamp.seconds
+
+abbrev pub numerator_of : Stamp → ℕ
+numerator_of stamp = stamp.numerator
+
+abbrev pub denominator_of : Stamp → ℕ
+denominator_of stamp = stamp.denominator
+
+abbrev pub printed_of : Stamp → Printed
+printed_of stamp = record { seconds = seconds_of stamp; numerator = numerator_of stamp; denominator = denominator_of stamp }
+
+-- the time: the numerator's units after the seconds
+abbrev pub time_of : Stamp → Time
+time_of stamp = time_at (numerator_of stamp) (denominator_of stamp) (seconds_of stamp)
+
+-- stamps compare as their times do, whatever their denominators
+unfoldable pub stamp_cmp : Stamp → Stamp → Ordering
+stamp_cmp a b = time_cmp (time_of a) (time_of b)
+
+abbrev pub stamp_eq : Stamp → Stamp → Bool
+stamp_eq = eq_by_cmp stamp_cmp
+
+-- the time of a number of an interface's units
+abbrev pub time_in : ℕ → Interface → Time
+time_in units interface = time_at units (units_of interface.resolution) interface.offset
+
+-- the stamp of a number of an interface's units
+unfoldable pub stamp_in : ℕ → Interface → Stamp
+stamp_in units interface = record {
+  seconds = interface.offset +ℤ pos (units / units_of interface.resolution);
+  numerator = units % units_of interface.resolution;
+  denominator = units_of interface.resolution;
+  fraction = mod_below units (units_of interface.resolution) (units_positive interface.resolution);
+}
+
+-- the stamp of that many seconds later, in the same form
+unfoldable pub stamp_plus : Stamp → ℕ → Stamp
+stamp_plus stamp seconds = record stamp { seconds = seconds_of stamp +ℤ pos seconds }
+
+-- its whole seconds, and how many of d units in a second its fraction is, where that is a whole number
+abbrev pub whole_of : ℕ → Stamp → Option (ℤ × ℕ)
+whole_of d stamp = if numerator_of stamp * d % denominator_of stamp == 0 then Some (seconds_of stamp, numerator_of stamp * d / denominator_of stamp) else None

@@ -1,0 +1,68 @@
+//! How an interface counts time: how many units there are in a second, and from which second.
+ghost use Rattle.std.specs.Prelude.{◌≡◌, ◌<◌, ◌≤◌, ◌^◌, ◌↔◌, IsTrue, IsSome, IfSome};
+ghost use Rattle.cap_time.specs.Code.{is_allowed, units_of_code};
+
+/// How many units of an interface's clock there are in a second: a power of ten up to 10^19, or
+/// a power of two up to 2^63. It is written as a code of one byte, the value of the option
+/// `if_tsresol` (draft-ietf-opsawg-pcapng, 4.2): with the top bit 0 the low seven bits are the
+/// exponent of ten, with the top bit 1 that of two.
+#[derive(Clone, Copy, Debug, PartialEq, Eq)]
+pub struct Resolution {
+    code: u8,
+    ghost allowed: { IsTrue (is_allowed code) },
+}
+
+impl Resolution {
+    ghost use Rattle.cap_time.specs.Resolution.{code_of, units_of};
+
+    /// The resolution of a code, or `None` where the exponent is above 19 (of ten) or above 63
+    /// (of two).
+    pub fn from_code(code: u8) -> Option<Resolution>
+        ensures allowed { IsSome result ↔ IsTrue (is_allowed code) }
+        ensures code { IfSome result (λ r. code_of r ≡ code) }
+        ensures units { IfSome result (λ r. units_of r ≡ units_of_code code) }
+    {
+        let most = if code < 128 { 19 } else { 63 };
+        if code % 128 <= most {
+            Some(Resolution { code })
+        } else {
+            None
+        }
+    }
+
+    /// The code, as `from_code` takes it.
+    pub fn code(self) -> u8
+        ensures value { result ≡ code_of self }
+        ensures allowed { IsTrue (is_allowed result) }
+    {
+        self.code
+    }
+
+    /// The units in a second: `10^e` or `2^f`, at least 1 and at most 10^19.
+    #[tactic(auto, using(crate::specs::ResolutionLaws::powers), unfolding(crate::specs::Code::units_of_code))]
+    pub fn units(self) -> u64
+        ensures value { result ≡ units_of self }
+        ensures positive { 0 < result }
+        ensures most { result ≤ 10 ^ 19 }
+    {
+        let exponent = u32::from(self.code % 128);
+        if self.code < 128 {
+            10u64.pow(exponent)
+        } else {
+            2u64.pow(exponent)
+        }
+    }
+}
+
+/// What a packet's interface says of it: the kind of its frames and how its time is counted.
+#[derive(Clone, Copy, Debug, PartialEq, Eq)]
+pub struct Interface {
+    /// The link type, a number of the LINKTYPE registry.
+    pub link: u16,
+    /// The most bytes that are captured of a packet, 0 for no limit.
+    pub snaplen: u32,
+    /// The units of the interface's clock (`if_tsresol`).
+    pub resolution: Resolution,
+    /// The second from which its clock counts (`if_tsoffset`).
+    pub offset: i64,
+}

@@ -1,0 +1,121 @@
+//! Stamps: exact times, which keep the form in which their interface counted them.
+ghost use Rattle.std.specs.Prelude.{◌≡◌, ◌<◌, ◌≤ℤ◌, ◌<ℤ◌, ◌^◌, pos, neg_ℤ, IfSome, IfNone};
+
+mod order;
+
+use crate::resolutions::Interface;
+
+/// The units in which a pcap file counts the fraction of a second.
+#[derive(Clone, Copy, Debug, PartialEq, Eq)]
+pub enum Unit {
+    /// A millionth of a second.
+    Micro,
+    /// A thousand-millionth of a second.
+    Nano,
+}
+
+impl Unit {
+    ghost use Rattle.cap_time.specs.Unit.{in_second};
+
+    /// How many of them there are in a second.
+    pub fn in_second(self) -> u32
+        ensures { result ≡ in_second self }
+    {
+        match self {
+            Unit::Micro => 1_000_000,
+            Unit::Nano => 1_000_000_000,
+        }
+    }
+}
+
+/// An exact time: whole seconds, and a fraction of a second that isn't reduced, so that it is
+/// printed as its interface counted it. Stamps compare, and hash, by the fraction's value: half a
+/// second is the same time as 5/10 and as 512/1024. Before second 0 the seconds are negative and
+/// the fraction still counts forward: half a second before 0 is -1 and 1/2.
+#[derive(Clone, Copy, Debug)]
+pub struct Stamp {
+    seconds: i128,
+    numerator: u64,
+    denominator: u64,
+    ghost fraction: { numerator < denominator },
+}
+
+impl Stamp {
+    ghost use Rattle.cap_time.specs.Stamp.{seconds_of, numerator_of, denominator_of, printed_of};
+    ghost use Rattle.cap_time.specs.Stamp.{time_of, time_in, stamp_in, stamp_plus, whole_of};
+    ghost use Rattle.cap_time.specs.Time.{printed_form, printed_plus, time_plus, IsWhole, IsNeverWhole};
+    ghost use Rattle.cap_time.specs.Unit.{in_second};
+
+    /// The time of `units` on an interface's clock: with `d` units in a second,
+    /// `(units + offset * d) / d` seconds (draft-ietf-opsawg-pcapng, 4.2). Its `seconds` are at
+    /// least -2^63 and below 2^65.
+    pub fn new(units: u64, interface: &Interface) -> Stamp
+        ensures stamp { result ≡ stamp_in units interface.now }
+        ensures time { time_of result ≡ time_in units interface.now }
+        ensures printed { printed_of result ≡ printed_form (time_in units interface.now) }
+        ensures least { neg_ℤ (pos (2 ^ 63)) ≤ℤ seconds_of result }
+        ensures most { seconds_of result <ℤ pos (2 ^ 65) }
+    {
+        let denominator = interface.resolution.units();
+        Stamp {
+            seconds: i128::from(interface.offset) + i128::from(units / denominator),
+            numerator: units % denominator,
+            denominator,
+        }
+    }
+
+    /// The whole seconds: the floor of the time, also where it is below 0.
+    pub fn seconds(self) -> i128
+        ensures { result ≡ seconds_of self }
+    {
+        self.seconds
+    }
+
+    /// How many units, of which a second has `denominator`, the time is above its seconds.
+    pub fn numerator(self) -> u64
+        ensures value { result ≡ numerator_of self }
+        ensures below { result < denominator_of self }
+    {
+        self.numerator
+    }
+
+    /// The units in a second.
+    pub fn denominator(self) -> u64
+        ensures value { result ≡ denominator_of self }
+        ensures positive { 0 < result }
+    {
+        self.denominator
+    }
+
+    /// The time `seconds` later, in the same form. The stamp's own seconds are below 2^65, as `new`
+    /// promises.
+    pub fn plus_seconds(self, seconds: u32) -> Stamp
+        requires { seconds_of self <ℤ pos (2 ^ 65) }
+        ensures stamp { result ≡ stamp_plus self seconds }
+        ensures time { time_of result ≡ time_plus (time_of self) seconds }
+        ensures printed { printed_of result ≡ printed_plus (printed_of self) seconds }
+    {
+        Stamp {
+            seconds: self.seconds + i128::from(seconds),
+            numerator: self.numerator,
+            denominator: self.denominator,
+        }
+    }
+
+    /// The time as whole seconds, which may be below 0, and whole units, fewer than a second has;
+    /// `None` where no such two numbers are that time.
+    #[tactic(auto, using(crate::proofs::WholeUnits::whole_units))]
+    pub fn whole_in(self, unit: Unit) -> Option<(i128, u32)>
+        ensures value { result ≡ whole_of (in_second unit) self }
+        ensures whole { IfSome result (λ w. IsWhole (in_second unit) (time_of self) w.0 w.1) }
+        ensures inexact { IfNone result (IsNeverWhole (in_second unit) (time_of self)) }
+    {
+        let scaled = u128::from(self.numerator) * u128::from(unit.in_second());
+        let denominator = u128::from(self.denominator);
+        if scaled % denominator == 0 {
+            Some((self.seconds, (scaled / denominator) as u32))
+        } else {
+            None
+        }
+    }
+}

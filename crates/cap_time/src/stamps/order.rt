@@ -1,0 +1,75 @@
+//! The order of stamps, which is that of their times, and a hash that agrees with it.
+ghost use Rattle.std.specs.Prelude.{refl};
+ghost use Rattle.std.specs.Ordering.{as_partial_cmp};
+
+use crate::stamps::Stamp;
+use std::cmp::Ordering;
+use std::hash::{Hash, Hasher};
+
+impl PartialEq for Stamp {
+    ghost use Rattle.cap_time.specs.Stamp.{stamp_eq};
+    ghost use Rattle.cap_time.specs.StampLaws.{stamp_eq_partial};
+
+    ghost eq = { stamp_eq };
+
+    ghost laws = { stamp_eq_partial };
+
+    fn eq(&self, other: &Stamp) -> bool {
+        self.cmp(other) == Ordering::Equal
+    }
+}
+
+impl Eq for Stamp {
+    ghost use Rattle.cap_time.specs.StampLaws.{stamp_eq_equivalence};
+
+    ghost laws = { stamp_eq_equivalence };
+}
+
+impl PartialOrd for Stamp {
+    ghost use Rattle.cap_time.specs.Stamp.{stamp_cmp};
+    ghost use Rattle.cap_time.specs.StampLaws.{stamp_partial_order};
+
+    ghost partial_cmp = { as_partial_cmp stamp_cmp };
+
+    ghost laws = { stamp_partial_order };
+
+    fn partial_cmp(&self, other: &Stamp) -> Option<Ordering> {
+        Some(self.cmp(other))
+    }
+}
+
+impl Ord for Stamp {
+    ghost use Rattle.cap_time.specs.Stamp.{stamp_cmp};
+    ghost use Rattle.cap_time.specs.StampLaws.{stamp_cmp_total};
+
+    ghost cmp = { stamp_cmp };
+
+    ghost total = { stamp_cmp_total };
+
+    ghost matches_partial_cmp = { λ a b. refl };
+
+    ghost matches_eq = { λ a b. refl };
+
+    // The seconds decide, and of equal seconds the fractions, by their cross products.
+    fn cmp(&self, other: &Stamp) -> Ordering {
+        let own = u128::from(self.numerator) * u128::from(other.denominator);
+        let others = u128::from(other.numerator) * u128::from(self.denominator);
+        self.seconds.cmp(&other.seconds).then(own.cmp(&others))
+    }
+}
+
+impl Hash for Stamp {
+    ghost use Rattle.cap_time.specs.StampLaws.{stamp_hash, stamp_hash-same};
+
+    ghost hash_input = { stamp_hash };
+
+    ghost respects_eq = { stamp_hash-same };
+
+    // The seconds and the first 64 binary places of the fraction: these are the same whatever the
+    // denominator is.
+    fn hash<H: Hasher>(&self, state: &mut H) {
+        let places = u128::from(self.numerator) * (1 << 64) / u128::from(self.denominator);
+        self.seconds.hash(state);
+        places.hash(state);
+    }
+}

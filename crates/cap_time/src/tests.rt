@@ -1,0 +1,297 @@
+use super::*;
+use std::cmp::Ordering;
+use std::hash::{DefaultHasher, Hash, Hasher};
+use std::test::Fail;
+
+// The units, the code and the offset of a stamp.
+type Source = (u64, u8, i64);
+
+fn stamp_of(source: Source) -> Option<Stamp> {
+    let (units, code, offset) = source;
+    let resolution = Resolution::from_code(code)?;
+    let interface = Interface {
+        link: 1,
+        snaplen: 0,
+        resolution,
+        offset,
+    };
+    Some(Stamp::new(units, &interface))
+}
+
+fn hash_of(stamp: &Stamp) -> u64 {
+    let mut hasher = DefaultHasher::new();
+    stamp.hash(&mut hasher);
+    hasher.finish()
+}
+
+#[test]
+fn codes_of_resolutions(rt: HostRuntime) -> Result<(), Fail> {
+    let accepted = [
+        (0, 1),
+        (6, 1_000_000),
+        (9, 1_000_000_000),
+        (0x13, 10_000_000_000_000_000_000),
+        (0x80, 1),
+        (0x8a, 1024),
+        (0xbf, 9_223_372_036_854_775_808),
+    ];
+    for (code, units) in accepted {
+        let resolution = Resolution::from_code(code).ok_or("an allowed code")?;
+        assert_eq!(rt; resolution.code(), code);
+        assert_eq!(rt; resolution.units(), units, "at {code}");
+    }
+    for code in [0x14, 0x7f, 0xc0, 0xff] {
+        assert_eq!(rt; Resolution::from_code(code), None, "at {code}");
+    }
+    Ok(())
+}
+
+// Expected values by exact arithmetic outside.
+#[test]
+fn printed_forms(rt: HostRuntime) -> Result<(), Fail> {
+    let rows: [(&str, u64, u8, i64, i128, u64, u64); 17] = [
+        (
+            "four spellings, micro",
+            2_500_000,
+            6,
+            0,
+            2,
+            500_000,
+            1_000_000,
+        ),
+        (
+            "four spellings, nano",
+            2_500_000_000,
+            9,
+            0,
+            2,
+            500_000_000,
+            1_000_000_000,
+        ),
+        ("fraction carries", 2_500_000, 6, 0, 2, 500_000, 1_000_000),
+        (
+            "fraction carries at the last second",
+            4_294_967_296_500_000,
+            6,
+            0,
+            4_294_967_296,
+            500_000,
+            1_000_000,
+        ),
+        ("equal resolutions, two", 512, 0x8a, 0, 0, 512, 1024),
+        ("equal resolutions, ten", 5, 1, 0, 0, 5, 10),
+        ("negative offset", 500_000, 6, -1, -1, 500_000, 1_000_000),
+        ("inexact unit", 1, 0x8a, 0, 0, 1, 1024),
+        (
+            "most units of a second",
+            u64::MAX,
+            0,
+            0,
+            18_446_744_073_709_551_615,
+            0,
+            1,
+        ),
+        (
+            "most units of 10^-19",
+            u64::MAX,
+            19,
+            0,
+            1,
+            8_446_744_073_709_551_615,
+            10_000_000_000_000_000_000,
+        ),
+        (
+            "most units of 2^-63",
+            u64::MAX,
+            0xbf,
+            0,
+            1,
+            9_223_372_036_854_775_807,
+            9_223_372_036_854_775_808,
+        ),
+        (
+            "least offset",
+            0,
+            6,
+            i64::MIN,
+            -9_223_372_036_854_775_808,
+            0,
+            1_000_000,
+        ),
+        (
+            "least offset, most units",
+            u64::MAX,
+            0,
+            i64::MIN,
+            9_223_372_036_854_775_807,
+            0,
+            1,
+        ),
+        (
+            "greatest offset",
+            0,
+            0x80,
+            i64::MAX,
+            9_223_372_036_854_775_807,
+            0,
+            1,
+        ),
+        (
+            "greatest offset, most units",
+            u64::MAX,
+            0,
+            i64::MAX,
+            27_670_116_110_564_327_422,
+            0,
+            1,
+        ),
+        (
+            "greatest offset, most units of 10^-19",
+            u64::MAX,
+            19,
+            i64::MAX,
+            9_223_372_036_854_775_808,
+            8_446_744_073_709_551_615,
+            10_000_000_000_000_000_000,
+        ),
+        (
+            "least offset, most units of 2^-63",
+            u64::MAX,
+            0xbf,
+            i64::MIN,
+            -9_223_372_036_854_775_807,
+            9_223_372_036_854_775_807,
+            9_223_372_036_854_775_808,
+        ),
+    ];
+    for (name, units, code, offset, seconds, numerator, denominator) in rows {
+        let stamp = stamp_of((units, code, offset)).ok_or(name)?;
+        assert_eq!(rt; stamp.seconds(), seconds, "{name}");
+        assert_eq!(rt; stamp.numerator(), numerator, "{name}");
+        assert_eq!(rt; stamp.denominator(), denominator, "{name}");
+    }
+    Ok(())
+}
+
+// Expected orders by exact arithmetic outside.
+#[test]
+fn exact_order(rt: HostRuntime) -> Result<(), Fail> {
+    let rows: [(Source, Source, Ordering); 20] = [
+        ((512, 0x8a, 0), (5, 1, 0), Ordering::Equal),
+        ((2_500_000, 6, 0), (2_500_000_000, 9, 0), Ordering::Equal),
+        ((3, 6, 0), (4, 9, 0), Ordering::Greater),
+        ((1, 1, 0), (1, 0x81, 0), Ordering::Less),
+        ((1, 0x81, 0), (1, 1, 0), Ordering::Greater),
+        ((999_999, 6, -1), (0, 6, 0), Ordering::Less),
+        ((0, 0, -1), (1, 19, -1), Ordering::Less),
+        ((1, 19, -1), (0, 0, -1), Ordering::Greater),
+        (
+            (u64::MAX, 0, 0),
+            (u64::MAX, 19, i64::MAX),
+            Ordering::Greater,
+        ),
+        ((u64::MAX, 19, 0), (u64::MAX, 0xbf, 0), Ordering::Less),
+        (
+            (u64::MAX, 0xbf, i64::MIN),
+            (u64::MAX, 0, i64::MIN),
+            Ordering::Less,
+        ),
+        (
+            (5_000_000_000_000_000_000, 19, 7),
+            (4_611_686_018_427_387_904, 0xbf, 7),
+            Ordering::Equal,
+        ),
+        (
+            (5_000_000_000_000_000_001, 19, 7),
+            (4_611_686_018_427_387_904, 0xbf, 7),
+            Ordering::Greater,
+        ),
+        (
+            (5_000_000_000_000_000_000, 19, 7),
+            (4_611_686_018_427_387_905, 0xbf, 7),
+            Ordering::Less,
+        ),
+        (
+            (9_999_999_999_999_999_999, 19, 0),
+            (9_223_372_036_854_775_807, 0xbf, 0),
+            Ordering::Greater,
+        ),
+        ((333_333, 6, 3), (333_333_333, 9, 3), Ordering::Less),
+        ((0, 6, i64::MIN), (0, 0x80, i64::MIN), Ordering::Equal),
+        ((1_000_000, 6, 0), (0, 0x80, 1), Ordering::Equal),
+        ((250, 3, 0), (1, 0x82, 0), Ordering::Equal),
+        ((7, 0x83, -3), (875, 3, -3), Ordering::Equal),
+    ];
+    for (left, right, order) in rows {
+        let a = stamp_of(left).ok_or("left")?;
+        let b = stamp_of(right).ok_or("right")?;
+        assert_eq!(rt; a.cmp(&b), order, "{left:?} {right:?}");
+        assert_eq!(rt; a.partial_cmp(&b), Some(order), "{left:?} {right:?}");
+        assert_eq!(rt; a == b, order == Ordering::Equal, "{left:?} {right:?}");
+        if order == Ordering::Equal {
+            assert_eq!(rt; hash_of(&a), hash_of(&b), "{left:?} {right:?}");
+        }
+    }
+    Ok(())
+}
+
+#[test]
+fn whole_units(rt: HostRuntime) -> Result<(), Fail> {
+    let rows: [(Source, Option<(i128, u32)>, Option<(i128, u32)>); 10] = [
+        (
+            (2_500_000, 6, 0),
+            Some((2, 500_000)),
+            Some((2, 500_000_000)),
+        ),
+        (
+            (2_500_000_000, 9, 0),
+            Some((2, 500_000)),
+            Some((2, 500_000_000)),
+        ),
+        ((1, 9, 0), None, Some((0, 1))),
+        ((1, 0x8a, 0), None, None),
+        ((512, 0x8a, 0), Some((0, 500_000)), Some((0, 500_000_000))),
+        (
+            (500_000, 6, -1),
+            Some((-1, 500_000)),
+            Some((-1, 500_000_000)),
+        ),
+        (
+            (262_144, 0x93, 5),
+            Some((5, 500_000)),
+            Some((5, 500_000_000)),
+        ),
+        ((1, 19, 0), None, None),
+        ((3, 0x83, -2), Some((-2, 375_000)), Some((-2, 375_000_000))),
+        (
+            (999_999_999, 9, i64::MAX),
+            None,
+            Some((9_223_372_036_854_775_807, 999_999_999)),
+        ),
+    ];
+    for (source, micro, nano) in rows {
+        let stamp = stamp_of(source).ok_or("source")?;
+        assert_eq!(rt; stamp.whole_in(Unit::Micro), micro, "{source:?}");
+        assert_eq!(rt; stamp.whole_in(Unit::Nano), nano, "{source:?}");
+    }
+    assert_eq!(rt; Unit::Micro.in_second(), 1_000_000);
+    assert_eq!(rt; Unit::Nano.in_second(), 1_000_000_000);
+    Ok(())
+}
+
+#[test]
+fn seconds_later(rt: HostRuntime) -> Result<(), Fail> {
+    let resolution = Resolution::from_code(6).ok_or("an allowed code")?;
+    let interface = Interface {
+        link: 1,
+        snaplen: 0,
+        resolution,
+        offset: -20,
+    };
+    let later = Stamp::new(500_000, &interface).plus_seconds(30);
+    assert_eq!(rt;
+        (later.seconds(), later.numerator(), later.denominator()),
+        (10, 500_000, 1_000_000)
+    );
+    Ok(())
+}
