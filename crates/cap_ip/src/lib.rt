@@ -1,0 +1,16 @@
+//! IPv4 headers, the ports behind them, and the header checksum.
+#![tactic(auto)]
+
+mod checksums;
+mod fields;
+mod headers;
+mod ports;
+mod transports;
+
+pub use crate::checksums::{checksum_law, header_checksum};
+pub use crate::headers::{Fragment, Header, HeaderOr, Key};
+pub use crate::ports::transport;
+pub use crate::transports::Transport;
+
+#[cfg(test)]
+mod tests;

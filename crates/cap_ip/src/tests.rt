@@ -1,0 +1,240 @@
+//! Headers field by field, the seven steps at their edges, ports and checksums.
+mod vectors;
+
+use crate::tests::vectors::{
+    FIRST_FRAGMENT, FIRST_FRAGMENT_AGAIN, JOINED_HEADER, LAST_FRAGMENT, MIDDLE_FRAGMENT,
+    PADDED_ANSWER, PADDED_OVERLONG, PADDED_PACKET, TCP_PACKET, WHOLE_PACKET,
+};
+use crate::{Fragment, Header, HeaderOr, Key, Transport, checksum_law, header_checksum, transport};
+use std::process::Abort;
+
+/// The names of what reading answers.
+#[derive(Clone, Copy, Debug, PartialEq, Eq)]
+enum Class {
+    Whole,
+    Piece,
+    Bad,
+    Cut,
+}
+
+fn class_of(bytes: &[u8], captured_whole: bool) -> Class {
+    match Header::read(bytes, captured_whole) {
+        HeaderOr::Header(header, _) => {
+            if header.fragment().is_none() {
+                Class::Whole
+            } else {
+                Class::Piece
+            }
+        }
+        HeaderOr::Bad => Class::Bad,
+        HeaderOr::Cut => Class::Cut,
+    }
+}
+
+/// The header at the front of a packet that was captured whole, and its data.
+fn header_of<'a>(rt: &impl Abort, bytes: &'a [u8]) -> (Header, &'a [u8]) {
+    match Header::read(bytes, true) {
+        HeaderOr::Header(header, held) => (header, held),
+        _ => panic!(rt; "no header"),
+    }
+}
+
+/// A packet with other bytes for byte 0 (version and header length), byte 3 (total length), and bytes
+/// 6 and 7 (flags and fragment offset).
+fn altered(front: u8, total: u8, flags: [u8; 2]) -> [u8; 28] {
+    let mut packet = WHOLE_PACKET;
+    packet[0] = front;
+    packet[3] = total;
+    packet[6] = flags[0];
+    packet[7] = flags[1];
+    packet
+}
+
+#[test]
+fn header_fields(rt: HostRuntime) {
+    let (header, held) = header_of(&rt, &WHOLE_PACKET);
+    let key = Key {
+        source: 0xc0a8_0102,
+        destination: 0xc633_6403,
+        protocol: 0x84,
+        identification: 0x1234,
+    };
+    assert_eq!(rt; header.key(), key);
+    assert_eq!(rt; header.service(), 0xb1);
+    assert_eq!(rt; header.time_to_live(), 0x3f);
+    assert_eq!(rt; header.data_length(), 8);
+    assert_eq!(rt; header.fragment(), None);
+    assert!(rt; held == [0xa0, 0xa1, 0xa2, 0xa3, 0xa4, 0xa5, 0xa6, 0xa7].as_slice());
+}
+
+#[test]
+fn padding_is_no_data(rt: HostRuntime) {
+    for (packet, identification, ports) in [
+        (PADDED_PACKET, 1, Transport::Ports(1000, 2000)),
+        (PADDED_ANSWER, 2, Transport::Ports(2000, 1000)),
+        (PADDED_OVERLONG, 3, Transport::Bad),
+    ] {
+        let (header, held) = header_of(&rt, &packet);
+        assert_eq!(rt; header.key().identification, identification);
+        assert_eq!(rt; header.data_length(), 10);
+        assert_eq!(rt; header.fragment(), None);
+        assert_eq!(rt; held.len(), 10);
+        assert_eq!(rt; transport(header.key().protocol, held, 10), ports);
+    }
+}
+
+#[test]
+fn fragments(rt: HostRuntime) {
+    for (packet, start, more) in [
+        (LAST_FRAGMENT, 16, false),
+        (FIRST_FRAGMENT, 0, true),
+        (FIRST_FRAGMENT_AGAIN, 0, true),
+        (MIDDLE_FRAGMENT, 8, true),
+    ] {
+        let (header, held) = header_of(&rt, &packet);
+        let piece = Fragment {
+            start,
+            length: 8,
+            more,
+        };
+        assert_eq!(rt; header.fragment(), Some(piece));
+        assert_eq!(rt; header.key().identification, 7);
+        let (_, behind) = packet.split_at(20);
+        assert!(rt; held == behind);
+    }
+}
+
+#[test]
+fn steps_at_their_edges(rt: HostRuntime) {
+    let whole = [0x00, 0x00];
+    let middle = [0x20, 0x01];
+    let last = [0x00, 0x01];
+    for (name, front, total, flags, captured_whole, class) in [
+        ("version 5", 0x55, 28, whole, true, Class::Bad),
+        ("4 words", 0x44, 28, whole, false, Class::Bad),
+        ("total below 5 words", 0x45, 19, whole, false, Class::Bad),
+        ("no data", 0x45, 20, whole, true, Class::Whole),
+        ("total below 6 words", 0x46, 23, whole, false, Class::Bad),
+        ("6 words and no data", 0x46, 24, whole, true, Class::Whole),
+        (
+            "header longer than bytes",
+            0x48,
+            32,
+            whole,
+            true,
+            Class::Bad,
+        ),
+        ("header not captured", 0x48, 32, whole, false, Class::Cut),
+        ("total above bytes", 0x45, 29, whole, true, Class::Bad),
+        ("data not captured", 0x45, 29, whole, false, Class::Whole),
+        ("the flag DF", 0x45, 28, [0x40, 0x00], true, Class::Whole),
+        (
+            "the reserved flag",
+            0x45,
+            28,
+            [0x80, 0x00],
+            true,
+            Class::Whole,
+        ),
+        ("a middle", 0x45, 28, middle, false, Class::Piece),
+        ("a middle without data", 0x45, 20, middle, true, Class::Bad),
+        ("a middle of 7 bytes", 0x45, 27, middle, true, Class::Bad),
+        ("a last of 7 bytes", 0x45, 27, last, true, Class::Piece),
+        ("end at 65,515", 0x45, 23, [0x1f, 0xfd], true, Class::Piece),
+        ("end at 65,516", 0x45, 24, [0x1f, 0xfd], true, Class::Bad),
+        ("a middle not captured", 0x45, 36, middle, false, Class::Cut),
+        ("a middle above bytes", 0x45, 36, middle, true, Class::Bad),
+        (
+            "a bad middle not captured",
+            0x45,
+            35,
+            middle,
+            false,
+            Class::Bad,
+        ),
+    ] {
+        let packet = altered(front, total, flags);
+        assert_eq!(rt; class_of(&packet, captured_whole), class, "{name}");
+    }
+    let (nineteen, _) = WHOLE_PACKET.split_at(19);
+    assert_eq!(rt; class_of(nineteen, true), Class::Bad);
+    assert_eq!(rt; class_of(nineteen, false), Class::Cut);
+    assert_eq!(rt; class_of(&[0x60], true), Class::Bad);
+}
+
+/// A frame of 1,514 bytes captured to 54 and to 53: 40 and 39 bytes of its packet.
+#[test]
+fn short_capture(rt: HostRuntime) {
+    for (captured, ports) in [(40, Transport::Ports(1000, 2000)), (39, Transport::Cut)] {
+        let (front, _) = TCP_PACKET.split_at(captured);
+        match Header::read(front, false) {
+            HeaderOr::Header(header, held) => {
+                assert_eq!(rt; header.data_length(), 1480);
+                assert_eq!(rt; held.len() + 20, captured);
+                assert_eq!(rt; transport(header.key().protocol, held, 1480), ports);
+            }
+            _ => assert!(rt; false),
+        }
+    }
+}
+
+#[test]
+fn udp_and_other_ports(rt: HostRuntime) {
+    let ports = Transport::Ports(1000, 2000);
+    for (size, captured, length, answer) in [
+        (10, 10, 10, ports),
+        (8, 10, 10, ports),
+        (7, 10, 10, Transport::Bad),
+        (11, 10, 10, Transport::Bad),
+        (11, 8, 11, ports),
+        (10, 7, 10, Transport::Cut),
+        (10, 7, 7, Transport::Bad),
+    ] {
+        let bytes = [0x03, 0xe8, 0x07, 0xd0, 0x00, size, 0x00, 0x00, 0x68, 0x69];
+        let (front, _) = bytes.split_at(captured);
+        assert_eq!(rt;
+            transport(17, front, length),
+            answer,
+            "{size} {captured} {length}"
+        );
+    }
+    assert_eq!(rt; transport(1, &[], 0), Transport::NoPorts);
+}
+
+#[test]
+fn tcp_ports(rt: HostRuntime) {
+    let ports = Transport::Ports(1000, 2000);
+    let (_, segment) = TCP_PACKET.split_at(20);
+    for (words, captured, length, answer) in [
+        (0x50, 20, 20, ports),
+        (0x40, 20, 20, Transport::Bad),
+        (0x60, 20, 23, Transport::Bad),
+        (0x60, 20, 24, ports),
+        (0x50, 19, 20, Transport::Cut),
+        (0x50, 19, 19, Transport::Bad),
+    ] {
+        let mut bytes = [0; 20];
+        bytes.copy_from_slice(segment);
+        bytes[12] = words;
+        let (front, _) = bytes.split_at(captured);
+        assert_eq!(rt;
+            transport(6, front, length),
+            answer,
+            "{words} {captured} {length}"
+        );
+    }
+}
+
+#[test]
+fn checksums(rt: HostRuntime) {
+    checksum_law();
+    for (packet, checksum) in [(PADDED_PACKET, 0x66cc), (PADDED_ANSWER, 0x66cb)] {
+        let mut header = [0; 20];
+        let (front, _) = packet.split_at(20);
+        header.copy_from_slice(front);
+        assert_eq!(rt; header_checksum(&header), checksum);
+    }
+    assert_eq!(rt; header_checksum(&JOINED_HEADER), 0x66b8);
+    assert_eq!(rt; header_checksum(&[0; 20]), 0xffff);
+    assert_eq!(rt; header_checksum(&[0xff; 20]), 0);
+}

@@ -1,0 +1,3 @@
+pub mod TagSteps
+pub mod TagsLaw
+pub mod Ends

@@ -1,0 +1,16 @@
+//! What a frame's link header leads to.
+
+/// What a frame carries.
+#[derive(Clone, Copy, Debug, PartialEq, Eq)]
+pub enum Network<'a> {
+    /// An IPv4 packet: all bytes behind the link header and the tags, padding among them.
+    Ipv4(&'a [u8]),
+    /// The link type isn't one of the five that are known.
+    OtherLink,
+    /// The frame's type, or its version, is another network's.
+    NotIpv4,
+    /// The frame was captured whole, and ends inside its link header or a tag.
+    Short,
+    /// The frame wasn't captured whole, and ends inside its link header or a tag.
+    Cut,
+}
