@@ -3,7 +3,7 @@
 # a given number. The tests of windows and readers call again after `Fault::Memory`, and every answer
 # must be as with memory; those whose names don't match make data of their own and are left out.
 #
-# Use: bench/refused.sh [CRATE] [LAST] [NAMES]
+# Use: checks/refused.sh [CRATE] [LAST] [NAMES]
 set -eu
 crate=${1:-cap_bytes}
 last=${2:-12}

@@ -1,0 +1,172 @@
+//! The header of a pcap file. draft-ietf-opsawg-pcap, 4.
+ghost use Rattle.std.specs.Prelude.{◌≡◌, true, false, ◌+◌, ◌≤◌, ◌^◌, ◌++◌, ◌||◌, length, take, drop, IsTrue, is_err, IsErr, IsOkUnless, IfSome, IfNone};
+ghost use Rattle.cap_bytes.specs.Device.{Puts};
+ghost use Rattle.cap_bytes.specs.Window.{Keeps};
+ghost use Rattle.cap_bytes.specs.Number.{bytes_of};
+ghost use Rattle.cap_pcap.specs.Grammar.{magic_of, header_text};
+ghost use Rattle.cap_pcap.specs.Sights.{HasMagic, ParsesHeader, LooksForHeader};
+ghost use Rattle.cap_pcap.specs.Split.{is_magic, unit_at};
+
+use byteorder::{BigEndian, ByteOrder, LittleEndian};
+use cap_bytes::{Fault, Order, Rule, Sink, Source, Window, put_all, u16_at, u32_at};
+use cap_time::Unit;
+
+/// How many bytes a file's header takes.
+pub const HEADER_SIZE: usize = 24;
+
+/// The place behind the last byte that is read of a file.
+pub const FILE_LIMIT: u64 = 0x100_0000_0000;
+
+const MICRO: u32 = 0xA1B2_C3D4;
+
+const NANO: u32 = 0xA1B2_3C4D;
+
+/// What the header of a pcap file says. draft-ietf-opsawg-pcap, 4.
+#[derive(Clone, Copy, Debug, PartialEq, Eq)]
+pub struct PcapHeader {
+    /// The order of all numbers in the file.
+    pub order: Order,
+    /// The unit in which the records count the fraction of a second.
+    pub unit: Unit,
+    /// The most bytes that were to be captured of a packet. No record is held to it.
+    pub snaplen: u32,
+    /// The link type: the low 16 bits of the link word.
+    pub link: u16,
+}
+
+// The unit that the magic at the front tells, read in that order.
+fn unit_in(order: Order, bytes: &[u8]) -> Option<Unit>
+    requires { 4 ≤ length bytes.now }
+    ensures found { IfSome result (λ unit. (is_magic order bytes.now ≡ true)
+        × (unit ≡ unit_at order bytes.now)) }
+    ensures none { IfNone result (is_magic order bytes.now ≡ false) }
+{
+    match u32_at(order, bytes, 0) {
+        MICRO => Some(Unit::Micro),
+        NANO => Some(Unit::Nano),
+        _ => None,
+    }
+}
+
+// The order in which the magic at the front reads, and the unit that it tells.
+fn spelling_of(bytes: &[u8]) -> Option<(Order, Unit)>
+    requires { 4 ≤ length bytes.now }
+    ensures found { IfSome result (λ spelling. HasMagic bytes.now spelling.0 spelling.1) }
+    ensures none { IfNone result ((is_magic Order.Big bytes.now ≡ false)
+        × (is_magic Order.Little bytes.now ≡ false)) }
+{
+    if let Some(unit) = unit_in(Order::Big, bytes) {
+        return Some((Order::Big, unit));
+    }
+    if let Some(unit) = unit_in(Order::Little, bytes) {
+        return Some((Order::Little, unit));
+    }
+    None
+}
+
+/// The header that stands at the front of some bytes, which begin at `offset`. Where there is none,
+/// the first rule that is broken; `Rule::Cut` where they are too few.
+#[tactic(auto, unfolding(crate::specs::Split::header_fault, crate::specs::Split::header_at))]
+pub fn header_of(offset: u64, bytes: &[u8]) -> Result<PcapHeader, Rule>
+    requires { offset ≤ 2 ^ 40 }
+    ensures parses { ParsesHeader offset bytes.now result }
+{
+    if bytes.len() < 4 {
+        return Err(Rule::Cut);
+    }
+    let Some((order, unit)) = spelling_of(bytes) else {
+        return Err(Rule::Magic);
+    };
+    if bytes.len() < HEADER_SIZE {
+        return Err(Rule::Cut);
+    }
+    if u16_at(order, bytes, 4) != 2 || u16_at(order, bytes, 6) != 4 {
+        return Err(Rule::Version);
+    }
+    if offset + HEADER_SIZE as u64 > FILE_LIMIT {
+        return Err(Rule::FileLimit);
+    }
+    Ok(PcapHeader {
+        order,
+        unit,
+        snaplen: u32_at(order, bytes, 16),
+        link: (u32_at(order, bytes, 20) % 0x1_0000) as u16,
+    })
+}
+
+/// Looks for the header at the front of a window, which shows it then.
+pub fn look_for_header<R: Source>(window: &mut Window<R>) -> Result<Result<PcapHeader, Rule>, Fault>
+    ensures answer { LooksForHeader window.old result window.new }
+    ensures keeps { Keeps window.old window.new }
+{
+    window.need(HEADER_SIZE)?;
+    Ok(header_of(window.offset(), window.bytes()))
+}
+
+/// Puts a number into the 4 bytes from `place` on.
+#[tactic(auto, unfolding(cap_bytes::specs::Number::bytes_of))]
+pub fn put_u32(order: Order, bytes: &mut [u8], place: usize, number: u32)
+    requires { place + 4 ≤ length bytes.old }
+    ensures { bytes.new ≡ take place bytes.old ++ bytes_of order 4 number
+        ++ drop (place + 4) bytes.old }
+{
+    let (_, rest) = bytes.split_at_mut(place);
+    match order {
+        Order::Big => BigEndian::write_u32(rest, number),
+        Order::Little => LittleEndian::write_u32(rest, number),
+    }
+}
+
+// Puts a number into the 2 bytes from `place` on.
+#[tactic(auto, unfolding(cap_bytes::specs::Number::bytes_of))]
+fn put_u16(order: Order, bytes: &mut [u8], place: usize, number: u16)
+    requires { place + 2 ≤ length bytes.old }
+    ensures { bytes.new ≡ take place bytes.old ++ bytes_of order 2 number
+        ++ drop (place + 2) bytes.old }
+{
+    let (_, rest) = bytes.split_at_mut(place);
+    match order {
+        Order::Big => BigEndian::write_u16(rest, number),
+        Order::Little => LittleEndian::write_u16(rest, number),
+    }
+}
+
+// The magic that tells a unit.
+fn magic_number(unit: Unit) -> u32
+    ensures { result ≡ magic_of unit }
+{
+    match unit {
+        Unit::Micro => MICRO,
+        Unit::Nano => NANO,
+    }
+}
+
+// The bytes that are written for a header.
+fn header_bytes(header: &PcapHeader) -> [u8; HEADER_SIZE]
+    ensures { result ≡ header_text header.now }
+{
+    let mut bytes = [0; HEADER_SIZE];
+    put_u32(header.order, &mut bytes, 0, magic_number(header.unit));
+    put_u16(header.order, &mut bytes, 4, 2);
+    put_u16(header.order, &mut bytes, 6, 4);
+    put_u32(header.order, &mut bytes, 8, 0);
+    put_u32(header.order, &mut bytes, 12, 0);
+    put_u32(header.order, &mut bytes, 16, header.snaplen);
+    put_u32(header.order, &mut bytes, 20, header.link as u32);
+    bytes
+}
+
+/// Writes a file's header: 24 bytes, of version 2.4, with 0 in the reserved fields. Takes no memory.
+/// Answers `Fault::Write`, and no other fault, where the writer failed: a prefix is written then.
+/// draft-ietf-opsawg-pcap, 4.
+pub fn put_header<W: Sink>(writer: &mut W, header: &PcapHeader) -> Result<(), Fault>
+    ensures bytes { IsTrue (W.tells_held writer.old)
+        → Puts (W.held writer.old) result (W.held writer.new) (header_text header.now) }
+    ensures told { IsTrue (W.tells_held writer.old) → IsTrue (W.tells_held writer.new) }
+    ensures failed { W.has_failed writer.new ≡ (W.has_failed writer.old || is_err result) }
+    ensures can { IsErr result → IsTrue (W.can_fail writer.old) }
+    ensures cannot { IsTrue (W.can_fail writer.new) → IsTrue (W.can_fail writer.old) }
+    ensures fault { IsOkUnless result Fault.Write }
+{
+    put_all(writer, &header_bytes(header))
+}

@@ -1,0 +1,158 @@
+//! A reader of pcap files.
+ghost use Rattle.std.specs.Prelude.{◌≡◌, ◌↔◌, ◌≤◌, length, IsTrue, IsSome, Some, IfSome};
+ghost use Rattle.cap_pcap.specs.Reader.{opened, items_of, Keeps, GivesHeader, GivesNext, KeepsItems, TakesItem, HasWindow, RefusesAgain, size_of};
+
+use crate::headers::{HEADER_SIZE, PcapHeader, look_for_header};
+use crate::records::{HEAD_SIZE, Record, Sight, Stop, look_for_record};
+use cap_bytes::{Fault, Refusal, Source, Tail, Window};
+use std::marker::Model;
+
+/// A reader of a pcap file, record by record. It keeps no more of the file than its window shows.
+#[derive(Drop)]
+pub struct PcapReader<R: Source> {
+    window: Window<R>,
+    tail: Tail,
+    header: Option<PcapHeader>,
+    // how many bytes were captured of the record that was given last, which the window still shows
+    captured: Option<usize>,
+    stop: Option<Stop>,
+}
+
+impl<R: Source> Model for PcapReader<R> {
+    ghost use Rattle.std.specs.Prelude.{length};
+    ghost use Rattle.cap_pcap.specs.Reader.{State, IsSound, state_of};
+
+    ghost Value = { State };
+
+    ghost view = { λ r. state_of r.window r.tail r.header r.captured r.stop };
+
+    ghost invariant = { λ r. IsSound r.header r.captured r.stop
+        (length r.window.shown) r.window.offset r.window.held };
+}
+
+// How many bytes the record that was given last takes.
+fn size_given(captured: Option<usize>) -> usize
+    requires { size_of captured ≤ 262160 }
+    ensures { result ≡ size_of captured }
+{
+    match captured {
+        Some(captured) => HEAD_SIZE + captured,
+        None => 0,
+    }
+}
+
+// Answers the refusal that ended the records, if one did.
+fn refuse_again(stop: Option<Stop>) -> Result<(), Fault>
+    ensures { RefusesAgain stop result }
+{
+    match stop {
+        Some(Stop::Refused(refusal)) => Err(Fault::Refused(refusal)),
+        _ => Ok(()),
+    }
+}
+
+impl<R: Source> PcapReader<R> {
+    /// A reader of the bytes that a window shows from now on. It reads nothing yet.
+    pub fn new(window: Window<R>, tail: Tail) -> PcapReader<R>
+        ensures opened { result ≡ opened window tail }
+        ensures held { result.held ≤ 524288 }
+    {
+        // The limits that these two ensure are part of what a reader always meets.
+        let _limits = (window.offset(), window.held());
+        PcapReader {
+            window,
+            tail,
+            header: None,
+            captured: None,
+            stop: None,
+        }
+    }
+
+    /// The file's header. It comes again at each call. `Refused` comes, now and at each later call,
+    /// where the header is cut, has another magic or is of another version; where a header read from
+    /// elsewhere than the file's first byte would end past byte 2^40; and where a record was refused.
+    /// `Memory` leaves what is to come; `Read` comes again. draft-ietf-opsawg-pcap, 4.
+    pub fn header(&mut self) -> Result<PcapHeader, Fault>
+        ensures answer { GivesHeader self.old result self.new }
+        ensures keeps { Keeps self.old self.new }
+        ensures items { IsTrue self.old.told
+            → KeepsItems (items_of self.old) result (items_of self.new) }
+    {
+        refuse_again(self.stop)?;
+        if let Some(header) = self.header {
+            return Ok(header);
+        }
+        match look_for_header(&mut self.window)? {
+            Ok(header) => {
+                self.window.pass(HEADER_SIZE);
+                self.header = Some(header);
+                Ok(header)
+            }
+            Err(rule) => {
+                let refusal = Refusal {
+                    file: self.window.file(),
+                    offset: self.window.offset(),
+                    rule,
+                };
+                self.stop = Some(Stop::Refused(refusal));
+                Err(Fault::Refused(refusal))
+            }
+        }
+    }
+
+    /// The next record, or `None` at the end of the file, which comes again then. `frame` lends its
+    /// captured bytes. `Refused` comes, now and at each later call, where the rest is cut, where more
+    /// than 262,144 bytes were captured, and where the record would end past byte 2^40; where a cut
+    /// tail is accepted, a cut rest is the end instead. `Memory` leaves what is to come; `Read` comes
+    /// again. draft-ietf-opsawg-pcap, 5.
+    pub fn next_record(&mut self) -> Result<Option<Record>, Fault>
+        requires { IsSome self.old.header }
+        ensures answer { IfSome self.old.header
+            (λ header. GivesNext header self.old result self.new) }
+        ensures keeps { Keeps self.old self.new }
+        ensures items { IsTrue self.old.told
+            → TakesItem (items_of self.old) result self.new.frame (items_of self.new) }
+    {
+        let header = self.header.unwrap();
+        if let Some(stop) = self.stop {
+            return stop.answer();
+        }
+        self.window.pass(size_given(self.captured));
+        self.captured = None;
+        match look_for_record(&mut self.window, header, self.tail)? {
+            Sight::Whole(record) => {
+                self.captured = Some(record.captured as usize);
+                Ok(Some(record))
+            }
+            Sight::Stopped(stop) => {
+                self.stop = Some(stop);
+                stop.answer()
+            }
+        }
+    }
+
+    /// The captured bytes of the record that was given last, which lie in the window.
+    pub fn frame(&self) -> &[u8]
+        requires { IsSome self.now.frame }
+        ensures { self.now.frame ≡ Some result.now }
+    {
+        let size = size_given(self.captured);
+        let (record, _) = self.window.bytes().split_at(size);
+        let (_, frame) = record.split_at(HEAD_SIZE);
+        frame
+    }
+
+    /// Whether the file ended in a rest that was cut, and that was dropped.
+    pub fn was_cut(&self) -> bool
+        ensures { IsTrue result ↔ (self.now.stop ≡ Some Stop.Cut) }
+    {
+        matches!(self.stop, Some(Stop::Cut))
+    }
+
+    /// The window by which the file is read.
+    pub fn window(&self) -> &Window<R>
+        ensures { HasWindow self.now result.now }
+    {
+        &self.window
+    }
+}

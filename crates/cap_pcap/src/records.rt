@@ -1,0 +1,182 @@
+//! The records of a pcap file. draft-ietf-opsawg-pcap, 5.
+ghost use Rattle.std.specs.Prelude.{◌≡◌, ◌+◌, ◌≤◌, ◌^◌, ◌||◌, length, IsTrue, is_err, IsErr, IsOkUnless};
+ghost use Rattle.cap_bytes.specs.Device.{Puts};
+ghost use Rattle.cap_bytes.specs.Window.{Keeps};
+ghost use Rattle.cap_pcap.specs.Grammar.{head_text, record_text};
+ghost use Rattle.cap_pcap.specs.Sights.{Measures, LooksForRecord};
+ghost use Rattle.cap_pcap.specs.Split.{stop_by, record_at};
+
+use crate::headers::{FILE_LIMIT, PcapHeader, put_u32};
+use cap_bytes::{Fault, Order, Refusal, Rule, Sink, Source, Tail, Window, put_all, u32_at};
+
+/// What a record says of its packet. draft-ietf-opsawg-pcap, 5.
+#[derive(Clone, Copy, Debug, PartialEq, Eq)]
+pub struct Record {
+    /// Where the record begins, in bytes.
+    pub offset: u64,
+    /// When the packet was captured, in the file's units since 1970. A fraction of a second or more
+    /// has carried into the seconds.
+    pub units: u64,
+    /// How many bytes were captured of it, at most 262,144.
+    pub captured: u32,
+    /// How many bytes it had.
+    pub original: u32,
+}
+
+/// What ended the records of a file.
+#[derive(Clone, Copy)]
+pub enum Stop {
+    /// No bytes were left.
+    End,
+    /// The bytes that were left were no whole record, and were dropped.
+    Cut,
+    /// The bytes that were left are refused.
+    Refused(Refusal),
+}
+
+impl Stop {
+    ghost use Rattle.cap_pcap.specs.Reader.{answer_of};
+
+    /// What a call for a record answers from then on.
+    pub fn answer(self) -> Result<Option<Record>, Fault>
+        ensures { result ≡ answer_of self }
+    {
+        match self {
+            Stop::End | Stop::Cut => Ok(None),
+            Stop::Refused(refusal) => Err(Fault::Refused(refusal)),
+        }
+    }
+}
+
+/// What stands at the front of the bytes to come.
+#[derive(Clone, Copy)]
+pub enum Sight {
+    /// A whole record.
+    Whole(Record),
+    /// Nothing more is given.
+    Stopped(Stop),
+}
+
+/// How many bytes stand in front of a record's captured bytes.
+pub const HEAD_SIZE: usize = 16;
+
+/// The most bytes that a record may have captured.
+pub const PACKET_LIMIT: u32 = 262_144;
+
+// What ends the records where a rule is broken.
+fn stop_of(tail: Tail, file: u32, offset: u64, rule: Rule) -> Stop
+    ensures { result ≡ stop_by tail file offset rule }
+{
+    match (tail, rule) {
+        (Tail::Accept, Rule::Cut) => Stop::Cut,
+        _ => Stop::Refused(Refusal { file, offset, rule }),
+    }
+}
+
+// How many bytes the record takes that begins with these, or the first rule that its captured length
+// breaks.
+#[tactic(auto, unfolding(crate::specs::Split::record_fault))]
+fn measure(order: Order, offset: u64, bytes: &[u8]) -> Result<usize, Rule>
+    requires head { 16 ≤ length bytes.now }
+    requires limit { offset ≤ 2 ^ 40 }
+    ensures { Measures order offset bytes.now result }
+{
+    let captured = u32_at(order, bytes, 8);
+    if captured > PACKET_LIMIT {
+        return Err(Rule::PacketLong);
+    }
+    let size = HEAD_SIZE + captured as usize;
+    if offset + size as u64 > FILE_LIMIT {
+        return Err(Rule::FileLimit);
+    }
+    Ok(size)
+}
+
+// The record that begins with these bytes.
+#[tactic(auto, unfolding(crate::specs::Split::record_at))]
+fn record_of(header: PcapHeader, offset: u64, bytes: &[u8]) -> Record
+    requires { 16 ≤ length bytes.now }
+    ensures { result ≡ record_at header.order header.unit offset bytes.now }
+{
+    let seconds = u32_at(header.order, bytes, 0) as u64;
+    let fraction = u32_at(header.order, bytes, 4) as u64;
+    Record {
+        offset,
+        units: seconds * header.unit.in_second() as u64 + fraction,
+        captured: u32_at(header.order, bytes, 8),
+        original: u32_at(header.order, bytes, 12),
+    }
+}
+
+/// Looks for a record at the front of a window, which shows it whole then.
+pub fn look_for_record<R: Source>(
+    window: &mut Window<R>,
+    header: PcapHeader,
+    tail: Tail,
+) -> Result<Sight, Fault>
+    ensures answer { LooksForRecord header tail window.old result window.new }
+    ensures keeps { Keeps window.old window.new }
+{
+    let file = window.file();
+    let offset = window.offset();
+    if !window.need(HEAD_SIZE)? {
+        return Ok(Sight::Stopped(if window.bytes().is_empty() {
+            Stop::End
+        } else {
+            stop_of(tail, file, offset, Rule::Cut)
+        }));
+    }
+    let size = match measure(header.order, offset, window.bytes()) {
+        Ok(size) => size,
+        Err(rule) => return Ok(Sight::Stopped(stop_of(tail, file, offset, rule))),
+    };
+    if !window.need(size)? {
+        return Ok(Sight::Stopped(stop_of(tail, file, offset, Rule::Cut)));
+    }
+    Ok(Sight::Whole(record_of(header, offset, window.bytes())))
+}
+
+// The bytes that are written in front of a packet's captured bytes.
+fn record_head(
+    order: Order,
+    seconds: u32,
+    fraction: u32,
+    captured: u32,
+    original: u32,
+) -> [u8; HEAD_SIZE]
+    ensures { result ≡ head_text order seconds fraction captured original }
+{
+    let mut bytes = [0; HEAD_SIZE];
+    put_u32(order, &mut bytes, 0, seconds);
+    put_u32(order, &mut bytes, 4, fraction);
+    put_u32(order, &mut bytes, 8, captured);
+    put_u32(order, &mut bytes, 12, original);
+    bytes
+}
+
+/// Writes a record: 16 bytes and then `frame`, the bytes that were captured. `seconds` and `fraction`
+/// are the packet's time since 1970, the fraction in the file's unit; `original` is its length. Takes no
+/// memory. Answers `Fault::Write`, and no other fault, where the writer failed: a prefix is written
+/// then. draft-ietf-opsawg-pcap, 5.
+pub fn put_record<W: Sink>(
+    writer: &mut W,
+    order: Order,
+    seconds: u32,
+    fraction: u32,
+    original: u32,
+    frame: &[u8],
+) -> Result<(), Fault>
+    requires { length frame.now ≤ 262144 }
+    ensures bytes { IsTrue (W.tells_held writer.old)
+        → Puts (W.held writer.old) result (W.held writer.new)
+        (record_text order seconds fraction original frame.now) }
+    ensures told { IsTrue (W.tells_held writer.old) → IsTrue (W.tells_held writer.new) }
+    ensures failed { W.has_failed writer.new ≡ (W.has_failed writer.old || is_err result) }
+    ensures can { IsErr result → IsTrue (W.can_fail writer.old) }
+    ensures cannot { IsTrue (W.can_fail writer.new) → IsTrue (W.can_fail writer.old) }
+    ensures fault { IsOkUnless result Fault.Write }
+{
+    let head = record_head(order, seconds, fraction, frame.len() as u32, original);
+    put_all(writer, &head)?;
+    put_all(writer, frame)
+}
