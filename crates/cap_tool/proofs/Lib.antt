@@ -1,0 +1,5 @@
+pub mod FileNames
+pub mod Listing
+pub mod Parsing
+pub mod Rows
+pub mod Telling

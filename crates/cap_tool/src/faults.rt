@@ -1,0 +1,26 @@
+//! Why a command line isn't run.
+
+use thiserror::Error;
+
+/// What is answered in place of a job.
+#[derive(Clone, Copy, Debug, PartialEq, Eq, Error)]
+pub enum LineFault {
+    /// Help was asked for.
+    #[error("help")]
+    Help,
+    /// The words aren't a command line of capt, or aren't all UTF-8.
+    #[error("usage")]
+    Line,
+    /// More than 32 files are named.
+    #[error("fault: files")]
+    Files,
+    /// Standard input, `-`, is named twice.
+    #[error("fault: input")]
+    Input,
+    /// The output, other than `-`, is also a file that is read. Texts are compared.
+    #[error("fault: output")]
+    Output,
+    /// A growth was refused.
+    #[error("fault: memory")]
+    Memory,
+}

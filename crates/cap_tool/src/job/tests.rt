@@ -1,0 +1,56 @@
+//! Command lines with their jobs and faults.
+use crate::faults::LineFault;
+use crate::job::{Task, parse};
+use std::alloc::Global;
+
+// The first file of a job, how many it has, and whether a cut end is dropped.
+type Answer = Result<(&'static str, usize, bool), LineFault>;
+
+fn answer(alloc: Global, words: &'static [&'static str]) -> Answer {
+    let job = parse(alloc, words)?;
+    let Task::List = job.task;
+    let first = job.files.first().copied().unwrap_or("");
+    Ok((first, job.files.len(), job.allow_cut))
+}
+
+static LINES: [(&[&str], Answer); 20] = [
+    (&["capt", "list", "a"], Ok(("a", 1, false))),
+    (&["capt", "list", "--allow-cut", "a"], Ok(("a", 1, true))),
+    (&["capt", "list", "a", "--allow-cut"], Ok(("a", 1, true))),
+    (&["capt", "list", "-"], Ok(("-", 1, false))),
+    (
+        &["capt", "list", "--", "--allow-cut"],
+        Ok(("--allow-cut", 1, false)),
+    ),
+    (&["capt", "--help"], Err(LineFault::Help)),
+    (&["capt", "-h"], Err(LineFault::Help)),
+    (&["capt", "list", "--help"], Err(LineFault::Help)),
+    (&["capt", "list", "-h"], Err(LineFault::Help)),
+    (&["capt"], Err(LineFault::Line)),
+    (&["capt", "--version"], Err(LineFault::Line)),
+    (&["capt", "help"], Err(LineFault::Line)),
+    (&["capt", "frobnicate", "a"], Err(LineFault::Line)),
+    (&["capt", "list"], Err(LineFault::Line)),
+    (&["capt", "list", "a", "b"], Err(LineFault::Line)),
+    (
+        &["capt", "list", "--allow-cut", "--allow-cut", "a"],
+        Err(LineFault::Line),
+    ),
+    (
+        &["capt", "list", "--allow-cut=yes", "a"],
+        Err(LineFault::Line),
+    ),
+    (
+        &["capt", "list", "--order", "big", "a"],
+        Err(LineFault::Line),
+    ),
+    (&["capt", "--allow-cut", "list", "a"], Err(LineFault::Line)),
+    (&["capt", "list", "-x", "a"], Err(LineFault::Line)),
+];
+
+#[test]
+fn lines_give_their_jobs_and_faults(rt: HostRuntime) {
+    for (words, want) in LINES {
+        assert_eq!(rt; answer(rt.alloc(), words), want, "{words:?}");
+    }
+}
