@@ -32,6 +32,20 @@ PY
 cat "$work/input.pcap" > /dev/null
 "$program" list "$work/input.pcap" > "$work/text"
 
+# a plain loop that copies as many bytes of text, one by one
+if command -v cc > /dev/null; then
+    cat > "$work/copy.c" <<'C'
+#include <stdio.h>
+int main(int count, char **words) {
+    FILE *text = count > 1 ? fopen(words[1], "rb") : NULL;
+    if (!text) return 1;
+    for (int byte; (byte = getc_unlocked(text)) != EOF;) putc_unlocked(byte, stdout);
+    return fflush(stdout) != 0;
+}
+C
+    cc -O2 -o "$work/copy" "$work/copy.c"
+fi
+
 python3 - "$program" "$work" "$thousands" <<'PY'
 import os, resource, shutil, subprocess, sys, time
 
@@ -44,15 +58,28 @@ def run(words):
         start = time.monotonic()
         with open(os.devnull, "wb") as out:
             child = subprocess.Popen(words, stdout=out, stderr=subprocess.DEVNULL)
-            _, status, used = os.wait4(child.pid, 0)
+            peak = 0
+            while True:
+                # the kernel's own count of a child begins with its parent's memory, so read the child's
+                try:
+                    with open(f"/proc/{child.pid}/status") as status:
+                        peak = max([peak] + [int(line.split()[1]) for line in status if line.startswith("VmHWM")])
+                except OSError:
+                    pass
+                done, status, used = os.wait4(child.pid, os.WNOHANG)
+                if done:
+                    break
+                time.sleep(0.01)
         if status != 0:
             return None
         seconds = used.ru_utime + used.ru_stime
-        taken = (seconds, time.monotonic() - start, used.ru_maxrss / 1024)
+        taken = (seconds, time.monotonic() - start, peak / 1024)
         best = taken if best is None else min(best, taken)
     return best
 
 rows = [("cat FILE", ["cat", name]), ("cat TEXT", ["cat", f"{work}/text"]), ("capt list", [program, "list", name])]
+if os.path.exists(f"{work}/copy"):
+    rows.insert(2, ("plain loop over TEXT", [f"{work}/copy", f"{work}/text"]))
 if shutil.which("tcpdump"):
     rows.append(("tcpdump -r FILE -nn", ["tcpdump", "-r", name, "-nn"]))
 if shutil.which("tshark"):
