@@ -1,5 +1,5 @@
 -- How a run ends: its status, and what is told of it.
-use Rattle.std.specs.Prelude.{◌≡◌, ℕ, List, [], ◌++◌, codes, decimal, Bool, true, false}
+use Rattle.std.specs.Prelude.{◌≡◌, ℕ, List, [], ◌++◌, codes, decimal, Bool, true, false, Result, Ok, Err}
 use Rattle.cap_bytes.specs.Rules.{rule_number, rule_name}
 use Rattle.cap_bytes.specs.declared.faults.Fault.{Fault}
 use Rattle.cap_bytes.specs.declared.faults.Fault.TheVariants.{Refused, Read, Write, Memory}
@@ -10,6 +10,11 @@ use Rattle.cap_tool.specs.declared.faults.LineFault.{LineFault}
 use Rattle.cap_tool.specs.declared.faults.LineFault.TheVariants as lines
 use Rattle.cap_tool.specs.declared.outcomes.Outcome.{Outcome}
 use Rattle.cap_tool.specs.declared.outcomes.Outcome.TheVariants as outcomes
+
+-- how a run ends by what its command answered
+abbrev pub ends_by : {A : Type 0} → Result A Fault → Result A Outcome
+ends_by (Ok done) = Ok done
+ends_by (Err fault) = Err (outcomes.Fault fault)
 
 -- the status after a command line that wasn't run
 abbrev pub status_after_line : LineFault → ℕ

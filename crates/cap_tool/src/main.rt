@@ -1,6 +1,8 @@
 //! The program `capt`: packet captures, read, listed and converted by proved code.
 #![tactic(auto)]
 
+ghost use Rattle.std.specs.Prelude.{◌≡◌, ◌⊎◌, IfErr};
+
 mod command;
 mod faults;
 mod job;
@@ -14,8 +16,8 @@ mod tests;
 use crate::faults::LineFault;
 use crate::job::{Task, parse};
 use crate::list::list_to;
-use crate::outcomes::{Outcome, status_of, tell};
-use crate::streams::{finish, open_all};
+use crate::outcomes::{Outcome, end_of, status_of, tell};
+use crate::streams::open_all;
 use cap_bytes::{Fault, Source, Tail, Tracked};
 use std::alloc::Global;
 use std::env;
@@ -25,7 +27,9 @@ use std::process::ExitCode;
 use std::rt::{Env, Files};
 
 // The words of the command line, the first of which is the program's name.
-fn words_of<R: Env + AllocGlobal>(rt: &R) -> Result<Vec<String>, LineFault> {
+fn words_of<R: Env + AllocGlobal>(rt: &R) -> Result<Vec<String>, LineFault>
+    ensures { IfErr result (λ fault. (fault ≡ LineFault.Line) ⊎ (fault ≡ LineFault.Memory)) }
+{
     match env::args(rt) {
         Ok(words) => words.collect(rt.alloc()).map_err(|_| LineFault::Memory),
         Err(error) if error.kind() == ErrorKind::OutOfMemory => Err(LineFault::Memory),
@@ -45,7 +49,7 @@ fn run_list<R: Source, W: Write + Drop>(
     };
     let mut writer = Tracked::new(buffered);
     let answer = list_to(alloc, source, tail, &mut writer);
-    finish(answer, writer)
+    end_of(answer, writer.into_inner().flush())
 }
 
 // What the command line asks for.

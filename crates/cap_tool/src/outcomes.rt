@@ -1,12 +1,13 @@
 //! How a run ends: its status, and what is told of it.
-ghost use Rattle.std.specs.Prelude.{◌≡◌, ◌||◌, ◌++◌, is_err, IsTrue, IsFalse, IsErr, IsOkUnless};
+ghost use Rattle.std.specs.Prelude.{◌≡◌, ◌||◌, ◌++◌, is_err, IsTrue, IsFalse, IsOk, IsErr, IsOkUnless};
 ghost use Rattle.cap_bytes.specs.Device.{Puts};
-ghost use Rattle.cap_tool.specs.Outcomes.{status_after, outcome_text, refusal_text, read_text, open_text, is_help, HelpEnds};
+ghost use Rattle.cap_tool.specs.Outcomes.{ends_by, status_after, outcome_text, refusal_text, read_text, open_text, is_help, HelpEnds};
 ghost use Rattle.cap_tool.specs.Printing.{PrintsFront};
 
 use crate::faults::LineFault;
 use crate::lines::{Line, put_field, put_text};
 use cap_bytes::{Fault, Refusal, Sink, put_all};
+use std::io;
 
 /// What `capt` says of itself: help, and what is told of a faulty command line.
 pub const USAGE: &[u8] = b"capt reads packet captures.
@@ -39,6 +40,18 @@ pub enum Outcome {
     Open(u32),
     /// The output could not be created.
     Create,
+}
+
+/// How a command ends that answered `answer`, once what waited in its writer's buffer was flushed:
+/// a flush that failed comes before the answer.
+pub fn end_of(answer: Result<(), Fault>, flushed: io::Result<()>) -> Result<(), Outcome>
+    ensures flushed { IsOk flushed → result ≡ ends_by answer }
+    ensures write { IsErr flushed → result ≡ Err (Outcome.Fault Fault.Write) }
+{
+    match flushed {
+        Ok(()) => answer.map_err(Outcome::Fault),
+        Err(_) => Err(Outcome::Fault(Fault::Write)),
+    }
 }
 
 /// The status that the process ends with: 0 for a run that is done and for help, 1 where an input

@@ -1,5 +1,5 @@
 //! The files and the standard streams of a run.
-ghost use Rattle.std.specs.Prelude.{◌≡◌, ◌≢◌, ◌⊎◌, codes, length, vec_len, IsOk, IfOk, IfErr, IsErrAnd};
+ghost use Rattle.std.specs.Prelude.{◌≡◌, ◌≢◌, codes, length, vec_len, IfOk, IfErr};
 ghost use Rattle.cap_tool.specs.Streams.{IsFile, StopsOpening};
 
 use crate::outcomes::Outcome;
@@ -7,7 +7,7 @@ use cap_bytes::{Fault, Tracked};
 use std::alloc::Global;
 use std::fs::File;
 use std::io;
-use std::io::{BufWriter, Read, Stdin, Write};
+use std::io::{Read, Stdin};
 use std::rt::Files;
 
 /// What a capture is read from.
@@ -50,7 +50,7 @@ pub fn open_all<R: Files<File = File>>(
     names: &[&str],
 ) -> Result<Vec<Tracked<Input>>, Outcome>
     ensures all { IfOk result (λ inputs. vec_len inputs ≡ length names.now) }
-    ensures stops { IfErr result (λ outcome. StopsOpening (length names.now) outcome) }
+    ensures stops { IfErr result (StopsOpening (length names.now)) }
 {
     let mut inputs = Vec::new(alloc);
     let mut number = 1u32;
@@ -64,20 +64,4 @@ pub fn open_all<R: Files<File = File>>(
         number = number.saturating_add(1);
     }
     Ok(inputs)
-}
-
-/// Writes what waits in the buffer, and answers how the run ends: a flush that fails comes before
-/// what the command answered.
-pub fn finish<W: Write + Drop>(
-    answer: Result<(), Fault>,
-    writer: Tracked<BufWriter<W>>,
-) -> Result<(), Outcome>
-    ensures done { IsOk result → IsOk answer }
-    ensures fault { IfErr result (λ outcome. (outcome ≡ Outcome.Fault Fault.Write)
-        ⊎ IsErrAnd answer (λ fault. outcome ≡ Outcome.Fault fault)) }
-{
-    match writer.into_inner().flush() {
-        Ok(()) => answer.map_err(Outcome::Fault),
-        Err(_) => Err(Outcome::Fault(Fault::Write)),
-    }
 }

@@ -4,9 +4,9 @@ ghost use Rattle.std.specs.Prelude.{◌≤◌};
 use crate::faults::LineFault;
 use crate::lines::{Listed, packet_line};
 use crate::list::list_to;
-use crate::outcomes::{Outcome, USAGE, outcome_line, status_of, tell};
-use crate::streams::{finish, open_all};
-use cap_bytes::{Device, Fault, Pieces, Refusal, Room, Rule, Tail, Tracked};
+use crate::outcomes::{Outcome, USAGE, end_of, outcome_line, status_of, tell};
+use crate::streams::open_all;
+use cap_bytes::{Fault, Pieces, Refusal, Room, Rule, Tail};
 use std::alloc::Global;
 use std::io;
 use std::io::{BufWriter, Write};
@@ -309,7 +309,7 @@ fn a_flush_that_fails_comes_before_a_refusal(rt: HostRuntime) -> Result<(), Fail
     for (answer, full, ending) in cases {
         let mut writer = BufWriter::new(rt.alloc(), Disk { full })?;
         writer.write_all(b"a line\n")?;
-        assert_eq!(rt; finish(answer, Tracked::new(writer)), ending);
+        assert_eq!(rt; end_of(answer, writer.flush()), ending);
     }
     Ok(())
 }
