@@ -1,0 +1,330 @@
+-- What is written is read again.
+use Rattle.std.proofs.Common.{◌≡◌, ℕ, ◌+◌, ◌-◌, ◌/◌, ◌%◌, ◌^◌, ◌≤◌, ◌<◌, ◌==◌, Bool, true, false, List, [], ◌∷◌, ◌++◌, length, take, drop, replicate, Option, Some, None, Ok, refl, subst, sym, ◌∙◌, ap, arith, append_assoc, append-nil, length-append}
+use Rattle.std.proofs.lemmas.Bool.Decides.{nat_tests}
+use Rattle.std.proofs.lemmas.List.{take_at, drop_at, length-replicate}
+use Rattle.std.specs.Int.{w64, cast_unsigned}
+use Rattle.cap_bytes.specs.Number.{number, bytes_of}
+use Rattle.cap_bytes.specs.declared.numbers.Order.{Order}
+use Rattle.cap_bytes.specs.declared.numbers.Order.TheVariants.{Big, Little}
+use Rattle.cap_bytes.proofs.Spelling.{length-bytes_of, number-bytes_of, number-append}
+use Rattle.cap_time.specs.Resolution.{code_of}
+use Rattle.cap_time.specs.declared.resolutions.Interface.{Interface}
+use Rattle.cap_blocks.specs.Grammar.{section_kind, interface_kind, enhanced_kind, order_magic, is_total, SpellsSection, SpellsBlock, block_text, section_body, option_text, offset_option, interface_options, interface_body, interface_total, packet_body}
+use Rattle.cap_blocks.specs.Laws.{IsRead, SectionAgain, InterfaceAgain, PacketAgain, offset_items}
+use Rattle.cap_blocks.specs.OptionList.{options_of, code_at, length_at, padded}
+use Rattle.cap_blocks.proofs.OptionLaws.{options_of-end, options_of-more}
+use Rattle.cap_blocks.specs.Split.{Piece, MayFollow, Begins}
+use Rattle.cap_blocks.proofs.Spelling.{Plain, Reads-spelled}
+use Rattle.cap_blocks.proofs.Splitting.{items_from-reads}
+use Rattle.cap_blocks.proofs.Parts.{length-section_body, length-interface_body, length-packet_body}
+
+-- a number that stands at a place of some bytes
+field : (order : Order) (n x : ℕ) (front rest bytes : List ℕ) (place : ℕ) → bytes ≡ front ++ (bytes_of order n x ++ rest)
+    → length front ≡ place → x < 256 ^ n → number order n (drop place bytes) ≡ x
+field order n x front rest bytes place is at few =
+    ap (λ l. number order n (drop place l)) is
+    ∙ (ap (number order n) (drop_at front (bytes_of order n x ++ rest) place at) ∙ number-bytes_of order n x rest few)
+
+first_field : (order : Order) (n x : ℕ) (rest bytes : List ℕ) → bytes ≡ bytes_of order n x ++ rest → x < 256 ^ n → number order n bytes ≡ x
+first_field order n x rest bytes is few = ap (number order n) is ∙ number-bytes_of order n x rest few
+
+-- a block that is written spells itself
+pub SpellsBlock-text : (order : Order) (kind : ℕ) (body : List ℕ) → kind < 256 ^ 4 → 12 + length body < 256 ^ 4
+    → is_total kind (12 + length body) ≡ true → (kind ≡ section_kind → SpellsSection order body)
+    → SpellsBlock order kind body (block_text order kind body)
+unfolding block_text
+SpellsBlock-text order kind body few small allowed section =
+    let k = bytes_of order 4 kind in
+    let t = bytes_of order 4 (12 + length body) in
+    let text = ((k ++ t) ++ body) ++ t in
+    let lk = length-bytes_of order 4 kind in
+    let lt = length-bytes_of order 4 (12 + length body) in
+    let front : length (k ++ t) ≡ 8 = omega (arith, length-append k t) in
+    let before : length ((k ++ t) ++ body) ≡ 8 + length body = omega (arith, length-append (k ++ t) body) in
+    let size : length text ≡ 12 + length body = omega (arith, length-append ((k ++ t) ++ body) t) in
+    record {
+      size = size;
+      kind_is = first_field order 4 kind (t ++ (body ++ t)) text (simp append_assoc) few;
+      total = field order 4 (12 + length body) k (body ++ t) text 4 (simp append_assoc) lk small ∙ sym size;
+      body_is = ap (λ l. take (length body) (drop 8 l)) (append_assoc (k ++ t) body t)
+          ∙ (ap (take (length body)) (drop_at (k ++ t) (body ++ t) 8 front) ∙ take_at body t (length body) refl);
+      trailer = field order 4 (12 + length body) ((k ++ t) ++ body) [] text (8 + length body)
+          (ap (λ l. ((k ++ t) ++ body) ++ l) (sym (append-nil t))) before small ∙ sym size;
+      allowed = ap (is_total kind) size ∙ allowed;
+      section = section;
+    }
+
+-- the numbers at the front of what is written
+kind_first : (k t body rest : List ℕ) → (((k ++ t) ++ body) ++ t) ++ rest ≡ k ++ (t ++ (body ++ (t ++ rest)))
+kind_first k t body rest = simp append_assoc
+
+body_first : (k t body rest : List ℕ) → (((k ++ t) ++ body) ++ t) ++ rest ≡ (k ++ t) ++ (body ++ (t ++ rest))
+body_first k t body rest = simp append_assoc
+
+kind_literal : (order p : Order) → number p 4 (bytes_of order 4 section_kind) ≡ section_kind
+unfolding number bytes_of
+kind_literal Big Big = refl
+kind_literal Big Little = refl
+kind_literal Little Big = refl
+kind_literal Little Little = refl
+
+interface_literal : (order p : Order) → number p 4 (bytes_of order 4 interface_kind) ≡ section_kind → ⊥
+unfolding number bytes_of
+interface_literal Big Big h = absurd (omega (arith, h))
+interface_literal Big Little h = absurd (omega (arith, h))
+interface_literal Little Big h = absurd (omega (arith, h))
+interface_literal Little Little h = absurd (omega (arith, h))
+
+packet_literal : (order p : Order) → number p 4 (bytes_of order 4 enhanced_kind) ≡ section_kind → ⊥
+unfolding number bytes_of
+packet_literal Big Big h = absurd (omega (arith, h))
+packet_literal Big Little h = absurd (omega (arith, h))
+packet_literal Little Big h = absurd (omega (arith, h))
+packet_literal Little Little h = absurd (omega (arith, h))
+
+magic_literal : (order : Order) → number Big 4 (bytes_of order 4 order_magic) ≡ order_magic → number Little 4 (bytes_of order 4 order_magic) ≡ order_magic → ⊥
+unfolding number bytes_of
+magic_literal Big big little = absurd (omega (arith, little))
+magic_literal Little big little = absurd (omega (arith, big))
+
+-- a text that is put in front of others
+text_kind : (order p : Order) (kind : ℕ) (body rest : List ℕ) → number p 4 (block_text order kind body ++ rest) ≡ number p 4 (bytes_of order 4 kind)
+unfolding block_text
+text_kind order p kind body rest =
+    let k = bytes_of order 4 kind in
+    let t = bytes_of order 4 (12 + length body) in
+    let size = length-bytes_of order 4 kind in
+    ap (number p 4) (kind_first k t body rest) ∙ number-append p 4 k (t ++ (body ++ (t ++ rest))) (omega arith)
+
+text_body : (order : Order) (kind : ℕ) (body rest : List ℕ)
+    → drop 8 (block_text order kind body ++ rest) ≡ body ++ (bytes_of order 4 (12 + length body) ++ rest)
+unfolding block_text
+text_body order kind body rest =
+    let k = bytes_of order 4 kind in
+    let t = bytes_of order 4 (12 + length body) in
+    let front : length (k ++ t) ≡ 8 = omega (arith, length-append k t, length-bytes_of order 4 kind, length-bytes_of order 4 (12 + length body)) in
+    ap (drop 8) (body_first k t body rest) ∙ drop_at (k ++ t) (body ++ (t ++ rest)) 8 front
+
+-- a text of another kind, and one of a section header
+plain_other : (order : Order) (kind : ℕ) (body rest : List ℕ) → ((p : Order) → number p 4 (bytes_of order 4 kind) ≡ section_kind → ⊥)
+    → Plain (block_text order kind body ++ rest)
+plain_other order kind body rest other = record {
+  kinds = λ p q is. absurd (other p (sym (text_kind order p kind body rest) ∙ is));
+  magics = λ is big little. other Big (sym (text_kind order Big kind body rest) ∙ is);
+}
+
+-- a section header
+four : (a b c d : List ℕ) → ((a ++ b) ++ c) ++ d ≡ a ++ (b ++ (c ++ d))
+four a b c d = simp append_assoc
+
+five : (a b c d : List ℕ) → ((a ++ b) ++ c) ++ d ≡ a ++ (b ++ (c ++ d))
+five a b c d = simp append_assoc
+
+SpellsSection-body : (order : Order) → SpellsSection order (section_body order)
+SpellsSection-body order =
+    let a = bytes_of order 4 order_magic in
+    let b = bytes_of order 2 1 in
+    let c = bytes_of order 2 0 in
+    let d = bytes_of order 8 0xFFFF_FFFF_FFFF_FFFF in
+    let la = length-bytes_of order 4 order_magic in
+    let lb = length-bytes_of order 2 1 in
+    let major = field order 2 1 a (c ++ d) (section_body order) 4 (four a b c d) la (omega arith) in
+    let minor = field order 2 0 (a ++ b) d (section_body order) 6 (append_assoc (a ++ b) c d) (omega (arith, length-append a b)) (omega arith) in
+    record {
+      magic = first_field order 4 order_magic (b ++ (c ++ d)) (section_body order) (four a b c d) (omega arith);
+      version = rw (major, minor) refl;
+    }
+
+magic_first : (a b c d rest : List ℕ) → (((a ++ b) ++ c) ++ d) ++ rest ≡ a ++ (b ++ (c ++ (d ++ rest)))
+magic_first a b c d rest = simp append_assoc
+
+total_section : (n : ℕ) → n ≡ 16 → is_total section_kind (12 + n) ≡ true
+unfolding is_total
+total_section n is = rw is refl
+
+magic_front : (order p : Order) (rest : List ℕ) → number p 4 (section_body order ++ rest) ≡ number p 4 (bytes_of order 4 order_magic)
+magic_front order p rest =
+    let a = bytes_of order 4 order_magic in
+    let b = bytes_of order 2 1 in
+    let c = bytes_of order 2 0 in
+    let d = bytes_of order 8 0xFFFF_FFFF_FFFF_FFFF in
+    let size = length-bytes_of order 4 order_magic in
+    ap (number p 4) (magic_first a b c d rest) ∙ number-append p 4 a (b ++ (c ++ (d ++ rest))) (omega arith)
+
+magic_text : (order p : Order) (rest : List ℕ)
+    → number p 4 (drop 8 (block_text order section_kind (section_body order) ++ rest)) ≡ number p 4 (bytes_of order 4 order_magic)
+magic_text order p rest =
+    ap (number p 4) (text_body order section_kind (section_body order) rest)
+    ∙ magic_front order p (bytes_of order 4 (12 + length (section_body order)) ++ rest)
+
+plain_section : (order : Order) (rest : List ℕ) → Plain (block_text order section_kind (section_body order) ++ rest)
+plain_section order rest = record {
+  kinds = λ p q is. text_kind order q section_kind (section_body order) rest ∙ kind_literal order q;
+  magics = λ is big little. magic_literal order (sym (magic_text order Big rest) ∙ big) (sym (magic_text order Little rest) ∙ little);
+}
+
+-- a text that spells a block is read, whatever follows
+IsRead-text : (section : Option Order) (order : Order) (kind : ℕ) (body : List ℕ) → MayFollow section (record { order = order; kind = kind; body = body })
+    → SpellsBlock order kind body (block_text order kind body) → ((rest : List ℕ) → Plain (block_text order kind body ++ rest))
+    → IsRead section (record { order = order; kind = kind; body = body }) (block_text order kind body)
+IsRead-text section order kind body follows s fits = record {
+  spelled = s;
+  items = λ tail file offset rest limit.
+      let text = block_text order kind body in
+      let piece : Piece = record { order = order; kind = kind; body = body } in
+      let front : take (12 + length body) (text ++ rest) ≡ text = take_at text rest (12 + length body) s.size in
+      let behind : drop (12 + length body) (text ++ rest) ≡ rest = drop_at text rest (12 + length body) s.size in
+      let b : Begins section offset piece (text ++ rest) = record {
+        follows = follows;
+        spelled = subst (λ (l : List ℕ). SpellsBlock order kind body l) (sym front) s;
+        limit = omega (arith, s.size);
+      } in
+      let e = items_from-reads section tail file offset piece (text ++ rest) (Reads-spelled section offset piece (text ++ rest) (fits rest) b) in
+      e ∙ rw (behind, s.size) refl;
+}
+
+follows_section : (section : Option Order) (order : Order) (body : List ℕ) → MayFollow section (record { order = order; kind = section_kind; body = body })
+follows_section None order body = refl
+follows_section (Some section) order body = λ other. absurd (other refl)
+
+pub section_again-law : SectionAgain
+section_again-law section order =
+    let size = length-section_body order in
+    IsRead-text section order section_kind (section_body order) (follows_section section order (section_body order))
+    (SpellsBlock-text order section_kind (section_body order) (omega arith) (omega arith) (total_section _ size) (λ is. SpellsSection-body order))
+    (plain_section order)
+
+-- an option, and those behind it
+pad_size : (n : ℕ) → n + (padded n - n) ≡ padded n
+pad_size n = omega arith
+
+pub options_of-text : (order : Order) (code : ℕ) (value rest : List ℕ) → 0 < code → code < 256 ^ 2 → length value < 256 ^ 2
+    → options_of order (option_text order code value ++ rest) ≡ Ok (code, value) ∷ options_of order rest
+options_of-text order code value rest some few small =
+    let c = bytes_of order 2 code in
+    let l = bytes_of order 2 (length value) in
+    let pad : List ℕ = replicate (padded (length value) - length value) 0 in
+    let text = option_text order code value ++ rest in
+    let lc = length-bytes_of order 2 code in
+    let ll = length-bytes_of order 2 (length value) in
+    let lp = length-replicate {A = ℕ} (padded (length value) - length value) 0 in
+    let front : length (c ++ l) ≡ 4 = omega (arith, length-append c l) in
+    let padded_is = pad_size (length value) in
+    let whole : length (option_text order code value) ≡ 4 + padded (length value) =
+    omega (arith, length-append ((c ++ l) ++ value) pad, length-append (c ++ l) value) in
+    let code_is : code_at order text ≡ code = first_field order 2 code (l ++ (value ++ (pad ++ rest))) text (simp append_assoc) few in
+    let length_is : length_at order text ≡ length value =
+    field order 2 (length value) c (value ++ (pad ++ rest)) text 2 (simp append_assoc) lc small in
+    let behind : drop 4 text ≡ value ++ (pad ++ rest) =
+    ap (drop 4) (five (c ++ l) value pad rest) ∙ drop_at (c ++ l) (value ++ (pad ++ rest)) 4 front in
+    let value_is : take (length value) (drop 4 text) ≡ value = ap (take (length value)) behind ∙ take_at value (pad ++ rest) (length value) refl in
+    let rest_is : drop (4 + padded (length value)) text ≡ rest = drop_at (option_text order code value) rest (4 + padded (length value)) whole in
+    let more = options_of-more order text (λ zero. absurd (omega (arith, code_is, zero, some)))
+    (omega (arith, length_is, length-append (option_text order code value) rest)) in
+    rw (code_is, length_is, value_is, rest_is) at more
+
+options_of-last : (order : Order) → options_of order (option_text order 0 []) ≡ []
+options_of-last order =
+    options_of-end order (option_text order 0 [])
+    (first_field order 2 0 (bytes_of order 2 0 ++ ([] ++ [])) (option_text order 0 []) (simp append_assoc) (omega arith))
+
+options_of-offset : (order : Order) (seconds : ℕ) (zero : Bool) → (seconds == 0) ≡ zero
+    → options_of order (offset_option order seconds ++ option_text order 0 []) ≡ offset_items order seconds
+options_of-offset order seconds true is = rw is (options_of-last order)
+options_of-offset order seconds false is =
+    let size = length-bytes_of order 8 seconds in
+    rw is (options_of-text order 14 (bytes_of order 8 seconds) (option_text order 0 []) (omega arith) (omega arith) (omega arith)
+    ∙ ap (λ l. Ok (14, bytes_of order 8 seconds) ∷ l) (options_of-last order))
+
+interface_options-read : (order : Order) (interface : Interface)
+    → options_of order (interface_options order interface)
+    ≡ Ok (9, code_of interface.resolution ∷ []) ∷ offset_items order (cast_unsigned w64 interface.offset)
+interface_options-read order interface =
+    let seconds = cast_unsigned w64 interface.offset in
+    let first = option_text order 9 (code_of interface.resolution ∷ []) in
+    ap (options_of order) (append_assoc first (offset_option order seconds) (option_text order 0 []))
+    ∙ (options_of-text order 9 (code_of interface.resolution ∷ []) (offset_option order seconds ++ option_text order 0 [])
+    (omega arith) (omega arith) (omega arith)
+    ∙ ap (λ l. Ok (9, code_of interface.resolution ∷ []) ∷ l) (options_of-offset order seconds (seconds == 0) refl))
+
+total_interface : (n seconds : ℕ) (zero : Bool) → (seconds == 0) ≡ zero → n ≡ interface_total seconds → (is_total interface_kind n ≡ true) × (n < 256 ^ 4)
+unfolding is_total
+total_interface n seconds true zero is = let e = rw zero at is in (rw e refl, omega arith)
+total_interface n seconds false zero is = let e = rw zero at is in (rw e refl, omega arith)
+
+pub interface_again-law : InterfaceAgain
+interface_again-law order interface link snaplen =
+    let body = interface_body order interface in
+    let a = bytes_of order 2 interface.link in
+    let b = bytes_of order 2 0 in
+    let c = bytes_of order 4 interface.snaplen in
+    let d = interface_options order interface in
+    let la = length-bytes_of order 2 interface.link in
+    let lb = length-bytes_of order 2 0 in
+    let lc = length-bytes_of order 4 interface.snaplen in
+    let size = length-interface_body order interface in
+    let seconds = cast_unsigned w64 interface.offset in
+    let total = total_interface (12 + length body) seconds (seconds == 0) refl size in (
+      IsRead-text (Some order) order interface_kind body (λ other. refl)
+          (SpellsBlock-text order interface_kind body (omega arith) total.1 total.0 (λ is. absurd (omega (arith, is))))
+          (λ rest. plain_other order interface_kind body rest (interface_literal order)),
+      first_field order 2 interface.link (b ++ (c ++ d)) body (four a b c d) link,
+      field order 4 interface.snaplen (a ++ b) d body 4 (append_assoc (a ++ b) c d) (omega (arith, length-append a b)) snaplen,
+      ap (options_of order) (drop_at ((a ++ b) ++ c) d 8 (omega (arith, length-append (a ++ b) c, length-append a b)))
+          ∙ interface_options-read order interface,
+    )
+
+total_packet : (n size : ℕ) → n ≤ 262144 → size ≡ 32 + padded n → (is_total enhanced_kind size ≡ true) × (size < 256 ^ 4)
+unfolding is_total
+total_packet n size few is =
+    let e : size % 4 ≡ 0 = omega arith in
+    let f : 32 ≤ size = omega arith in
+    let g : size ≤ 524288 = omega arith in
+    (grind (arith, nat_tests), omega arith)
+
+seven_high : (a b c d e f g : List ℕ) → (((((a ++ b) ++ c) ++ d) ++ e) ++ f) ++ g ≡ a ++ (b ++ (c ++ (d ++ (e ++ (f ++ g)))))
+seven_high a b c d e f g = simp append_assoc
+
+seven_low : (a b c d e f g : List ℕ) → (((((a ++ b) ++ c) ++ d) ++ e) ++ f) ++ g ≡ (a ++ b) ++ (c ++ (d ++ (e ++ (f ++ g))))
+seven_low a b c d e f g = simp append_assoc
+
+seven_captured : (a b c d e f g : List ℕ) → (((((a ++ b) ++ c) ++ d) ++ e) ++ f) ++ g ≡ ((a ++ b) ++ c) ++ (d ++ (e ++ (f ++ g)))
+seven_captured a b c d e f g = simp append_assoc
+
+seven_original : (a b c d e f g : List ℕ) → (((((a ++ b) ++ c) ++ d) ++ e) ++ f) ++ g ≡ (((a ++ b) ++ c) ++ d) ++ (e ++ (f ++ g))
+seven_original a b c d e f g = simp append_assoc
+
+seven_data : (a b c d e f g : List ℕ) → (((((a ++ b) ++ c) ++ d) ++ e) ++ f) ++ g ≡ ((((a ++ b) ++ c) ++ d) ++ e) ++ (f ++ g)
+seven_data a b c d e f g = simp append_assoc
+
+pub packet_again-law : PacketAgain
+packet_again-law order interface units original bytes fits_i fits_u fits_o few =
+    let body = packet_body order interface units original bytes in
+    let a = bytes_of order 4 interface in
+    let b = bytes_of order 4 (units / 2 ^ 32) in
+    let c = bytes_of order 4 (units % 2 ^ 32) in
+    let d = bytes_of order 4 (length bytes) in
+    let e = bytes_of order 4 original in
+    let g : List ℕ = replicate (padded (length bytes) - length bytes) 0 in
+    let la = length-bytes_of order 4 interface in
+    let lb = length-bytes_of order 4 (units / 2 ^ 32) in
+    let lc = length-bytes_of order 4 (units % 2 ^ 32) in
+    let ld = length-bytes_of order 4 (length bytes) in
+    let le = length-bytes_of order 4 original in
+    let two : length (a ++ b) ≡ 8 = omega (arith, length-append a b) in
+    let three : length ((a ++ b) ++ c) ≡ 12 = omega (arith, length-append (a ++ b) c) in
+    let head : length (((a ++ b) ++ c) ++ d) ≡ 16 = omega (arith, length-append ((a ++ b) ++ c) d) in
+    let front : length ((((a ++ b) ++ c) ++ d) ++ e) ≡ 20 = omega (arith, length-append (((a ++ b) ++ c) ++ d) e) in
+    let total = total_packet (length bytes) (12 + length body) few (length-packet_body order interface units original bytes) in
+    let high = field order 4 (units / 2 ^ 32) a (c ++ (d ++ (e ++ (bytes ++ g)))) body 4 (seven_high a b c d e bytes g) la (omega arith) in
+    let low = field order 4 (units % 2 ^ 32) (a ++ b) (d ++ (e ++ (bytes ++ g))) body 8 (seven_low a b c d e bytes g) two (omega arith) in (
+      IsRead-text (Some order) order enhanced_kind body (λ other. refl)
+          (SpellsBlock-text order enhanced_kind body (omega arith) total.1 total.0 (λ is. absurd (omega (arith, is))))
+          (λ rest. plain_other order enhanced_kind body rest (packet_literal order)),
+      first_field order 4 interface (b ++ (c ++ (d ++ (e ++ (bytes ++ g))))) body (seven_high a b c d e bytes g) fits_i,
+      rw (high, low) (omega arith),
+      field order 4 (length bytes) ((a ++ b) ++ c) (e ++ (bytes ++ g)) body 12 (seven_captured a b c d e bytes g) three (omega arith),
+      field order 4 original (((a ++ b) ++ c) ++ d) (bytes ++ g) body 16 (seven_original a b c d e bytes g) head fits_o,
+      ap (λ l. take (length bytes) (drop 20 l)) (seven_data a b c d e bytes g)
+          ∙ (ap (take (length bytes)) (drop_at ((((a ++ b) ++ c) ++ d) ++ e) (bytes ++ g) 20 front) ∙ take_at bytes g (length bytes) refl),
+    )

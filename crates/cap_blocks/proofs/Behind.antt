@@ -1,0 +1,274 @@
+-- What the rest of a block is refused by.
+use Rattle.std.proofs.Common.{◌≡◌, ℕ, ◌-◌, ◌≤◌, ◌<◌, ◌==◌, not, List, ◌++◌, length, take, drop, Option, Some, None, IsSome, IfSome, IfNone, Bool, true, false, IsTrue, Result, Ok, Err, refl, sym, ◌∙◌, ap, subst, arith, drop-drop, length-append, length-drop, nat_lt}
+use Rattle.std.proofs.lemmas.Bool.Decides.{nat_tests}
+use Rattle.std.proofs.lemmas.List.{take-append-drop, drop-append-le}
+use Rattle.cap_bytes.specs.Number.{number}
+use Rattle.cap_bytes.specs.Window.{State, Goes, Needs, Skips, Drops, DropsAll, Passes, coming}
+use Rattle.cap_bytes.specs.declared.faults.Fault.{Fault}
+use Rattle.cap_bytes.specs.declared.faults.Fault.TheVariants.{Refused, Read, Write, Memory}
+use Rattle.cap_bytes.specs.declared.faults.Rule.{Rule}
+use Rattle.cap_bytes.specs.declared.faults.Rule.TheVariants.{Cut, BlockTrailer, Version}
+use Rattle.cap_bytes.specs.declared.numbers.Order.{Order}
+use Rattle.cap_bytes.proofs.Spelling.{number-append}
+use Rattle.cap_blocks.specs.Grammar.{section_kind, is_known, is_version}
+use Rattle.cap_blocks.specs.Sights.{IsFront, SeesRest, LooksAtRest, SkipsRest, told_at}
+use Rattle.cap_blocks.specs.Split.{kind_at, total_at, has_other_version, rest_fault}
+use Rattle.cap_blocks.specs.declared.blocks.Block.{Block}
+use Rattle.cap_blocks.proofs.Faults.{total-section, number-drop_append}
+use Rattle.cap_blocks.proofs.Looking.{all_shown}
+
+-- the rest of a block, condition by condition
+pub rest_fault-cut : (order : Order) (bytes : List ℕ) → length bytes < total_at order bytes → rest_fault order bytes ≡ Some Cut
+unfolding rest_fault
+rest_fault-cut order bytes few = grind (arith, nat_tests)
+
+-- there are as many
+pub there : (n m : ℕ) → m ≤ n → nat_lt n m ≡ false
+there n m h = grind (arith, nat_tests)
+
+pub differs : (a b : ℕ) → (a ≡ b → ⊥) → (a == b) ≡ false
+differs a b h = grind (arith, nat_tests)
+
+pub same : (a b : ℕ) → a ≡ b → (a == b) ≡ true
+same a b h = grind (arith, nat_tests)
+
+pub rest_fault-trailer : (order : Order) (bytes : List ℕ) → total_at order bytes ≤ length bytes
+    → (number order 4 (drop (total_at order bytes - 4) bytes) ≡ total_at order bytes → ⊥) → rest_fault order bytes ≡ Some BlockTrailer
+unfolding rest_fault
+rest_fault-trailer order bytes whole other =
+    let e = there (length bytes) (total_at order bytes) whole in
+    let f = differs _ _ other in
+    rw (e, f) refl
+
+pub rest_fault-version : (order : Order) (bytes : List ℕ) → total_at order bytes ≤ length bytes
+    → number order 4 (drop (total_at order bytes - 4) bytes) ≡ total_at order bytes
+    → has_other_version order bytes ≡ true → rest_fault order bytes ≡ Some Version
+unfolding rest_fault
+rest_fault-version order bytes whole trailer version =
+    let e = there (length bytes) (total_at order bytes) whole in
+    let f = same _ _ trailer in
+    rw (e, f, version) refl
+
+pub rest_fault-whole : (order : Order) (bytes : List ℕ) → total_at order bytes ≤ length bytes
+    → number order 4 (drop (total_at order bytes - 4) bytes) ≡ total_at order bytes
+    → has_other_version order bytes ≡ false → rest_fault order bytes ≡ None
+unfolding rest_fault
+rest_fault-whole order bytes whole trailer version =
+    let e = there (length bytes) (total_at order bytes) whole in
+    let f = same _ _ trailer in
+    rw (e, f, version) refl
+
+-- which blocks have another version
+pub no_version : (order : Order) (bytes : List ℕ) → (kind_at order bytes ≡ section_kind → ⊥) → has_other_version order bytes ≡ false
+no_version order bytes other = let e = differs _ _ other in rw e refl
+
+pub version_is : (order : Order) (bytes : List ℕ) (read : Bool) → kind_at order bytes ≡ section_kind
+    → is_version (number order 2 (drop 12 bytes)) (number order 2 (drop 14 bytes)) ≡ read → has_other_version order bytes ≡ not read
+version_is order bytes read section is = let e = same _ _ section in rw (e, is) refl
+
+pub unknown_section : (kind : ℕ) → is_known kind ≡ false → kind ≡ section_kind → ⊥
+unknown_section kind unknown is = grind (arith, nat_tests)
+
+-- more bytes behind a block make no difference
+version_same : (here : Bool) (order : Order) (xs zs : List ℕ) → (kind_at order xs == section_kind) ≡ here → kind_at order zs ≡ kind_at order xs
+    → (here ≡ true → number order 2 (drop 12 zs) ≡ number order 2 (drop 12 xs))
+    → (here ≡ true → number order 2 (drop 14 zs) ≡ number order 2 (drop 14 xs))
+    → has_other_version order zs ≡ has_other_version order xs
+version_same true order xs zs is kind major minor = rw (kind, major refl, minor refl) refl
+version_same false order xs zs is kind major minor = rw (kind, is) refl
+
+pub rest_fault-append : (order : Order) (xs ys : List ℕ) → 12 ≤ total_at order xs → total_at order xs ≤ length xs
+    → (kind_at order xs ≡ section_kind → 28 ≤ total_at order xs) → rest_fault order (xs ++ ys) ≡ rest_fault order xs
+unfolding rest_fault
+rest_fault-append order xs ys least whole section =
+    let total : total_at order (xs ++ ys) ≡ total_at order xs = number-drop_append order 4 4 xs ys (omega arith) in
+    let trailer : number order 4 (drop (total_at order xs - 4) (xs ++ ys)) ≡ number order 4 (drop (total_at order xs - 4) xs) =
+    number-drop_append order 4 (total_at order xs - 4) xs ys (omega arith) in
+    let size = λ (is : (kind_at order xs == section_kind) ≡ true). section (grind (arith, nat_tests)) in
+    let version = version_same (kind_at order xs == section_kind) order xs (xs ++ ys) refl (number-append order 4 xs ys (omega arith))
+    (λ is. number-drop_append order 2 12 xs ys (omega (arith, size is)))
+    (λ is. number-drop_append order 2 14 xs ys (omega (arith, size is))) in
+    let e = there (length xs) (total_at order xs) whole in
+    let f = there (length (xs ++ ys)) (total_at order xs) (omega (arith, length-append xs ys)) in
+    rw (total, trailer, version, e, f) refl
+
+-- the first 12 bytes of a block are those of a longer list
+pub IsFront-append : (block : Block) (offset : ℕ) (xs ys : List ℕ) → IsFront block offset xs → IsFront block offset (xs ++ ys)
+IsFront-append block offset xs ys f =
+    let head = f.head in
+    record {
+      head = omega (arith, length-append xs ys);
+      offset_is = f.offset_is;
+      kind = f.kind ∙ sym (number-append block.order 4 xs ys (omega arith));
+      total = f.total ∙ sym (number-drop_append block.order 4 4 xs ys (omega arith));
+      allowed = f.allowed;
+      least = f.least;
+      limit = f.limit;
+    }
+
+pub IsFront-front : (block : Block) (offset later : ℕ) (xs zs : List ℕ) → IsFront block offset xs → take (length xs) zs ≡ xs → later ≡ offset
+    → IsFront block later zs
+IsFront-front block offset later xs zs f front at =
+    let whole : xs ++ drop (length xs) zs ≡ zs = ap (λ l. l ++ drop (length xs) zs) (sym front) ∙ take-append-drop (length xs) zs in
+    subst (λ (n : ℕ). IsFront block n zs) (sym at)
+    (subst (λ (l : List ℕ). IsFront block offset l) whole (IsFront-append block offset xs (drop (length xs) zs) f))
+
+-- a block of a known kind is shown whole
+pub SeesRest-known : (block : Block) (old new : State) (fault : Option Rule) → IsFront block old.offset old.shown → is_known block.kind ≡ true
+    → Needs block.total old (Ok true) new → fault ≡ rest_fault block.order new.shown → SeesRest block fault old new
+SeesRest-known block old new fault f known n is =
+    let later = IsFront-front block old.offset old.offset old.shown new.shown f n.0.front refl in
+    let least = f.least in
+    record {
+      goes = n.0.goes;
+      told_fault = λ t. ap (rest_fault block.order) (sym (n.0.coming_same t))
+          ∙ (rest_fault-append block.order new.shown new.unread (omega (arith, later.total)) (omega (arith, later.total, n.1))
+          (λ section. omega (arith, later.total, total-section block.kind block.total f.allowed (later.kind ∙ section)))
+          ∙ sym is);
+      left = λ none. rw known (n.0.offset, n.1, n.0.coming_same);
+    }
+
+-- the input ends inside it
+pub SeesRest-cut : (block : Block) (old new : State) → IsFront block old.offset old.shown
+    → Needs block.total old (Ok false) new → SeesRest block (Some Cut) old new
+SeesRest-cut block old new f n =
+    let later = IsFront-front block old.offset old.offset old.shown new.shown f n.0.front refl in
+    record {
+      goes = n.0.goes;
+      told_fault = λ t. ap (rest_fault block.order) (all_shown old new n.0 n.2 t)
+          ∙ rest_fault-cut block.order new.shown (omega (arith, later.total, n.1));
+      left = λ none. absurd (cc);
+    }
+
+-- a block that is skipped: the bytes to come before it
+pub skipped_total : (block : Block) (old : State) → IsFront block old.offset old.shown → block.total ≡ total_at block.order (coming old)
+skipped_total block old f = (IsFront-append block old.offset old.shown old.unread f).total
+
+pub skipped_kind : (block : Block) (old : State) → IsFront block old.offset old.shown → block.kind ≡ kind_at block.order (coming old)
+skipped_kind block old f = (IsFront-append block old.offset old.shown old.unread f).kind
+
+pub Goes-trans : (a b c : State) → Goes a b → Goes b c → Goes a c
+Goes-trans a b c p q = record { before = p.before; after = q.after; failed = q.failed ∙ p.failed }
+
+-- the input ends in the part that is skipped
+pub SeesRest-ended : (block : Block) (old new : State) → IsFront block old.offset old.shown → DropsAll (block.total - 4) old new
+    → SeesRest block (Some Cut) old new
+SeesRest-ended block old new f d = record {
+  goes = d.goes;
+  told_fault = λ t. rest_fault-cut block.order (coming old) (omega (arith, skipped_total block old f, d.offset t, d.fewer));
+  left = λ none. absurd (cc);
+}
+
+-- the input ends in its trailer
+pub SeesRest-short : (block : Block) (old mid new : State) → IsFront block old.offset old.shown → Drops (block.total - 4) old mid
+    → (IsTrue old.told → IsTrue mid.told) → Needs 4 mid (Ok false) new → SeesRest block (Some Cut) old new
+SeesRest-short block old mid new f d told n = record {
+  goes = Goes-trans old mid new d.goes n.0.goes;
+  told_fault = λ t.
+      let rest = ap length (sym (d.coming_dropped t) ∙ all_shown mid new n.0 n.2 (told t)) in
+      rest_fault-cut block.order (coming old)
+      (omega (arith, skipped_total block old f, rest, length-drop (block.total - 4) (coming old), n.1, f.least));
+  left = λ none. absurd (cc);
+}
+
+-- its trailer is shown
+trailer_shown : (block : Block) (old mid new : State) → IsFront block old.offset old.shown → Drops (block.total - 4) old mid
+    → (IsTrue old.told → IsTrue mid.told) → Needs 4 mid (Ok true) new → IsTrue old.told
+    → (total_at block.order (coming old) ≤ length (coming old))
+    × (number block.order 4 (drop (total_at block.order (coming old) - 4) (coming old)) ≡ number block.order 4 new.shown)
+trailer_shown block old mid new f d told n t =
+    let rest : new.shown ++ new.unread ≡ drop (block.total - 4) (coming old) = n.0.coming_same (told t) ∙ d.coming_dropped t in
+    let total = skipped_total block old f in (
+      omega (arith, total, ap length rest, length-append new.shown new.unread, length-drop (block.total - 4) (coming old), n.1, f.least),
+      rw (← total, ← rest) (number-append block.order 4 new.shown new.unread n.1),
+    )
+
+pub SeesRest-other : (block : Block) (old mid new : State) → IsFront block old.offset old.shown → Drops (block.total - 4) old mid
+    → (IsTrue old.told → IsTrue mid.told) → Needs 4 mid (Ok true) new → (number block.order 4 new.shown ≡ block.total → ⊥)
+    → SeesRest block (Some BlockTrailer) old new
+SeesRest-other block old mid new f d told n other = record {
+  goes = Goes-trans old mid new d.goes n.0.goes;
+  told_fault = λ t.
+      let e = trailer_shown block old mid new f d told n t in
+      rest_fault-trailer block.order (coming old) e.0
+      (λ is. other (sym e.1 ∙ (is ∙ sym (skipped_total block old f))));
+  left = λ none. absurd (cc);
+}
+
+pub SeesRest-skipped : (block : Block) (old mid new last : State) → IsFront block old.offset old.shown → is_known block.kind ≡ false
+    → Drops (block.total - 4) old mid → (IsTrue old.told → IsTrue mid.told) → Needs 4 mid (Ok true) new → number block.order 4 new.shown ≡ block.total
+    → Passes 4 new last → SeesRest block None old last
+SeesRest-skipped block old mid new last f unknown d told n trailer p = record {
+  goes = Goes-trans old new last (Goes-trans old mid new d.goes n.0.goes)
+      (record { before = n.0.goes.after; after = p.broken ∙ n.0.goes.after; failed = p.failed });
+  told_fault = λ t.
+      let e = trailer_shown block old mid new f d told n t in
+      rest_fault-whole block.order (coming old) e.0 (e.1 ∙ (trailer ∙ skipped_total block old f))
+      (no_version block.order (coming old) (λ section. unknown_section block.kind unknown (skipped_kind block old f ∙ section)));
+  left = λ none. rw unknown (
+    omega (arith, p.offset, n.0.offset, d.offset, f.least),
+    λ t. ap (λ l. l ++ last.unread) p.shown ∙ (ap (λ l. drop 4 new.shown ++ l) p.unread
+        ∙ (sym (drop-append-le 4 new.shown new.unread n.1)
+        ∙ (ap (drop 4) (n.0.coming_same (told t) ∙ d.coming_dropped t)
+        ∙ (drop-drop 4 (block.total - 4) (coming old) ∙ ap (λ k. drop k (coming old)) (omega (arith, f.least)))))),
+  );
+}
+
+pub if_none : (o : Option ℕ) (P : Type 0) → o ≡ None → P → IfNone o P
+if_none None P e h = h
+if_none (Some n) P e h = absurd (cc)
+
+pub from_none : (o : Option ℕ) (P : Type 0) → o ≡ None → IfNone o P → P
+from_none None P e h = h
+from_none (Some n) P e h = absurd (cc)
+
+pub if_some : (o : Option ℕ) (P : ℕ → Type 0) → o ≡ None → IfSome o P
+if_some None P e = tt
+if_some (Some n) P e = absurd (cc)
+
+if_none_map : (o : Option ℕ) (P Q : Type 0) → (P → Q) → IfNone o P → IfNone o Q
+if_none_map None P Q f h = f h
+if_none_map (Some n) P Q f h = tt
+
+some_is : (o : Option ℕ) (n : ℕ) → o ≡ Some n → IsSome o
+some_is o n e = rw e refl
+
+-- a read fails
+pub LooksAtRest-fault : (block : Block) (n : ℕ) (old new : State) (fault : Fault) → n ≤ 524288 → Needs n old (Err fault) new
+    → LooksAtRest block old (Err fault) new
+LooksAtRest-fault block n old new (Read file offset) few (b, same) = record {
+  file_is = b.file_is;
+  again = b.again;
+  first = if_none_map old.broken ((offset ≡ new.offset) × IsTrue new.failed) (offset ≡ old.offset) (λ h. h.0 ∙ same) b.first;
+  after = some_is new.broken offset b.after;
+  failed = b.failed;
+  can_fail = b.can_fail;
+}
+LooksAtRest-fault block n old new Memory few h = (h.0, omega (arith, h.1))
+LooksAtRest-fault block n old new Write few h = absurd h
+LooksAtRest-fault block n old new (Refused refusal) few h = absurd h
+
+-- a read fails in a block that is skipped
+pub SkipsRest-fault : (block : Block) (n : ℕ) (old new : State) (fault : Fault) → 12 ≤ old.room → old.broken ≡ None
+    → Skips n old (Err fault) new → SkipsRest block old (Err fault) new
+SkipsRest-fault block n old new (Read file offset) room whole (b, later) =
+    (b.file_is, whole, some_is new.broken offset b.after, b.failed, b.can_fail)
+SkipsRest-fault block n old new Memory room whole h = omega (arith, h.1)
+SkipsRest-fault block n old new Write room whole h = absurd h
+SkipsRest-fault block n old new (Refused refusal) room whole h = absurd h
+
+-- it is told with the block's own offset
+pub LooksAtRest-told : (block : Block) (old new : State) (answer : Result (Option Rule) Fault) → block.offset ≡ old.offset
+    → SkipsRest block old answer new → LooksAtRest block old (told_at block.offset answer) new
+LooksAtRest-told block old new (Ok fault) at s = s
+LooksAtRest-told block old new (Err (Read file offset)) at s = record {
+  file_is = s.0;
+  again = if_some old.broken (λ first. block.offset ≡ first) s.1;
+  first = if_none old.broken (block.offset ≡ old.offset) s.1 at;
+  after = s.2;
+  failed = s.3;
+  can_fail = s.4;
+}
+LooksAtRest-told block old new (Err Memory) at s = absurd s
+LooksAtRest-told block old new (Err Write) at s = absurd s
+LooksAtRest-told block old new (Err (Refused refusal)) at s = absurd s

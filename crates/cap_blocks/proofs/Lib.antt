@@ -1,0 +1,12 @@
+pub mod OptionLaws
+pub mod Again
+pub mod Behind
+pub mod Bytes
+pub mod Faults
+pub mod Finding
+pub mod Items
+pub mod Looking
+pub mod Parts
+pub mod Reading
+pub mod Spelling
+pub mod Splitting

@@ -1,0 +1,87 @@
+-- What a window shows of a block.
+use Rattle.std.proofs.Common.{◌≡◌, ℕ, ◌==◌, ◌&&◌, List, [], ◌∷◌, ◌++◌, length, Option, Some, None, is_some, IsSome, Bool, true, false, IsTrue, Ok, refl, sym, ◌∙◌, ap, arith, append-nil, length-append}
+use Rattle.std.proofs.lemmas.Bool.Decides.{nat_tests}
+use Rattle.cap_bytes.specs.Window.{State, Shows, Needs, Keeps, coming}
+use Rattle.cap_bytes.specs.declared.faults.Rule.{Rule}
+use Rattle.cap_bytes.specs.declared.faults.Tail.{Tail}
+use Rattle.cap_bytes.specs.declared.numbers.Order.{Order}
+use Rattle.cap_blocks.specs.Sights.{FindsOwnOrder, FindsOrder, IsFront, SeesFront, SeesStop}
+use Rattle.cap_blocks.specs.Split.{is_section, own_order, order_at, front_fault, block_at, stop_at, stop_by}
+use Rattle.cap_blocks.specs.declared.blocks.Block.{Block}
+use Rattle.cap_blocks.specs.declared.blocks.Stop.TheVariants as stops
+use Rattle.cap_blocks.proofs.Faults.{total-least, HeadFits-from_front, front_fault-append, block_at-append, block_fault-front, stop_at-end, stop_at-fault, IsStopAt-stop_by, not_empty}
+
+-- a section header's order is its own
+pub FindsOrder-own : (section : Option Order) (bytes : List ℕ) (found : Option Order) → order_at section bytes ≡ own_order bytes
+    → is_section bytes ≡ true → FindsOwnOrder bytes found → FindsOrder section bytes found
+FindsOrder-own section bytes (Some order) same head own = (own.0 ∙ sym same, rw (same, head, own.1) refl)
+FindsOrder-own section bytes None same head own = rw (same, head, own) refl
+
+-- a block as its first 12 bytes tell it
+pub IsFront-at : (section : Option Order) (offset : ℕ) (bytes : List ℕ) → front_fault section offset bytes ≡ None
+    → IsFront (block_at section offset bytes) offset bytes
+unfolding block_at
+IsFront-at section offset bytes none =
+    let f = HeadFits-from_front section offset bytes none in
+    record {
+      head = f.head;
+      offset_is = refl;
+      kind = refl;
+      total = refl;
+      allowed = f.allowed;
+      least = total-least _ _ f.allowed;
+      limit = f.limit;
+    }
+
+-- where the input ends, what is shown is all that comes
+pub all_shown : (old new : State) → Shows old new → (IsTrue old.told → new.unread ≡ []) → IsTrue old.told → coming old ≡ new.shown
+all_shown old new s none t = sym (s.coming_same t) ∙ (ap (λ l. new.shown ++ l) (none t) ∙ append-nil new.shown)
+
+-- the first 12 bytes of a block are shown
+pub SeesFront-parsed : (there : Bool) (section : Option Order) (old new : State) (block : Block) → Needs 12 old (Ok there) new → Keeps old new
+    → front_fault section old.offset new.shown ≡ None → block ≡ block_at section old.offset new.shown → SeesFront section block old new
+SeesFront-parsed true section old new block n k none is = record {
+  shows = n.0;
+  front = rw is (IsFront-at section old.offset new.shown none);
+  room = omega (arith, n.1, k.shown_held, k.held_room);
+  none = λ t. ap (front_fault section old.offset) (sym (n.0.coming_same t)) ∙ (front_fault-append section old.offset new.shown new.unread n.1 ∙ none);
+  block_is = λ t. is ∙ sym (ap (block_at section old.offset) (sym (n.0.coming_same t)) ∙ block_at-append section old.offset new.shown new.unread n.1);
+}
+SeesFront-parsed false section old new block n k none is =
+    absurd (omega (arith, (HeadFits-from_front section old.offset new.shown none).head, n.1))
+
+-- no block is there, since its first 12 bytes are refused
+pub SeesStop-front : (there : Bool) (section : Option Order) (tail : Tail) (old new : State) (rule : Rule) → Needs 12 old (Ok there) new
+    → (is_some section && (length new.shown == 0)) ≡ false → front_fault section old.offset new.shown ≡ Some rule
+    → SeesStop section tail (stop_by section tail old.file old.offset rule) old new
+SeesStop-front true section tail old new rule n some fault = record {
+  goes = n.0.goes;
+  is_stop = IsStopAt-stop_by section tail old.file old.offset rule;
+  told_stop = λ t. ap (stop_at section tail old.file old.offset) (sym (n.0.coming_same t))
+      ∙ stop_at-fault section tail old.file old.offset (coming new) rule
+      (not_empty (is_some section) (length (coming new)) (omega (arith, n.1, length-append new.shown new.unread)))
+      (block_fault-front section old.offset (coming new) rule (front_fault-append section old.offset new.shown new.unread n.1 ∙ fault));
+}
+SeesStop-front false section tail old new rule n some fault = record {
+  goes = n.0.goes;
+  is_stop = IsStopAt-stop_by section tail old.file old.offset rule;
+  told_stop = λ t. ap (stop_at section tail old.file old.offset) (all_shown old new n.0 n.2 t)
+      ∙ stop_at-fault section tail old.file old.offset new.shown rule some (block_fault-front section old.offset new.shown rule fault);
+}
+
+-- no block is there, since nothing is
+ends_now : (section : Option Order) (xs : List ℕ) → (is_some section && (length xs == 0)) ≡ true → IsSome section × (xs ≡ [])
+ends_now None xs h = absurd (cc)
+ends_now (Some section) [] h = (refl, refl)
+ends_now (Some section) (x ∷ xs) h = absurd (grind (arith, nat_tests))
+
+pub SeesStop-end : (there : Bool) (section : Option Order) (tail : Tail) (old new : State) → Needs 12 old (Ok there) new
+    → (is_some section && (length new.shown == 0)) ≡ true → SeesStop section tail stops.End old new
+SeesStop-end true section tail old new n ends = absurd (omega (arith, n.1, ap length (ends_now section new.shown ends).1))
+SeesStop-end false section tail old new n ends =
+    let e = ends_now section new.shown ends in
+    record {
+      goes = n.0.goes;
+      is_stop = e.0;
+      told_stop = λ t. ap (stop_at section tail old.file old.offset) (all_shown old new n.0 n.2 t ∙ e.1) ∙ stop_at-end section tail old.file old.offset e.0;
+    }

@@ -1,0 +1,98 @@
+-- Texts that are put together in pieces, and written in parts.
+use Rattle.std.proofs.Common.{◌≡◌, ℕ, ◌+◌, ◌≤◌, List, [], ◌∷◌, ◌++◌, length, take, Result, Ok, Err, min, refl, sym, ◌∙◌, ap, arith, append_assoc, length-append}
+use Rattle.std.proofs.lemmas.Bool.Decides.{nat_tests}
+use Rattle.std.proofs.lemmas.List.{take-append-le, take_min, length-replicate}
+use Rattle.std.proofs.Math.Seq.{take-append-add}
+use Rattle.std.specs.Int.{w64, cast_unsigned}
+use Rattle.cap_bytes.specs.Device.{Puts}
+use Rattle.cap_bytes.specs.Number.{bytes_of}
+use Rattle.cap_bytes.specs.declared.faults.Fault.{Fault}
+use Rattle.cap_bytes.specs.declared.numbers.Order.{Order}
+use Rattle.cap_bytes.proofs.Spelling.{length-bytes_of}
+use Rattle.cap_time.specs.Resolution.{code_of}
+use Rattle.cap_time.specs.declared.resolutions.Interface.{Interface}
+use Rattle.cap_blocks.specs.Grammar.{section_kind, interface_kind, enhanced_kind, order_magic, block_text, section_body, option_text, offset_option, interface_body, packet_body, interface_total, packet_head, packet_tail, section_text, interface_text, packet_text}
+use Rattle.cap_blocks.specs.OptionList.{padded}
+
+-- a block by its total length
+pub block_text-sized : (order : Order) (kind total : ℕ) (body : List ℕ) → 12 + length body ≡ total
+    → block_text order kind body ≡ bytes_of order 4 kind ++ bytes_of order 4 total ++ body ++ bytes_of order 4 total
+unfolding block_text
+block_text-sized order kind total body size = rw size refl
+
+-- how long the written bodies are
+pub length-section_body : (order : Order) → length (section_body order) ≡ 16
+length-section_body order = simp (length-append, length-bytes_of)
+
+pub length-offset_option : (order : Order) (seconds : ℕ) → length (offset_option order seconds) + 32 ≡ interface_total seconds
+length-offset_option order seconds =
+    let eight = length-bytes_of order 8 seconds in
+    let some : length (option_text order 14 (bytes_of order 8 seconds)) ≡ 12 = simp (length-append, length-bytes_of) in
+    grind (arith, nat_tests)
+
+pub interface_total-most : (seconds : ℕ) → interface_total seconds ≤ 44
+interface_total-most seconds = grind (arith, nat_tests)
+
+-- the options round that of the offset
+length_around : (order : Order) (link snaplen code : ℕ) (offset : List ℕ)
+    → length (bytes_of order 2 link ++ bytes_of order 2 0 ++ bytes_of order 4 snaplen
+    ++ (option_text order 9 (code ∷ []) ++ offset ++ option_text order 0 []))
+    ≡ 20 + length offset
+length_around order link snaplen code offset = simp (length-append, length-bytes_of) (omega arith)
+
+pub length-interface_body : (order : Order) (interface : Interface)
+    → 12 + length (interface_body order interface) ≡ interface_total (cast_unsigned w64 interface.offset)
+length-interface_body order interface =
+    ap (λ n. 12 + n) (length_around order interface.link interface.snaplen (code_of interface.resolution) (offset_option order (cast_unsigned w64 interface.offset)))
+    ∙ (omega (arith, length-offset_option order (cast_unsigned w64 interface.offset)))
+
+pub length-packet_body : (order : Order) (interface units original : ℕ) (bytes : List ℕ)
+    → 12 + length (packet_body order interface units original bytes) ≡ 32 + padded (length bytes)
+length-packet_body order interface units original bytes =
+    simp (length-append, length-bytes_of, length-replicate) (omega arith)
+
+-- a section header, piece by piece
+pub section_text-pieces : (order : Order)
+    → (((((([] ++ bytes_of order 4 section_kind) ++ bytes_of order 4 28) ++ bytes_of order 4 order_magic) ++ bytes_of order 2 1)
+    ++ bytes_of order 2 0) ++ bytes_of order 8 0xFFFF_FFFF_FFFF_FFFF) ++ bytes_of order 4 28
+    ≡ section_text order
+section_text-pieces order =
+    rw (block_text-sized order section_kind 28 (section_body order) (ap (λ n. 12 + n) (length-section_body order))) (simp append_assoc)
+
+-- an interface block, piece by piece
+pub interface_text-pieces : (order : Order) (interface : Interface) (total : ℕ) → total ≡ interface_total (cast_unsigned w64 interface.offset)
+    → ((((((((((([] ++ bytes_of order 4 interface_kind) ++ bytes_of order 4 total) ++ bytes_of order 2 interface.link) ++ bytes_of order 2 0)
+    ++ bytes_of order 4 interface.snaplen) ++ bytes_of order 2 9) ++ bytes_of order 2 1)
+    ++ (code_of interface.resolution ∷ 0 ∷ 0 ∷ 0 ∷ [])) ++ offset_option order (cast_unsigned w64 interface.offset))
+    ++ bytes_of order 2 0) ++ bytes_of order 2 0) ++ bytes_of order 4 total
+    ≡ interface_text order interface
+interface_text-pieces order interface total is =
+    rw (block_text-sized order interface_kind total (interface_body order interface)
+    (length-interface_body order interface ∙ sym is)) (simp append_assoc)
+
+-- a packet, in the three parts that are written
+pub packet_text-parts : (order : Order) (interface units original : ℕ) (bytes : List ℕ)
+    → packet_head order interface units (length bytes) original ++ (bytes ++ packet_tail order (length bytes))
+    ≡ packet_text order interface units original bytes
+packet_text-parts order interface units original bytes =
+    rw (block_text-sized order enhanced_kind (32 + padded (length bytes)) (packet_body order interface units original bytes)
+    (length-packet_body order interface units original bytes)) (simp append_assoc)
+
+-- a front of the first part is a front of the whole
+pub Puts-first : (A : Type 0) (old new head rest : List ℕ) (fault : Fault) → Puts {A = A} old (Err fault) new head
+    → Puts {A = A} old (Err fault) new (head ++ rest)
+Puts-first A old new head rest fault p = (
+  min p.0 (length head),
+  p.1 ∙ ap (λ l. old ++ l) (sym (take-append-le (min p.0 (length head)) head rest (omega arith) ∙ take_min p.0 head)),
+)
+
+-- the second part follows the first
+pub Puts-second : (A : Type 0) (old mid new head rest : List ℕ) (result : Result A Fault) → mid ≡ old ++ head → Puts mid result new rest
+    → Puts old result new (head ++ rest)
+Puts-second A old mid new head rest (Ok x) first second =
+    second ∙ (ap (λ l. l ++ rest) first ∙ append_assoc old head rest)
+Puts-second A old mid new head rest (Err fault) first second = (
+  length head + second.0,
+  second.1 ∙ (ap (λ l. l ++ take second.0 rest) first ∙ (append_assoc old head (take second.0 rest)
+      ∙ ap (λ l. old ++ l) (sym (take-append-add head rest second.0)))),
+)

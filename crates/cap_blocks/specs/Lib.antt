@@ -1,0 +1,7 @@
+pub mod Grammar
+pub mod Laws
+pub mod OptionList
+pub mod Options
+pub mod Reader
+pub mod Sights
+pub mod Split

@@ -1,0 +1,137 @@
+-- What is seen at the front of the bytes that a window shows.
+use Rattle.std.specs.Prelude.{◌≡◌, ◌&&◌, not, true, false, Bool, ◌≤◌, ◌<◌, ◌+◌, ◌^◌, ℕ, List, length, drop, IsTrue, Option, Some, None, IfSome, IfNone, IsSome, Result, Ok, Err}
+use Rattle.cap_bytes.specs.Window.{State, Goes, Shows, coming}
+use Rattle.cap_bytes.specs.declared.faults.Fault.{Fault}
+use Rattle.cap_bytes.specs.declared.faults.Fault.TheVariants.{Refused, Read, Write, Memory}
+use Rattle.cap_bytes.specs.declared.faults.Rule.{Rule}
+use Rattle.cap_bytes.specs.declared.faults.Tail.{Tail}
+use Rattle.cap_bytes.specs.declared.numbers.Order.{Order}
+use Rattle.cap_blocks.specs.Grammar.{is_known, is_total}
+use Rattle.cap_blocks.specs.Reader.{IsStopAt}
+use Rattle.cap_blocks.specs.Split.{kind_at, total_at, is_section, is_ordered, own_order, order_at, front_fault, rest_fault, block_at, stop_at}
+use Rattle.cap_blocks.specs.declared.blocks.Block.{Block}
+use Rattle.cap_blocks.specs.declared.blocks.Stop.{Stop}
+use Rattle.cap_blocks.specs.declared.blocks.Sight.{Sight}
+use Rattle.cap_blocks.specs.declared.blocks.Sight.TheVariants.{Whole, Stopped}
+
+-- the order in which the order magic of a section header reads, if it does in either
+abbrev pub FindsOwnOrder : List ℕ → Option Order → Type 0
+FindsOwnOrder bytes (Some order) = (order ≡ own_order bytes) × (is_ordered (own_order bytes) bytes ≡ true)
+FindsOwnOrder bytes None = is_ordered (own_order bytes) bytes ≡ false
+
+-- the order of the block at the front, unless it is a section header whose order magic doesn't read in it
+abbrev pub FindsOrder : Option Order → List ℕ → Option Order → Type 0
+FindsOrder section bytes (Some order) = (order ≡ order_at section bytes) × ((is_section bytes && not (is_ordered (order_at section bytes) bytes)) ≡ false)
+FindsOrder section bytes None = (is_section bytes && not (is_ordered (order_at section bytes) bytes)) ≡ true
+
+-- the block at the front of some bytes, or the first condition that its first 12 bytes meet
+abbrev pub ParsesFront : Option Order → ℕ → List ℕ → Result Block Rule → Type 0
+ParsesFront section offset bytes (Ok block) = (front_fault section offset bytes ≡ None) × (block ≡ block_at section offset bytes)
+ParsesFront section offset bytes (Err rule) = front_fault section offset bytes ≡ Some rule
+
+-- The first 12 bytes of a block stand at the front of some bytes.
+pub record IsFront (block : Block) (offset : ℕ) (bytes : List ℕ) : Type 0 where
+  pub head : 12 ≤ length bytes
+  pub offset_is : block.offset ≡ offset
+  pub kind : block.kind ≡ kind_at block.order bytes
+  pub total : block.total ≡ total_at block.order bytes
+  pub allowed : IsTrue (is_total block.kind block.total)
+  pub least : 12 ≤ block.total
+  pub limit : offset + block.total ≤ 2 ^ 40
+
+-- what every answer of every look keeps
+pub record Stays (old new : State) : Type 0 where
+  pub file : new.file ≡ old.file
+  pub offset : old.offset ≤ new.offset
+  pub limit : old.offset ≤ 2 ^ 40 → new.offset ≤ 2 ^ 40
+  pub told : IsTrue old.told → IsTrue new.told
+  pub can_fail : IsTrue new.can_fail → IsTrue old.can_fail
+  pub room : old.room ≤ new.room
+  pub held : new.held ≤ 524288
+
+-- A read fails while a block is looked for, or failed before.
+pub record Fails (old : State) (file offset : ℕ) (new : State) : Type 0 where
+  pub file_is : file ≡ old.file
+  pub again : IfSome old.broken (λ first. offset ≡ first)
+  pub first : IfNone old.broken (offset ≡ old.offset)
+  pub after : IsSome new.broken
+  pub failed : IsTrue new.failed
+  pub can_fail : IsTrue old.can_fail
+
+-- The first 12 bytes of a block are shown.
+pub record SeesFront (section : Option Order) (block : Block) (old new : State) : Type 0 where
+  pub shows : Shows old new
+  pub front : IsFront block old.offset new.shown
+  pub room : 12 ≤ new.room
+  pub none : IsTrue old.told → front_fault section old.offset (coming old) ≡ None
+  pub block_is : IsTrue old.told → block ≡ block_at section old.offset (coming old)
+
+-- No block is there.
+pub record SeesStop (section : Option Order) (tail : Tail) (stop : Stop) (old new : State) : Type 0 where
+  pub goes : Goes old new
+  pub is_stop : IsStopAt section tail old.file old.offset stop
+  pub told_stop : IsTrue old.told → stop_at section tail old.file old.offset (coming old) ≡ Some stop
+
+-- what a look at the first 12 bytes answers
+abbrev pub LooksAtFront : Option Order → Tail → State → Result (Result Block Stop) Fault → State → Type 0
+LooksAtFront section tail old (Ok (Ok block)) new = SeesFront section block old new
+LooksAtFront section tail old (Ok (Err stop)) new = SeesStop section tail stop old new
+LooksAtFront section tail old (Err (Read file offset)) new = Fails old file offset new
+LooksAtFront section tail old (Err Memory) new = Shows old new × (old.room < 524288)
+LooksAtFront section tail old (Err Write) new = ⊥
+LooksAtFront section tail old (Err (Refused refusal)) new = ⊥
+
+-- A block of a known kind is shown whole, and one of another kind is passed.
+abbrev pub Leaves : Bool → ℕ → State → State → Type 0
+Leaves true total old new =
+    (new.offset ≡ old.offset) × (total ≤ length new.shown) × (IsTrue old.told → coming new ≡ coming old)
+Leaves false total old new =
+    (new.offset ≡ old.offset + total) × (IsTrue old.told → coming new ≡ drop total (coming old))
+
+-- The rest of a block is looked at, which meets that condition, if one.
+pub record SeesRest (block : Block) (fault : Option Rule) (old new : State) : Type 0 where
+  pub goes : Goes old new
+  pub told_fault : IsTrue old.told → rest_fault block.order (coming old) ≡ fault
+  pub left : fault ≡ None → Leaves (is_known block.kind) block.total old new
+
+-- what a look at the rest of a block answers
+abbrev pub LooksAtRest : Block → State → Result (Option Rule) Fault → State → Type 0
+LooksAtRest block old (Ok fault) new = SeesRest block fault old new
+LooksAtRest block old (Err (Read file offset)) new = Fails old file offset new
+LooksAtRest block old (Err Memory) new = Shows old new × (old.room < 524288)
+LooksAtRest block old (Err Write) new = ⊥
+LooksAtRest block old (Err (Refused refusal)) new = ⊥
+
+-- the same of a block that is skipped, where a read may fail behind the block's beginning
+abbrev pub SkipsRest : Block → State → Result (Option Rule) Fault → State → Type 0
+SkipsRest block old (Ok fault) new = SeesRest block fault old new
+SkipsRest block old (Err (Read file offset)) new =
+    (file ≡ old.file) × (old.broken ≡ None) × IsSome new.broken × IsTrue new.failed × IsTrue old.can_fail
+SkipsRest block old (Err Memory) new = ⊥
+SkipsRest block old (Err Write) new = ⊥
+SkipsRest block old (Err (Refused refusal)) new = ⊥
+
+-- a read that failed is told with that offset
+abbrev pub told_at : ℕ → Result (Option Rule) Fault → Result (Option Rule) Fault
+told_at offset (Err (Read file later)) = Err (Read file offset)
+told_at offset answer = answer
+
+-- A block is there.
+pub record SeesBlock (section : Option Order) (tail : Tail) (block : Block) (old new : State) : Type 0 where
+  pub goes : Goes old new
+  pub offset : block.offset ≡ old.offset
+  pub allowed : IsTrue (is_total block.kind block.total)
+  pub least : 12 ≤ block.total
+  pub limit : old.offset + block.total ≤ 2 ^ 40
+  pub left : Leaves (is_known block.kind) block.total old new
+  pub none : IsTrue old.told → stop_at section tail old.file old.offset (coming old) ≡ None
+  pub block_is : IsTrue old.told → block ≡ block_at section old.offset (coming old)
+
+-- what a look for a block answers
+abbrev pub LooksForBlock : Option Order → Tail → State → Result Sight Fault → State → Type 0
+LooksForBlock section tail old (Ok (Whole block)) new = SeesBlock section tail block old new
+LooksForBlock section tail old (Ok (Stopped stop)) new = SeesStop section tail stop old new
+LooksForBlock section tail old (Err (Read file offset)) new = Fails old file offset new
+LooksForBlock section tail old (Err Memory) new = Shows old new × (old.room < 524288)
+LooksForBlock section tail old (Err Write) new = ⊥
+LooksForBlock section tail old (Err (Refused refusal)) new = ⊥

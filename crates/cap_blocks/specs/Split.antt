@@ -1,0 +1,166 @@
+-- How a file splits into its blocks and a rest, and what the rest is refused by.
+use Rattle.std.specs.Prelude.{◌≡◌, ◌≢◌, ◌==◌, ◌&&◌, not, ℕ, zero, suc, ◌+◌, ◌-◌, ◌^◌, ◌≤◌, ◌<◌, nat_lt, if◌then◌else◌, Bool, List, [], ◌∷◌, length, take, drop, slice_index, Option, Some, None, is_some, option_map}
+use Rattle.cap_bytes.specs.Number.{number}
+use Rattle.cap_bytes.specs.declared.faults.Rule.{Rule}
+use Rattle.cap_bytes.specs.declared.faults.Rule.TheVariants.{Magic, Version, Cut, BlockLength, BlockTrailer, OrderMagic, FileLimit}
+use Rattle.cap_bytes.specs.declared.faults.Tail.{Tail}
+use Rattle.cap_bytes.specs.declared.faults.Tail.TheVariants.{Accept}
+use Rattle.cap_bytes.specs.declared.numbers.Order.{Order}
+use Rattle.cap_bytes.specs.declared.numbers.Order.TheVariants.{Big, Little}
+use Rattle.cap_blocks.specs.Grammar.{section_kind, order_magic, is_total, is_version, SpellsBlock}
+use Rattle.cap_blocks.specs.declared.blocks.Block.{Block}
+use Rattle.cap_blocks.specs.declared.blocks.Stop.{Stop}
+use Rattle.cap_blocks.specs.declared.blocks.Stop.TheVariants as stops
+
+-- the kind and the total length of the block at the front
+abbrev pub kind_at : Order → List ℕ → ℕ
+kind_at order bytes = number order 4 bytes
+
+abbrev pub total_at : Order → List ℕ → ℕ
+total_at order bytes = number order 4 (drop 4 bytes)
+
+-- whether the bytes begin with the kind of a section header, which reads the same in both orders
+abbrev pub is_section : List ℕ → Bool
+is_section bytes = number Big 4 bytes == section_kind
+
+-- whether the order magic of a section header reads in that order
+abbrev pub is_ordered : Order → List ℕ → Bool
+is_ordered order bytes = number order 4 (drop 8 bytes) == order_magic
+
+-- the order in which it reads
+abbrev pub own_order : List ℕ → Order
+own_order bytes = if is_ordered Big bytes then Big else Little
+
+-- The order of the block at the front: a section header tells its own, and every other block has that of
+-- its section. Before the first section header there is no section.
+abbrev pub order_at : Option Order → List ℕ → Order
+order_at None bytes = own_order bytes
+order_at (Some section) bytes = if is_section bytes then own_order bytes else section
+
+-- the first of two conditions that is met, if one is
+abbrev pub or_else : Option Rule → Option Rule → Option Rule
+or_else (Some rule) other = Some rule
+or_else None other = other
+
+-- What the first block of a file is refused by before it is looked at as a block: it is a section header.
+unfoldable pub first_fault : Option Order → List ℕ → Option Rule
+first_fault (Some section) bytes = None
+first_fault None bytes =
+    if nat_lt (length bytes) 4 then Some Cut else
+    if is_section bytes then None else Some Magic
+
+-- What the first 12 bytes of a block are refused by, which begins at `offset`.
+unfoldable pub head_fault : Order → ℕ → List ℕ → Option Rule
+head_fault order offset bytes =
+    if nat_lt (length bytes) 12 then Some Cut else
+    if is_section bytes && not (is_ordered order bytes) then Some OrderMagic else
+    if not (is_total (kind_at order bytes) (total_at order bytes)) then Some BlockLength else
+    if nat_lt (2 ^ 40) (offset + total_at order bytes) then Some FileLimit else None
+
+-- both
+abbrev pub front_fault : Option Order → ℕ → List ℕ → Option Rule
+front_fault section offset bytes = or_else (first_fault section bytes) (head_fault (order_at section bytes) offset bytes)
+
+-- whether a section header at the front has a version that isn't read
+abbrev pub has_other_version : Order → List ℕ → Bool
+has_other_version order bytes =
+    (kind_at order bytes == section_kind) && not (is_version (number order 2 (drop 12 bytes)) (number order 2 (drop 14 bytes)))
+
+-- what a block is refused by, the first 12 bytes of which aren't
+unfoldable pub rest_fault : Order → List ℕ → Option Rule
+rest_fault order bytes =
+    if nat_lt (length bytes) (total_at order bytes) then Some Cut else
+    if not (number order 4 (drop (total_at order bytes - 4) bytes) == total_at order bytes) then Some BlockTrailer else
+    if has_other_version order bytes then Some Version else None
+
+-- The first condition that some bytes, which begin at `offset`, meet in a block's place, if one does. The
+-- order is that of the section that is being read, if one is.
+unfoldable pub block_fault : Option Order → ℕ → List ℕ → Option Rule
+block_fault section offset bytes = or_else (front_fault section offset bytes) (rest_fault (order_at section bytes) bytes)
+
+-- the block at the front of some bytes that meet none of them, and its body
+unfoldable pub block_at : Option Order → ℕ → List ℕ → Block
+block_at section offset bytes =
+    record {
+      kind = kind_at (order_at section bytes) bytes;
+      offset = offset;
+      total = total_at (order_at section bytes) bytes;
+      order = order_at section bytes;
+    }
+
+-- the body of a block of that total length
+abbrev pub body_in : ℕ → List ℕ → List ℕ
+body_in total bytes = take (total - 12) (drop 8 bytes)
+
+abbrev pub body_at : Option Order → List ℕ → List ℕ
+body_at section bytes = body_in (total_at (order_at section bytes) bytes) bytes
+
+-- What ends the blocks where a rule is broken: a rest that is cut is dropped where that is asked for, but
+-- never within the first section header.
+abbrev pub stop_by : Option Order → Tail → ℕ → ℕ → Rule → Stop
+stop_by (Some section) Accept file offset Cut = stops.Cut
+stop_by section tail file offset rule = stops.Refused (record { file = file; offset = offset; rule = rule })
+
+-- What ends the blocks at some bytes, if anything does: none are left behind a whole block, or a rule is
+-- broken.
+unfoldable pub stop_at : Option Order → Tail → ℕ → ℕ → List ℕ → Option Stop
+stop_at section tail file offset bytes =
+    if is_some section && (length bytes == 0) then Some stops.End else
+    option_map (stop_by section tail file offset) (block_fault section offset bytes)
+
+-- what comes of a file: its blocks with their bodies, and in the end what ended them
+pub data Item : Type 0 where
+  given : Block → List ℕ → Item
+  stopped : Stop → Item
+
+-- what comes where something ends the blocks, and where nothing does
+abbrev pub item_or : Option Stop → Item → List Item → List Item
+item_or (Some stop) item rest = stopped stop ∷ []
+item_or None item rest = item ∷ rest
+
+-- the items of some bytes that begin at `offset`, as far as `fuel` goes
+unfoldable pub items_by : ℕ → Option Order → Tail → ℕ → ℕ → List ℕ → List Item
+items_by zero section tail file offset bytes = []
+items_by (suc fuel) section tail file offset bytes =
+    let order = order_at section bytes in
+    let total = total_at order bytes in
+    item_or (stop_at section tail file offset bytes) (given (block_at section offset bytes) (body_at section bytes))
+    (items_by fuel (Some order) tail file (offset + total) (drop total bytes))
+
+-- The items of some bytes that begin at `offset`, in a section of that order; of a whole file, in none
+-- and from 0 on.
+unfoldable pub items_from : Option Order → Tail → ℕ → ℕ → List ℕ → List Item
+items_from section tail file offset bytes = items_by (suc (length bytes)) section tail file offset bytes
+
+-- A piece of a file: a block's order, kind and body.
+pub record Piece : Type 0 where
+  pub order : Order
+  pub kind : ℕ
+  pub body : List ℕ
+
+abbrev pub piece_size : Piece → ℕ
+piece_size piece = 12 + length piece.body
+
+-- The piece may stand there: a file begins with a section header, and every other block has the order of
+-- its section.
+abbrev pub MayFollow : Option Order → Piece → Type 0
+MayFollow None piece = piece.kind ≡ section_kind
+MayFollow (Some section) piece = piece.kind ≢ section_kind → piece.order ≡ section
+
+-- The bytes at the front, which begin at `offset`, spell the piece.
+pub record Begins (section : Option Order) (offset : ℕ) (piece : Piece) (bytes : List ℕ) : Type 0 where
+  pub follows : MayFollow section piece
+  pub spelled : SpellsBlock piece.order piece.kind piece.body (take (piece_size piece) bytes)
+  pub limit : offset + piece_size piece ≤ 2 ^ 40
+
+-- Some bytes, which begin at `offset`, are the spellings of these pieces and then the rest, of which no
+-- front is a piece.
+abbrev pub Splits : Option Order → ℕ → List ℕ → List Piece → List ℕ → Type 0
+Splits section offset bytes [] rest = (bytes ≡ rest) × ((piece : Piece) → Begins section offset piece rest → ⊥)
+Splits section offset bytes (piece ∷ pieces) rest =
+    Begins section offset piece bytes
+    × Splits (Some piece.order) (offset + piece_size piece) (drop (piece_size piece) bytes) pieces rest
+
+-- a list of bytes
+abbrev pub AreBytes : List ℕ → Type 0
+AreBytes bytes = (k : ℕ) → slice_index bytes k < 256

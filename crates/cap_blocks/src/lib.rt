@@ -1,0 +1,19 @@
+//! The blocks of a pcapng file and the options in them, read by the grammar alone, and written.
+#![tactic(auto)]
+
+mod blocks;
+mod fronts;
+pub mod laws;
+mod options;
+mod readers;
+mod rests;
+mod texts;
+mod writing;
+
+pub use crate::blocks::{Block, Stop};
+pub use crate::options::Options;
+pub use crate::readers::BlockReader;
+pub use crate::writing::{put_interface, put_packet, put_section};
+
+#[cfg(test)]
+mod tests;

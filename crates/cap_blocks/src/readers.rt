@@ -1,0 +1,176 @@
+//! A reader of pcapng files.
+ghost use Rattle.std.specs.Prelude.{◌≡◌, ◌↔◌, ◌≤◌, IsTrue, IsSome, Some};
+ghost use Rattle.cap_blocks.specs.Reader.{opened, Keeps, GivesNext, TakesItem, HasWindow, size_of, shown_size, told_first, broken_by};
+ghost use Rattle.cap_blocks.specs.Grammar.{is_known};
+ghost use Rattle.cap_blocks.specs.Sights.{LooksForBlock, Stays};
+
+use crate::blocks::{Block, Sight, Stop, is_known, stop_of};
+use crate::fronts::{FRAME_SIZE, look_at_front};
+use crate::rests::look_at_rest;
+use cap_bytes::{Fault, Order, Source, Tail, Window};
+use std::marker::Model;
+
+// How many bytes of a block stand in front of its body.
+const HEAD_SIZE: usize = 8;
+
+/// A reader of a pcapng file, block by block. It keeps no more of the file than its window shows.
+#[derive(Drop)]
+pub struct BlockReader<R: Source> {
+    window: Window<R>,
+    tail: Tail,
+    // the order of the section that is being read
+    section: Option<Order>,
+    // the total length of the block that was given last, where the window still shows it
+    given: Option<u32>,
+    stop: Option<Stop>,
+    // where the block began at which a read failed
+    broken: Option<u64>,
+}
+
+impl<R: Source> Model for BlockReader<R> {
+    ghost use Rattle.std.specs.Prelude.{length};
+    ghost use Rattle.cap_blocks.specs.Reader.{State, IsSound, state_of};
+
+    ghost Value = { State };
+
+    ghost view = { λ r. state_of r.window r.tail r.section r.given r.stop r.broken };
+
+    ghost invariant = { λ r. IsSound r.given (length r.window.shown) r.window.offset r.window.held r.broken r.window.broken };
+}
+
+// Looks for a block at the front of a window, which shows it whole then where its kind is known, and has
+// passed it otherwise.
+fn look_for_block<R: Source>(
+    window: &mut Window<R>,
+    section: Option<Order>,
+    tail: Tail,
+) -> Result<Sight, Fault>
+    ensures answer { LooksForBlock section tail window.old result window.new }
+    ensures stays { Stays window.old window.new }
+{
+    let file = window.file();
+    let block = match look_at_front(window, section, tail)? {
+        Ok(block) => block,
+        Err(stop) => return Ok(Sight::Stopped(stop)),
+    };
+    match look_at_rest(window, block)? {
+        None => Ok(Sight::Whole(block)),
+        Some(rule) => Ok(Sight::Stopped(stop_of(section, tail, file, block.offset, rule))),
+    }
+}
+
+// How many bytes the window still shows of the block that was given last.
+fn size_given(given: Option<u32>) -> usize
+    ensures { result ≡ size_of given }
+{
+    match given {
+        Some(total) => total as usize,
+        None => 0,
+    }
+}
+
+// How many bytes the window shows of a block that is given.
+fn shown_of(block: Block) -> Option<u32>
+    ensures { result ≡ shown_size (is_known block.kind) block.total }
+{
+    if is_known(block.kind) {
+        Some(block.total)
+    } else {
+        None
+    }
+}
+
+// A fault as it is told: a read that failed, with the offset that was told first.
+fn told_first(broken: Option<u64>, fault: Fault) -> Fault
+    ensures { result ≡ told_first broken fault }
+{
+    match (broken, fault) {
+        (Some(offset), Fault::Read { file, offset: _ }) => Fault::Read { file, offset },
+        (_, fault) => fault,
+    }
+}
+
+// Where a read failed, after a fault.
+fn broken_by(broken: Option<u64>, fault: Fault) -> Option<u64>
+    ensures { result ≡ broken_by broken fault }
+{
+    match fault {
+        Fault::Read { file: _, offset } => Some(offset),
+        _ => broken,
+    }
+}
+
+impl<R: Source> BlockReader<R> {
+    /// A reader of the bytes that a window shows from now on. It reads nothing yet.
+    pub fn new(window: Window<R>, tail: Tail) -> BlockReader<R>
+        ensures opened { result ≡ opened window tail }
+        ensures held { result.held ≤ 524288 }
+    {
+        let _limits = (window.offset(), window.held());
+        BlockReader {
+            window,
+            tail,
+            section: None,
+            given: None,
+            stop: None,
+            broken: None,
+        }
+    }
+
+    /// The next block, or `None` at the end of the file, which comes again then. `body` lends the body of
+    /// a block of a known kind; one of another kind is skipped, and its trailer looked at. Bytes that are
+    /// no block are refused, now and at each later call; where the tail is accepted, a rest that is cut is
+    /// dropped instead, which is the end, but never within the first section header. `Memory` leaves what
+    /// is to come. A read that fails is told with the offset at which the block begins, and comes again.
+    pub fn next_block(&mut self) -> Result<Option<Block>, Fault>
+        ensures answer { GivesNext self.old result self.new }
+        ensures keeps { Keeps self.old self.new }
+        ensures items { IsTrue self.old.told → TakesItem self.old result self.new }
+    {
+        if let Some(stop) = self.stop {
+            return stop.answer();
+        }
+        self.window.pass(size_given(self.given));
+        self.given = None;
+        match look_for_block(&mut self.window, self.section, self.tail) {
+            Ok(Sight::Whole(block)) => {
+                self.section = Some(block.order);
+                self.given = shown_of(block);
+                Ok(Some(block))
+            }
+            Ok(Sight::Stopped(stop)) => {
+                self.stop = Some(stop);
+                stop.answer()
+            }
+            Err(fault) => {
+                let fault = told_first(self.broken, fault);
+                self.broken = broken_by(self.broken, fault);
+                Err(fault)
+            }
+        }
+    }
+
+    /// The body of the block that was given last, without the 8 bytes in front of it and the 4 behind.
+    pub fn body(&self) -> &[u8]
+        requires known { IsSome self.now.body }
+        ensures body { self.now.body ≡ Some result.now }
+    {
+        let total = self.given.unwrap() as usize;
+        let (_, behind) = self.window.bytes().split_at(HEAD_SIZE);
+        behind.split_at(total - FRAME_SIZE).0
+    }
+
+    /// Whether the file ended in a rest that was cut, and that was dropped.
+    pub fn was_cut(&self) -> bool
+        ensures cut { IsTrue result ↔ (self.now.stop ≡ Some Stop.Cut) }
+    {
+        matches!(self.stop, Some(Stop::Cut))
+    }
+
+    /// The window by which the file is read.
+    pub fn window(&self) -> &Window<R>
+        ensures window { HasWindow self.now result.now }
+    {
+        &self.window
+    }
+}

@@ -1,0 +1,104 @@
+//! The rest of a block, behind its first 12 bytes. draft-ietf-opsawg-pcapng, 3.1 and 4.1.
+ghost use Rattle.std.specs.Prelude.{◌≡◌, ◌≤◌, None, true, false, length};
+ghost use Rattle.cap_blocks.specs.Grammar.{is_known};
+ghost use Rattle.cap_blocks.specs.Sights.{IsFront, LooksAtRest, SkipsRest, Stays, told_at};
+ghost use Rattle.cap_blocks.specs.Split.{rest_fault};
+
+use crate::blocks::{Block, SECTION, is_known, is_version};
+use cap_bytes::{Fault, Rule, Source, Window, u16_at, u32_at};
+
+// How many bytes the total length takes behind the body.
+const TRAILER_SIZE: usize = 4;
+
+// What a block is refused by that is there whole.
+fn rest_rule(block: Block, bytes: &[u8]) -> Option<Rule>
+    requires front { IsFront block block.offset bytes.now }
+    requires whole { block.total ≤ length bytes.now }
+    ensures { result ≡ rest_fault block.order bytes.now }
+{
+    let place = block.total as usize - TRAILER_SIZE;
+    if u32_at(block.order, bytes, place) != block.total {
+        return Some(Rule::BlockTrailer);
+    }
+    if block.kind == SECTION {
+        let major = u16_at(block.order, bytes, 12);
+        let minor = u16_at(block.order, bytes, 14);
+        if !is_version(major, minor) {
+            return Some(Rule::Version);
+        }
+    }
+    None
+}
+
+// Looks at the rest of a block of a known kind, which the window shows whole then.
+fn look_at_known<R: Source>(window: &mut Window<R>, block: Block) -> Result<Option<Rule>, Fault>
+    requires front { IsFront block window.old.offset window.old.shown }
+    requires known { is_known block.kind ≡ true }
+    ensures answer { LooksAtRest block window.old result window.new }
+    ensures stays { Stays window.old window.new }
+{
+    if !window.need(block.total as usize)? {
+        return Ok(Some(Rule::Cut));
+    }
+    Ok(rest_rule(block, window.bytes()))
+}
+
+// Passes a block of another kind, and looks at its trailer.
+fn skip_rest<R: Source>(window: &mut Window<R>, block: Block) -> Result<Option<Rule>, Fault>
+    requires front { IsFront block window.old.offset window.old.shown }
+    requires room { 12 ≤ window.old.room }
+    requires whole { window.old.broken ≡ None }
+    requires unknown { is_known block.kind ≡ false }
+    ensures answer { SkipsRest block window.old result window.new }
+    ensures stays { Stays window.old window.new }
+{
+    if !window.skip(u64::from(block.total) - TRAILER_SIZE as u64)? {
+        return Ok(Some(Rule::Cut));
+    }
+    if !window.need(TRAILER_SIZE)? {
+        return Ok(Some(Rule::Cut));
+    }
+    if u32_at(block.order, window.bytes(), 0) != block.total {
+        return Ok(Some(Rule::BlockTrailer));
+    }
+    window.pass(TRAILER_SIZE);
+    Ok(None)
+}
+
+// The same, where a read that fails is told with the block's own offset.
+fn look_at_skipped<R: Source>(window: &mut Window<R>, block: Block) -> Result<Option<Rule>, Fault>
+    requires front { IsFront block window.old.offset window.old.shown }
+    requires room { 12 ≤ window.old.room }
+    requires whole { window.old.broken ≡ None }
+    requires unknown { is_known block.kind ≡ false }
+    ensures answer { LooksAtRest block window.old result window.new }
+    ensures stays { Stays window.old window.new }
+{
+    told_at(block.offset, skip_rest(window, block))
+}
+
+// Tells a read that failed with that offset.
+fn told_at(offset: u64, answer: Result<Option<Rule>, Fault>) -> Result<Option<Rule>, Fault>
+    ensures { result ≡ told_at offset answer }
+{
+    match answer {
+        Err(Fault::Read { file, offset: _ }) => Err(Fault::Read { file, offset }),
+        answer => answer,
+    }
+}
+
+/// Looks at the rest of a block, the first 12 bytes of which a window shows. A block of a known kind is
+/// shown whole then, and one of another kind is passed.
+pub fn look_at_rest<R: Source>(window: &mut Window<R>, block: Block) -> Result<Option<Rule>, Fault>
+    requires front { IsFront block window.old.offset window.old.shown }
+    requires room { 12 ≤ window.old.room }
+    requires whole { window.old.broken ≡ None }
+    ensures answer { LooksAtRest block window.old result window.new }
+    ensures stays { Stays window.old window.new }
+{
+    if is_known(block.kind) {
+        look_at_known(window, block)
+    } else {
+        look_at_skipped(window, block)
+    }
+}

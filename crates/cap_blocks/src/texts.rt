@@ -1,0 +1,126 @@
+//! Short texts of numbers, put together in an array.
+ghost use Rattle.std.specs.Prelude.{◌≡◌, ◌+◌, ◌≤◌, ◌++◌, [], length, take};
+ghost use Rattle.cap_bytes.specs.Number.{bytes_of};
+
+use byteorder::{BigEndian, ByteOrder, LittleEndian};
+use cap_bytes::Order;
+use std::marker::Model;
+
+/// A text of at most 44 bytes.
+#[derive(Drop)]
+pub struct Text {
+    bytes: [u8; 44],
+    length: usize,
+}
+
+impl Model for Text {
+    ghost use Rattle.std.specs.Prelude.{◌≤◌, ℕ, List, take};
+
+    ghost Value = { List ℕ };
+
+    ghost view = { λ t. take t.length t.bytes };
+
+    ghost invariant = { λ t. t.length ≤ 44 };
+}
+
+impl Text {
+    /// A text without bytes.
+    pub fn new() -> Text
+        ensures { result ≡ [] }
+    {
+        Text {
+            bytes: [0; 44],
+            length: 0,
+        }
+    }
+
+    /// The text.
+    pub fn bytes(&self) -> &[u8]
+        ensures { result.now ≡ self.now }
+    {
+        self.bytes.split_at(self.length).0
+    }
+
+    /// Puts bytes behind the text.
+    pub fn add(&mut self, bytes: &[u8])
+        requires { length self.old + length bytes.now ≤ 44 }
+        ensures text { self.new ≡ self.old ++ bytes.now }
+        ensures size { length self.new ≡ length self.old + length bytes.now }
+    {
+        copy_to(&mut self.bytes, self.length, bytes);
+        self.length += bytes.len();
+    }
+
+    /// Puts a number of 2 bytes behind the text.
+    pub fn short(&mut self, order: Order, number: u16)
+        requires { length self.old + 2 ≤ 44 }
+        ensures text { self.new ≡ self.old ++ bytes_of order 2 number }
+        ensures size { length self.new ≡ length self.old + 2 }
+    {
+        let mut bytes = [0; 2];
+        write_u16(order, &mut bytes, number);
+        self.add(&bytes);
+    }
+
+    /// Puts a number of 4 bytes behind the text.
+    pub fn word(&mut self, order: Order, number: u32)
+        requires { length self.old + 4 ≤ 44 }
+        ensures text { self.new ≡ self.old ++ bytes_of order 4 number }
+        ensures size { length self.new ≡ length self.old + 4 }
+    {
+        let mut bytes = [0; 4];
+        write_u32(order, &mut bytes, number);
+        self.add(&bytes);
+    }
+
+    /// Puts a number of 8 bytes behind the text.
+    pub fn long(&mut self, order: Order, number: u64)
+        requires { length self.old + 8 ≤ 44 }
+        ensures text { self.new ≡ self.old ++ bytes_of order 8 number }
+        ensures size { length self.new ≡ length self.old + 8 }
+    {
+        let mut bytes = [0; 8];
+        write_u64(order, &mut bytes, number);
+        self.add(&bytes);
+    }
+}
+
+// Puts bytes at a place of a buffer.
+fn copy_to(buffer: &mut [u8], place: usize, bytes: &[u8])
+    requires { place + length bytes.now ≤ length buffer.old }
+    ensures { take (place + length bytes.now) buffer.new ≡ take place buffer.old ++ bytes.now }
+{
+    let (_, rest) = buffer.split_at_mut(place);
+    let (room, _) = rest.split_at_mut(bytes.len());
+    room.copy_from_slice(bytes);
+}
+
+#[tactic(auto, unfolding(cap_bytes::specs::Number::bytes_of))]
+fn write_u16(order: Order, buffer: &mut [u8; 2], number: u16)
+    ensures { buffer.new ≡ bytes_of order 2 number }
+{
+    match order {
+        Order::Big => BigEndian::write_u16(buffer, number),
+        Order::Little => LittleEndian::write_u16(buffer, number),
+    }
+}
+
+#[tactic(auto, unfolding(cap_bytes::specs::Number::bytes_of))]
+fn write_u32(order: Order, buffer: &mut [u8; 4], number: u32)
+    ensures { buffer.new ≡ bytes_of order 4 number }
+{
+    match order {
+        Order::Big => BigEndian::write_u32(buffer, number),
+        Order::Little => LittleEndian::write_u32(buffer, number),
+    }
+}
+
+#[tactic(auto, unfolding(cap_bytes::specs::Number::bytes_of))]
+fn write_u64(order: Order, buffer: &mut [u8; 8], number: u64)
+    ensures { buffer.new ≡ bytes_of order 8 number }
+{
+    match order {
+        Order::Big => BigEndian::write_u64(buffer, number),
+        Order::Little => LittleEndian::write_u64(buffer, number),
+    }
+}

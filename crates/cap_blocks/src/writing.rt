@@ -1,0 +1,184 @@
+//! Blocks as they are written.
+ghost use Rattle.std.specs.Prelude.{◌≡◌, ◌+◌, ◌≤◌, ◌++◌, ◌||◌, length, IsTrue, is_err, IsErr, IsOkUnless};
+ghost use Rattle.std.specs.Int.{w64, cast_unsigned};
+ghost use Rattle.cap_bytes.specs.Device.{Puts};
+ghost use Rattle.cap_blocks.specs.Grammar.{section_text, interface_text, interface_total, packet_text, packet_head, packet_tail, offset_option};
+ghost use Rattle.cap_blocks.specs.OptionList.{padded};
+
+use crate::blocks::{ENHANCED_PACKET, INTERFACE, ORDER_MAGIC, SECTION};
+use crate::texts::Text;
+use cap_bytes::{Fault, Order, Sink, put_all};
+use cap_time::Interface;
+
+// The codes of options that are written. draft-ietf-opsawg-pcapng, 3.5 and 4.2.
+const RESOLUTION_OPTION: u16 = 9;
+
+const OFFSET_OPTION: u16 = 14;
+
+const END_OPTION: u16 = 0;
+
+/// Writes a section header of version 1.0, whose section length is left open and which has no
+/// options: 28 bytes (draft-ietf-opsawg-pcapng, 4.1). Answers `Fault::Write`, and no other fault,
+/// where the writer failed: a prefix of the bytes is written then.
+pub fn put_section<W: Sink>(writer: &mut W, order: Order) -> Result<(), Fault>
+    ensures bytes { IsTrue (W.tells_held writer.old)
+        → Puts (W.held writer.old) result (W.held writer.new) (section_text order) }
+    ensures told { IsTrue (W.tells_held writer.old) → IsTrue (W.tells_held writer.new) }
+    ensures failed { W.has_failed writer.new ≡ (W.has_failed writer.old || is_err result) }
+    ensures can { IsErr result → IsTrue (W.can_fail writer.old) }
+    ensures cannot { IsTrue (W.can_fail writer.new) → IsTrue (W.can_fail writer.old) }
+    ensures fault { IsOkUnless result Fault.Write }
+{
+    put_all(writer, section_header(order).bytes())
+}
+
+// A section header.
+fn section_header(order: Order) -> Text
+    ensures { result ≡ section_text order }
+{
+    let mut text = Text::new();
+    text.word(order, SECTION);
+    text.word(order, 28);
+    text.word(order, ORDER_MAGIC);
+    text.short(order, 1);
+    text.short(order, 0);
+    text.long(order, u64::MAX);
+    text.word(order, 28);
+    text
+}
+
+/// Writes an interface block (draft-ietf-opsawg-pcapng, 4.2) with the resolution as the option
+/// `if_tsresol` and, where it isn't 0, the offset as the option `if_tsoffset`: 32 bytes, or 44 with the
+/// offset. Answers `Fault::Write`, and no other fault, where the writer failed: a prefix of the bytes is
+/// written then.
+pub fn put_interface<W: Sink>(
+    writer: &mut W,
+    order: Order,
+    interface: &Interface,
+) -> Result<(), Fault>
+    ensures bytes { IsTrue (W.tells_held writer.old)
+        → Puts (W.held writer.old) result (W.held writer.new) (interface_text order interface.now) }
+    ensures told { IsTrue (W.tells_held writer.old) → IsTrue (W.tells_held writer.new) }
+    ensures failed { W.has_failed writer.new ≡ (W.has_failed writer.old || is_err result) }
+    ensures can { IsErr result → IsTrue (W.can_fail writer.old) }
+    ensures cannot { IsTrue (W.can_fail writer.new) → IsTrue (W.can_fail writer.old) }
+    ensures fault { IsOkUnless result Fault.Write }
+{
+    put_all(writer, interface_block(order, interface).bytes())
+}
+
+// An interface block.
+fn interface_block(order: Order, interface: &Interface) -> Text
+    ensures { result ≡ interface_text order interface.now }
+{
+    let seconds = seconds_of(interface);
+    let total = total_of(seconds);
+    let mut text = Text::new();
+    text.word(order, INTERFACE);
+    text.word(order, total);
+    text.short(order, interface.link);
+    text.short(order, 0);
+    text.word(order, interface.snaplen);
+    text.short(order, RESOLUTION_OPTION);
+    text.short(order, 1);
+    text.add(&[interface.resolution.code(), 0, 0, 0]);
+    add_offset(&mut text, order, seconds);
+    text.short(order, END_OPTION);
+    text.short(order, 0);
+    text.word(order, total);
+    text
+}
+
+// An interface's offset in two's complement.
+fn seconds_of(interface: &Interface) -> u64
+    ensures { result ≡ cast_unsigned w64 interface.now.offset }
+{
+    interface.offset.cast_unsigned()
+}
+
+// How many bytes an interface block takes.
+fn total_of(seconds: u64) -> u32
+    ensures { result ≡ interface_total seconds }
+{
+    if seconds == 0 { 32 } else { 44 }
+}
+
+// Puts an interface's offset behind a text, where it isn't 0.
+fn add_offset(text: &mut Text, order: Order, seconds: u64)
+    requires { length text.old + 12 ≤ 44 }
+    ensures text { text.new ≡ text.old ++ offset_option order seconds }
+    ensures size { length text.new ≡ length text.old + length (offset_option order seconds) }
+{
+    if seconds != 0 {
+        text.short(order, OFFSET_OPTION);
+        text.short(order, 8);
+        text.long(order, seconds);
+    }
+}
+
+/// Writes an enhanced packet block (draft-ietf-opsawg-pcapng, 4.3) without options: the number of the
+/// interface, the time in its units, and the captured bytes of a packet of the `original` length. It
+/// takes 32 bytes and the captured bytes, padded to a multiple of 4. Answers `Fault::Write`, and no other
+/// fault, where the writer failed: a prefix of the bytes is written then.
+pub fn put_packet<W: Sink>(
+    writer: &mut W,
+    order: Order,
+    interface: u32,
+    units: u64,
+    original: u32,
+    data: &[u8],
+) -> Result<(), Fault>
+    requires captured { length «data».now ≤ 262144 }
+    ensures bytes { IsTrue (W.tells_held writer.old)
+        → Puts (W.held writer.old) result (W.held writer.new) (packet_text order interface units original «data».now) }
+    ensures told { IsTrue (W.tells_held writer.old) → IsTrue (W.tells_held writer.new) }
+    ensures failed { W.has_failed writer.new ≡ (W.has_failed writer.old || is_err result) }
+    ensures can { IsErr result → IsTrue (W.can_fail writer.old) }
+    ensures cannot { IsTrue (W.can_fail writer.new) → IsTrue (W.can_fail writer.old) }
+    ensures fault { IsOkUnless result Fault.Write }
+{
+    let captured = data.len() as u32;
+    put_all(
+        writer,
+        packet_head(order, interface, units, captured, original).bytes(),
+    )?;
+    put_all(writer, data)?;
+    put_all(writer, packet_tail(order, captured).bytes())
+}
+
+// What stands in front of the captured bytes.
+fn packet_head(order: Order, interface: u32, units: u64, captured: u32, original: u32) -> Text
+    requires { captured ≤ 262144 }
+    ensures { result ≡ packet_head order interface units captured original }
+{
+    let mut text = Text::new();
+    text.word(order, ENHANCED_PACKET);
+    text.word(order, 32 + padded(captured));
+    text.word(order, interface);
+    text.word(order, (units >> 32) as u32);
+    text.word(order, (units % 0x1_0000_0000) as u32);
+    text.word(order, captured);
+    text.word(order, original);
+    text
+}
+
+// What stands behind them.
+fn packet_tail(order: Order, captured: u32) -> Text
+    requires { captured ≤ 262144 }
+    ensures { result ≡ packet_tail order captured }
+{
+    let size = padded(captured);
+    let zeros = [0u8; 3];
+    let mut text = Text::new();
+    text.add(zeros.split_at((size - captured) as usize).0);
+    text.word(order, 32 + size);
+    text
+}
+
+// A length with the padding to a multiple of 4.
+fn padded(length: u32) -> u32
+    requires { length ≤ 262144 }
+    ensures { result ≡ padded length }
+{
+    4 * ((length + 3) / 4)
+}
