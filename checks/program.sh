@@ -44,6 +44,9 @@ run list "$work/empty.pcap"; check 'an empty file' 1 '' 'refused: file 1 offset 
 run list --allow-cut "$work/empty.pcap"; check 'an empty file, with the flag' 1 '' 'refused: file 1 offset 0 rule 3 cut'
 run list "$work/missing"; check 'a missing file' 1 '' 'fault: open file 1'
 run list "$work/folder"; check 'a folder' 1 '' 'fault: read file 1 offset 0'
+run blocks "$work/one.pcap"; check 'blocks of a pcap file' 1 '' 'refused: file 1 offset 0 rule 1 magic'
+printf '\x0a\x0d\x0d\x0a\x1c\0\0\0\x4d\x3c\x2b\x1a\x01\0\0\0\xff\xff\xff\xff\xff\xff\xff\xff\x1c\0\0\0' > "$work/one.pcapng"
+run blocks "$work/one.pcapng"; check 'blocks' 0 'block 1 offset 0 order little kind 0a0d0d0a total 28' ''
 run --help; check 'help' 0 '*' ''; grep -q 'capt list' "$work/out" || { failed=$((failed + 1)); echo 'help: no example'; }
 run list --help; check 'help of a subcommand' 0 '*' ''
 run list -h; check 'short help' 0 '*' ''

@@ -1,6 +1,7 @@
 pub mod Device
 pub mod Feed
 pub mod Number
+pub mod Printing
 pub mod Rules
 pub mod Tracked
 pub mod Window

@@ -17,7 +17,7 @@ use Rattle.cap_pcap.proofs.Numbers.{number-drop_append}
 use Rattle.cap_bytes.proofs.Spelling.{number-append, number-bytes_of, length-bytes_of}
 
 -- how a magic reads in the other order
-abbrev flipped : Fraction → ℕ
+abbrev pub flipped : Fraction → ℕ
 flipped Micro = 0xD4C3B2A1
 flipped Nano = 0x4D3CB2A1
 
@@ -132,7 +132,7 @@ spelled header snaplen link =
     }
 
 -- the order and the unit of a written header
-flips_text : (header : PcapHeader) → header.order ≡ Little → number Big 4 (header_text header) ≡ flipped header.unit
+pub flips_text : (header : PcapHeader) → header.order ≡ Little → number Big 4 (header_text header) ≡ flipped header.unit
 flips_text header little =
     let order = header.order in
     let back = bytes_of order 2 2 ++ (bytes_of order 2 4 ++ (bytes_of order 4 0 ++ (bytes_of order 4 0
@@ -153,3 +153,8 @@ pub header_again-law : HeaderAgain
 header_again-law header snaplen link =
     let s = spelled header snaplen link in
     (s, λ tail file rest. written_items header s tail file rest)
+
+-- it is read again as that header, whatever follows
+pub header_at-text : (header : PcapHeader) (rest : List ℕ) → header.snaplen < 2 ^ 32 → header.link < 2 ^ 16
+    → (header_fault 0 (header_text header ++ rest) ≡ None) × (header_at (header_text header ++ rest) ≡ header)
+header_at-text header rest snaplen link = reads header (header_text header) rest (spelled header snaplen link) (flips_text header)

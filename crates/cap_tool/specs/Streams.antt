@@ -2,8 +2,8 @@
 use Rattle.std.specs.Prelude.{◌≡◌, ◌≤◌, ℕ}
 use Rattle.cap_bytes.specs.declared.faults.Fault.{Fault}
 use Rattle.cap_bytes.specs.declared.faults.Fault.TheVariants as faults
-use Rattle.cap_tool.specs.declared.outcomes.Outcome.{Outcome}
-use Rattle.cap_tool.specs.declared.outcomes.Outcome.TheVariants as outcomes
+use Rattle.cap_tasks.specs.declared.outcomes.Outcome.{Outcome}
+use Rattle.cap_tasks.specs.declared.outcomes.Outcome.TheVariants as outcomes
 use Rattle.cap_tool.specs.declared.streams.Input.{Input}
 use Rattle.cap_tool.specs.declared.streams.Input.TheVariants as inputs
 

@@ -3,22 +3,14 @@
 
 ghost use Rattle.std.specs.Prelude.{◌≡◌, ◌⊎◌, IfErr};
 
-mod command;
-mod faults;
-mod job;
-mod lines;
-mod list;
-mod outcomes;
 mod streams;
 #[cfg(test)]
 mod tests;
 
-use crate::faults::LineFault;
-use crate::job::{Task, parse};
-use crate::list::list_to;
-use crate::outcomes::{Outcome, end_of, status_of, tell};
 use crate::streams::open_all;
 use cap_bytes::{Fault, Source, Tail, Tracked};
+use cap_line::{LineFault, Task, parse};
+use cap_tasks::{Outcome, blocks_to, end_of, list_to, status_of, tell};
 use std::alloc::Global;
 use std::env;
 use std::fs::File;
@@ -37,9 +29,10 @@ fn words_of<R: Env + AllocGlobal>(rt: &R) -> Result<Vec<String>, LineFault>
     }
 }
 
-// `capt list`
-fn run_list<R: Source, W: Write + Drop>(
+// A task over one file.
+fn run_task<R: Source, W: Write + Drop>(
     alloc: Global,
+    task: Task,
     source: R,
     tail: Tail,
     output: W,
@@ -48,7 +41,10 @@ fn run_list<R: Source, W: Write + Drop>(
         return Err(Outcome::Fault(Fault::Memory));
     };
     let mut writer = Tracked::new(buffered);
-    let answer = list_to(alloc, source, tail, &mut writer);
+    let answer = match task {
+        Task::List => list_to(alloc, source, tail, &mut writer),
+        Task::Blocks => blocks_to(alloc, source, tail, &mut writer),
+    };
     end_of(answer, writer.into_inner().flush())
 }
 
@@ -66,9 +62,9 @@ fn run<R: Files<File = File> + Env + AllocGlobal>(
     } else {
         Tail::Refuse
     };
-    match (job.task, inputs.pop()) {
-        (Task::List, Some(source)) => run_list(rt.alloc(), source, tail, output),
-        (Task::List, None) => Err(Outcome::Line(LineFault::Line)),
+    match inputs.pop() {
+        Some(source) => run_task(rt.alloc(), job.task, source, tail, output),
+        None => Err(Outcome::Line(LineFault::Line)),
     }
 }
 

@@ -2,8 +2,8 @@
 ghost use Rattle.std.specs.Prelude.{◌≡◌, ◌≢◌, codes, length, vec_len, IfOk, IfErr};
 ghost use Rattle.cap_tool.specs.Streams.{IsFile, StopsOpening};
 
-use crate::outcomes::Outcome;
 use cap_bytes::{Fault, Tracked};
+use cap_tasks::Outcome;
 use std::alloc::Global;
 use std::fs::File;
 use std::io;

@@ -1,0 +1,3 @@
+pub mod FileNames
+pub mod Parsing
+pub mod Rows

@@ -1,0 +1,68 @@
+-- From clap's answer to capt's.
+use Rattle.std.proofs.Common.{◌≡◌, ◌⊎◌, List, [], Option, Some, None, Result, Ok, Err, true, refl, sym, ap, ◌∙◌, subst, inl, inr}
+use Rattle.clap.specs.Words.{App, Text, Row, Kinds, IsAmong, FailsBy, HasKind, HasMatchesOf, app_of, fault_of, is_simple, is_simple_and_free, subcommand_of, subcommand_rows_of, kind_of}
+use Rattle.clap.proofs.OnLiterals.{clap_on_literals}
+use Rattle.clap.specs.declared.error.Error.{Error}
+use Rattle.clap.specs.declared.error.kind.ErrorKind.{ErrorKind}
+use Rattle.clap.specs.declared.error.kind.ErrorKind.TheVariants as kind
+use Rattle.cap_line.specs.Command.{IsCapt}
+use Rattle.cap_line.specs.CommandLine.{Parses, Answers, Refuses, IsJobOf, fault_by}
+use Rattle.cap_line.specs.declared.job.Job.{Job}
+use Rattle.cap_line.specs.declared.faults.LineFault.{LineFault}
+use Rattle.cap_line.specs.declared.faults.LineFault.TheVariants.{Help, Line, Files, Input, Output, Memory}
+
+-- capt's command is one whose matches and faults clap's definitions give
+pub IsCapt-simple_and_free : (app : App) → IsCapt app → is_simple_and_free app ≡ true
+unfolding clap_on_literals
+IsCapt-simple_and_free app is = ap is_simple_and_free is
+
+pub IsCapt-simple : (app : App) → IsCapt app → is_simple app ≡ true
+unfolding clap_on_literals
+IsCapt-simple app is = ap is_simple is
+
+-- an answer of the subcommand is the parse's
+pub Parses-answered : (words : List Text) (app : App) (r : Result Job LineFault) → IsCapt app → fault_of app words ≡ []
+    → IsJobOf (subcommand_of app words) r → (r ≡ Err Help → ⊥) → Parses words r
+Parses-answered words app (Ok job) is taken job_is not_help = (app, record { is_capt = is; taken = taken; job = job_is })
+Parses-answered words app (Err Help) is taken job_is not_help = absurd (not_help refl)
+Parses-answered words app (Err Line) is taken job_is not_help = inr (app, record { is_capt = is; taken = taken; job = job_is })
+Parses-answered words app (Err Files) is taken job_is not_help = (app, record { is_capt = is; taken = taken; job = job_is })
+Parses-answered words app (Err Input) is taken job_is not_help = (app, record { is_capt = is; taken = taken; job = job_is })
+Parses-answered words app (Err Output) is taken job_is not_help = (app, record { is_capt = is; taken = taken; job = job_is })
+Parses-answered words app (Err Memory) is taken job_is not_help = tt
+
+-- a subcommand's answer is never help
+pub IsJobOf-no_help : (entered : Option (Text × List Row)) (r : Result Job LineFault) → IsJobOf entered r → r ≡ Err Help → ⊥
+IsJobOf-no_help None r job is = let same : Line ≡ Help = (cc) in cc
+IsJobOf-no_help (Some p) r job is = let at : IsJobOf (Some p) (Err Help) = subst (IsJobOf (Some p)) is job in at
+
+-- an error of clap's is for want of memory, or of one of its kinds
+abbrev Errs : List Text → App → ErrorKind → Type 0
+Errs words app k = (k ≡ kind.OutOfMemory) ⊎ IsAmong k (fault_of app words)
+
+refused_line : (words : List Text) (app : App) (k : ErrorKind) → IsCapt app → fault_by k ≡ Line → (k ≡ kind.OutOfMemory → ⊥)
+    → Errs words app k → (r : Result Job LineFault) → r ≡ Err Line → Parses words r
+refused_line words app k is line other (inl e) r at = absurd (other e)
+refused_line words app k is line other (inr among) r at =
+    subst (Parses words) (sym at) (inl (app, k, line, record { is_capt = is; refused = among }))
+
+-- clap's refusal is the parse's
+pub Parses-refused : (words : List Text) (app : App) (k : ErrorKind) → IsCapt app → Errs words app k → Parses words (Err (fault_by k))
+Parses-refused words app kind.DisplayHelp is (inl e) = absurd (let no : kind.DisplayHelp ≡ kind.OutOfMemory = e in cc)
+Parses-refused words app kind.DisplayHelp is (inr among) = (app, record { is_capt = is; refused = among })
+Parses-refused words app kind.OutOfMemory is errs = tt
+Parses-refused words app kind.InvalidValue is errs = refused_line words app kind.InvalidValue is refl (λ e. (cc)) errs _ refl
+Parses-refused words app kind.UnknownArgument is errs = refused_line words app kind.UnknownArgument is refl (λ e. (cc)) errs _ refl
+Parses-refused words app kind.InvalidSubcommand is errs = refused_line words app kind.InvalidSubcommand is refl (λ e. (cc)) errs _ refl
+Parses-refused words app kind.NoEquals is errs = refused_line words app kind.NoEquals is refl (λ e. (cc)) errs _ refl
+Parses-refused words app kind.ValueValidation is errs = refused_line words app kind.ValueValidation is refl (λ e. (cc)) errs _ refl
+Parses-refused words app kind.TooManyValues is errs = refused_line words app kind.TooManyValues is refl (λ e. (cc)) errs _ refl
+Parses-refused words app kind.TooFewValues is errs = refused_line words app kind.TooFewValues is refl (λ e. (cc)) errs _ refl
+Parses-refused words app kind.WrongNumberOfValues is errs = refused_line words app kind.WrongNumberOfValues is refl (λ e. (cc)) errs _ refl
+Parses-refused words app kind.ArgumentConflict is errs = refused_line words app kind.ArgumentConflict is refl (λ e. (cc)) errs _ refl
+Parses-refused words app kind.MissingRequiredArgument is errs = refused_line words app kind.MissingRequiredArgument is refl (λ e. (cc)) errs _ refl
+Parses-refused words app kind.MissingSubcommand is errs = refused_line words app kind.MissingSubcommand is refl (λ e. (cc)) errs _ refl
+Parses-refused words app kind.DisplayHelpOnMissingArgumentOrSubcommand is errs = refused_line words app kind.DisplayHelpOnMissingArgumentOrSubcommand is refl (λ e. (cc)) errs _ refl
+Parses-refused words app kind.DisplayVersion is errs = refused_line words app kind.DisplayVersion is refl (λ e. (cc)) errs _ refl
+Parses-refused words app kind.Io is errs = refused_line words app kind.Io is refl (λ e. (cc)) errs _ refl
+Parses-refused words app kind.Format is errs = refused_line words app kind.Format is refl (λ e. (cc)) errs _ refl

@@ -1,0 +1,109 @@
+-- What a command line asks for, by clap's matches of its words.
+use Rattle.std.specs.Prelude.{◌≡◌, ◌≢◌, ◌⊎◌, ◌==◌, ◌&&◌, not, ◌<◌, ◌≤◌, ℕ, Bool, true, false, List, [], ◌∷◌, length, codes, count_by, Contains, IfSome, IfNone, Option, Some, None, Result, Ok, Err, unwrap_or, if◌then◌else◌, nat_lt, map, option_map, IsTrue, ◌↔◌}
+use Rattle.std.specs.Str.{bytes_eq}
+use Rattle.std.specs.List.{list_any}
+use Rattle.clap.specs.Words.{App, Row, Text, all_of, first_of, fault_of, subcommand_of, IsAmong}
+use Rattle.clap.specs.declared.error.kind.ErrorKind.{ErrorKind}
+use Rattle.clap.specs.declared.error.kind.ErrorKind.TheVariants as kind
+use Rattle.cap_line.specs.Command.{IsCapt}
+use Rattle.cap_bytes.specs.declared.numbers.Order.{Order}
+use Rattle.cap_bytes.specs.declared.numbers.Order.TheVariants.{Big, Little}
+use Rattle.cap_line.specs.declared.job.Format.{Format}
+use Rattle.cap_line.specs.declared.job.Format.TheVariants.{Pcap, Pcapng}
+use Rattle.cap_line.specs.declared.job.Job.{Job}
+use Rattle.cap_line.specs.declared.job.Task.{Task}
+use Rattle.cap_line.specs.declared.job.Task.TheVariants as tasks
+use Rattle.cap_line.specs.declared.faults.LineFault.{LineFault}
+use Rattle.cap_line.specs.declared.faults.LineFault.TheVariants.{Help, Line, Files, Input, Output, Memory}
+
+-- what clap's error is to the user
+abbrev pub fault_by : ErrorKind → LineFault
+fault_by kind.DisplayHelp = Help
+fault_by kind.OutOfMemory = Memory
+fault_by _ = Line
+
+-- whether the output is one of the files, and not standard output
+abbrev pub is_also_file : Option Text → List Text → Bool
+is_also_file None files = false
+is_also_file (Some out) files = not (bytes_eq out (codes "-")) && list_any (λ f. bytes_eq f out) files
+
+-- the task that a subcommand's name is for
+abbrev pub task_by : Text → Option Task
+task_by name =
+    if bytes_eq name (codes "list") then Some tasks.List else
+    if bytes_eq name (codes "blocks") then Some tasks.Blocks else None
+
+-- the order that is named: little where none is
+abbrev pub order_by : Option Text → Order
+order_by None = Little
+order_by (Some name) = if bytes_eq name (codes "big") then Big else Little
+
+-- the format that is named
+abbrev pub format_by : Option Text → Option Format
+format_by None = None
+format_by (Some name) =
+    if bytes_eq name (codes "pcap") then Some Pcap else if bytes_eq name (codes "pcapng") then Some Pcapng else None
+
+-- what the files and the output that are named are refused by, the first of these: no file, more than 32, standard
+-- input twice, an output other than standard output that is one of them
+abbrev pub files_fault : List Text → Option Text → Result (Unit {0}) LineFault
+files_fault files out =
+    if nat_lt (length files) 1 then Err Line else
+    if nat_lt 32 (length files) then Err Files else
+    if nat_lt 1 (count_by (λ f. bytes_eq f (codes "-")) files) then Err Input else
+    if is_also_file out files then Err Output else Ok tt
+
+-- the files that a subcommand's rows name, and its output
+abbrev pub files_in : List Row → List Text
+files_in rows = unwrap_or (all_of (codes "FILE") rows) []
+
+abbrev pub out_in : List Row → Option Text
+out_in rows = first_of (codes "out") rows
+
+-- The job is what the rows say.
+pub record HasRows (task : Task) (rows : List Row) (job : Job) : Type 0 where
+  pub task_is : job.task ≡ task
+  pub files : map (λ f. f.now) job.files.items ≡ files_in rows
+  pub allow_cut : IsTrue job.allow_cut ↔ (first_of (codes "allow-cut") rows ≡ Some (codes "true"))
+  pub order : job.order ≡ order_by (first_of (codes "order") rows)
+  pub to : job.to ≡ format_by (first_of (codes "to") rows)
+  pub out : option_map (λ o. o.now) job.out ≡ out_in rows
+
+-- What a subcommand of that name with those rows gives: a job, or the first fault. A name that is no task's is
+-- refused as the line.
+abbrev pub IsJobBy : Text → List Row → Result Job LineFault → Type 0
+IsJobBy name rows (Ok job) =
+    (task : Task) × (task_by name ≡ Some task) × (files_fault (files_in rows) (out_in rows) ≡ Ok tt) × HasRows task rows job
+IsJobBy name rows (Err Help) = ⊥
+IsJobBy name rows (Err Line) = (task_by name ≡ None) ⊎ (files_fault (files_in rows) (out_in rows) ≡ Err Line)
+IsJobBy name rows (Err Files) = files_fault (files_in rows) (out_in rows) ≡ Err Files
+IsJobBy name rows (Err Input) = files_fault (files_in rows) (out_in rows) ≡ Err Input
+IsJobBy name rows (Err Output) = files_fault (files_in rows) (out_in rows) ≡ Err Output
+IsJobBy name rows (Err Memory) = Unit {0}
+
+-- What the subcommand that was entered, with its rows, gives.
+abbrev pub IsJobOf : Option (Text × List Row) → Result Job LineFault → Type 0
+IsJobOf (Some entered) r = IsJobBy entered.0 entered.1 r
+IsJobOf None r = r ≡ Err Line
+
+-- The words are a line that clap takes, and their subcommand gives the answer.
+pub record Answers (words : List Text) (r : Result Job LineFault) (app : App) : Type 0 where
+  pub is_capt : IsCapt app
+  pub taken : fault_of app words ≡ []
+  pub job : IsJobOf (subcommand_of app words) r
+
+-- Clap refuses the words, by an error of that kind.
+pub record Refuses (words : List Text) (k : ErrorKind) (app : App) : Type 0 where
+  pub is_capt : IsCapt app
+  pub refused : IsAmong k (fault_of app words)
+
+-- What `parse` answers at the words of a command line, the first of which is the program's name.
+abbrev pub Parses : List Text → Result Job LineFault → Type 0
+Parses words (Ok job) = (app : App) × Answers words (Ok job) app
+Parses words (Err Help) = (app : App) × Refuses words kind.DisplayHelp app
+Parses words (Err Line) =
+    ((app : App) × (k : ErrorKind) × (fault_by k ≡ Line) × Refuses words k app) ⊎ ((app : App) × Answers words (Err Line) app)
+Parses words (Err Files) = (app : App) × Answers words (Err Files) app
+Parses words (Err Input) = (app : App) × Answers words (Err Input) app
+Parses words (Err Output) = (app : App) × Answers words (Err Output) app
+Parses words (Err Memory) = Unit {0}

@@ -1,0 +1,69 @@
+//! Command lines with their jobs and faults.
+use crate::faults::LineFault;
+use crate::job::{Task, parse};
+use std::alloc::Global;
+
+// A job's task, its first file, how many it has, and whether a cut end is dropped.
+type Answer = Result<(Task, &'static str, usize, bool), LineFault>;
+
+fn answer(alloc: Global, words: &'static [&'static str]) -> Answer {
+    let job = parse(alloc, words)?;
+    let first = job.files.first().copied().unwrap_or("");
+    Ok((job.task, first, job.files.len(), job.allow_cut))
+}
+
+static LINES: [(&[&str], Answer); 25] = [
+    (&["capt", "list", "a"], Ok((Task::List, "a", 1, false))),
+    (
+        &["capt", "list", "--allow-cut", "a"],
+        Ok((Task::List, "a", 1, true)),
+    ),
+    (
+        &["capt", "list", "a", "--allow-cut"],
+        Ok((Task::List, "a", 1, true)),
+    ),
+    (&["capt", "list", "-"], Ok((Task::List, "-", 1, false))),
+    (&["capt", "blocks", "a"], Ok((Task::Blocks, "a", 1, false))),
+    (
+        &["capt", "blocks", "--allow-cut", "-"],
+        Ok((Task::Blocks, "-", 1, true)),
+    ),
+    (&["capt", "blocks"], Err(LineFault::Line)),
+    (&["capt", "blocks", "a", "b"], Err(LineFault::Line)),
+    (&["capt", "blocks", "-h"], Err(LineFault::Help)),
+    (
+        &["capt", "list", "--", "--allow-cut"],
+        Ok((Task::List, "--allow-cut", 1, false)),
+    ),
+    (&["capt", "--help"], Err(LineFault::Help)),
+    (&["capt", "-h"], Err(LineFault::Help)),
+    (&["capt", "list", "--help"], Err(LineFault::Help)),
+    (&["capt", "list", "-h"], Err(LineFault::Help)),
+    (&["capt"], Err(LineFault::Line)),
+    (&["capt", "--version"], Err(LineFault::Line)),
+    (&["capt", "help"], Err(LineFault::Line)),
+    (&["capt", "frobnicate", "a"], Err(LineFault::Line)),
+    (&["capt", "list"], Err(LineFault::Line)),
+    (&["capt", "list", "a", "b"], Err(LineFault::Line)),
+    (
+        &["capt", "list", "--allow-cut", "--allow-cut", "a"],
+        Err(LineFault::Line),
+    ),
+    (
+        &["capt", "list", "--allow-cut=yes", "a"],
+        Err(LineFault::Line),
+    ),
+    (
+        &["capt", "list", "--order", "big", "a"],
+        Err(LineFault::Line),
+    ),
+    (&["capt", "--allow-cut", "list", "a"], Err(LineFault::Line)),
+    (&["capt", "list", "-x", "a"], Err(LineFault::Line)),
+];
+
+#[test]
+fn lines_give_their_jobs_and_faults(rt: HostRuntime) {
+    for (words, want) in LINES {
+        assert_eq!(rt; answer(rt.alloc(), words), want, "{words:?}");
+    }
+}

@@ -1,0 +1,55 @@
+//! `capt blocks`: one line for each block of a pcapng file, as it is found.
+ghost use Rattle.std.specs.Prelude.{◌≡◌, ◌||◌, IsTrue};
+ghost use Rattle.cap_blocks.specs.Reader.{items_of};
+ghost use Rattle.cap_tasks.specs.BlockText.{block_lines, block_list, block_refusal, refusal_of};
+ghost use Rattle.cap_bytes.specs.Printing.{Prints, IsRead, is_write};
+
+use crate::lines::block_line;
+use cap_blocks::BlockReader;
+use cap_bytes::{Fault, Sink, Source, Tail, Window, put_all};
+use std::alloc::Global;
+
+// Prints the blocks that a reader still gives, the first of which has the number 1.
+fn print_blocks<R: Source, W: Sink>(
+    reader: &mut BlockReader<R>,
+    writer: &mut W,
+) -> Result<(), Fault>
+    ensures text { IsTrue reader.old.told → IsTrue (W.tells_held writer.old)
+        → Prints (block_lines 1 (items_of reader.old)) (refusal_of (items_of reader.old))
+        (W.held writer.old) result (W.held writer.new) }
+    ensures told { IsTrue (W.tells_held writer.old) → IsTrue (W.tells_held writer.new) }
+    ensures failed { W.has_failed writer.new ≡ (W.has_failed writer.old || is_write result) }
+    ensures read { IsRead result → IsTrue reader.old.can_fail }
+    ensures write { IsTrue (is_write result) → IsTrue (W.can_fail writer.old) }
+{
+    let mut n = 1u64;
+    while let Some(block) = reader.next_block()? {
+        let line = block_line(n, &block);
+        put_all(writer, line.as_slice())?;
+        n += 1;
+    }
+    Ok(())
+}
+
+/// Prints a line for each block of a pcapng file, each as it is found, up to the first refusal, which
+/// it answers. After any other fault a front of those lines is written.
+pub fn blocks_to<R: Source, W: Sink>(
+    alloc: Global,
+    source: R,
+    tail: Tail,
+    writer: &mut W,
+) -> Result<(), Fault>
+    ensures text { IsTrue (R.tells_coming source) → IsTrue (W.tells_held writer.old)
+        → Prints (block_list tail (R.coming source)) (block_refusal tail (R.coming source))
+        (W.held writer.old) result (W.held writer.new) }
+    ensures told { IsTrue (W.tells_held writer.old) → IsTrue (W.tells_held writer.new) }
+    ensures failed { W.has_failed writer.new ≡ (W.has_failed writer.old || is_write result) }
+    ensures read { IsRead result → IsTrue (R.can_fail source) }
+    ensures write { IsTrue (is_write result) → IsTrue (W.can_fail writer.old) }
+{
+    let mut reader = BlockReader::new(Window::new(alloc, source, 1), tail);
+    print_blocks(&mut reader, writer)
+}
+
+#[cfg(test)]
+mod tests;

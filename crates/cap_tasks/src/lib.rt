@@ -1,0 +1,14 @@
+//! What the commands of `capt` do over readers and writers, what they print, and how a run ends.
+#![tactic(auto)]
+
+mod blocks;
+mod lines;
+mod list;
+mod outcomes;
+#[cfg(test)]
+mod tests;
+
+pub use crate::blocks::blocks_to;
+pub use crate::lines::{Line, Listed, block_line, packet_line};
+pub use crate::list::list_to;
+pub use crate::outcomes::{Outcome, USAGE, end_of, outcome_line, status_of, tell};

@@ -1,0 +1,151 @@
+//! Printed lines, of at most 512 bytes each. They take no memory.
+ghost use Rattle.std.specs.Prelude.{◌≡◌, ℕ, ◌+◌, ◌≤◌, ◌++◌, length, option_map};
+ghost use Rattle.arrayvec.specs.ArrayVec.{array_vec_len};
+ghost use Rattle.cap_tasks.specs.BlockText.{block_text, kind_text, order_text};
+ghost use Rattle.cap_tasks.specs.Lines.{time_text, data_text};
+ghost use Rattle.cap_time.specs.Stamp.{printed_of};
+ghost use Rattle.cap_tasks.specs.ListText.{packet_text};
+ghost use Rattle.cap_tasks.specs.Listed.{row_of};
+
+use arrayvec::ArrayVec;
+use cap_blocks::Block;
+use cap_bytes::Order;
+use cap_time::Stamp;
+use itoa::{Buffer, Integer};
+use std::cmp::min;
+
+/// The most bytes of a line.
+pub const LINE: usize = 512;
+
+/// A line that is being written.
+pub type Line = ArrayVec<u8, LINE>;
+
+/// Appends a text.
+pub fn put_text(line: &mut Line, text: &[u8])
+    requires { array_vec_len line.old + length text.now ≤ 512 }
+    ensures items { line.new.items ≡ line.old.items ++ text.now }
+    ensures len { array_vec_len line.new ≡ array_vec_len line.old + length text.now }
+{
+    let _ = line.try_extend_from_slice(text);
+}
+
+/// Appends a label and a whole number, in decimal.
+pub fn put_field<I: Integer>(line: &mut Line, label: &[u8], number: I)
+    requires { array_vec_len line.old + length label.now + 40 ≤ 512 }
+    ensures items { line.new.items ≡ line.old.items ++ label.now ++ I.text number }
+    ensures len { array_vec_len line.new ≤ array_vec_len line.old + length label.now + 40 }
+{
+    let mut buffer = Buffer::new();
+    put_text(line, label);
+    put_text(line, buffer.format(number).as_bytes());
+}
+
+/// Appends a time as `SEC+NUM/DEN`, or `-` where there is none.
+pub fn put_time(line: &mut Line, label: &[u8], time: Option<Stamp>)
+    requires { array_vec_len line.old + length label.now + 122 ≤ 512 }
+    ensures items { line.new.items ≡ line.old.items ++ label.now ++ time_text (option_map printed_of time) }
+    ensures len { array_vec_len line.new ≤ array_vec_len line.old + length label.now + 122 }
+{
+    match time {
+        None => {
+            put_text(line, label);
+            put_text(line, b"-");
+        }
+        Some(stamp) => {
+            put_field(line, label, stamp.seconds());
+            put_field(line, b"+", stamp.numerator());
+            put_field(line, b"/", stamp.denominator());
+        }
+    }
+}
+
+/// Appends the first bytes of a packet, at most 16, in lower case hex, or `-` where there are none.
+pub fn put_data(line: &mut Line, label: &[u8], bytes: &[u8])
+    requires { array_vec_len line.old + length label.now + 32 ≤ 512 }
+    ensures items { line.new.items ≡ line.old.items ++ label.now ++ data_text bytes.now }
+    ensures len { array_vec_len line.new ≤ array_vec_len line.old + length label.now + 32 }
+{
+    put_text(line, label);
+    if bytes.is_empty() {
+        put_text(line, b"-");
+        return;
+    }
+    let (shown, _) = bytes.split_at(min(bytes.len(), 16));
+    let mut digits = [0u8; 32];
+    let (room, _) = digits.split_at_mut(2 * shown.len());
+    let _ = hex::encode_to_slice(shown, room);
+    put_text(line, room);
+}
+
+/// What `capt list` prints of a packet.
+#[derive(Clone, Copy, Debug)]
+pub struct Listed {
+    /// Where its record or block begins, in bytes.
+    pub offset: u64,
+    /// When it was captured, where that is known.
+    pub time: Option<Stamp>,
+    /// How many bytes of it were captured.
+    pub captured: u32,
+    /// How many bytes it had.
+    pub original: u32,
+    /// The link type of its interface.
+    pub link: u16,
+}
+
+/// The line of the packet number n, from 1:
+/// `packet N offset O time T captured C original G link L data X`.
+pub fn packet_line(n: u64, packet: &Listed, bytes: &[u8]) -> Line
+    ensures { result.items ≡ packet_text n (row_of packet.now) bytes.now }
+{
+    let mut line = Line::new();
+    put_field(&mut line, b"packet ", n);
+    put_field(&mut line, b" offset ", packet.offset);
+    put_time(&mut line, b" time ", packet.time);
+    put_field(&mut line, b" captured ", packet.captured);
+    put_field(&mut line, b" original ", packet.original);
+    put_field(&mut line, b" link ", packet.link);
+    put_data(&mut line, b" data ", bytes);
+    put_text(&mut line, b"\n");
+    line
+}
+
+// Appends the order of a block's numbers.
+fn put_order(line: &mut Line, label: &[u8], order: Order)
+    requires { array_vec_len line.old + length label.now + 6 ≤ 512 }
+    ensures items { line.new.items ≡ line.old.items ++ label.now ++ order_text order }
+    ensures len { array_vec_len line.new ≤ array_vec_len line.old + length label.now + 6 }
+{
+    put_text(line, label);
+    match order {
+        Order::Big => put_text(line, b"big"),
+        Order::Little => put_text(line, b"little"),
+    }
+}
+
+// Appends a block's kind, in eight lower case hex digits.
+#[tactic(auto, unfolding(cap_bytes::specs::Number::bytes_of))]
+fn put_kind(line: &mut Line, label: &[u8], kind: u32)
+    requires { array_vec_len line.old + length label.now + 8 ≤ 512 }
+    ensures items { line.new.items ≡ line.old.items ++ label.now ++ kind_text kind }
+    ensures len { array_vec_len line.new ≡ array_vec_len line.old + length label.now + 8 }
+{
+    let mut digits = [0u8; 8];
+    let _ = hex::encode_to_slice(kind.to_be_bytes(), &mut digits);
+    put_text(line, label);
+    put_text(line, &digits);
+}
+
+/// The line of the block number n, from 1:
+/// `block N offset O order little kind 0a0d0d0a total T`, or `order big`.
+pub fn block_line(n: u64, block: &Block) -> Line
+    ensures { result.items ≡ block_text n block.now }
+{
+    let mut line = Line::new();
+    put_field(&mut line, b"block ", n);
+    put_field(&mut line, b" offset ", block.offset);
+    put_order(&mut line, b" order ", block.order);
+    put_kind(&mut line, b" kind ", block.kind);
+    put_field(&mut line, b" total ", block.total);
+    put_text(&mut line, b"\n");
+    line
+}

@@ -1,0 +1,169 @@
+//! How a run ends: its status, and what is told of it.
+ghost use Rattle.std.specs.Prelude.{◌≡◌, ◌||◌, ◌++◌, is_err, IsTrue, IsFalse, IsOk, IsErr, IsOkUnless};
+ghost use Rattle.cap_bytes.specs.Device.{Puts};
+ghost use Rattle.cap_tasks.specs.Outcomes.{ends_by, status_after, outcome_text, refusal_text, read_text, open_text, is_help, HelpEnds};
+ghost use Rattle.cap_bytes.specs.Printing.{PrintsFront};
+
+use crate::lines::{Line, put_field, put_text};
+use cap_bytes::{Fault, Refusal, Sink, put_all};
+use cap_line::LineFault;
+use std::io;
+
+/// What `capt` says of itself: help, and what is told of a faulty command line.
+pub const USAGE: &[u8] = b"capt reads packet captures.
+
+Usage: capt list [--allow-cut] FILE
+       capt blocks [--allow-cut] FILE
+
+list prints one line for each packet:
+  packet N offset O time T captured C original G link L data X
+blocks prints one line for each block of a pcapng file:
+  block N offset O order little kind 0a0d0d0a total T
+
+  FILE         a capture; - is standard input
+  --allow-cut  drops a last packet or block that the end of the capture cuts
+  -h, --help   prints this text
+
+Examples: capt list --allow-cut monday.pcap
+          capt blocks monday.pcapng
+
+Status 0: done; 1: the capture is refused, or a read, a write, an open or
+memory failed; 2: the command line is faulty.
+";
+
+/// How a run ended.
+#[derive(Clone, Copy, Debug, PartialEq, Eq)]
+pub enum Outcome {
+    /// All was done.
+    Done,
+    /// The command line was not run.
+    Line(LineFault),
+    /// An input was refused, or a device or memory failed.
+    Fault(Fault),
+    /// The file of that number, from 1, could not be opened.
+    Open(u32),
+    /// The output could not be created.
+    Create,
+}
+
+/// How a command ends that answered `answer`, once what waited in its writer's buffer was flushed:
+/// a flush that failed comes before the answer.
+pub fn end_of(answer: Result<(), Fault>, flushed: io::Result<()>) -> Result<(), Outcome>
+    ensures flushed { IsOk flushed → result ≡ ends_by answer }
+    ensures write { IsErr flushed → result ≡ Err (Outcome.Fault Fault.Write) }
+{
+    match flushed {
+        Ok(()) => answer.map_err(Outcome::Fault),
+        Err(_) => Err(Outcome::Fault(Fault::Write)),
+    }
+}
+
+/// The status that the process ends with: 0 for a run that is done and for help, 1 where an input
+/// is refused, or a device, an opening, a creation or memory fails, 2 for a faulty command line.
+pub fn status_of(outcome: &Outcome) -> u8
+    ensures { result ≡ status_after outcome.now }
+{
+    match outcome {
+        Outcome::Done | Outcome::Line(LineFault::Help) => 0,
+        Outcome::Fault(_) | Outcome::Open(_) | Outcome::Create | Outcome::Line(LineFault::Memory) =>
+            1,
+        Outcome::Line(LineFault::Line)
+        | Outcome::Line(LineFault::Files)
+        | Outcome::Line(LineFault::Input)
+        | Outcome::Line(LineFault::Output) => 2,
+    }
+}
+
+// `refused: file 2 offset 24 rule 6 block-trailer`
+fn refusal_line(refusal: &Refusal) -> Line
+    ensures { result.items ≡ refusal_text refusal.now }
+{
+    let mut line = Line::new();
+    put_field(&mut line, b"refused: file ", refusal.file);
+    put_field(&mut line, b" offset ", refusal.offset);
+    put_field(&mut line, b" rule ", refusal.rule.number());
+    put_text(&mut line, b" ");
+    put_text(&mut line, refusal.rule.name().as_bytes());
+    put_text(&mut line, b"\n");
+    line
+}
+
+// `fault: read file 1 offset 24`
+fn read_line(file: u32, offset: u64) -> Line
+    ensures { result.items ≡ read_text file offset }
+{
+    let mut line = Line::new();
+    put_field(&mut line, b"fault: read file ", file);
+    put_field(&mut line, b" offset ", offset);
+    put_text(&mut line, b"\n");
+    line
+}
+
+// `fault: open file 1`
+fn open_line(file: u32) -> Line
+    ensures { result.items ≡ open_text file }
+{
+    let mut line = Line::new();
+    put_field(&mut line, b"fault: open file ", file);
+    put_text(&mut line, b"\n");
+    line
+}
+
+/// Writes what is told of an outcome: nothing of a run that is done, the usage for help and for a
+/// line that isn't of capt, and one line for each other. Answers `Fault::Write`, and no other
+/// fault, where the writer failed: a front of the text is written then.
+pub fn outcome_line<W: Sink>(outcome: &Outcome, writer: &mut W) -> Result<(), Fault>
+    ensures text { IsTrue (W.tells_held writer.old)
+        → Puts (W.held writer.old) result (W.held writer.new) (outcome_text outcome.now) }
+    ensures told { IsTrue (W.tells_held writer.old) → IsTrue (W.tells_held writer.new) }
+    ensures failed { W.has_failed writer.new ≡ (W.has_failed writer.old || is_err result) }
+    ensures write { IsErr result → IsTrue (W.can_fail writer.old) }
+    ensures cannot { IsTrue (W.can_fail writer.new) → IsTrue (W.can_fail writer.old) }
+    ensures fault { IsOkUnless result Fault.Write }
+{
+    match outcome {
+        Outcome::Done => Ok(()),
+        Outcome::Line(LineFault::Help) | Outcome::Line(LineFault::Line) => put_all(writer, USAGE),
+        Outcome::Line(LineFault::Files) => put_all(writer, b"fault: files\n"),
+        Outcome::Line(LineFault::Input) => put_all(writer, b"fault: input\n"),
+        Outcome::Line(LineFault::Output) => put_all(writer, b"fault: output\n"),
+        Outcome::Line(LineFault::Memory) | Outcome::Fault(Fault::Memory) => {
+            put_all(writer, b"fault: memory\n")
+        }
+        Outcome::Fault(Fault::Refused(refusal)) => {
+            put_all(writer, refusal_line(refusal).as_slice())
+        }
+        Outcome::Fault(Fault::Read { file, offset }) => {
+            put_all(writer, read_line(*file, *offset).as_slice())
+        }
+        Outcome::Fault(Fault::Write) => put_all(writer, b"fault: write\n"),
+        Outcome::Open(file) => put_all(writer, open_line(*file).as_slice()),
+        Outcome::Create => put_all(writer, b"fault: create output\n"),
+    }
+}
+
+/// Tells an outcome: help on `output`, all else on `faults`. Answers how the run ends: by
+/// `Fault::Write` where help could not be written, which is told then, else by the same outcome. A
+/// failure of `faults` changes nothing.
+pub fn tell<O: Sink, E: Sink>(outcome: Outcome, output: &mut O, faults: &mut E) -> Outcome
+    ensures same { IsFalse (is_help outcome) → result ≡ outcome }
+    ensures silent { IsFalse (is_help outcome) → output.new ≡ output.old }
+    ensures help { IsTrue (is_help outcome) → IsTrue (O.tells_held output.old)
+        → HelpEnds (O.held output.old) (O.held output.new) result }
+    ensures ends { IsTrue (is_help outcome) → IsFalse (O.can_fail output.old) → result ≡ outcome }
+    ensures told { IsTrue (E.tells_held faults.old) → IsFalse (is_help result)
+        → PrintsFront (outcome_text result) (E.held faults.old) (E.held faults.new) }
+    ensures whole { IsTrue (E.tells_held faults.old) → IsFalse (is_help result)
+        → IsFalse (E.can_fail faults.old)
+        → E.held faults.new ≡ E.held faults.old ++ outcome_text result }
+{
+    let ending = match outcome {
+        Outcome::Line(LineFault::Help) => match outcome_line(&outcome, output) {
+            Ok(()) => return outcome,
+            Err(fault) => Outcome::Fault(fault),
+        },
+        _ => outcome,
+    };
+    let _ = outcome_line(&ending, faults);
+    ending
+}

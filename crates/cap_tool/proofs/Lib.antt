@@ -1,5 +1,0 @@
-pub mod FileNames
-pub mod Listing
-pub mod Parsing
-pub mod Rows
-pub mod Telling
