@@ -47,6 +47,33 @@ run list "$work/folder"; check 'a folder' 1 '' 'fault: read file 1 offset 0'
 run blocks "$work/one.pcap"; check 'blocks of a pcap file' 1 '' 'refused: file 1 offset 0 rule 1 magic'
 printf '\x0a\x0d\x0d\x0a\x1c\0\0\0\x4d\x3c\x2b\x1a\x01\0\0\0\xff\xff\xff\xff\xff\xff\xff\xff\x1c\0\0\0' > "$work/one.pcapng"
 run blocks "$work/one.pcapng"; check 'blocks' 0 'block 1 offset 0 order little kind 0a0d0d0a total 28' ''
+# convert: the same packet in a section, and back; OUT may be a file, standard output, or refused
+printf '\x0a\x0d\x0d\x0a\x1c\0\0\0\x4d\x3c\x2b\x1a\x01\0\0\0\xff\xff\xff\xff\xff\xff\xff\xff\x1c\0\0\0' > "$work/want.pcapng"
+printf '\x01\0\0\0\x20\0\0\0\x01\0\0\0\0\0\x04\0\x09\0\x01\0\x06\0\0\0\0\0\0\0\x20\0\0\0' >> "$work/want.pcapng"
+printf '\x06\0\0\0\x24\0\0\0\0\0\0\0\0\0\0\0\xa0\x25\x26\0\x04\0\0\0\x04\0\0\0\x01\x02\x03\x04\x24\0\0\0' >> "$work/want.pcapng"
+printf '\xd4\xc3\xb2\xa1\x02\0\x04\0\0\0\0\0\0\0\0\0\0\0\x04\0\x01\0\0\0' > "$work/want.pcap"
+printf '\x02\0\0\0\x20\xa1\x07\0\x04\0\0\0\x04\0\0\0\x01\x02\x03\x04' >> "$work/want.pcap"
+printf '\xa1\xb2\xc3\xd4\0\x02\0\x04\0\0\0\0\0\0\0\0\0\x04\0\0\0\0\0\x01' > "$work/big.pcap"
+printf '\0\0\0\x02\0\x07\xa1\x20\0\0\0\x04\0\0\0\x04\x01\x02\x03\x04' >> "$work/big.pcap"
+# same NAME FILE FILE: the files have the same bytes
+same() { if cmp -s "$2" "$3"; then passed=$((passed + 1)); else failed=$((failed + 1)); echo "$1: $2 differs"; fi; }
+# absent NAME FILE: there is no such file
+absent() { if [ -e "$2" ]; then failed=$((failed + 1)); echo "$1: $2 is there"; else passed=$((passed + 1)); fi; }
+one=$work/one.pcap
+run convert --to pcapng -o "$work/new" "$one"; check 'to pcapng' 0 '' ''; same 'to pcapng' "$work/new" "$work/want.pcapng"
+run convert --to pcap -o "$work/new" "$work/want.pcapng"; check 'to pcap, over a longer file' 0 '' ''; same 'to pcap' "$work/new" "$work/want.pcap"
+run convert --order big --to pcap -o "$work/new" "$work/want.pcapng"; check 'to pcap, big' 0 '' ''; same 'to pcap, big' "$work/new" "$work/big.pcap"
+input=$one; run convert --to pcap -o - -; check 'standard input to standard output' 0 '*' ''; input=; same 'standard output' "$work/out" "$work/want.pcap"
+run convert --to pcap -o "$work/none" "$work/missing"; check 'a missing file to convert' 1 '' 'fault: open file 1'; absent 'a missing file to convert' "$work/none"
+run convert --to pcap -o "$work/nowhere/new" "$one"; check 'an output that cannot be created' 1 '' 'fault: create output'
+run convert --to pcap -o "$work/folder" "$one"; check 'a folder as output' 1 '' 'fault: create output'
+cp "$one" "$work/kept"; run convert --to pcap -o "$one" "$one"; check 'an output that is the file' 2 '' 'fault: output'; same 'the file' "$one" "$work/kept"
+run convert --to pcapng -o "$work/new" "$work/empty.pcap"; check 'an empty file to convert' 1 '' 'refused: file 1 offset 0 rule 3 cut'
+head -c 28 "$work/want.pcapng" > "$work/section"; same 'an empty file to convert' "$work/new" "$work/section"
+run convert --to pcap -o /dev/full "$work/cut.pcap"; check 'a refusal on a full disk' 1 '' 'fault: write'
+run convert --to pcap -o /dev/full "$work/section"; check 'a refusal with nothing to write, on a full disk' 1 '' 'refused: file 1 offset 0 rule 21 no-interface'
+run convert --to pcap "$one"; check 'no output' 2 '' '*'
+run convert -o "$work/none" "$one"; check 'no format' 2 '' '*'; absent 'no format' "$work/none"
 run --help; check 'help' 0 '*' ''; grep -q 'capt list' "$work/out" || { failed=$((failed + 1)); echo 'help: no example'; }
 run list --help; check 'help of a subcommand' 0 '*' ''
 run list -h; check 'short help' 0 '*' ''

@@ -1,12 +1,14 @@
 -- From clap's answer to capt's.
-use Rattle.std.proofs.Common.{◌≡◌, ◌⊎◌, List, [], Option, Some, None, Result, Ok, Err, true, refl, sym, ap, ◌∙◌, subst, inl, inr}
-use Rattle.clap.specs.Words.{App, Text, Row, Kinds, IsAmong, FailsBy, HasKind, HasMatchesOf, app_of, fault_of, is_simple, is_simple_and_free, subcommand_of, subcommand_rows_of, kind_of}
+use Rattle.std.proofs.Common.{◌≡◌, ◌⊎◌, List, [], Option, Some, None, Result, Ok, Err, IfOk, true, false, refl, sym, ap, ◌∙◌, subst, inl, inr}
+use Rattle.clap.specs.Words.{App, Text, Row, IsAmong, app_of, fault_of, is_simple, is_simple_and_free, subcommand_of}
 use Rattle.clap.proofs.OnLiterals.{clap_on_literals}
-use Rattle.clap.specs.declared.error.Error.{Error}
 use Rattle.clap.specs.declared.error.kind.ErrorKind.{ErrorKind}
 use Rattle.clap.specs.declared.error.kind.ErrorKind.TheVariants as kind
-use Rattle.cap_line.specs.Command.{IsCapt}
-use Rattle.cap_line.specs.CommandLine.{Parses, Answers, Refuses, IsJobOf, fault_by}
+use Rattle.clap.specs.Words.{AddsSubcommand, shape_of, with_subcommand}
+use Rattle.clap.specs.declared.builder.command.Command.{Command}
+use Rattle.clap.specs.declared.builder.command.Command.TheViews.{out-Command}
+use Rattle.cap_line.specs.Command.{IsCapt, IsConvert, capt_app, printing_app}
+use Rattle.cap_line.specs.CommandLine.{Parses, IsJobOf, fault_by}
 use Rattle.cap_line.specs.declared.job.Job.{Job}
 use Rattle.cap_line.specs.declared.faults.LineFault.{LineFault}
 use Rattle.cap_line.specs.declared.faults.LineFault.TheVariants.{Help, Line, Files, Input, Output, Memory}
@@ -14,11 +16,13 @@ use Rattle.cap_line.specs.declared.faults.LineFault.TheVariants.{Help, Line, Fil
 -- capt's command is one whose matches and faults clap's definitions give
 pub IsCapt-simple_and_free : (app : App) → IsCapt app → is_simple_and_free app ≡ true
 unfolding clap_on_literals
-IsCapt-simple_and_free app is = ap is_simple_and_free is
+IsCapt-simple_and_free app is =
+    ap is_simple_and_free (is.app_is ∙ ap capt_app is.is_convert.app_is)
 
 pub IsCapt-simple : (app : App) → IsCapt app → is_simple app ≡ true
 unfolding clap_on_literals
-IsCapt-simple app is = ap is_simple is
+IsCapt-simple app is =
+    ap is_simple (is.app_is ∙ ap capt_app is.is_convert.app_is)
 
 -- an answer of the subcommand is the parse's
 pub Parses-answered : (words : List Text) (app : App) (r : Result Job LineFault) → IsCapt app → fault_of app words ≡ []
@@ -66,3 +70,18 @@ Parses-refused words app kind.DisplayHelpOnMissingArgumentOrSubcommand is errs =
 Parses-refused words app kind.DisplayVersion is errs = refused_line words app kind.DisplayVersion is refl (λ e. (cc)) errs _ refl
 Parses-refused words app kind.Io is errs = refused_line words app kind.Io is refl (λ e. (cc)) errs _ refl
 Parses-refused words app kind.Format is errs = refused_line words app kind.Format is refl (λ e. (cc)) errs _ refl
+
+-- nothing is said of an answer that is an error
+pub IfOk-none : {A E : Type 0} (P : A → Type 0) (r : Result A E) (error : E) → r ≡ Err error → IfOk r P
+IfOk-none P r error is = subst (λ s. IfOk s P) (sym is) tt
+
+-- capt is what prints, with `convert` added
+pub IsCapt-added : (printing convert all : Command) → app_of printing ≡ printing_app
+    → IsConvert (app_of convert) → (out-Command convert).has_globals ≡ false → AddsSubcommand printing convert all
+    → IsCapt (app_of all)
+IsCapt-added printing convert all is is_convert local added =
+    record {
+      convert = app_of convert;
+      is_convert = is_convert;
+      app_is = added.shape local ∙ ap (λ a. with_subcommand a (shape_of convert)) is;
+    }

@@ -1,7 +1,7 @@
 -- What clap's getters give, as the rows of a parse say it.
-use Rattle.std.proofs.Common.{◌≡◌, List, ℕ, [], Option, Some, None, option_map, refl, ap, ◌∙◌}
+use Rattle.std.proofs.Common.{◌≡◌, List, [], Option, option_map, ap, ◌∙◌}
 use Rattle.std.specs.Option.{unwrap_or}
-use Rattle.clap.specs.Words.{Row, Text, all_of, first_of, first_value, matched_of, raw_values, rows_of}
+use Rattle.clap.specs.Words.{Text, all_of, first_of, first_value, matched_of, raw_values, rows_of}
 use Rattle.clap.specs.declared.parser.matches.Found.{Found}
 use Rattle.clap.proofs.WalkLemmas.{first_value-rows, raw_values-rows}
 

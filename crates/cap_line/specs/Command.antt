@@ -1,12 +1,40 @@
 -- capt's command line: what a parse reads of it.
-use Rattle.std.specs.Prelude.{◌≡◌, true, List, codes, Some}
-use Rattle.clap.specs.Words.{App, Rule, Shape, Text, new_app, new_rule, with_rule, with_subcommand}
+use Rattle.std.specs.Prelude.{◌≡◌, true, List, [], ◌∷◌, map, codes, Some}
+use Rattle.std.specs.Borrow.{Bor}
+use Rattle.clap.specs.Words.{App, Rule, Text, new_app, new_rule, with_rule, with_subcommand}
 use Rattle.clap.specs.Simple.{on_top}
 use Rattle.clap.specs.declared.builder.action.ArgAction.TheVariants.{SetTrue}
+use Rattle.clap.specs.declared.builder.value_parser.ValueParser.TheVariants as parser
+
+-- the names that an argument takes, as clap keeps them
+abbrev pub Names : Type 0
+Names = Bor (List (Bor Text))
+
+abbrev pub AreNames : Names → List Text → Type 0
+AreNames names texts = map (λ name. name.now) names.now ≡ texts
 
 -- the flag `--allow-cut`
 abbrev pub allow_cut_rule : Rule
 allow_cut_rule = record (new_rule (codes "allow-cut")) { long = Some (codes "allow-cut"); action = Some SetTrue }
+
+-- the option `--order`, which takes one of those names
+abbrev pub order_rule : Names → Rule
+order_rule names = record (new_rule (codes "order")) { long = Some (codes "order"); parser = Some (parser.Names names) }
+
+abbrev pub IsOrderRule : Rule → Type 0
+IsOrderRule rule = (names : Names) × AreNames names (codes "big" ∷ codes "little" ∷ []) × (rule ≡ order_rule names)
+
+-- the option `--to`, which is required and takes one of those names
+abbrev pub to_rule : Names → Rule
+to_rule names =
+    record (new_rule (codes "to")) { long = Some (codes "to"); parser = Some (parser.Names names); required = true }
+
+abbrev pub IsToRule : Rule → Type 0
+IsToRule rule = (names : Names) × AreNames names (codes "pcap" ∷ codes "pcapng" ∷ []) × (rule ≡ to_rule names)
+
+-- the option `-o`, the letter's code being 111, which is required
+abbrev pub out_rule : Rule
+out_rule = record (new_rule (codes "out")) { short = Some 111; required = true }
 
 -- the argument FILE, which is required
 abbrev pub file_rule : Rule
@@ -24,10 +52,39 @@ list_app = capture_app (codes "list")
 abbrev pub blocks_app : App
 blocks_app = capture_app (codes "blocks")
 
+-- the subcommand of that name with `[--allow-cut] [--order ORDER] -o OUT`, before its files
+abbrev pub writing_app : Text → Names → App
+writing_app name orders = with_rule (with_rule (with_rule (new_app name) allow_cut_rule) (order_rule orders)) out_rule
+
+pub record IsWriting (name : Text) (app : App) : Type 0 where
+  pub orders : Names
+  pub orders_are : AreNames orders (codes "big" ∷ codes "little" ∷ [])
+  pub app_is : app ≡ writing_app name orders
+
+-- `convert [--allow-cut] [--order ORDER] -o OUT --to FORMAT FILE`
+abbrev pub convert_app : Names → Names → App
+convert_app orders formats = with_rule (with_rule (writing_app (codes "convert") orders) (to_rule formats)) file_rule
+
+pub record IsConvert (app : App) : Type 0 where
+  pub orders : Names
+  pub orders_are : AreNames orders (codes "big" ∷ codes "little" ∷ [])
+  pub formats : Names
+  pub formats_are : AreNames formats (codes "pcap" ∷ codes "pcapng" ∷ [])
+  pub app_is : app ≡ convert_app orders formats
+
 -- `capt` without its subcommands: one is required, and `help` is none
 abbrev pub capt_alone : App
 capt_alone = on_top (λ s. record s { subcommand_required = true; disable_help_subcommand = true }) (new_app (codes "capt"))
 
+-- `capt` with the subcommands that print, and with all
+abbrev pub printing_app : App
+printing_app = with_subcommand (with_subcommand capt_alone list_app.top) blocks_app.top
+
+abbrev pub capt_app : App → App
+capt_app convert = with_subcommand printing_app convert.top
+
 -- The application is capt's: `capt` and its subcommands.
-abbrev pub IsCapt : App → Type 0
-IsCapt app = app ≡ with_subcommand (with_subcommand capt_alone list_app.top) blocks_app.top
+pub record IsCapt (app : App) : Type 0 where
+  pub convert : App
+  pub is_convert : IsConvert convert
+  pub app_is : app ≡ capt_app convert

@@ -1,5 +1,5 @@
 -- What a command line asks for, by clap's matches of its words.
-use Rattle.std.specs.Prelude.{◌≡◌, ◌≢◌, ◌⊎◌, ◌==◌, ◌&&◌, not, ◌<◌, ◌≤◌, ℕ, Bool, true, false, List, [], ◌∷◌, length, codes, count_by, Contains, IfSome, IfNone, Option, Some, None, Result, Ok, Err, unwrap_or, if◌then◌else◌, nat_lt, map, option_map, IsTrue, ◌↔◌}
+use Rattle.std.specs.Prelude.{◌≡◌, ◌⊎◌, ◌&&◌, not, Bool, false, List, [], length, codes, count_by, Option, Some, None, Result, Ok, Err, unwrap_or, if◌then◌else◌, nat_lt, map, option_map, IsTrue, ◌↔◌}
 use Rattle.std.specs.Str.{bytes_eq}
 use Rattle.std.specs.List.{list_any}
 use Rattle.clap.specs.Words.{App, Row, Text, all_of, first_of, fault_of, subcommand_of, IsAmong}
@@ -31,7 +31,8 @@ is_also_file (Some out) files = not (bytes_eq out (codes "-")) && list_any (λ f
 abbrev pub task_by : Text → Option Task
 task_by name =
     if bytes_eq name (codes "list") then Some tasks.List else
-    if bytes_eq name (codes "blocks") then Some tasks.Blocks else None
+    if bytes_eq name (codes "blocks") then Some tasks.Blocks else
+    if bytes_eq name (codes "convert") then Some tasks.Convert else None
 
 -- the order that is named: little where none is
 abbrev pub order_by : Option Text → Order

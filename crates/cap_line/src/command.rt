@@ -1,8 +1,8 @@
 //! The command line as clap reads it: one small function for each argument and each subcommand.
-ghost use Rattle.std.specs.Prelude.{◌≡◌, false, IfOk};
+ghost use Rattle.std.specs.Prelude.{◌≡◌, codes, false, IfOk};
 ghost use Rattle.clap.specs.Words.{app_of, rule_of};
 ghost use Rattle.clap.specs.declared.builder.command.Command.TheViews.{out-Command as fields_of};
-ghost use Rattle.cap_line.specs.Command.{IsCapt, allow_cut_rule, file_rule, capture_app, list_app, blocks_app, capt_alone};
+ghost use Rattle.cap_line.specs.Command.{IsCapt, IsConvert, IsOrderRule, IsToRule, IsWriting, allow_cut_rule, blocks_app, capt_alone, capture_app, file_rule, list_app, out_rule, printing_app};
 
 use clap::{Arg, ArgAction, Command};
 use std::alloc::{AllocError, Global};
@@ -12,6 +12,13 @@ const EXAMPLE: &str = "Example: capt list trace.pcap";
 const LIST_EXAMPLE: &str = "Example: capt list --allow-cut trace.pcap";
 
 const BLOCKS_EXAMPLE: &str = "Example: capt blocks trace.pcapng";
+
+const CONVERT_EXAMPLE: &str = "Example: capt convert --to pcapng -o trace.pcapng trace.pcap";
+
+// The names of the orders, and of the formats.
+static ORDERS: [&str; 2] = ["big", "little"];
+
+static FORMATS: [&str; 2] = ["pcap", "pcapng"];
 
 // `--allow-cut`
 fn allow_cut<'a>(alloc: Global) -> Arg<'a>
@@ -68,6 +75,65 @@ fn blocks<'a>(alloc: Global) -> Result<Command<'a>, AllocError>
     )
 }
 
+// `--order`
+fn order<'a>(alloc: Global) -> Arg<'a>
+    ensures rule { IsOrderRule (rule_of result) }
+    ensures local { result.global ≡ false }
+{
+    Arg::new(alloc, "order")
+        .long("order")
+        .value_parser(ORDERS.as_slice())
+        .help("The byte order of the output: little where none is named")
+}
+
+// `--to`
+fn to<'a>(alloc: Global) -> Arg<'a>
+    ensures rule { IsToRule (rule_of result) }
+    ensures local { result.global ≡ false }
+{
+    Arg::new(alloc, "to")
+        .long("to")
+        .value_parser(FORMATS.as_slice())
+        .required(true)
+        .help("The format of the output")
+}
+
+// `-o`
+fn out<'a>(alloc: Global) -> Arg<'a>
+    ensures rule { rule_of result ≡ out_rule }
+    ensures local { result.global ≡ false }
+{
+    Arg::new(alloc, "out")
+        .short('o')
+        .required(true)
+        .help("The output file, or - for standard output")
+}
+
+// A subcommand with `[--allow-cut] [--order ORDER] -o OUT`, without its files and its texts
+fn writing_command<'a>(alloc: Global, name: &'a str) -> Result<Command<'a>, AllocError>
+    ensures app { IfOk result (λ c. IsWriting name.entry.now (app_of c)) }
+    ensures local { IfOk result (λ c. (fields_of c).has_globals ≡ false) }
+{
+    Command::new(alloc, name)
+        .arg(allow_cut(alloc))?
+        .arg(order(alloc))?
+        .arg(out(alloc))
+}
+
+// `convert`
+fn convert<'a>(alloc: Global) -> Result<Command<'a>, AllocError>
+    ensures app { IfOk result (λ c. IsConvert (app_of c)) }
+    ensures local { IfOk result (λ c. (fields_of c).has_globals ≡ false) }
+{
+    Ok(
+        writing_command(alloc, "convert")?
+            .arg(to(alloc))?
+            .arg(file(alloc))?
+            .about("Writes the packets of a capture in either format")
+            .after_help(CONVERT_EXAMPLE),
+    )
+}
+
 // `capt` without its subcommands
 fn capt_itself<'a>(alloc: Global) -> Command<'a>
     ensures app { app_of result ≡ capt_alone }
@@ -80,11 +146,19 @@ fn capt_itself<'a>(alloc: Global) -> Command<'a>
         .disable_help_subcommand(true)
 }
 
-/// The command line of `capt`.
-pub fn capt<'a>(alloc: Global) -> Result<Command<'a>, AllocError>
-    ensures { IfOk result (λ c. IsCapt (app_of c)) }
+// `capt` with the subcommands that print
+fn printing<'a>(alloc: Global) -> Result<Command<'a>, AllocError>
+    ensures app { IfOk result (λ c. app_of c ≡ printing_app) }
+    ensures local { IfOk result (λ c. (fields_of c).has_globals ≡ false) }
 {
     capt_itself(alloc)
         .subcommand(list(alloc)?)?
         .subcommand(blocks(alloc)?)
+}
+
+/// The command line of `capt`.
+pub fn capt<'a>(alloc: Global) -> Result<Command<'a>, AllocError>
+    ensures { IfOk result (λ c. IsCapt (app_of c)) }
+{
+    printing(alloc)?.subcommand(convert(alloc)?)
 }

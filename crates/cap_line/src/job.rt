@@ -21,6 +21,8 @@ pub enum Task {
     List,
     /// Print a line for each block of a pcapng file.
     Blocks,
+    /// Write the packets of a file in one of the formats.
+    Convert,
 }
 
 /// A format of capture files.
@@ -94,6 +96,7 @@ fn task_of(name: &str) -> Option<Task>
     match name {
         "list" => Some(Task::List),
         "blocks" => Some(Task::Blocks),
+        "convert" => Some(Task::Convert),
         _ => None,
     }
 }

@@ -1,17 +1,17 @@
 -- The lines of a file's blocks, written one by one.
-use Rattle.std.proofs.Common.{◌≡◌, ℕ, ◌+◌, ◌^◌, ◌≤◌, List, [], ◌∷◌, ◌++◌, length, take, drop, Bool, IsTrue, Option, Some, None, Result, Ok, Err, refl, sym, ap, ◌∙◌, subst, arith, take_at, drop_at, length-append}
+use Rattle.std.proofs.Common.{◌≡◌, ℕ, ◌+◌, ◌^◌, ◌≤◌, List, ◌∷◌, ◌++◌, length, take, drop, Bool, IsTrue, Option, None, Ok, Err, refl, sym, ap, ◌∙◌, subst, arith, take_at, drop_at, length-append}
 use Rattle.cap_bytes.proofs.Putting.{Writer, Putting, Putting-more}
 use Rattle.cap_bytes.specs.declared.faults.Fault.{Fault}
 use Rattle.cap_bytes.specs.declared.faults.Fault.TheVariants.{Refused, Read, Write, Memory}
 use Rattle.cap_bytes.specs.declared.faults.Refusal.{Refusal}
 use Rattle.cap_blocks.specs.Reader.{State, Keeps, GivesBlock, TakesItem, IsEnd, items_of}
-use Rattle.cap_blocks.specs.Split.{Item, given, stopped}
+use Rattle.cap_blocks.specs.Split.{Item, given}
 use Rattle.cap_blocks.specs.declared.blocks.Block.{Block}
 use Rattle.cap_blocks.specs.declared.blocks.Stop.{Stop}
 use Rattle.cap_blocks.specs.declared.blocks.Stop.TheVariants as stops
 use Rattle.cap_bytes.proofs.Putting.{Putting-all}
 use Rattle.cap_tasks.specs.BlockText.{block_lines, block_text, refusal_by, refusal_of}
-use Rattle.cap_bytes.specs.Printing.{Prints, PrintsFront}
+use Rattle.cap_bytes.specs.Printing.{Prints}
 
 -- the lines so far of a reader that was `old` are written by a writer that was `from`
 pub record Printing (old new : State) (failed_old failed_new : Bool) (from to : Writer) (n : ℕ) : Type 0 where

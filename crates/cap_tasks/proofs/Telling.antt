@@ -1,5 +1,5 @@
 -- What is written of a text, whatever the writer answered.
-use Rattle.std.proofs.Common.{◌≡◌, List, ℕ, ◌++◌, length, take, Result, Ok, Err, sym, ◌∙◌, ap}
+use Rattle.std.proofs.Common.{List, ℕ, ◌++◌, length, Result, Ok, Err, sym, ◌∙◌, ap}
 use Rattle.std.proofs.Math.Seq.{take-length}
 use Rattle.cap_bytes.specs.Device.{Puts}
 use Rattle.cap_bytes.specs.declared.faults.Fault.{Fault}

@@ -1,5 +1,5 @@
 pub mod BlockText
+pub mod Converted
 pub mod Lines
 pub mod ListText
-pub mod Listed
 pub mod Outcomes

@@ -1,62 +1,43 @@
 -- What `capt list` prints.
-use Rattle.std.specs.Prelude.{◌≡◌, ℕ, ◌+◌, pos, List, [], ◌∷◌, ◌++◌, codes, decimal, Option, Some, None}
+use Rattle.std.specs.Prelude.{ℕ, ◌+◌, List, [], ◌∷◌, ◌++◌, codes, decimal, Option, Some, None}
 use Rattle.cap_bytes.specs.declared.faults.Refusal.{Refusal}
 use Rattle.cap_bytes.specs.declared.faults.Tail.{Tail}
-use Rattle.cap_pcap.specs.Split.{Item, given, stopped, file_items, header_at}
-use Rattle.cap_pcap.specs.declared.headers.PcapHeader.{PcapHeader}
-use Rattle.cap_pcap.specs.declared.records.Record.{Record}
-use Rattle.cap_pcap.specs.declared.records.Stop.{Stop}
-use Rattle.cap_pcap.specs.declared.records.Stop.TheVariants as stops
-use Rattle.cap_time.specs.Time.{Printed, printed_form, time_at}
-use Rattle.cap_time.specs.Unit.{in_second}
+use Rattle.cap_source.specs.Feed.{Item, packet, refused}
+use Rattle.cap_source.specs.Items.{file_items}
+use Rattle.cap_source.specs.declared.packets.Meta.{Meta}
+use Rattle.cap_time.specs.Stamp.{time_in}
+use Rattle.cap_time.specs.Time.{Printed, printed_form}
+use Rattle.cap_time.specs.declared.resolutions.Interface.{Interface}
 use Rattle.cap_tasks.specs.Lines.{time_text, data_text}
 
--- what is printed of a packet beside its number and its bytes
-pub record Row : Type 0 where
-  pub offset : ℕ
-  pub time : Option Printed
-  pub captured : ℕ
-  pub original : ℕ
-  pub link : ℕ
+-- a time in the form of its own interface, where there is one
+abbrev pub printed_in : Option ℕ → Interface → Option Printed
+printed_in None interface = None
+printed_in (Some units) interface = Some (printed_form (time_in units interface))
 
 -- the line of the packet number n, of which those bytes were captured
-abbrev pub packet_text : ℕ → Row → List ℕ → List ℕ
-packet_text n row bytes =
-    codes "packet " ++ decimal n ++ codes " offset " ++ decimal row.offset ++ codes " time " ++ time_text row.time
-    ++ codes " captured " ++ decimal row.captured ++ codes " original " ++ decimal row.original
-    ++ codes " link " ++ decimal row.link ++ codes " data " ++ data_text bytes ++ codes "\n"
+abbrev pub packet_text : ℕ → Meta → List ℕ → List ℕ
+packet_text n meta bytes =
+    codes "packet " ++ decimal n ++ codes " offset " ++ decimal meta.offset
+    ++ codes " time " ++ time_text (printed_in meta.units meta.interface)
+    ++ codes " captured " ++ decimal meta.captured ++ codes " original " ++ decimal meta.original
+    ++ codes " link " ++ decimal meta.interface.link ++ codes " data " ++ data_text bytes ++ codes "\n"
 
--- what is printed of a record of a pcap file: its time counts from 1970 in the header's unit
-abbrev pub pcap_row : PcapHeader → Record → Row
-pcap_row header r =
-    record {
-      offset = r.offset;
-      time = Some (printed_form (time_at r.units (in_second header.unit) (pos 0)));
-      captured = r.captured;
-      original = r.original;
-      link = header.link;
-    }
+-- the lines of the packets of a list, from the number n on
+unfoldable pub list_lines : ℕ → List Item → List ℕ
+list_lines n [] = []
+list_lines n (packet meta frame ∷ items) = packet_text n meta frame ++ list_lines (n + 1) items
+list_lines n (refused refusal ∷ items) = []
 
--- the lines of the records of a pcap file, from the number n on
-unfoldable pub pcap_lines : PcapHeader → ℕ → List Item → List ℕ
-pcap_lines header n [] = []
-pcap_lines header n (given r bytes ∷ items) = packet_text n (pcap_row header r) bytes ++ pcap_lines header (n + 1) items
-pcap_lines header n (stopped stop ∷ items) = []
-
--- the refusal that ends the records, if one does
-abbrev pub refusal_by : Stop → Option Refusal
-refusal_by stops.End = None
-refusal_by stops.Cut = None
-refusal_by (stops.Refused refusal) = Some refusal
-
+-- the refusal that ends the packets, if one does
 unfoldable pub refusal_of : List Item → Option Refusal
 refusal_of [] = None
-refusal_of (given r bytes ∷ items) = refusal_of items
-refusal_of (stopped stop ∷ items) = refusal_by stop
+refusal_of (packet meta frame ∷ items) = refusal_of items
+refusal_of (refused refusal ∷ items) = Some refusal
 
--- what `list` prints of a pcap file with those bytes, and the refusal that it then answers, if there is one
-abbrev pub pcap_list : Tail → List ℕ → List ℕ
-pcap_list tail bytes = pcap_lines (header_at bytes) 1 (file_items tail 1 0 bytes)
+-- what `list` prints of a file with those bytes, and the refusal that it then answers, if there is one
+abbrev pub list_text : Tail → List ℕ → List ℕ
+list_text tail bytes = list_lines 1 (file_items tail 1 bytes)
 
-abbrev pub pcap_refusal : Tail → List ℕ → Option Refusal
-pcap_refusal tail bytes = refusal_of (file_items tail 1 0 bytes)
+abbrev pub list_refusal : Tail → List ℕ → Option Refusal
+list_refusal tail bytes = refusal_of (file_items tail 1 bytes)

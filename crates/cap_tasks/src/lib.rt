@@ -2,6 +2,7 @@
 #![tactic(auto)]
 
 mod blocks;
+mod convert;
 mod lines;
 mod list;
 mod outcomes;
@@ -9,6 +10,7 @@ mod outcomes;
 mod tests;
 
 pub use crate::blocks::blocks_to;
-pub use crate::lines::{Line, Listed, block_line, packet_line};
+pub use crate::convert::convert_to;
+pub use crate::lines::{Line, block_line, packet_line};
 pub use crate::list::list_to;
 pub use crate::outcomes::{Outcome, USAGE, end_of, outcome_line, status_of, tell};

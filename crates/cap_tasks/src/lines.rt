@@ -4,12 +4,12 @@ ghost use Rattle.arrayvec.specs.ArrayVec.{array_vec_len};
 ghost use Rattle.cap_tasks.specs.BlockText.{block_text, kind_text, order_text};
 ghost use Rattle.cap_tasks.specs.Lines.{time_text, data_text};
 ghost use Rattle.cap_time.specs.Stamp.{printed_of};
-ghost use Rattle.cap_tasks.specs.ListText.{packet_text};
-ghost use Rattle.cap_tasks.specs.Listed.{row_of};
+ghost use Rattle.cap_tasks.specs.ListText.{packet_text, printed_in};
 
 use arrayvec::ArrayVec;
 use cap_blocks::Block;
 use cap_bytes::Order;
+use cap_source::Meta;
 use cap_time::Stamp;
 use itoa::{Buffer, Integer};
 use std::cmp::min;
@@ -77,33 +77,28 @@ pub fn put_data(line: &mut Line, label: &[u8], bytes: &[u8])
     put_text(line, room);
 }
 
-/// What `capt list` prints of a packet.
-#[derive(Clone, Copy, Debug)]
-pub struct Listed {
-    /// Where its record or block begins, in bytes.
-    pub offset: u64,
-    /// When it was captured, where that is known.
-    pub time: Option<Stamp>,
-    /// How many bytes of it were captured.
-    pub captured: u32,
-    /// How many bytes it had.
-    pub original: u32,
-    /// The link type of its interface.
-    pub link: u16,
+// The time of a packet, where it has one.
+fn stamp_of(meta: &Meta) -> Option<Stamp>
+    ensures { option_map printed_of result ≡ printed_in meta.now.units meta.now.interface }
+{
+    match meta.units {
+        Some(units) => Some(Stamp::new(units, &meta.interface)),
+        None => None,
+    }
 }
 
 /// The line of the packet number n, from 1:
 /// `packet N offset O time T captured C original G link L data X`.
-pub fn packet_line(n: u64, packet: &Listed, bytes: &[u8]) -> Line
-    ensures { result.items ≡ packet_text n (row_of packet.now) bytes.now }
+pub fn packet_line(n: u64, meta: &Meta, bytes: &[u8]) -> Line
+    ensures { result.items ≡ packet_text n meta.now bytes.now }
 {
     let mut line = Line::new();
     put_field(&mut line, b"packet ", n);
-    put_field(&mut line, b" offset ", packet.offset);
-    put_time(&mut line, b" time ", packet.time);
-    put_field(&mut line, b" captured ", packet.captured);
-    put_field(&mut line, b" original ", packet.original);
-    put_field(&mut line, b" link ", packet.link);
+    put_field(&mut line, b" offset ", meta.offset);
+    put_time(&mut line, b" time ", stamp_of(meta));
+    put_field(&mut line, b" captured ", meta.captured);
+    put_field(&mut line, b" original ", meta.original);
+    put_field(&mut line, b" link ", meta.interface.link);
     put_data(&mut line, b" data ", bytes);
     put_text(&mut line, b"\n");
     line

@@ -1,5 +1,5 @@
-//! The opening of files.
-use crate::streams::open_all;
+//! The opening of files, and of the output.
+use crate::streams::{create_output, open_all};
 use cap_tasks::Outcome;
 
 #[test]
@@ -8,4 +8,14 @@ fn the_first_file_that_does_not_open_is_told(rt: HostRuntime) {
     assert_eq!(rt; opened.map(|inputs| inputs.len()), Ok(2));
     let missing = open_all(&rt, rt.alloc(), rt.stdin(), &["-", "no such folder/a", "-"]);
     assert_eq!(rt; missing.map(|inputs| inputs.len()), Err(Outcome::Open(2)));
+}
+
+#[test]
+fn an_output_that_is_not_created_is_told(rt: HostRuntime) {
+    for name in [None, Some("-")] {
+        let created = create_output(&rt, rt.stdout(), name);
+        assert_eq!(rt; created.map(|_| ()), Ok(()));
+    }
+    let missing = create_output(&rt, rt.stdout(), Some("no such folder/a"));
+    assert_eq!(rt; missing.map(|_| ()), Err(Outcome::Create));
 }

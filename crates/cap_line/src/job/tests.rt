@@ -1,6 +1,7 @@
 //! Command lines with their jobs and faults.
 use crate::faults::LineFault;
-use crate::job::{Task, parse};
+use crate::job::{Format, Task, parse};
+use cap_bytes::Order;
 use std::alloc::Global;
 
 // A job's task, its first file, how many it has, and whether a cut end is dropped.
@@ -11,6 +12,92 @@ fn answer(alloc: Global, words: &'static [&'static str]) -> Answer {
     let first = job.files.first().copied().unwrap_or("");
     Ok((job.task, first, job.files.len(), job.allow_cut))
 }
+
+// The same with its order, its format and its output.
+type Writing = Result<(Task, usize, Order, Option<Format>, Option<&'static str>), LineFault>;
+
+fn writing(alloc: Global, words: &'static [&'static str]) -> Writing {
+    let job = parse(alloc, words)?;
+    Ok((job.task, job.files.len(), job.order, job.to, job.out))
+}
+
+static WRITING: [(&[&str], Writing); 12] = [
+    (
+        &["capt", "convert", "--to", "pcap", "-o", "c", "a"],
+        Ok((
+            Task::Convert,
+            1,
+            Order::Little,
+            Some(Format::Pcap),
+            Some("c"),
+        )),
+    ),
+    (
+        &[
+            "capt",
+            "convert",
+            "a",
+            "-o",
+            "-",
+            "--order=big",
+            "--to=pcapng",
+            "--allow-cut",
+        ],
+        Ok((
+            Task::Convert,
+            1,
+            Order::Big,
+            Some(Format::Pcapng),
+            Some("-"),
+        )),
+    ),
+    (
+        &[
+            "capt", "convert", "--order", "little", "--to", "pcap", "-o", "-", "-",
+        ],
+        Ok((
+            Task::Convert,
+            1,
+            Order::Little,
+            Some(Format::Pcap),
+            Some("-"),
+        )),
+    ),
+    (&["capt", "convert", "-o", "c", "a"], Err(LineFault::Line)),
+    (
+        &["capt", "convert", "--to", "pcap", "a"],
+        Err(LineFault::Line),
+    ),
+    (
+        &["capt", "convert", "--to", "pcap", "-o", "c"],
+        Err(LineFault::Line),
+    ),
+    (
+        &["capt", "convert", "--to", "tar", "-o", "c", "a"],
+        Err(LineFault::Line),
+    ),
+    (
+        &["capt", "convert", "--to", "pcap", "-o", "c", "a", "b"],
+        Err(LineFault::Line),
+    ),
+    (
+        &[
+            "capt", "convert", "--order", "middle", "--to", "pcap", "-o", "c", "a",
+        ],
+        Err(LineFault::Line),
+    ),
+    (
+        &[
+            "capt", "convert", "--to", "pcap", "--to", "pcap", "-o", "c", "a",
+        ],
+        Err(LineFault::Line),
+    ),
+    (
+        &["capt", "convert", "--to", "pcap", "-o", "a", "a"],
+        Err(LineFault::Output),
+    ),
+    (&["capt", "convert", "-h"], Err(LineFault::Help)),
+];
 
 static LINES: [(&[&str], Answer); 25] = [
     (&["capt", "list", "a"], Ok((Task::List, "a", 1, false))),
@@ -65,5 +152,8 @@ static LINES: [(&[&str], Answer); 25] = [
 fn lines_give_their_jobs_and_faults(rt: HostRuntime) {
     for (words, want) in LINES {
         assert_eq!(rt; answer(rt.alloc(), words), want, "{words:?}");
+    }
+    for (words, want) in WRITING {
+        assert_eq!(rt; writing(rt.alloc(), words), want, "{words:?}");
     }
 }

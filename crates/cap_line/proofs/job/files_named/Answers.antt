@@ -1,4 +1,4 @@
-use Rattle.std.proofs.Common.{◌≡◌, ◌∙◌, List, ℕ, Some, None, Vec, ap, map, codes}
+use Rattle.std.proofs.Common.{◌∙◌, List, ℕ, Some, None, ap, map, codes}
 use Rattle.std.proofs.lemmas.Result.{IfOk-weaker}
 use Rattle.std.specs.Borrow.{Bor}
 use Rattle.clap.specs.Words.{found_of}

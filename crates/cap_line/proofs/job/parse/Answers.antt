@@ -1,6 +1,6 @@
-use Rattle.std.proofs.Common.{◌≡◌, ◌∙◌, Err, sym, ap, map, subst, rules}
+use Rattle.std.proofs.Common.{◌∙◌, ap, map, subst}
 use Rattle.clap.specs.Words.{app_of, kind_of, subcommand_of}
-use Rattle.cap_line.specs.CommandLine.{Parses, IsJobOf, fault_by}
+use Rattle.cap_line.specs.CommandLine.{IsJobOf, fault_by}
 use Rattle.cap_line.proofs.Parsing.{IsCapt-simple, IsCapt-simple_and_free, IsJobOf-no_help, Parses-answered, Parses-refused}
 use Rattle.cap_line.proofs.job.parse.Goals as goal
 

@@ -1,7 +1,6 @@
-use Rattle.std.proofs.Common.{◌≡◌, ◌+◌, ◌++◌, IsTrue, List, ◌∷◌, Some, None, Ok, sym, ◌∙◌, ap, rules}
+use Rattle.std.proofs.Common.{◌≡◌, ◌+◌, ◌++◌, Some, None, Ok, sym, ◌∙◌, ap, rules}
 use Rattle.std.proofs.lemmas.Result.{err_from_is_err_and}
 use Rattle.cap_blocks.specs.Reader.{GivesBlock, TakesItem, items_of}
-use Rattle.cap_blocks.specs.Split.{given}
 use Rattle.cap_tasks.proofs.BlockListing.{Printing-more, Prints-block_fault, Prints-block_end, block_lines-given}
 use Rattle.cap_bytes.proofs.Putting.{Putting-front}
 use Rattle.cap_tasks.specs.BlockText.{block_lines, block_text}

@@ -1,5 +1,4 @@
 use Rattle.std.proofs.Common.{◌-◌, ◌^◌}
-use Rattle.cap_bytes.proofs.Putting.{Writer}
 use Rattle.cap_tasks.proofs.BlockListing.{Printing}
 use Rattle.cap_tasks.proofs.blocks.print_blocks.Given as goal
 

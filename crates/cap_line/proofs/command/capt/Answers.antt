@@ -1,0 +1,20 @@
+use Rattle.std.proofs.lemmas.Result.{IfOk-weaker, err_from_is_err_and}
+use Rattle.cap_line.proofs.Parsing.{IfOk-none, IsCapt-added}
+use Rattle.cap_line.proofs.command.capt.Goals as goal
+
+pub returns-in_err-printing : goal.returns-in_err-printing
+returns-in_err-printing c =
+    let p = err_from_is_err_and c.from_residual.result c.from_residual.ensures.1 in
+    IfOk-none _ c.from_residual.result p.0 p.1
+
+pub returns-in_err-convert : goal.returns-in_err-convert
+returns-in_err-convert c =
+    let p = err_from_is_err_and c.from_residual-in_err-convert.result c.from_residual-in_err-convert.ensures.1 in
+    IfOk-none _ c.from_residual-in_err-convert.result p.0 p.1
+
+pub returns : goal.returns
+returns c =
+    IfOk-weaker c.subcommand.result _ _
+    (λ all added. IsCapt-added c.in_ok-printing.field-0 c.in_ok-convert.field-0 all
+    c.in_ok-printing.ensures.app c.in_ok-convert.ensures.app c.in_ok-convert.ensures.local added)
+    c.subcommand.ensures

@@ -1,0 +1,85 @@
+-- What the calls of a merge keep, over the lists of its lanes and feeds.
+use Rattle.std.proofs.Common.{ℕ, ◌≡◌, true, List, [], ◌∷◌, length, refl, sym, ap, ◌∙◌, arith, Result, Err, suc, ◌++◌}
+use Rattle.std.specs.Prelude.{map, IsTrue, is_some}
+use Rattle.std.specs.List.{AllByRecursion, list_all, range_with_len, flat_map}
+use Rattle.cap_bytes.specs.declared.faults.Fault.{Fault}
+use Rattle.cap_bytes.specs.declared.faults.Fault.TheVariants.{Refused, Read, Write, Memory}
+use Rattle.cap_source.specs.Feed.{Feed, IsFeed, Keeps}
+use Rattle.cap_merge.specs.Lists.{length-mapped, and-both}
+use Rattle.cap_merge.specs.declared.lanes.Lane.{Lane}
+use Rattle.cap_merge.specs.Parts.{Part, parts, IsNumbered, Agrees, HasReached, is_known, run_of, feed_of, KeepsRun}
+use Rattle.cap_merge.specs.Merge.{LearnsAll, StopsAt, AsksAll}
+use Rattle.cap_merge.specs.Sound.{IsSound, sound-each, lawful-each, AreFrom, numbered-from}
+use Rattle.cap_merge.proofs.Moving.{Each, Kept, ComesAlike, learns-each, stops-each, alike-itself, alike-learns_by, alike-waits, run-alike, keeps-each}
+use Rattle.cap_merge.proofs.Heads.{asked-keeps, asked-sound, known_all, never}
+
+files_kept : {F : Type 0} (f : F → Feed) (ls ms : List Lane) (fs ys : List F) → length ls ≡ length fs → length ms ≡ length ls → length ys ≡ length fs
+    → Each Kept (parts ls (map f fs)) (parts ms (map f ys)) → map (λ (x : Feed). x.files) (map f ys) ≡ map (λ (x : Feed). x.files) (map f fs)
+files_kept f ls ms [] [] a b d k = refl
+files_kept f ls ms [] (y ∷ ys) a b d k = absurd (omega arith)
+files_kept f ls ms (x ∷ xs) [] a b d k = absurd (omega arith)
+files_kept f [] ms (x ∷ xs) (y ∷ ys) a b d k = absurd (omega arith)
+files_kept f (l ∷ ls) [] (x ∷ xs) (y ∷ ys) a b d k = absurd (omega arith)
+files_kept f (l ∷ ls) (m ∷ ms) (x ∷ xs) (y ∷ ys) a b d k = λ i. k.0.files i ∷ files_kept f ls ms xs ys (omega arith) (omega arith) (omega arith) k.1 i
+
+pub numbered-kept : {F : Type 0} (f : F → Feed) (ls ms : List Lane) (fs ys : List F) → length ls ≡ length fs → length ms ≡ length ls → length ys ≡ length fs
+    → Each Kept (parts ls (map f fs)) (parts ms (map f ys)) → IsNumbered (map f fs) → IsNumbered (map f ys)
+numbered-kept f ls ms fs ys a b d k n =
+    files_kept f ls ms fs ys a b d k ∙ n
+    ∙ ap (λ m. map (λ k. k ∷ []) (range_with_len 1 m)) (length-mapped f fs ∙ sym d ∙ sym (length-mapped f ys))
+
+pub asked-numbered : {F : Type 0} (f : F → Feed) → ((x : F) → IsFeed (f x)) → (ls ms : List Lane) (fs ys : List F) {T : Type 0} (result : Result T Fault)
+    → length ls ≡ length fs → length ms ≡ length ls → length ys ≡ length fs → AsksAll (parts ls (map f fs)) result (parts ms (map f ys))
+    → IsNumbered (map f fs) → IsNumbered (map f ys)
+asked-numbered f law ls ms fs ys result a b d h =
+    numbered-kept f ls ms fs ys a b d (asked-keeps (parts ls (map f fs)) (parts ms (map f ys)) result h (lawful-each f law ms ys))
+
+pub asked-sound-each : {F : Type 0} (f : F → Feed) → ((x : F) → IsFeed (f x)) → (ls ms : List Lane) (fs ys : List F) {T : Type 0} (result : Result T Fault)
+    → AsksAll (parts ls (map f fs)) result (parts ms (map f ys)) → Agrees (parts ls (map f fs)) → HasReached (parts ls (map f fs))
+    → AllByRecursion IsSound (parts ms (map f ys))
+asked-sound-each f law ls ms fs ys result h agrees reached =
+    asked-sound (parts ls (map f fs)) (parts ms (map f ys)) result h (lawful-each f law ms ys) (sound-each (parts ls (map f fs)) agrees reached)
+
+pub asked-keeps-all : {T : Type 0} (ps qs : List Part) (result : Result T Fault) → AsksAll ps result qs → AllByRecursion (λ q. IsFeed q.feed) qs → Keeps (feed_of ps) (feed_of qs)
+asked-keeps-all ps qs result h f = keeps-each ps qs (asked-keeps ps qs result h f)
+
+pub told_all : (ps : List Part) → IsTrue (feed_of ps).told → list_all (λ p. p.feed.told) ps ≡ true
+unfolding feed_of
+told_all ps t = t
+
+pub run-asked : (ps qs : List Part) → LearnsAll ps qs → AllByRecursion (λ q. IsFeed q.feed) qs → IsTrue (feed_of ps).told → run_of qs ≡ run_of ps
+run-asked ps qs l f t = run-alike ps qs (learns-each ComesAlike (λ p q g. alike-learns_by p q p.lane.head g) ps qs f l) (told_all ps t)
+
+pub run-stopped : (ps qs : List Part) (fault : Fault) → StopsAt fault ps qs → AllByRecursion (λ q. IsFeed q.feed) qs → IsTrue (feed_of ps).told → KeepsRun ps (Err fault) qs
+run-stopped ps qs (Refused refusal) s f t = never ps qs (Refused refusal) (λ p q h. h.gives) s
+run-stopped ps qs (Read file offset) s f t = tt
+run-stopped ps qs Write s f t = never ps qs Write (λ p q h. h.gives) s
+run-stopped ps qs Memory s f t =
+    run-alike ps qs (stops-each ComesAlike Memory alike-itself (λ p q g. alike-learns_by p q p.lane.head g) alike-waits ps qs f s) (told_all ps t)
+
+-- all lanes are known after all feeds were asked
+known_lanes : (ls : List Lane) (fs : List Feed) → length fs ≡ length ls → is_known (parts ls fs) ≡ true → list_all (λ l. is_some l.head) ls ≡ true
+known_lanes [] fs e k = refl
+known_lanes (l ∷ ls) [] e k = absurd (omega arith)
+known_lanes (l ∷ ls) (x ∷ xs) e k =
+    let both = and-both (is_some l.head) (is_known (parts ls xs)) k in
+    rw both.0 (known_lanes ls xs (omega arith) both.1)
+
+pub asked-known : {F : Type 0} (f : F → Feed) (ls ms : List Lane) (fs ys : List F) → length ms ≡ length ys → LearnsAll (parts ls (map f fs)) (parts ms (map f ys))
+    → list_all (λ l. is_some l.head) ms ≡ true
+asked-known f ls ms fs ys e h = known_lanes ms (map f ys) (length-mapped f ys ∙ sym e) (known_all (parts ls (map f fs)) (parts ms (map f ys)) h)
+
+count_files : {F : Type 0} (f : F → Feed) (n : ℕ) (ls : List Lane) (fs : List F) → length ls ≡ length fs → AreFrom n (parts ls (map f fs))
+    → length (flat_map (λ p. p.feed.files) (parts ls (map f fs))) ≡ length fs
+count_files f n [] [] e a = refl
+count_files f n [] (x ∷ xs) e a = absurd (omega arith)
+count_files f n (l ∷ ls) [] e a = absurd (omega arith)
+count_files f n (l ∷ ls) (x ∷ xs) e a =
+    ap (λ files. length (files ++ flat_map (λ p. p.feed.files) (parts ls (map f xs)))) a.0
+    ∙ ap suc (count_files f (suc n) ls xs (omega arith) a.1)
+
+-- there is a file for each feed
+pub files-counted : {F : Type 0} (f : F → Feed) (ls : List Lane) (fs : List F) → length ls ≡ length fs → IsNumbered (map f fs)
+    → length fs ≡ length (feed_of (parts ls (map f fs))).files
+unfolding feed_of
+files-counted f ls fs e n = sym (count_files f 1 ls fs e (numbered-from f ls fs e n))

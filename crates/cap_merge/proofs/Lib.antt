@@ -1,0 +1,10 @@
+pub mod Asking
+pub mod Moving
+pub mod Heads
+pub mod Passing
+pub mod Placing
+pub mod Calls
+pub mod Firsts
+pub mod RunLaws
+pub mod Rounds
+pub mod FromClock

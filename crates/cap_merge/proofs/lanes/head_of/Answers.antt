@@ -1,0 +1,9 @@
+use Rattle.cap_merge.proofs.Placing.{known-none, known-first}
+use Rattle.cap_merge.proofs.lanes.head_of.Goals as goal
+
+pub returns-in-Some-head : goal.returns-in-Some-head
+returns-in-Some-head c = λ feeds e.
+    known-first c.args.lanes.now feeds c.in-Some.first.place c.in-Some.first.clock c.in-Some-head.head _ c.requires e c.in-Some.ensures c.in-Some-head.is
+
+pub returns-in-None : goal.returns-in-None
+returns-in-None c = λ feeds e. known-none c.args.lanes.now feeds c.requires c.in-None.ensures

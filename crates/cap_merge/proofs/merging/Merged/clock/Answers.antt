@@ -1,0 +1,24 @@
+use Rattle.std.proofs.Common.{◌≡◌, sym, ◌∙◌, map, false}
+use Rattle.cap_merge.specs.Lists.{length-mapped}
+use Rattle.cap_merge.specs.Parts.{parts, has_next}
+use Rattle.cap_merge.proofs.Placing.{clock-first, parts-each}
+use Rattle.cap_merge.proofs.Firsts.{clocks-of, begins-of, not-below-first, no-next}
+use Rattle.cap_merge.proofs.merging.Merged.clock.Goals as goal
+
+pub returns-in-Some : goal.returns-in-Some
+returns-in-Some g c =
+    let m = c.args.self.now in
+    let leads = rw c.as_slice.ensures.value at c.in-Some.ensures in
+    record {
+      clock = clock-first m.lanes.items (map g.F.PacketFeed.feed m.feeds.items) c.in-Some.first (length-mapped g.F.PacketFeed.feed m.feeds.items ∙ sym m.alike) leads;
+      from = clocks-of g.F.PacketFeed.feed m.lanes.items m.feeds.items c.in-Some.first m.some m.alike leads c.requires;
+      not_below = not-below-first g.F.PacketFeed.feed m.lanes.items m.feeds.items c.in-Some.first m.some m.alike leads;
+      run = begins-of g.F.PacketFeed.feed g.met.F.PacketFeed.lawful m.lanes.items m.feeds.items c.in-Some.first m.some m.alike leads c.requires m.agrees m.reached;
+    }
+
+pub returns-in-None : goal.returns-in-None
+returns-in-None g c =
+    let m = c.args.self.now in
+    no-next (parts m.lanes.items (map g.F.PacketFeed.feed m.feeds.items))
+    (parts-each (λ l. has_next l.head ≡ false) m.lanes.items (map g.F.PacketFeed.feed m.feeds.items)
+    (rw c.as_slice.ensures.value at c.in-None.ensures)) c.requires

@@ -1,0 +1,17 @@
+use Rattle.std.proofs.Common.{◌≡◌, ◌++◌, ◌∷◌, [], refl, sym, ap, subst, List}
+use Rattle.cap_source.specs.Feed.{Feed, HasFile}
+use Rattle.cap_merge.specs.Parts.{feed_of, new_parts}
+use Rattle.cap_merge.specs.Listed.{listed_feed}
+use Rattle.cap_merge.proofs.tests.merge_of.Goals as goal
+
+two_files : (one two : Feed) → one.files ≡ 1 ∷ [] → two.files ≡ 2 ∷ [] → HasFile (feed_of (new_parts (one ∷ (two ∷ [])))).files 2
+unfolding feed_of
+two_files one two e f = subst (λ (fs : List _). HasFile (one.files ++ (fs ++ [])) 2) (sym f) (subst (λ (fs : List _). HasFile (fs ++ (2 ∷ [])) 2) (sym e) refl)
+
+pub returns : goal.returns
+returns c =
+    let a = c.args.first in
+    let b = c.args.second in
+    rw (c.new.ensures.parts, c.in_ok-push-2.ensures.items, c.in_ok-push.ensures.items, c.new-feeds.ensures.items)
+    (two_files (listed_feed a.file a.interface a.times.items a.broken a.place a.known) (listed_feed b.file b.interface b.times.items b.broken b.place b.known)
+    (ap (λ n. n ∷ []) c.requires.first) (ap (λ n. n ∷ []) c.requires.second))

@@ -1,0 +1,76 @@
+-- Lists and tests of their items.
+use Rattle.std.proofs.Common.{◌≡◌, ℕ, suc, Bool, true, false, List, [], ◌∷◌, ◌++◌, length, refl, sym, ap}
+use Rattle.std.specs.Prelude.{◌&&◌, ◌||◌, map}
+use Rattle.std.specs.List.{AllByRecursion, list_all, list_any}
+use Rattle.std.proofs.lemmas.Bool.{true≢false}
+
+pub All-both : {A : Type 0} (P : A → Type 0) (xs ys : List A) → AllByRecursion P xs → AllByRecursion P ys → AllByRecursion P (xs ++ ys)
+All-both P [] ys f g = g
+All-both P (x ∷ xs) ys f g = (f.0, All-both P xs ys f.1 g)
+
+pub All-implied : {A : Type 0} (P Q : A → Type 0) (xs : List A) → ((x : A) → P x → Q x) → AllByRecursion P xs → AllByRecursion Q xs
+All-implied P Q [] f g = tt
+All-implied P Q (x ∷ xs) f g = (f x g.0, All-implied P Q xs f g.1)
+
+pub map-both : {A B : Type 0} (f : A → B) (xs ys : List A) → map f (xs ++ ys) ≡ map f xs ++ map f ys
+map-both f [] ys = refl
+map-both f (x ∷ xs) ys = ap (λ zs. f x ∷ zs) (map-both f xs ys)
+
+pub length-mapped : {A B : Type 0} (f : A → B) (xs : List A) → length (map f xs) ≡ length xs
+length-mapped f [] = refl
+length-mapped f (x ∷ xs) = ap suc (length-mapped f xs)
+
+pub map-twice : {A B C : Type 0} (f : B → C) (g : A → B) (xs : List A) → map f (map g xs) ≡ map (λ x. f (g x)) xs
+map-twice f g [] = refl
+map-twice f g (x ∷ xs) = ap (λ ys. f (g x) ∷ ys) (map-twice f g xs)
+
+pub all-front : {A : Type 0} (P : A → Type 0) (xs ys : List A) → AllByRecursion P (xs ++ ys) → AllByRecursion P xs
+all-front P [] ys f = tt
+all-front P (x ∷ xs) ys f = (f.0, all-front P xs ys f.1)
+
+pub all-back : {A : Type 0} (P : A → Type 0) (xs ys : List A) → AllByRecursion P (xs ++ ys) → AllByRecursion P ys
+all-back P [] ys f = f
+all-back P (x ∷ xs) ys f = all-back P xs ys f.1
+
+pub mapped-alike : {A B : Type 0} (f g : A → B) (xs : List A) → map f xs ≡ map g xs → AllByRecursion (λ x. f x ≡ g x) xs
+mapped-alike f g [] e = tt
+mapped-alike f g (x ∷ xs) e =
+    let first : f x ≡ g x = cc in
+    let rest : map f xs ≡ map g xs = cc in
+    (first, mapped-alike f g xs rest)
+
+pub alike-mapped : {A B : Type 0} (f g : A → B) (xs : List A) → AllByRecursion (λ x. f x ≡ g x) xs → map f xs ≡ map g xs
+alike-mapped f g [] h = refl
+alike-mapped f g (x ∷ xs) h = λ i. h.0 i ∷ alike-mapped f g xs h.1 i
+
+pub and-both : (a b : Bool) → (a && b) ≡ true → (a ≡ true) × (b ≡ true)
+and-both true b e = (refl, e)
+and-both false b e = absurd (true≢false (sym e))
+
+pub all-each : {A : Type 0} (p : A → Bool) (xs : List A) → list_all p xs ≡ true → AllByRecursion (λ x. p x ≡ true) xs
+all-each p [] e = tt
+all-each p (x ∷ xs) e = ((and-both (p x) (list_all p xs) e).0, all-each p xs (and-both (p x) (list_all p xs) e).1)
+
+pub each-all : {A : Type 0} (p : A → Bool) (xs : List A) → AllByRecursion (λ x. p x ≡ true) xs → list_all p xs ≡ true
+each-all p [] h = refl
+each-all p (x ∷ xs) h = rw h.0 (each-all p xs h.1)
+
+pub or-back : (a b : Bool) → b ≡ true → (a || b) ≡ true
+or-back true b e = refl
+or-back false b e = e
+
+pub any-back : (test : ℕ → Bool) (xs ys : List ℕ) → list_any test ys ≡ true → list_any test (xs ++ ys) ≡ true
+any-back test [] ys e = e
+any-back test (x ∷ xs) ys e = or-back (test x) (list_any test (xs ++ ys)) (any-back test xs ys e)
+
+pub any-front : (test : ℕ → Bool) (xs ys : List ℕ) → list_any test xs ≡ true → list_any test (xs ++ ys) ≡ true
+any-front test [] ys e = absurd (true≢false (sym e))
+any-front test (x ∷ xs) ys e = first (test x) (list_any test xs) (list_any test (xs ++ ys)) e (any-front test xs ys)
+  where
+    first : (a b c : Bool) → (a || b) ≡ true → (b ≡ true → c ≡ true) → (a || c) ≡ true
+    first true b c e f = refl
+    first false b c e f = f e
+
+pub and-none : (a b : Bool) → b ≡ false → (a && b) ≡ false
+and-none true b e = e
+and-none false b e = refl

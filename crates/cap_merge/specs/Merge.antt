@@ -1,0 +1,74 @@
+-- What asking the feeds of a merge does to them.
+use Rattle.std.specs.Prelude.{◌≡◌, ⊤, ℕ, zero, suc, IsTrue, List, [], ◌∷◌, Option, Some, None, ◌⊎◌, Result, Ok, Err}
+use Rattle.cap_bytes.specs.declared.faults.Fault.{Fault}
+use Rattle.cap_source.specs.declared.feeds.Head.{Head}
+use Rattle.cap_source.specs.Feed.{Keeps, SameItems, Knows, GivesHead, KeepsItems, Passes, IsPacket}
+use Rattle.cap_merge.specs.declared.lanes.Lane.{Lane}
+use Rattle.cap_merge.specs.Clock.{later}
+use Rattle.cap_merge.specs.Parts.{Part, head_time, passed_lane}
+
+-- a lane that has learned what comes next
+abbrev pub learned : Lane → Head → Lane
+learned lane head = record { clock = later lane.clock (head_time head); head = Some head }
+
+-- What comes next of a feed is asked for, and is known then.
+pub record Learns (p : Part) (head : Head) (q : Part) : Type 0 where
+  pub lane : q.lane ≡ learned p.lane head
+  pub knows : Knows p.feed head q.feed
+  pub keeps : Keeps p.feed q.feed
+  pub items : IsTrue p.feed.told → SameItems p.feed q.feed
+
+-- A feed whose next is known stays as it is, another is asked.
+abbrev pub LearnsBy : Option Head → Part → Part → Type 0
+LearnsBy None p q = (head : Head) × Learns p head q
+LearnsBy (Some head) p q = q ≡ p
+
+-- A feed can't tell what comes next.
+pub record Stops (p : Part) (fault : Fault) (q : Part) : Type 0 where
+  pub unknown : p.lane.head ≡ None
+  pub lane : q.lane ≡ p.lane
+  pub gives : GivesHead p.feed (Err fault) q.feed
+  pub keeps : Keeps p.feed q.feed
+  pub items : IsTrue p.feed.told → KeepsItems p.feed (Err fault) q.feed
+
+-- what asking one feed does
+abbrev pub Asks : {T : Type 0} → Part → Result T Fault → Part → Type 0
+Asks p (Ok x) q = LearnsBy p.lane.head p q
+Asks p (Err fault) q = Stops p fault q
+
+-- All feeds are asked.
+abbrev pub LearnsAll : List Part → List Part → Type 0
+LearnsAll [] [] = ⊤
+LearnsAll [] (q ∷ qs) = ⊥
+LearnsAll (p ∷ ps) [] = ⊥
+LearnsAll (p ∷ ps) (q ∷ qs) = LearnsBy p.lane.head p q × LearnsAll ps qs
+
+-- The feeds are asked up to the first that can't tell; those behind it stay as they are.
+abbrev pub StopsAt : Fault → List Part → List Part → Type 0
+StopsAt fault [] qs = ⊥
+StopsAt fault (p ∷ ps) [] = ⊥
+StopsAt fault (p ∷ ps) (q ∷ qs) = (Stops p fault q × (qs ≡ ps)) ⊎ (LearnsBy p.lane.head p q × StopsAt fault ps qs)
+
+-- what asking all feeds in turn does
+abbrev pub AsksAll : {T : Type 0} → List Part → Result T Fault → List Part → Type 0
+AsksAll ps (Ok x) qs = LearnsAll ps qs
+AsksAll ps (Err fault) qs = StopsAt fault ps qs
+
+-- The packet of a part is passed: its feed drops it, and nothing more is known.
+pub record PassesPart (p q : Part) : Type 0 where
+  pub lane : q.lane ≡ passed_lane p.lane
+  pub passes : Passes p.feed q.feed
+  pub keeps : Keeps p.feed q.feed
+
+-- What the feed of the part at a place knows to come next is a packet.
+abbrev pub IsPacketAt : List Part → ℕ → Type 0
+IsPacketAt [] place = ⊥
+IsPacketAt (p ∷ ps) zero = IsPacket p.feed.known
+IsPacketAt (p ∷ ps) (suc place) = IsPacketAt ps place
+
+-- The packet of the part at a place is passed; the others stay as they are.
+abbrev pub PassesAt : List Part → ℕ → List Part → Type 0
+PassesAt [] place qs = ⊥
+PassesAt (p ∷ ps) place [] = ⊥
+PassesAt (p ∷ ps) zero (q ∷ qs) = PassesPart p q × (qs ≡ ps)
+PassesAt (p ∷ ps) (suc place) (q ∷ qs) = (q ≡ p) × PassesAt ps place qs

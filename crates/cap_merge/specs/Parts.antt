@@ -1,0 +1,229 @@
+-- The feeds of a merge at one moment, each with what is known of it.
+use Rattle.std.specs.Prelude.{◌≡◌, ⊤, ◌+◌, ℕ, Bool, true, false, ◌&&◌, ◌||◌, List, [], ◌∷◌, ◌++◌, length, map, max, not, Option, Some, None, is_some, Result, Ok, Err, if◌then◌else◌, ◌==◌}
+use Rattle.std.specs.List.{AllByRecursion, list_all, list_any, flat_map, range_with_len}
+use Rattle.std.specs.Option.{option_map}
+use Rattle.std.specs.Ordering.{is_lt, is_gt}
+use Rattle.std.specs.declared.cmp.Ordering.TheVariants.{Less}
+use Rattle.cap_bytes.specs.declared.faults.Fault.{Fault}
+use Rattle.cap_bytes.specs.declared.faults.Fault.TheVariants.{Refused, Read, Write, Memory}
+use Rattle.cap_time.specs.declared.stamps.Stamp.{Stamp}
+use Rattle.cap_time.specs.Stamp.{stamp_in}
+use Rattle.cap_source.specs.declared.feeds.Head.{Head}
+use Rattle.cap_source.specs.declared.feeds.Head.TheVariants as heads
+use Rattle.cap_source.specs.declared.feeds.Ending.{Ending}
+use Rattle.cap_source.specs.declared.feeds.FeedHeld.{FeedHeld}
+use Rattle.cap_source.specs.declared.packets.Format.TheVariants.{Pcap}
+use Rattle.cap_source.specs.declared.packets.Meta.{Meta}
+use Rattle.cap_source.specs.Feed.{Item, packet, refused, Feed}
+use Rattle.cap_merge.specs.declared.lanes.Lane.{Lane}
+use Rattle.cap_merge.specs.declared.lanes.First.{First}
+use Rattle.cap_merge.specs.Clock.{clock_cmp}
+use Rattle.cap_merge.specs.Run.{Track, Clocked, run}
+
+-- the time of a packet, where it has one
+abbrev pub meta_time : Meta → Option Stamp
+meta_time meta = option_map (λ units. stamp_in units meta.interface) meta.units
+
+abbrev pub head_time : Head → Option Stamp
+head_time (heads.Packet meta) = meta_time meta
+head_time (heads.Refused refusal) = None
+head_time heads.End = None
+
+abbrev pub item_time : Item → Option Stamp
+item_time (packet meta frame) = meta_time meta
+item_time (refused refusal) = None
+
+abbrev pub is_refusal : Item → Bool
+is_refusal (packet meta frame) = false
+is_refusal (refused refusal) = true
+
+-- A feed, and what is known of it.
+pub record Part : Type 0 where
+  pub lane : Lane
+  pub feed : Feed
+
+-- each feed with its lane
+abbrev pub parts : List Lane → List Feed → List Part
+parts [] feeds = []
+parts (l ∷ ls) [] = []
+parts (l ∷ ls) (f ∷ fs) = record { lane = l; feed = f } ∷ parts ls fs
+
+-- Feed i is of file i alone, from 1.
+abbrev pub IsNumbered : List Feed → Type 0
+IsNumbered feeds = map (λ f. f.files) feeds ≡ map (λ n. n ∷ []) (range_with_len 1 (length feeds))
+
+-- what is known of a feed is what it knows
+abbrev pub Agrees : List Part → Type 0
+Agrees ps = map (λ p. if is_some p.lane.head then p.feed.known else None) ps ≡ map (λ p. p.lane.head) ps
+
+-- the time of what is known to come next
+abbrev pub known_time : Option Head → Option Stamp
+known_time None = None
+known_time (Some head) = head_time head
+
+-- the time of what is known to come next isn't above the clock that was reached
+abbrev pub HasReached : List Part → Type 0
+HasReached ps = list_all (λ p. not (is_lt (clock_cmp p.lane.clock (known_time p.lane.head)))) ps ≡ true
+
+-- an item is known to come next
+abbrev pub has_next : Option Head → Bool
+has_next None = false
+has_next (Some (heads.Packet meta)) = true
+has_next (Some (heads.Refused refusal)) = true
+has_next (Some heads.End) = false
+
+-- nothing comes any more
+abbrev pub is_end : Option Head → Bool
+is_end None = false
+is_end (Some (heads.Packet meta)) = false
+is_end (Some (heads.Refused refusal)) = false
+is_end (Some heads.End) = true
+
+-- of a part and the first of those behind it, the one whose item comes first: of equal clocks the first
+abbrev pub sooner : Part → Option Part → Option Part
+sooner p None = if has_next p.lane.head then Some p else None
+sooner p (Some q) = if has_next p.lane.head && not (is_lt (clock_cmp q.lane.clock p.lane.clock)) then Some p else Some q
+
+-- the part whose item comes first
+unfoldable pub first_of : List Part → Option Part
+first_of [] = None
+first_of (p ∷ ps) = sooner p (first_of ps)
+
+abbrev pub is_known : List Part → Bool
+is_known ps = list_all (λ p. is_some p.lane.head) ps
+
+abbrev pub head_by : Option Part → Option Head
+head_by None = Some heads.End
+head_by (Some p) = p.lane.head
+
+-- what comes next of all
+unfoldable pub known_of : List Part → Option Head
+known_of ps = if is_known ps then head_by (first_of ps) else None
+
+abbrev pub frame_by : Option Part → List ℕ
+frame_by None = []
+frame_by (Some p) = p.feed.frame
+
+abbrev pub clock_by : Option Part → Option Stamp
+clock_by None = None
+clock_by (Some p) = p.lane.clock
+
+-- the clock of what comes next of all
+unfoldable pub clock_of : List Part → Option Stamp
+clock_of ps = clock_by (first_of ps)
+
+-- each feed's items to come, behind the clock that it has reached
+abbrev pub tracks : List Part → List (Track Item)
+tracks ps = map (λ p. record { clock = p.lane.clock; items = p.feed.items }) ps
+
+-- the run of what is to come, each item with its clock
+unfoldable pub run_of : List Part → List (Clocked Item)
+run_of ps = run item_time is_refusal (tracks ps)
+
+abbrev pub has_file : List ℕ → ℕ → Bool
+has_file files file = list_any (λ f. f == file) files
+
+-- how a file ends, as its feed says
+unfoldable pub endings_of : List Part → ℕ → Ending
+endings_of [] file = record { format = Pcap; skipped = 0; was_cut = false }
+endings_of (p ∷ ps) file = if has_file p.feed.files file then p.feed.endings file else endings_of ps file
+
+-- where the packets of a file begin that are to come, as its feed says
+unfoldable pub places_of : List Part → ℕ → ℕ
+places_of [] file = 0
+places_of (p ∷ ps) file = if has_file p.feed.files file then p.feed.places file else places_of ps file
+
+-- the greatest of some numbers of the parts
+abbrev pub most_of : (Part → ℕ) → List Part → ℕ
+most_of number [] = 0
+most_of number (p ∷ ps) = max (number p) (most_of number ps)
+
+abbrev pub held_of : List Part → FeedHeld
+held_of ps =
+    record {
+      window = most_of (λ p. p.feed.held.window) ps;
+      interfaces = most_of (λ p. p.feed.held.interfaces) ps;
+      failed = list_any (λ p. p.feed.held.failed) ps;
+    }
+
+-- how many packets still come at most, of all feeds
+abbrev pub left_of : List Part → ℕ
+left_of [] = 0
+left_of (p ∷ ps) = p.feed.left + left_of ps
+
+-- The feeds as one: the items to come are the run's. What comes next is known where that of each feed is.
+unfoldable pub feed_of : List Part → Feed
+feed_of ps =
+    record {
+      files = flat_map (λ p. p.feed.files) ps;
+      told = list_all (λ p. p.feed.told) ps;
+      items = map (λ x. x.item) (run_of ps);
+      endings = endings_of ps;
+      known = known_of ps;
+      frame = frame_by (first_of ps);
+      places = places_of ps;
+      left = left_of ps;
+      can_fail = list_any (λ p. p.feed.can_fail) ps;
+      held = held_of ps;
+    }
+
+-- The clock isn't above that of any item to come, whatever the devices do.
+abbrev pub ClocksFrom : Option Stamp → List Part → Type 0
+ClocksFrom clock ps = list_all (λ p. is_end p.lane.head || not (is_gt (clock_cmp clock p.lane.clock))) ps ≡ true
+
+-- What is below the clocks of all items to come stays so.
+abbrev pub MovesClocks : List Part → List Part → Type 0
+MovesClocks old new = (clock : Option Stamp) → ClocksFrom clock old → ClocksFrom clock new
+
+-- what `head` does to the run
+abbrev pub KeepsRun : List Part → Result Head Fault → List Part → Type 0
+KeepsRun old (Ok head) new = run_of new ≡ run_of old
+KeepsRun old (Err (Refused refusal)) new = ⊥
+KeepsRun old (Err (Read file offset)) new = ⊤
+KeepsRun old (Err Write) new = ⊥
+KeepsRun old (Err Memory) new = run_of new ≡ run_of old
+
+-- The run begins with an item of that clock.
+abbrev pub BeginsAt : Option Stamp → List (Clocked Item) → Type 0
+BeginsAt clock [] = ⊥
+BeginsAt clock (x ∷ xs) = x.clock ≡ clock
+
+-- Where an item comes first, of equal clocks the first.
+pub record Leads (lanes : List Lane) (place : ℕ) (clock : Option Stamp) : Type 0 where
+  pub before : List Lane
+  pub lane : Lane
+  pub after : List Lane
+  pub whole : lanes ≡ before ++ (lane ∷ after)
+  pub place_is : length before ≡ place
+  pub clock_is : lane.clock ≡ clock
+  pub next : has_next lane.head ≡ true
+  pub below : AllByRecursion (λ l. has_next l.head ≡ true → clock_cmp lane.clock l.clock ≡ Less) before
+  pub not_above : AllByRecursion (λ l. has_next l.head ≡ true → is_gt (clock_cmp lane.clock l.clock) ≡ false) after
+
+-- What comes first of some lanes, where an item comes next of any.
+abbrev pub IsFirstLane : List Lane → Option First → Type 0
+IsFirstLane lanes None = AllByRecursion (λ l. has_next l.head ≡ false) lanes
+IsFirstLane lanes (Some first) = Leads lanes first.place first.clock
+
+-- a lane of which nothing is known
+abbrev pub new_lane : Lane
+new_lane = record { clock = None; head = None }
+
+-- a lane behind the packet that was passed
+abbrev pub passed_lane : Lane → Lane
+passed_lane lane = record { clock = lane.clock; head = None }
+
+-- feeds of which nothing is known
+abbrev pub new_parts : List Feed → List Part
+new_parts feeds = map (λ f. record { lane = new_lane; feed = f }) feeds
+
+-- of the first so far and one more lane behind it, the first
+abbrev pub sooner_lane : Option First → ℕ → Lane → Option First
+sooner_lane None place lane = if has_next lane.head then Some (record { place = place; clock = lane.clock }) else None
+sooner_lane (Some first) place lane =
+    if has_next lane.head && is_lt (clock_cmp lane.clock first.clock) then Some (record { place = place; clock = lane.clock }) else Some first
+
+-- the greater numbers of two, and whether a device of one has failed
+abbrev pub both_held : FeedHeld → FeedHeld → FeedHeld
+both_held a b =
+    record { window = max a.window b.window; interfaces = max a.interfaces b.interfaces; failed = a.failed || b.failed }

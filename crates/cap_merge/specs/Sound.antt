@@ -1,0 +1,80 @@
+-- What a merge keeps of its parts, part by part.
+use Rattle.std.proofs.Common.{◌≡◌, ℕ, suc, ◌+◌, Bool, true, false, cond, List, [], ◌∷◌, length, refl, sym, ap, ◌∙◌, subst, arith, Option, Some, None}
+use Rattle.std.specs.Prelude.{not, map, ⊤, is_some, IfSome}
+use Rattle.std.specs.List.{AllByRecursion, range_with_len}
+use Rattle.std.specs.Ordering.{is_lt}
+use Rattle.std.proofs.lemmas.Bool.{true≢false}
+use Rattle.cap_source.specs.declared.feeds.Head.{Head}
+use Rattle.cap_source.specs.Feed.{Feed, IsFeed}
+use Rattle.cap_merge.specs.Lists.{alike-mapped, all-each, each-all, length-mapped, mapped-alike}
+use Rattle.cap_merge.specs.declared.lanes.Lane.{Lane}
+use Rattle.cap_merge.specs.Clock.{clock_cmp}
+use Rattle.cap_merge.specs.Parts.{Part, parts, IsNumbered, Agrees, HasReached, known_time}
+
+-- What is known of a part is what its feed knows, and its clock was reached.
+pub record IsSound (p : Part) : Type 0 where
+  pub agrees : IfSome p.lane.head (λ head. p.feed.known ≡ Some head)
+  pub reached : is_lt (clock_cmp p.lane.clock (known_time p.lane.head)) ≡ false
+
+agreed : (h k : Option Head) → cond (is_some h) k None ≡ h → IfSome h (λ head. k ≡ Some head)
+agreed None k e = tt
+agreed (Some head) k e = e
+
+agreed-back : (h k : Option Head) → IfSome h (λ head. k ≡ Some head) → cond (is_some h) k None ≡ h
+agreed-back None k e = refl
+agreed-back (Some head) k e = e
+
+not-true : (b : Bool) → not b ≡ true → b ≡ false
+not-true true e = absurd (true≢false (sym e))
+not-true false e = refl
+
+both_each : (ps : List Part) → AllByRecursion (λ p. cond (is_some p.lane.head) p.feed.known None ≡ p.lane.head) ps
+    → AllByRecursion (λ p. not (is_lt (clock_cmp p.lane.clock (known_time p.lane.head))) ≡ true) ps → AllByRecursion IsSound ps
+both_each [] f g = tt
+both_each (p ∷ ps) f g =
+    (record { agrees = agreed p.lane.head p.feed.known f.0; reached = not-true (is_lt (clock_cmp p.lane.clock (known_time p.lane.head))) g.0 }, both_each ps f.1 g.1)
+
+pub sound-each : (ps : List Part) → Agrees ps → HasReached ps → AllByRecursion IsSound ps
+sound-each ps a r =
+    both_each ps (mapped-alike (λ p. cond (is_some p.lane.head) p.feed.known None) (λ p. p.lane.head) ps a)
+    (all-each (λ p. not (is_lt (clock_cmp p.lane.clock (known_time p.lane.head)))) ps r)
+
+agrees_each : (ps : List Part) → AllByRecursion IsSound ps → AllByRecursion (λ p. cond (is_some p.lane.head) p.feed.known None ≡ p.lane.head) ps
+agrees_each [] f = tt
+agrees_each (p ∷ ps) f = (agreed-back p.lane.head p.feed.known f.0.agrees, agrees_each ps f.1)
+
+reached_each : (ps : List Part) → AllByRecursion IsSound ps → AllByRecursion (λ p. not (is_lt (clock_cmp p.lane.clock (known_time p.lane.head))) ≡ true) ps
+reached_each [] f = tt
+reached_each (p ∷ ps) f = (ap not f.0.reached, reached_each ps f.1)
+
+pub each-agrees : (ps : List Part) → AllByRecursion IsSound ps → Agrees ps
+each-agrees ps f = alike-mapped (λ p. cond (is_some p.lane.head) p.feed.known None) (λ p. p.lane.head) ps (agrees_each ps f)
+
+pub each-reached : (ps : List Part) → AllByRecursion IsSound ps → HasReached ps
+each-reached ps f = each-all (λ p. not (is_lt (clock_cmp p.lane.clock (known_time p.lane.head)))) ps (reached_each ps f)
+
+-- the files of the parts are numbered from there on
+abbrev pub AreFrom : ℕ → List Part → Type 0
+AreFrom file [] = ⊤
+AreFrom file (p ∷ ps) = (p.feed.files ≡ file ∷ []) × AreFrom (suc file) ps
+
+are_from : {F : Type 0} (f : F → Feed) (n : ℕ) (ls : List Lane) (fs : List F) → length ls ≡ length fs
+    → map (λ (x : Feed). x.files) (map f fs) ≡ map (λ k. k ∷ []) (range_with_len n (length fs)) → AreFrom n (parts ls (map f fs))
+are_from f n [] fs l e = tt
+are_from f n (y ∷ ls) [] l e = tt
+are_from f n (y ∷ ls) (x ∷ xs) l e =
+    let first : (f x).files ≡ n ∷ [] = cc in
+    let rest : map (λ (z : Feed). z.files) (map f xs) ≡ map (λ k. k ∷ []) (range_with_len (n + 1) (length xs)) = cc in
+    let next : n + 1 ≡ suc n = omega arith in
+    (first, subst (λ (k : ℕ). AreFrom k (parts ls (map f xs))) next (are_from f (n + 1) ls xs (omega arith) rest))
+
+pub numbered-from : {F : Type 0} (f : F → Feed) (ls : List Lane) (fs : List F) → length ls ≡ length fs
+    → IsNumbered (map f fs) → AreFrom 1 (parts ls (map f fs))
+numbered-from f ls fs l e = are_from f 1 ls fs l (e ∙ ap (λ n. map (λ k. k ∷ []) (range_with_len 1 n)) (length-mapped f fs))
+
+-- each feed is lawful
+pub lawful-each : {F : Type 0} (f : F → Feed) → ((x : F) → IsFeed (f x)) → (ls : List Lane) (fs : List F)
+    → AllByRecursion (λ p. IsFeed p.feed) (parts ls (map f fs))
+lawful-each f law [] fs = tt
+lawful-each f law (l ∷ ls) [] = tt
+lawful-each f law (l ∷ ls) (x ∷ xs) = (law x, lawful-each f law ls xs)

@@ -1,0 +1,136 @@
+//! Several feeds as one.
+ghost use Rattle.std.specs.Prelude.{◌≡◌, ◌≤◌, length, map, drop, vec_len, true, false, IsTrue, Some, Option};
+ghost use Rattle.std.specs.Ordering.{is_gt};
+ghost use Rattle.cap_time.specs.declared.stamps.Stamp.{Stamp};
+ghost use Rattle.cap_merge.specs.Clock.{clock_cmp};
+ghost use Rattle.cap_source.specs.Feed.{GivesHead, Keeps, KeepsItems, Passes, IsPacket, HasFile, IsFeed};
+ghost use Rattle.cap_merge.specs.Run.{opened, run};
+ghost use Rattle.cap_merge.specs.Parts.{item_time, is_refusal, parts, IsNumbered, Agrees, HasReached, feed_of, new_parts, clock_of, run_of, has_next, ClocksFrom, MovesClocks, KeepsRun, BeginsAt};
+ghost use Rattle.cap_merge.specs.Merge.{AsksAll};
+ghost use Rattle.cap_merge.specs.PartsProps.{IsNumbered-prop, Agrees-prop, HasReached-prop};
+
+use crate::lanes::{Lane, ask_all, first_lane, greater, head_of, new_lanes, pass_first};
+use arrayvec::ArrayVec;
+use cap_bytes::Fault;
+use cap_source::{Ending, FeedHeld, Head, PacketFeed};
+use cap_time::Stamp;
+
+/// The packets of several feeds in the order of exact time: by the greatest time so far in a packet's
+/// file, of equal ones by file, then by place in the file, up to the first refusal.
+#[derive(Drop)]
+pub struct Merged<F: PacketFeed> {
+    feeds: Vec<F>,
+    lanes: ArrayVec<Lane, 32>,
+    ghost alike: { length lanes.items ≡ length feeds.items },
+    ghost some: { 1 ≤ length feeds.items },
+    ghost most: { length feeds.items ≤ 32 },
+    ghost numbered: { IsNumbered (map F.feed feeds.items) } by { IsNumbered-prop (map F.feed feeds.items) },
+    ghost agrees: { Agrees (parts lanes.items (map F.feed feeds.items)) } by { Agrees-prop (parts lanes.items (map F.feed feeds.items)) },
+    ghost reached: { HasReached (parts lanes.items (map F.feed feeds.items)) } by { HasReached-prop (parts lanes.items (map F.feed feeds.items)) },
+}
+
+impl<F: PacketFeed> Merged<F> {
+    ghost use Rattle.cap_merge.specs.View.{parts_of};
+
+    /// The feeds as one, the first being file 1, and so on. It asks them nothing yet.
+    pub fn new(feeds: Vec<F>) -> Merged<F>
+        requires some { 1 ≤ vec_len feeds }
+        requires most { vec_len feeds ≤ 32 }
+        requires numbered { IsNumbered (map F.feed feeds.items) }
+        ensures parts { parts_of result ≡ new_parts (map F.feed feeds.items) }
+        ensures run { run_of (parts_of result)
+            ≡ run item_time is_refusal (map (λ f. opened f.items) (map F.feed feeds.items)) }
+    {
+        let lanes = new_lanes(feeds.len());
+        Merged { feeds, lanes }
+    }
+
+    /// How many feeds there are, each of one file.
+    pub fn files(&self) -> u32
+        ensures { result ≡ length (feed_of (parts_of self.now)).files }
+    {
+        self.feeds.len() as u32
+    }
+
+    /// The clock of what comes next: the greatest time of the packets of its file up to it, and none
+    /// where there is no such time.
+    pub fn clock(&self) -> Option<Stamp>
+        requires { has_next (feed_of (parts_of self.now)).known ≡ true }
+        ensures clock { result ≡ clock_of (parts_of self.now) }
+        ensures from { ClocksFrom result (parts_of self.now) }
+        ensures not_below { (clock : Option Stamp) → ClocksFrom clock (parts_of self.now)
+            → is_gt (clock_cmp clock result) ≡ false }
+        ensures run { IsTrue (feed_of (parts_of self.now)).told
+            → BeginsAt result (run_of (parts_of self.now)) }
+    {
+        match first_lane(self.lanes.as_slice()) {
+            Some(first) => first.clock,
+            None => None,
+        }
+    }
+}
+
+impl<F: PacketFeed> PacketFeed for Merged<F> {
+    ghost use Rattle.cap_merge.specs.MergedLaws.{merged-is-feed};
+    ghost use Rattle.cap_merge.specs.View.{parts_of};
+
+    ghost feed = { λ m. feed_of (parts_of m) };
+
+    ghost lawful = { λ m. merged-is-feed F.feed F.lawful m.lanes.items m.feeds.items m.alike m.numbered m.agrees m.reached };
+
+    fn head(&mut self) -> Result<Head, Fault>
+        ensures answer { GivesHead (feed_of (parts_of self.old)) result
+            (feed_of (parts_of self.new)) }
+        ensures keeps { Keeps (feed_of (parts_of self.old))
+            (feed_of (parts_of self.new)) }
+        ensures items { IsTrue (feed_of (parts_of self.old)).told
+            → KeepsItems (feed_of (parts_of self.old)) result
+            (feed_of (parts_of self.new)) }
+        ensures asks { AsksAll (parts_of self.old) result (parts_of self.new) }
+        ensures run { IsTrue (feed_of (parts_of self.old)).told
+            → KeepsRun (parts_of self.old) result (parts_of self.new) }
+        ensures clocks { MovesClocks (parts_of self.old) (parts_of self.new) }
+    {
+        ask_all(&mut self.lanes, &mut self.feeds)?;
+        Ok(head_of(self.lanes.as_slice()))
+    }
+
+    fn frame(&self) -> &[u8] {
+        match first_lane(self.lanes.as_slice()) {
+            Some(first) => self.feeds[first.place].frame(),
+            None => &[],
+        }
+    }
+
+    fn pass(&mut self)
+        requires packet { IsPacket (feed_of (parts_of self.old)).known }
+        ensures passes { Passes (feed_of (parts_of self.old))
+            (feed_of (parts_of self.new)) }
+        ensures keeps { Keeps (feed_of (parts_of self.old))
+            (feed_of (parts_of self.new)) }
+        ensures run { IsTrue (feed_of (parts_of self.old)).told
+            → run_of (parts_of self.new) ≡ drop 1 (run_of (parts_of self.old)) }
+        ensures clocks { ClocksFrom (clock_of (parts_of self.old)) (parts_of self.new) }
+    {
+        match first_lane(self.lanes.as_slice()) {
+            Some(first) => pass_first(&mut self.lanes, &mut self.feeds, first.place),
+            None => {}
+        }
+    }
+
+    fn ending(&self, file: u32) -> Ending {
+        self.feeds[file as usize - 1].ending(file)
+    }
+
+    fn feed_held(&self) -> FeedHeld {
+        let mut held = FeedHeld {
+            window: 0,
+            interfaces: 0,
+            failed: false,
+        };
+        for feed in self.feeds.iter() {
+            held = greater(held, feed.feed_held());
+        }
+        held
+    }
+}

@@ -1,0 +1,332 @@
+-- What a block adds to what was read of a pcapng file.
+use Rattle.std.proofs.Common.{◌≡◌, ◌≤◌, ◌<◌, ◌+◌, ◌%◌, ℕ, Bool, true, false, List, [], ◌∷◌, length, take, drop, slice_get, Option, Some, None, is_some, IsSome, IfSome, IsTrue, not, ◌↔◌, unwrap_or, Result, Ok, Err, refl, sym, ap, ◌∙◌, subst, arith, nat_le, nat_lt, ◌==◌, cond, length-append}
+use Rattle.std.proofs.lemmas.Bool.Decides.{nat_tests}
+use Rattle.cap_bytes.specs.declared.faults.Refusal.{Refusal}
+use Rattle.cap_bytes.specs.declared.faults.Rule.{Rule}
+use Rattle.cap_bytes.specs.declared.numbers.Order.{Order}
+use Rattle.cap_time.specs.declared.resolutions.Interface.{Interface}
+use Rattle.cap_blocks.specs.Grammar.{section_kind, interface_kind, obsolete_kind, simple_kind, enhanced_kind, is_known, is_total, least_total}
+use Rattle.cap_blocks.specs.Reader.{State, items_of, Keeps, GivesBlock, GivesStop, IsEnd}
+use Rattle.cap_blocks.specs.Split.{body_in, Item, given, stopped}
+use Rattle.cap_blocks.specs.declared.blocks.Block.{Block}
+use Rattle.cap_blocks.specs.declared.blocks.Stop.{Stop}
+use Rattle.cap_blocks.specs.declared.blocks.Stop.TheVariants as stops
+use Rattle.cap_source.proofs.Pcaps.{if_none}
+use Rattle.cap_bytes.specs.Number.{number}
+use Rattle.cap_bytes.specs.declared.faults.Rule.TheVariants as rules
+use Rattle.cap_blocks.specs.OptionList.{options_of}
+use Rattle.cap_source.specs.Clocks.{options_fault, interface_at, interface_or, interface_in}
+use Rattle.cap_source.specs.Contents.{fitting, of_interface, timed_in, simple_in, of_body, content_in}
+use Rattle.cap_source.specs.Feed as feeds
+use Rattle.cap_source.specs.Items.{Progress, after, behind, meta_in, frame_in, items_at, items_in, ending_with, ending_in, unless_faulty, first_in, unless_item, is_cut}
+use Rattle.cap_source.specs.Lanes.{pcapng_lane, size_of, part_of, Learns, LaneKeeps, GoesOn, Steps, next_at}
+use Rattle.cap_source.specs.Reached.{counted}
+use Rattle.cap_source.specs.declared.contents.Content.{Content}
+use Rattle.cap_source.specs.declared.contents.Content.TheVariants as contents
+use Rattle.cap_source.specs.declared.contents.Packet.{Packet}
+use Rattle.cap_source.specs.declared.feeds.Ending.{Ending}
+use Rattle.cap_source.specs.declared.readers.Next.{Next}
+use Rattle.cap_source.specs.declared.readers.Next.TheVariants as nexts
+
+-- a total length that a kind allows
+pub total_least : (kind total size : ℕ) → IsTrue (is_total kind total) → size + 12 ≡ total → least_total kind ≤ 12 + size
+unfolding is_total
+total_least kind total size allowed is = grind (arith, nat_tests)
+
+-- what of a block
+abbrev pub IsFit : ℕ → List ℕ → Result Content Rule → Type 0
+IsFit few body (Ok contents.Section) = Unit {0}
+IsFit few body (Ok (contents.Interface interface)) = few < 1024
+IsFit few body (Ok (contents.Packet p)) = (p.place + p.captured ≤ length body) × (p.captured ≤ 262144)
+IsFit few body (Ok contents.Other) = Unit {0}
+IsFit few body (Err rule) = Unit {0}
+
+if_fit : (few : ℕ) (body : List ℕ) (b : Bool) (x y : Result Content Rule) → IsFit few body x → IsFit few body y → IsFit few body (cond b x y)
+if_fit few body true x y p q = p
+if_fit few body false x y p q = q
+
+interface_fit_by : (few : ℕ) (body : List ℕ) (b : Bool) (fault : Option Rule) (interface : Interface) → nat_le 1024 few ≡ b
+    → IsFit few body (of_body contents.Interface (cond b (Err rules.InterfaceLimit) (interface_or fault interface)))
+interface_fit_by few body true fault interface is = tt
+interface_fit_by few body false None interface is = grind (arith, nat_tests)
+interface_fit_by few body false (Some rule) interface is = tt
+
+interface_fit : (few : ℕ) (order : Order) (body : List ℕ) → IsFit few body (of_body contents.Interface (interface_in few order body))
+unfolding interface_in
+interface_fit few order body =
+    interface_fit_by few body (nat_le 1024 few) (options_fault order false false (options_of order (drop 8 body)))
+    (interface_at order body (options_of order (drop 8 body))) refl
+
+fitting_by : (few : ℕ) (p : Packet) (body : List ℕ) (a b : Bool) → nat_lt 262144 p.captured ≡ a → nat_lt (length body) (p.place + p.captured) ≡ b
+    → IsFit few body (of_body contents.Packet (cond a (Err rules.PacketLong) (cond b (Err rules.Captured) (Ok p))))
+fitting_by few p body true b is_a is_b = tt
+fitting_by few p body false true is_a is_b = tt
+fitting_by few p body false false is_a is_b = (grind (arith, nat_tests), grind (arith, nat_tests))
+
+packet_fit : (few : ℕ) (p : Packet) (body : List ℕ) → IsFit few body (of_body contents.Packet (fitting p (length body)))
+unfolding fitting
+packet_fit few p body = fitting_by few p body (nat_lt 262144 p.captured) (nat_lt (length body) (p.place + p.captured)) refl refl
+
+at_interface : (few : ℕ) (body : List ℕ) (i : Option Interface) (make : Interface → Packet)
+    → IsFit few body (of_body contents.Packet (of_interface i (λ interface. fitting (make interface) (length body))))
+at_interface few body None make = tt
+at_interface few body (Some interface) make = packet_fit few (make interface) body
+
+timed_fit : (few : ℕ) (interfaces : List Interface) (n : ℕ) (order : Order) (body : List ℕ) → IsFit few body (of_body contents.Packet (timed_in interfaces n order body))
+unfolding timed_in
+timed_fit few interfaces n order body = at_interface few body (slice_get interfaces n) _
+
+simple_fit : (few : ℕ) (interfaces : List Interface) (order : Order) (body : List ℕ) → IsFit few body (of_body contents.Packet (simple_in interfaces order body))
+unfolding simple_in
+simple_fit few interfaces order body = at_interface few body (slice_get interfaces 0) _
+
+-- What a block says fits.
+pub content_fit : (interfaces : List Interface) (kind : ℕ) (order : Order) (body : List ℕ) → IsFit (length interfaces) body (content_in interfaces kind order body)
+unfolding content_in
+content_fit interfaces kind order body =
+    let few = length interfaces in
+    if_fit few body (kind == section_kind) _ _ tt
+    (if_fit few body (kind == interface_kind) _ _ (interface_fit few order body)
+    (if_fit few body (kind == enhanced_kind) _ _ (timed_fit few interfaces (number order 4 body) order body)
+    (if_fit few body (kind == obsolete_kind) _ _ (timed_fit few interfaces (number order 2 body) order body)
+    (if_fit few body (kind == simple_kind) _ _ (simple_fit few interfaces order body) tt))))
+
+pub other : (interfaces : List Interface) (kind : ℕ) (order : Order) (body : List ℕ) → is_known kind ≡ false → content_in interfaces kind order body ≡ Ok contents.Other
+unfolding content_in
+other interfaces kind order body unknown = grind (arith, nat_tests)
+
+pub padded_body : (kind total size : ℕ) → IsTrue (is_total kind total) → size + 12 ≡ total → size % 4 ≡ 0
+unfolding is_total
+padded_body kind total size allowed is = grind (arith, nat_tests)
+
+-- What a block says doesn't depend on a body that isn't lent.
+content_same : (interfaces : List Interface) (kind : ℕ) (order : Order) (lent : Option (List ℕ)) (body : List ℕ) → is_some lent ≡ is_known kind
+    → IfSome lent (λ b. b ≡ body) → content_in interfaces kind order body ≡ content_in interfaces kind order (unwrap_or lent [])
+content_same interfaces kind order (Some b) body known is = ap (content_in interfaces kind order) (sym is)
+content_same interfaces kind order None body known is =
+    other interfaces kind order body (sym known) ∙ sym (other interfaces kind order [] (sym known))
+
+packet_lent : (interfaces : List Interface) (kind : ℕ) (order : Order) (lent : Option (List ℕ)) (p : Packet) → is_some lent ≡ is_known kind
+    → Ok (contents.Packet p) ≡ content_in interfaces kind order (unwrap_or lent []) → IsSome lent
+packet_lent interfaces kind order (Some b) p known is = refl
+packet_lent interfaces kind order None p known is = let e = is ∙ other interfaces kind order [] (sym known) in absurd (cc)
+
+frame_same : (lent : Option (List ℕ)) (body : List ℕ) (p : Packet) → IsSome lent → IfSome lent (λ b. b ≡ body) → part_of lent p.place p.captured ≡ frame_in p body
+frame_same None body p there is = absurd (let e : false ≡ true = there in cc)
+frame_same (Some b) body p there is = ap (λ l. take p.captured (drop p.place l)) is
+
+lent_size : (few : ℕ) (lent : Option (List ℕ)) (p : Packet) → IsSome lent → IsFit few (unwrap_or lent []) (Ok (contents.Packet p)) → p.place + p.captured + 1 ≤ size_of lent
+lent_size few None p there fit = absurd (let e : false ≡ true = there in cc)
+lent_size few (Some b) p there fit = omega (arith, fit.0)
+
+items_behind : (f g : ℕ) (p : Progress) (block : Block) (body : List ℕ) (content : Result Content Rule) (old new : List Item) → f ≡ g → old ≡ given block body ∷ new
+    → content_in p.interfaces block.kind block.order body ≡ content
+    → items_at f p block body content (items_in f (behind p content) new) ≡ items_in g p old
+unfolding items_in
+items_behind f g p block body content old new fg is e = rw (is, ← e, fg) refl
+
+ending_behind : (p : Progress) (block : Block) (body : List ℕ) (content : Result Content Rule) (old new : List Item) → old ≡ given block body ∷ new
+    → content_in p.interfaces block.kind block.order body ≡ content
+    → unless_faulty content (ending_with p false) (ending_in (behind p content) new) ≡ ending_in p old
+unfolding ending_in
+ending_behind p block body content old new is e = rw (is, ← e) refl
+
+first_behind : (p : Progress) (block : Block) (body : List ℕ) (content : Result Content Rule) (old new : List Item) → old ≡ given block body ∷ new
+    → content_in p.interfaces block.kind block.order body ≡ content
+    → unless_item content p.first (first_in (behind p content) new) ≡ first_in p old
+unfolding first_in
+first_behind p block body content old new is e = rw (is, ← e) refl
+
+none_stops : (stop : Option Stop) → stop ≡ None → is_some stop ≡ false
+none_stops stop is = rw is refl
+
+-- Behind a block the file goes on, or a packet or a refusal comes next.
+pub block_steps : (file : ℕ) (old new : State) (p : Progress) (block : Block) (content : Result Content Rule)
+    → file ≡ old.file → GivesBlock old block new → Keeps old new
+    → (IsTrue old.told → items_of old ≡ given block (body_in block.total old.coming) ∷ items_of new)
+    → content ≡ content_in p.interfaces block.kind block.order (unwrap_or new.body [])
+    → Steps (pcapng_lane old p) (Ok (next_at file p block content)) (pcapng_lane new (behind p content))
+block_steps file old new p block content named g k taken is =
+    by content is
+    (subst (IsFit (length p.interfaces) (unwrap_or new.body [])) (sym is) (content_fit p.interfaces block.kind block.order (unwrap_or new.body [])))
+    (λ t. items_behind new.file old.file p block (body_in block.total old.coming) content (items_of old) (items_of new) k.file (taken t) (says t))
+    (λ t. ending_behind p block (body_in block.total old.coming) content (items_of old) (items_of new) (taken t) (says t))
+    (λ t. first_behind p block (body_in block.total old.coming) content (items_of old) (items_of new) (taken t) (says t))
+  where
+    says : IsTrue old.told → content_in p.interfaces block.kind block.order (body_in block.total old.coming) ≡ content
+    says t = content_same p.interfaces block.kind block.order new.body (body_in block.total old.coming) g.known (g.body_is t) ∙ sym is
+
+    goes : (q : Progress) → (IsTrue old.told → items_in new.file q (items_of new) ≡ items_in old.file p (items_of old))
+        → (IsTrue old.told → ending_in q (items_of new) ≡ ending_in p (items_of old))
+        → (IsTrue old.told → first_in q (items_of new) ≡ first_in p (items_of old))
+        → GoesOn (pcapng_lane old p) (pcapng_lane new q)
+    goes q items ending first = record {
+      waits = record {
+        stops = none_stops new.stop g.stop;
+        failed = g.goes.failed;
+        rest = λ t. record { items = items t; ending = ending t; first = first t };
+      };
+      further = omega (arith, g.next, g.least);
+    }
+
+    by : (c : Result Content Rule) → c ≡ content_in p.interfaces block.kind block.order (unwrap_or new.body [])
+        → IsFit (length p.interfaces) (unwrap_or new.body []) c
+        → (IsTrue old.told → items_at new.file p block (body_in block.total old.coming) c (items_in new.file (behind p c) (items_of new)) ≡ items_in old.file p (items_of old))
+        → (IsTrue old.told → unless_faulty c (ending_with p false) (ending_in (behind p c) (items_of new)) ≡ ending_in p (items_of old))
+        → (IsTrue old.told → unless_item c p.first (first_in (behind p c) (items_of new)) ≡ first_in p (items_of old))
+        → Steps (pcapng_lane old p) (Ok (next_at file p block c)) (pcapng_lane new (behind p c))
+    by (Ok contents.Section) same fit items ending first = goes (after p contents.Section) items ending first
+    by (Ok (contents.Interface interface)) same fit items ending first = goes (after p (contents.Interface interface)) items ending first
+    by (Ok contents.Other) same fit items ending first = goes (after p contents.Other) items ending first
+    by (Ok (contents.Packet pk)) same fit items ending first =
+        let there = packet_lent p.interfaces block.kind block.order new.body pk g.known same in
+        record {
+          is = record {
+            file = named ∙ sym k.file;
+            lent = lent_size (length p.interfaces) new.body pk there fit;
+            captured = fit.1;
+            behind = omega (arith, g.offset, g.next, g.least);
+          };
+          place = omega (arith, g.offset);
+          free = ap not (none_stops new.stop g.stop);
+          failed = g.goes.failed;
+          items = λ t. packet_same file new.file pk (part_of new.body pk.place pk.captured) (frame_in pk (body_in block.total old.coming)) (items_in new.file p (items_of new))
+              (named ∙ sym k.file) (frame_same new.body (body_in block.total old.coming) pk there (g.body_is t)) ∙ items t;
+          ending = ending;
+          first = first;
+        }
+      where
+        packet_same : (m f : ℕ) (pk : Packet) (a b : List ℕ) (rest : List feeds.Item) → m ≡ f → a ≡ b
+            → feeds.packet (meta_in m p block pk) a ∷ rest ≡ feeds.packet (meta_in f p block pk) b ∷ rest
+        packet_same m f pk a b rest mf ab = λ i. feeds.packet (meta_in (mf i) p block pk) (ab i) ∷ rest
+    by (Err rule) same fit items ending first = record {
+      is = record { file = named ∙ sym k.file; lent = omega arith; captured = omega arith; behind = omega arith };
+      place = k.offset;
+      free = refl;
+      failed = g.goes.failed;
+      items = λ t. refusal_same file new.file (named ∙ sym k.file) ∙ items t;
+      ending = ending;
+      first = first;
+    }
+      where
+        refusal_same : (m f : ℕ) → m ≡ f
+            → feeds.refused (record { file = m; offset = block.offset; rule = rule }) ∷ [] ≡ feeds.refused (record { file = f; offset = block.offset; rule = rule }) ∷ []
+        refusal_same m f mf = λ i. feeds.refused (record { file = mf i; offset = block.offset; rule = rule }) ∷ []
+
+-- What a block leaves of the counts.
+pub block_keeps : (old new : State) (p : Progress) (block : Block) (content : Result Content Rule) → GivesBlock old block new → Keeps old new
+    → content ≡ content_in p.interfaces block.kind block.order (unwrap_or new.body [])
+    → LaneKeeps (pcapng_lane old p) (pcapng_lane new (behind p content))
+block_keeps old new p block content g k is = record {
+  file = k.file;
+  told = k.told;
+  can_fail = k.can_fail;
+  offset = k.offset;
+  limit = λ h. k.limit;
+  held = λ h. k.held;
+  interfaces = few content (subst (IsFit (length p.interfaces) (unwrap_or new.body [])) (sym is) (content_fit p.interfaces block.kind block.order (unwrap_or new.body [])));
+  counted = λ h. omega (arith, h, more content, g.next, g.least);
+}
+  where
+    few : (c : Result Content Rule) → IsFit (length p.interfaces) (unwrap_or new.body []) c → length p.interfaces ≤ 1024 → length (behind p c).interfaces ≤ 1024
+    few (Ok contents.Section) fit h = omega arith
+    few (Ok (contents.Interface interface)) fit h = omega (arith, fit, length-append p.interfaces (interface ∷ []))
+    few (Ok (contents.Packet pk)) fit h = h
+    few (Ok contents.Other) fit h = h
+    few (Err rule) fit h = h
+
+    more : (c : Result Content Rule) → counted (behind p c) ≤ counted p + 1
+    more (Ok contents.Section) = omega arith
+    more (Ok (contents.Interface interface)) = omega (arith, length-append p.interfaces (interface ∷ []))
+    more (Ok (contents.Packet pk)) = omega arith
+    more (Ok contents.Other) = omega arith
+    more (Err rule) = omega arith
+
+stopped_again : (new : State) (stop : Stop) → new.stop ≡ Some stop → items_of new ≡ stopped stop ∷ []
+stopped_again new stop is = rw is refl
+
+cut_is : (cut : Bool) (stop : Stop) → IsTrue cut ↔ (Some stop ≡ Some stops.Cut) → cut ≡ is_cut stop
+cut_is true stops.End both = absurd (let e = both.0 refl in cc)
+cut_is true stops.Cut both = refl
+cut_is true (stops.Refused refusal) both = absurd (let e = both.0 refl in cc)
+cut_is false stops.End both = refl
+cut_is false stops.Cut both = both.1 refl
+cut_is false (stops.Refused refusal) both = refl
+
+no_items : (stop : Stop) (file : ℕ) (p : Progress) (items : List Item) → IsEnd stop → items ≡ stopped stop ∷ [] → [] ≡ items_in file p items
+unfolding items_in
+no_items stops.End file p items h is = rw is refl
+no_items stops.Cut file p items h is = rw is refl
+no_items (stops.Refused refusal) file p items h is = absurd h
+
+ending_stopped : (stop : Stop) (p : Progress) (items : List Item) → items ≡ stopped stop ∷ [] → ending_with p (is_cut stop) ≡ ending_in p items
+unfolding ending_in
+ending_stopped stop p items is = rw is refl
+
+first_stopped : (stop : Stop) (p : Progress) (items : List Item) → items ≡ stopped stop ∷ [] → p.first ≡ first_in p items
+unfolding first_in
+first_stopped stop p items is = rw is refl
+
+refused_items : (refusal : Refusal) (file : ℕ) (p : Progress) (items : List Item) → items ≡ stopped (stops.Refused refusal) ∷ [] → feeds.refused refusal ∷ [] ≡ items_in file p items
+unfolding items_in
+refused_items refusal file p items is = rw is refl
+
+-- The blocks end.
+pub end_learned : (cut : Bool) (stop : Stop) (old new : State) (p : Progress) → old.stop ≡ None
+    → IsEnd stop → GivesStop stop old new → IsTrue cut ↔ (new.stop ≡ Some stops.Cut) → Keeps old new
+    → (IsTrue old.told → items_of new ≡ items_of old)
+    → Learns (pcapng_lane old p) (nexts.End (ending_with p cut)) (pcapng_lane new p)
+end_learned cut stop old new p free ends g was k same =
+    let at = if_none old.stop _ free g.first in
+    let which = cut_is cut stop (rw (g.stop_is) at was) in
+    record {
+      is = record { file = refl; lent = omega arith; captured = omega arith; behind = omega arith };
+      place = k.offset;
+      free = refl;
+      failed = at.goes.failed;
+      items = λ t. no_items stop old.file p (items_of old) ends (sym (same t) ∙ stopped_again new stop g.stop_is);
+      ending = λ t. ap (ending_with p) which ∙ ending_stopped stop p (items_of old) (sym (same t) ∙ stopped_again new stop g.stop_is);
+      first = λ t. first_stopped stop p (items_of old) (sym (same t) ∙ stopped_again new stop g.stop_is);
+    }
+
+-- A rest is refused.
+pub refusal_learned : (refusal : Refusal) (old new : State) (p : Progress) → old.stop ≡ None
+    → GivesStop (stops.Refused refusal) old new → Keeps old new
+    → (IsTrue old.told → items_of old ≡ stopped (stops.Refused refusal) ∷ [])
+    → Learns (pcapng_lane old p) (nexts.Refused refusal (ending_with p false)) (pcapng_lane new p)
+refusal_learned refusal old new p free g k same =
+    let at = if_none old.stop _ free g.first in
+    record {
+      is = record { file = at.is_stop.0 ∙ sym k.file; lent = omega arith; captured = omega arith; behind = omega arith };
+      place = k.offset;
+      free = refl;
+      failed = at.goes.failed;
+      items = λ t. refused_items refusal old.file p (items_of old) (same t);
+      ending = λ t. ending_stopped (stops.Refused refusal) p (items_of old) (same t);
+      first = λ t. first_stopped (stops.Refused refusal) p (items_of old) (same t);
+    }
+
+-- the same, of what a call answered
+pub block_stepped : (file : ℕ) (old new : State) (p q : Progress) (block : Block) (content : Result Content Rule) (next : Option Next)
+    → next ≡ next_at file p block content → q ≡ behind p content
+    → file ≡ old.file → GivesBlock old block new → Keeps old new
+    → (IsTrue old.told → items_of old ≡ given block (body_in block.total old.coming) ∷ items_of new)
+    → content ≡ content_in p.interfaces block.kind block.order (unwrap_or new.body [])
+    → Steps (pcapng_lane old p) (Ok next) (pcapng_lane new q)
+block_stepped file old new p q block content next is_next is_q named g k taken is =
+    subst (λ (n : Option Next). Steps (pcapng_lane old p) (Ok n) (pcapng_lane new q)) (sym is_next)
+    (subst (λ (r : Progress). Steps (pcapng_lane old p) (Ok (next_at file p block content)) (pcapng_lane new r)) (sym is_q)
+    (block_steps file old new p block content named g k taken is))
+
+pub block_kept : (old new : State) (p q : Progress) (block : Block) (content : Result Content Rule) → q ≡ behind p content → GivesBlock old block new → Keeps old new
+    → content ≡ content_in p.interfaces block.kind block.order (unwrap_or new.body [])
+    → LaneKeeps (pcapng_lane old p) (pcapng_lane new q)
+block_kept old new p q block content is_q g k is =
+    subst (λ (r : Progress). LaneKeeps (pcapng_lane old p) (pcapng_lane new r)) (sym is_q) (block_keeps old new p block content g k is)
+
+pub refusal_kept : (refusal : Refusal) (ending : Ending) (old new : State) (p : Progress) → ending ≡ ending_with p false → old.stop ≡ None
+    → GivesStop (stops.Refused refusal) old new → Keeps old new
+    → (IsTrue old.told → items_of old ≡ stopped (stops.Refused refusal) ∷ [])
+    → Learns (pcapng_lane old p) (nexts.Refused refusal ending) (pcapng_lane new p)
+refusal_kept refusal ending old new p is_ending free g k same =
+    subst (λ (e : Ending). Learns (pcapng_lane old p) (nexts.Refused refusal e) (pcapng_lane new p)) (sym is_ending) (refusal_learned refusal old new p free g k same)

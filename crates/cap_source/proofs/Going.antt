@@ -1,0 +1,61 @@
+-- One look after another at what comes next of a file.
+use Rattle.std.proofs.Common.{Result, Ok, Err, refl, ◌∙◌, arith}
+use Rattle.cap_bytes.specs.declared.faults.Fault.{Fault}
+use Rattle.cap_bytes.specs.declared.faults.Fault.TheVariants.{Refused, Read, Write, Memory}
+use Rattle.cap_source.specs.Lanes.{Lane, LaneKeeps, SameRest, Waits, Answers}
+use Rattle.cap_source.specs.declared.readers.Next.{Next}
+
+pub LaneKeeps-refl : (a : Lane) → LaneKeeps a a
+LaneKeeps-refl a = record {
+  file = refl;
+  told = λ t. t;
+  can_fail = λ f. f;
+  offset = omega arith;
+  limit = λ h. h;
+  held = λ h. h;
+  interfaces = λ h. h;
+  counted = λ h. h;
+}
+
+pub LaneKeeps-trans : (a b c : Lane) → LaneKeeps a b → LaneKeeps b c → LaneKeeps a c
+LaneKeeps-trans a b c k l = record {
+  file = l.file ∙ k.file;
+  told = λ t. l.told (k.told t);
+  can_fail = λ f. k.can_fail (l.can_fail f);
+  offset = omega (arith, k.offset, l.offset);
+  limit = λ h. l.limit (k.limit h);
+  held = λ h. l.held (k.held h);
+  interfaces = λ h. l.interfaces (k.interfaces h);
+  counted = λ h. l.counted (k.counted h);
+}
+
+pub SameRest-trans : (a b c : Lane) → SameRest a b → SameRest b c → SameRest a c
+SameRest-trans a b c s t = record { items = t.items ∙ s.items; ending = t.ending ∙ s.ending; first = t.first ∙ s.first }
+
+pub Waits-trans : (a b c : Lane) → Waits a b → LaneKeeps a b → Waits b c → Waits a c
+Waits-trans a b c v k w = record {
+  stops = w.stops;
+  failed = w.failed ∙ v.failed;
+  rest = λ t. SameRest-trans a b c (v.rest t) (w.rest (k.told t));
+}
+
+-- What is answered behind something that left what is to come.
+pub Answers-behind : (a b c : Lane) (result : Result Next Fault) → Waits a b → LaneKeeps a b → Answers b result c → Answers a result c
+Answers-behind a b c (Ok next) w k h = record {
+  is = h.is;
+  place = omega (arith, h.place, k.offset);
+  free = h.free;
+  failed = h.failed ∙ w.failed;
+  items = λ t. h.items (k.told t) ∙ (w.rest t).items;
+  ending = λ t. h.ending (k.told t) ∙ (w.rest t).ending;
+  first = λ t. h.first (k.told t) ∙ (w.rest t).first;
+}
+Answers-behind a b c (Err (Refused refusal)) w k h = absurd h
+Answers-behind a b c (Err (Read file offset)) w k h = record {
+  stops = h.stops;
+  file_is = h.file_is ∙ k.file;
+  failed = h.failed;
+  can_fail = k.can_fail h.can_fail;
+}
+Answers-behind a b c (Err Write) w k h = absurd h
+Answers-behind a b c (Err Memory) w k h = Waits-trans a b c w k h

@@ -1,0 +1,10 @@
+pub mod Blocks
+pub mod Bodies
+pub mod Firsts
+pub mod Going
+pub mod Lists
+pub mod Looks
+pub mod Options
+pub mod Pcaps
+pub mod Resolutions
+pub mod Walking

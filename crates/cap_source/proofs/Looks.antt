@@ -1,0 +1,116 @@
+-- What the first four bytes tell, and the reader that is made by that.
+use Rattle.std.proofs.Common.{◌≡◌, ◌≤◌, ℕ, true, false, List, ◌++◌, length, Option, Some, None, is_some, IsTrue, Ok, refl, sym, ap, ◌∙◌, subst, arith, nat_le, length-append}
+use Rattle.std.proofs.lemmas.Bool.Decides.{nat_tests}
+use Rattle.cap_bytes.proofs.Spelling.{number-append}
+use Rattle.cap_bytes.specs.Window.{State as WindowState, Shows, Keeps, coming}
+use Rattle.cap_bytes.specs.declared.faults.Tail.{Tail}
+use Rattle.cap_bytes.specs.declared.numbers.Order.TheVariants.{Big}
+use Rattle.cap_pcap.specs.Split as records
+use Rattle.cap_blocks.specs.Split as splits
+use Rattle.cap_blocks.specs.Split.{is_section}
+use Rattle.cap_source.specs.Items.{Progress, interface_of, is_pcapng, items_in, ending_in, first_in, pcap_items, pcap_ending, unless_refused, items_from, ending_from, first_from}
+use Rattle.cap_source.specs.Lanes.{unread_lane, Waits, LaneKeeps}
+use Rattle.cap_source.specs.Readers.{lane_of, reader_by, has_format, LooksAtWindow}
+use Rattle.cap_source.specs.declared.packets.Format.{Format}
+use Rattle.cap_source.specs.declared.packets.Format.TheVariants.{Pcap, Pcapng}
+use Rattle.cap_source.specs.declared.readers.Reader.{Reader}
+use Rattle.cap_source.specs.declared.readers.Reader.TheVariants as readers
+
+pub none_is : {A : Type 0} (o : Option A) → is_some o ≡ false → o ≡ None
+none_is None e = refl
+none_is (Some x) e = absurd (cc)
+
+le_true : (m n : ℕ) → m ≤ n → nat_le m n ≡ true
+le_true m n h = grind (arith, nat_tests)
+
+pcapng_shown : (xs ys : List ℕ) → 4 ≤ length xs → is_pcapng (xs ++ ys) ≡ is_section xs
+pcapng_shown xs ys few =
+    rw (le_true 4 (length (xs ++ ys)) (omega (arith, few, length-append xs ys)), number-append Big 4 xs ys few) refl
+
+-- the first four bytes that are shown tell the format
+pub looks_at : (old new : WindowState) → Shows old new → 4 ≤ length new.shown → IsTrue old.told → is_pcapng (coming old) ≡ is_section new.shown
+looks_at old new s few t = ap is_pcapng (sym (s.coming_same t)) ∙ pcapng_shown new.shown new.unread few
+
+pcap_items_from : (tail : Tail) (f g : ℕ) (p : Progress) (o q : ℕ) (old new : List ℕ) → f ≡ g → o ≡ q → new ≡ old → is_pcapng old ≡ false
+    → pcap_items f (interface_of (records.header_at new)) (records.file_items tail f o new) ≡ items_from tail g p q old
+unfolding items_from
+pcap_items_from tail f g p o q old new fg oq is not = rw (fg, oq, is, not) refl
+
+pcap_ending_from : (tail : Tail) (f g : ℕ) (p : Progress) (o q : ℕ) (old new : List ℕ) → f ≡ g → o ≡ q → new ≡ old → is_pcapng old ≡ false
+    → pcap_ending (records.file_items tail f o new) ≡ ending_from tail g p q old
+unfolding ending_from
+pcap_ending_from tail f g p o q old new fg oq is not = rw (fg, oq, is, not) refl
+
+pcap_first_from : (tail : Tail) (g : ℕ) (p : Progress) (o q : ℕ) (old new : List ℕ) → o ≡ q → new ≡ old → is_pcapng old ≡ false
+    → unless_refused (records.header_fault o new) (interface_of (records.header_at new)) ≡ first_from tail g p q old
+unfolding first_from
+pcap_first_from tail g p o q old new oq is not = rw (oq, is, not) refl
+
+pcapng_items_from : (tail : Tail) (f g : ℕ) (p : Progress) (o q : ℕ) (old new : List ℕ) → f ≡ g → o ≡ q → new ≡ old → is_pcapng old ≡ true
+    → items_in f p (splits.items_from None tail f o new) ≡ items_from tail g p q old
+unfolding items_from
+pcapng_items_from tail f g p o q old new fg oq is there = rw (fg, oq, is, there) refl
+
+pcapng_ending_from : (tail : Tail) (f g : ℕ) (p : Progress) (o q : ℕ) (old new : List ℕ) → f ≡ g → o ≡ q → new ≡ old → is_pcapng old ≡ true
+    → ending_in p (splits.items_from None tail f o new) ≡ ending_from tail g p q old
+unfolding ending_from
+pcapng_ending_from tail f g p o q old new fg oq is there = rw (fg, oq, is, there) refl
+
+pcapng_first_from : (tail : Tail) (f g : ℕ) (p : Progress) (o q : ℕ) (old new : List ℕ) → f ≡ g → o ≡ q → new ≡ old → is_pcapng old ≡ true
+    → first_in p (splits.items_from None tail f o new) ≡ first_from tail g p q old
+unfolding first_from
+pcapng_first_from tail f g p o q old new fg oq is there = rw (fg, oq, is, there) refl
+
+-- The reader that is made gives what the window did.
+pub opened_waits : (R : Type 0) (w v : WindowState) (tail : Tail) (format : Format) (p : Progress) → Shows w v → Keeps w v
+    → (IsTrue w.told → has_format format (coming w)) → Waits (unread_lane w tail p) (lane_of {R = R} (reader_by (readers.Unread v tail) format) p)
+opened_waits R w v tail Pcap p s k is = record {
+  stops = refl;
+  failed = s.goes.failed;
+  rest = λ t. record {
+    items = pcap_items_from tail v.file w.file p v.offset w.offset (coming w) (coming v) k.file s.offset (s.coming_same t) (is t);
+    ending = pcap_ending_from tail v.file w.file p v.offset w.offset (coming w) (coming v) k.file s.offset (s.coming_same t) (is t);
+    first = pcap_first_from tail w.file p v.offset w.offset (coming w) (coming v) s.offset (s.coming_same t) (is t);
+  };
+}
+opened_waits R w v tail Pcapng p s k is = record {
+  stops = refl;
+  failed = s.goes.failed;
+  rest = λ t. record {
+    items = pcapng_items_from tail v.file w.file p v.offset w.offset (coming w) (coming v) k.file s.offset (s.coming_same t) (is t);
+    ending = pcapng_ending_from tail v.file w.file p v.offset w.offset (coming w) (coming v) k.file s.offset (s.coming_same t) (is t);
+    first = pcapng_first_from tail v.file w.file p v.offset w.offset (coming w) (coming v) k.file s.offset (s.coming_same t) (is t);
+  };
+}
+
+pub opened_keeps : (R : Type 0) (w v : WindowState) (tail : Tail) (format : Format) (p : Progress) → Shows w v → Keeps w v
+    → LaneKeeps (unread_lane w tail p) (lane_of {R = R} (reader_by (readers.Unread v tail) format) p)
+opened_keeps R w v tail Pcap p s k = record {
+  file = k.file;
+  told = k.told;
+  can_fail = k.can_fail;
+  offset = k.offset;
+  limit = λ h. omega (arith, s.offset, h);
+  held = λ h. k.held;
+  interfaces = λ h. h;
+  counted = λ h. omega (arith, h, k.offset);
+}
+opened_keeps R w v tail Pcapng p s k = record {
+  file = k.file;
+  told = k.told;
+  can_fail = k.can_fail;
+  offset = k.offset;
+  limit = λ h. omega (arith, s.offset, h);
+  held = λ h. k.held;
+  interfaces = λ h. h;
+  counted = λ h. omega (arith, h, k.offset);
+}
+
+-- the same of what calls answered
+pub opened_by : {R : Type 0} (old unread new : Reader R) (w v : WindowState) (tail : Tail) (format : Format) (p : Progress)
+    → old ≡ readers.Unread w tail → unread ≡ readers.Unread v tail → new ≡ reader_by unread format
+    → LooksAtWindow w (Ok format) v → Keeps w v → Waits (lane_of old p) (lane_of new p)
+opened_by {R} old unread new w v tail format p is_old is_unread is_new s k =
+    let made : new ≡ reader_by (readers.Unread v tail) format = is_new ∙ ap (λ (r : Reader R). reader_by r format) is_unread in
+    subst (λ (r : Reader R). Waits (lane_of r p) (lane_of new p)) (sym is_old)
+    (subst (λ (r : Reader R). Waits (unread_lane w tail p) (lane_of r p)) (sym made) (opened_waits R w v tail format p s.0 k s.1))

@@ -1,0 +1,225 @@
+-- What comes next of a pcap file.
+use Rattle.std.proofs.Common.{◌≡◌, ◌≤◌, ◌+◌, ℕ, Bool, true, false, List, [], ◌∷◌, length, Option, Some, None, is_some, IsSomeAnd, IfSome, IfNone, IsTrue, not, ◌↔◌, refl, sym, ap, ◌∙◌, subst, arith}
+use Rattle.std.proofs.lemmas.List.{take_all}
+use Rattle.cap_bytes.specs.declared.faults.Refusal.{Refusal}
+use Rattle.cap_bytes.specs.declared.faults.Rule.{Rule}
+use Rattle.cap_time.specs.declared.resolutions.Interface.{Interface}
+use Rattle.cap_pcap.specs.Reader.{State, items_of, Keeps, GivesRecord, GivesStop, IsEnd, HasHeader, ReadsHeader, GivesRefusal}
+use Rattle.cap_pcap.specs.Split.{header_fault, header_at, Item, given, stopped}
+use Rattle.cap_pcap.specs.declared.headers.PcapHeader.{PcapHeader}
+use Rattle.cap_pcap.specs.declared.records.Record.{Record}
+use Rattle.cap_pcap.specs.declared.records.Stop.{Stop}
+use Rattle.cap_pcap.specs.declared.records.Stop.TheVariants as stops
+use Rattle.cap_source.specs.Feed as feeds
+use Rattle.cap_source.specs.Items.{Progress, interface_of, meta_of, pcap_items, pcap_ending, pcap_ending_with, is_record_cut}
+use Rattle.cap_source.specs.Lanes.{pcap_lane, header_or, first_of, size_of, part_of, Learns, Waits, LaneKeeps}
+use Rattle.cap_source.specs.declared.readers.Next.TheVariants as nexts
+
+-- a value where it is known which
+pub if_some : {A : Type 0} (o : Option A) (x : A) (P : A → Type 0) → o ≡ Some x → IfSome o P → P x
+if_some None x P is h = absurd (cc)
+if_some (Some y) x P is h = let same : y ≡ x = cc in subst P same h
+
+pub if_none : {A : Type 0} (o : Option A) (P : Type 0) → o ≡ None → IfNone o P → P
+if_none None P is h = h
+if_none (Some y) P is h = absurd (cc)
+
+known_header : (h : Option PcapHeader) (header : PcapHeader) (bytes : List ℕ) → h ≡ Some header → header_or h bytes ≡ header
+known_header h header bytes is = rw is refl
+
+known_first : (h : Option PcapHeader) (header : PcapHeader) (stop : Option Stop) (offset : ℕ) (bytes : List ℕ) → h ≡ Some header
+    → first_of h stop offset bytes ≡ Some (interface_of header)
+known_first h header stop offset bytes is = rw is refl
+
+lent_size : (frame : Option (List ℕ)) (captured : ℕ) → IsSomeAnd frame (λ bytes. length bytes ≡ captured) → 0 + captured + 1 ≤ size_of frame
+lent_size None captured h = absurd h
+lent_size (Some bytes) captured h = omega (arith, h)
+
+part_whole : (bytes : List ℕ) (captured : ℕ) → length bytes ≡ captured → part_of (Some bytes) 0 captured ≡ bytes
+part_whole bytes captured is = take_all captured bytes (omega (arith, is))
+
+items_given : (m f g : ℕ) (h i j : Interface) (r : Record) (frame : Option (List ℕ)) (old new : List Item) → m ≡ g → f ≡ g → h ≡ j → i ≡ j
+    → IsSomeAnd frame (λ bytes. length bytes ≡ r.captured) → IsSomeAnd frame (λ bytes. old ≡ given r bytes ∷ new)
+    → feeds.packet (meta_of m h r) (part_of frame 0 r.captured) ∷ pcap_items f i new ≡ pcap_items g j old
+unfolding pcap_items
+items_given m f g h i j r None old new mg fg hj ij size is = absurd size
+items_given m f g h i j r (Some bytes) old new mg fg hj ij size is =
+    rw (is, mg, fg, hj, ij, part_whole bytes r.captured size) refl
+
+same_items : (f g : ℕ) (i j : Interface) (old new : List Item) → f ≡ g → i ≡ j → new ≡ old → pcap_items f i new ≡ pcap_items g j old
+same_items f g i j old new fg ij is = λ k. pcap_items (fg k) (ij k) (is k)
+
+ending_given : (r : Record) (frame : Option (List ℕ)) (old new : List Item) → IsSomeAnd frame (λ bytes. old ≡ given r bytes ∷ new)
+    → pcap_ending new ≡ pcap_ending old
+unfolding pcap_ending
+ending_given r None old new is = absurd is
+ending_given r (Some bytes) old new is = rw is refl
+
+is_none : (stop : Option Stop) → stop ≡ None → is_some stop ≡ false
+is_none stop is = rw is refl
+
+-- A record is given, whose packet comes next.
+pub record_learned : (header : PcapHeader) (file : ℕ) (r : Record) (old new : State) (progress : Progress)
+    → file ≡ old.file → old.header ≡ Some header → progress.first ≡ Some (interface_of header)
+    → GivesRecord header old r new → Keeps old new
+    → (IsTrue old.told → IsSomeAnd new.frame (λ bytes. items_of old ≡ given r bytes ∷ items_of new))
+    → Learns (pcap_lane old progress) (nexts.Packet (meta_of file (interface_of header) r) 0) (pcap_lane new progress)
+record_learned header file r old new progress named known first g k taken =
+    let known_new : new.header ≡ Some header = g.header_same ∙ known in
+    record {
+      is = record {
+        file = named ∙ sym k.file;
+        lent = lent_size new.frame r.captured g.frame;
+        captured = g.captured;
+        behind = omega (arith, g.offset, g.next);
+      };
+      place = omega (arith, g.offset);
+      free = ap not (is_none new.stop g.stop);
+      failed = g.goes.failed;
+      items = λ t.
+          items_given file new.file old.file (interface_of header) (interface_of (header_or new.header new.coming)) (interface_of (header_or old.header old.coming))
+          r new.frame (items_of old) (items_of new) named k.file
+          (ap interface_of (sym (known_header old.header header old.coming known)))
+          (ap interface_of (known_header new.header header new.coming known_new ∙ sym (known_header old.header header old.coming known)))
+          g.frame (taken t);
+      ending = λ t. ending_given r new.frame (items_of old) (items_of new) (taken t);
+      first = λ t. first ∙ sym (known_first old.header header old.stop old.offset old.coming known);
+    }
+
+stopped_again : (new : State) (stop : Stop) → new.stop ≡ Some stop → items_of new ≡ stopped stop ∷ []
+stopped_again new stop is = rw is refl
+
+cut_is : (cut : Bool) (stop : Stop) → IsTrue cut ↔ (Some stop ≡ Some stops.Cut) → cut ≡ is_record_cut stop
+cut_is true stops.End both = absurd (let e = both.0 refl in cc)
+cut_is true stops.Cut both = refl
+cut_is true (stops.Refused refusal) both = absurd (let e = both.0 refl in cc)
+cut_is false stops.End both = refl
+cut_is false stops.Cut both = both.1 refl
+cut_is false (stops.Refused refusal) both = refl
+
+no_items : (stop : Stop) (file : ℕ) (i : Interface) (items : List Item) → IsEnd stop → items ≡ stopped stop ∷ [] → [] ≡ pcap_items file i items
+unfolding pcap_items
+no_items stops.End file i items h is = rw is refl
+no_items stops.Cut file i items h is = rw is refl
+no_items (stops.Refused refusal) file i items h is = absurd h
+
+ending_stopped : (stop : Stop) (items : List Item) → items ≡ stopped stop ∷ [] → pcap_ending_with (is_record_cut stop) ≡ pcap_ending items
+unfolding pcap_ending
+ending_stopped stop items is = rw is refl
+
+refused_items : (refusal : Refusal) (file : ℕ) (i : Interface) (items : List Item) → items ≡ stopped (stops.Refused refusal) ∷ []
+    → feeds.refused refusal ∷ [] ≡ pcap_items file i items
+unfolding pcap_items
+refused_items refusal file i items is = rw is refl
+
+-- The records end.
+pub end_learned : (header : PcapHeader) (cut : Bool) (stop : Stop) (old new : State) (progress : Progress)
+    → old.header ≡ Some header → progress.first ≡ Some (interface_of header) → old.stop ≡ None
+    → IsEnd stop → GivesStop header stop old new → IsTrue cut ↔ (new.stop ≡ Some stops.Cut) → Keeps old new
+    → (IsTrue old.told → items_of new ≡ items_of old)
+    → Learns (pcap_lane old progress) (nexts.End (pcap_ending_with cut)) (pcap_lane new progress)
+end_learned header cut stop old new progress known first free ends g was k same =
+    let at = if_none old.stop _ free g.first in
+    let which = cut_is cut stop (rw (g.stop_is) at was) in
+    record {
+      is = record { file = refl; lent = omega arith; captured = omega arith; behind = omega arith };
+      place = k.offset;
+      free = refl;
+      failed = at.goes.failed;
+      items = λ t. no_items stop old.file (interface_of (header_or old.header old.coming)) (items_of old) ends (sym (same t) ∙ stopped_again new stop g.stop_is);
+      ending = λ t. ap pcap_ending_with which ∙ ending_stopped stop (items_of old) (sym (same t) ∙ stopped_again new stop g.stop_is);
+      first = λ t. first ∙ sym (known_first old.header header old.stop old.offset old.coming known);
+    }
+
+-- A rest is refused.
+pub refusal_learned : (header : PcapHeader) (refusal : Refusal) (old new : State) (progress : Progress)
+    → old.header ≡ Some header → progress.first ≡ Some (interface_of header) → old.stop ≡ None
+    → GivesStop header (stops.Refused refusal) old new → Keeps old new
+    → (IsTrue old.told → items_of old ≡ stopped (stops.Refused refusal) ∷ [])
+    → Learns (pcap_lane old progress) (nexts.Refused refusal (pcap_ending_with false)) (pcap_lane new progress)
+refusal_learned header refusal old new progress known first free g k same =
+    let at = if_none old.stop _ free g.first in
+    record {
+      is = record { file = at.is_stop.0 ∙ sym k.file; lent = omega arith; captured = omega arith; behind = omega arith };
+      place = k.offset;
+      free = refl;
+      failed = at.goes.failed;
+      items = λ t. refused_items refusal old.file (interface_of (header_or old.header old.coming)) (items_of old) (same t);
+      ending = λ t. ending_stopped (stops.Refused refusal) (items_of old) (same t);
+      first = λ t. first ∙ sym (known_first old.header header old.stop old.offset old.coming known);
+    }
+
+refused_first : (h : Option PcapHeader) (stop : Option Stop) (offset : ℕ) (bytes : List ℕ) (rule : Rule) → h ≡ None → stop ≡ None
+    → header_fault offset bytes ≡ Some rule → None ≡ first_of h stop offset bytes
+refused_first h stop offset bytes rule unknown free is = rw (unknown, free, is) refl
+
+-- The file's header is refused.
+pub header_refused : (refusal : Refusal) (old new : State) (p q : Progress) → q.first ≡ None → old.stop ≡ None
+    → GivesRefusal refusal old new → Keeps old new
+    → (IsTrue old.told → items_of old ≡ stopped (stops.Refused refusal) ∷ [])
+    → Learns (pcap_lane old p) (nexts.Refused refusal (pcap_ending_with false)) (pcap_lane new q)
+header_refused refusal old new p q none free g k same =
+    let at = if_none old.stop _ free g.first in
+    record {
+      is = record { file = at.file ∙ sym k.file; lent = omega arith; captured = omega arith; behind = omega arith };
+      place = k.offset;
+      free = refl;
+      failed = at.goes.failed;
+      items = λ t. refused_items refusal old.file (interface_of (header_or old.header old.coming)) (items_of old) (same t);
+      ending = λ t. ending_stopped (stops.Refused refusal) (items_of old) (same t);
+      first = λ t. none ∙ refused_first old.header old.stop old.offset old.coming refusal.rule at.header_unknown free (at.rule t);
+    }
+
+new_header : (h : Option PcapHeader) (stop : Option Stop) (offset : ℕ) (bytes : List ℕ) (header : PcapHeader) → h ≡ None → stop ≡ None
+    → header_fault offset bytes ≡ None → header ≡ header_at bytes
+    → (header ≡ header_or h bytes) × (Some (interface_of header) ≡ first_of h stop offset bytes)
+new_header h stop offset bytes header unknown free whole is = rw (unknown, free, whole, is) (refl, refl)
+
+header_read : (header : PcapHeader) (known : Option PcapHeader) (old new : State) → old.header ≡ known → old.stop ≡ None → HasHeader header old new
+    → IsTrue old.told → (header ≡ header_or old.header old.coming) × (Some (interface_of header) ≡ first_of old.header old.stop old.offset old.coming)
+header_read header None old new is free h t =
+    let first = if_none old.header (ReadsHeader header old new) is h.first in
+    new_header old.header old.stop old.offset old.coming header is free (first.whole t) (first.header_is t)
+header_read header (Some was) old new is free h t =
+    let again = if_some old.header was (λ w. (header ≡ w) × (new ≡ old)) is h.again in (
+      again.0 ∙ sym (known_header old.header was old.coming is),
+      ap (λ x. Some (interface_of x)) again.0 ∙ sym (known_first old.header was old.stop old.offset old.coming is),
+    )
+
+header_failed : (header : PcapHeader) (known : Option PcapHeader) (old new : State) → old.header ≡ known → HasHeader header old new → new.failed ≡ old.failed
+header_failed header None old new is h = (if_none old.header (ReadsHeader header old new) is h.first).goes.failed
+header_failed header (Some was) old new is h = ap (λ (s : State). s.failed) (if_some old.header was (λ w. (header ≡ w) × (new ≡ old)) is h.again).1
+
+pub header_free : (header : PcapHeader) (known : Option PcapHeader) (old new : State) → old.header ≡ known → old.stop ≡ None → HasHeader header old new → new.stop ≡ None
+header_free header None old new is free h = (if_none old.header (ReadsHeader header old new) is h.first).stop
+header_free header (Some was) old new is free h = ap (λ (s : State). s.stop) (if_some old.header was (λ w. (header ≡ w) × (new ≡ old)) is h.again).1 ∙ free
+
+-- The file's header is read, behind which everything is to come as before.
+pub header_waits : (header : PcapHeader) (old new : State) (p q : Progress) → old.stop ≡ None → HasHeader header old new → Keeps old new
+    → (IsTrue old.told → items_of new ≡ items_of old) → Waits (pcap_lane old p) (pcap_lane new q)
+header_waits header old new p q free h k same = record {
+  stops = is_none new.stop (header_free header old.header old new refl free h);
+  failed = header_failed header old.header old new refl h;
+  rest = λ t.
+      let read = header_read header old.header old new refl free h t in
+      record {
+        items = same_items new.file old.file (interface_of (header_or new.header new.coming)) (interface_of (header_or old.header old.coming))
+            (items_of old) (items_of new) k.file
+            (ap interface_of (known_header new.header header new.coming h.header_known ∙ read.0)) (same t);
+        ending = ap pcap_ending (same t);
+        first = known_first new.header header new.stop new.offset new.coming h.header_known ∙ read.1;
+      };
+}
+
+pub pcap_keeps : (old new : State) (p q : Progress) → q.interfaces ≡ p.interfaces → q.base ≡ p.base → q.skipped ≡ p.skipped → Keeps old new
+    → LaneKeeps (pcap_lane old p) (pcap_lane new q)
+pcap_keeps old new p q i b s k = record {
+  file = k.file;
+  told = k.told;
+  can_fail = k.can_fail;
+  offset = k.offset;
+  limit = λ h. k.limit;
+  held = λ h. k.held;
+  interfaces = λ h. rw i h;
+  counted = λ h. rw (i, b, s) (omega (arith, h, k.offset));
+}

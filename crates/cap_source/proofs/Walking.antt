@@ -1,0 +1,128 @@
+-- A text of the packets of a feed, written packet by packet.
+use Rattle.std.proofs.Common.{◌≡◌, ℕ, zero, suc, ◌≤◌, List, [], ◌∷◌, ◌++◌, length, take, drop, Bool, IsTrue, Option, Some, None, IsSome, Ok, Err, refl, sym, ap, ◌∙◌, subst, arith, append-nil, length-append, take_at, drop_at}
+use Rattle.std.proofs.lemmas.Bool.{false≢true}
+use Rattle.cap_bytes.proofs.Putting.{Writer, Putting, Putting-more, Putting-all, Putting-front}
+use Rattle.cap_bytes.specs.Printing.{Prints}
+use Rattle.cap_bytes.specs.declared.faults.Fault.{Fault}
+use Rattle.cap_bytes.specs.declared.faults.Fault.TheVariants.{Refused, Read, Write, Memory}
+use Rattle.cap_bytes.specs.declared.faults.Refusal.{Refusal}
+use Rattle.cap_source.specs.Feed.{Feed, Item, packet, refused, Keeps}
+use Rattle.cap_source.specs.Walk.{ShowsItem}
+use Rattle.cap_source.specs.declared.packets.Meta.{Meta}
+
+-- what is to be written of the items to come, and what is answered then
+pub record Plan : Type 0 where
+  pub text : List Item → List ℕ
+  pub refusal : List Item → Option Refusal
+
+-- Nothing is written at the end or at a refusal, which is answered.
+pub record IsPlan (plan : Plan) : Type 0 where
+  pub text_none : plan.text [] ≡ []
+  pub text_refused : (r : Refusal) → plan.text (refused r ∷ []) ≡ []
+  pub refusal_none : plan.refusal [] ≡ None
+  pub refusal_refused : (r : Refusal) → plan.refusal (refused r ∷ []) ≡ Some r
+
+-- A packet is written as that line, and the rest goes by another plan.
+pub record GoesOn (plan : Plan) (meta : Meta) (frame line : List ℕ) (next : Plan) : Type 0 where
+  pub text : (items : List Item) → plan.text (packet meta frame ∷ items) ≡ line ++ next.text items
+  pub refusal : (items : List Item) → plan.refusal (packet meta frame ∷ items) ≡ next.refusal items
+
+-- A packet is refused.
+pub record GivesUp (plan : Plan) (meta : Meta) (frame : List ℕ) (r : Refusal) : Type 0 where
+  pub text : (items : List Item) → plan.text (packet meta frame ∷ items) ≡ []
+  pub refusal : (items : List Item) → plan.refusal (packet meta frame ∷ items) ≡ Some r
+
+-- The packets so far of a feed that was `old` are written by a writer that was `from`.
+pub record Walking (first plan : Plan) (old new : Feed) (failed_old failed_new : Bool) (from to : Writer) : Type 0 where
+  pub failed : failed_new ≡ failed_old
+  pub told : IsTrue old.told → IsTrue new.told
+  pub can_fail : IsTrue new.can_fail → IsTrue old.can_fail
+  pub left : new.left ≤ old.left
+  pub writer_told : IsTrue from.told → IsTrue to.told
+  pub writer_cannot : IsTrue to.can_fail → IsTrue from.can_fail
+  pub text : IsTrue old.told → Putting from to (first.text old.items) (plan.text new.items)
+  pub refusal_same : IsTrue old.told → plan.refusal new.items ≡ first.refusal old.items
+
+-- one more packet is written
+pub Walking-more : (first plan next : Plan) (old mid shown new : Feed) (fo fm fn : Bool) (from m to : Writer) (meta : Meta) (line : List ℕ)
+    → Walking first plan old mid fo fm from m
+    → Keeps mid shown → (IsTrue mid.told → ShowsItem mid (Ok (Some meta)) shown)
+    → Keeps shown new → (IsTrue shown.told → new.items ≡ drop 1 shown.items)
+    → GoesOn plan meta shown.frame line next
+    → (IsTrue m.told → to.held ≡ m.held ++ line)
+    → (IsTrue m.told → IsTrue to.told) → (IsTrue to.can_fail → IsTrue m.can_fail) → fn ≡ fm
+    → Walking first next old new fo fn from to
+Walking-more first plan next old mid shown new fo fm fn from m to meta line p asked shows passed dropped goes wrote told cannot failed =
+    let head = λ (t : IsTrue old.told). (shows (p.told t)).1 in
+    let rest : IsTrue old.told → drop 1 mid.items ≡ new.items =
+    λ t. sym (dropped (asked.told (p.told t)) ∙ ap (drop 1) (shows (p.told t)).0.items) in
+    record {
+      failed = failed ∙ p.failed;
+      told = λ t. passed.told (asked.told (p.told t));
+      can_fail = λ c. p.can_fail (asked.can_fail (passed.can_fail c));
+      left = omega (arith, passed.left, asked.left, p.left);
+      writer_told = λ t. told (p.writer_told t);
+      writer_cannot = λ c. p.writer_cannot (cannot c);
+      text = λ t.
+          let behind = next.text new.items in
+          let split : plan.text mid.items ≡ line ++ behind =
+          ap plan.text (head t) ∙ (goes.text (drop 1 mid.items) ∙ ap (λ l. line ++ next.text l) (rest t)) in
+          subst (Putting from to (first.text old.items))
+          (ap (drop (length line)) split ∙ drop_at line behind (length line) refl)
+          (Putting-more from m to (first.text old.items) (plan.text mid.items) (length line) (p.text t)
+          (omega (arith, ap length split, length-append line behind))
+          (λ w. wrote w ∙ ap (λ l. m.held ++ l) (sym (ap (take (length line)) split ∙ take_at line behind (length line) refl)))
+          told cannot);
+      refusal_same = λ t.
+          sym (ap plan.refusal (head t) ∙ (goes.refusal (drop 1 mid.items) ∙ ap next.refusal (rest t))) ∙ p.refusal_same t;
+    }
+
+-- what is written where a call for the next packet answers a fault
+pub Prints-fault : (plan : Plan) (fault : Fault) (text : List ℕ) (refusal : Option Refusal) (from to : Writer) (mid shown : Feed)
+    → IsPlan plan → Putting from to text (plan.text mid.items) → IsTrue from.told → plan.refusal mid.items ≡ refusal
+    → ShowsItem mid (Err fault) shown → Prints {A = Unit {0}} text refusal from.held (Err fault) to.held
+Prints-fault plan (Refused r) text refusal from to mid shown is p t same shows = (
+  sym same ∙ (ap plan.refusal shows.1 ∙ is.refusal_refused r),
+  Putting-all from to text (plan.text mid.items) p (ap plan.text shows.1 ∙ is.text_refused r) t,
+)
+Prints-fault plan (Read file offset) text refusal from to mid shown is p t same shows = (p.at, p.written t)
+Prints-fault plan Write text refusal from to mid shown is p t same shows = absurd shows
+Prints-fault plan Memory text refusal from to mid shown is p t same shows = (p.at, p.written t)
+
+-- what is written where it answers that there is none
+pub Prints-end : (plan : Plan) (text : List ℕ) (refusal : Option Refusal) (from to : Writer) (mid shown : Feed)
+    → IsPlan plan → Putting from to text (plan.text mid.items) → IsTrue from.told → plan.refusal mid.items ≡ refusal
+    → ShowsItem mid (Ok None) shown → (refusal ≡ None) × (to.held ≡ from.held ++ text)
+Prints-end plan text refusal from to mid shown is p t same shows = (
+  sym same ∙ (ap plan.refusal shows.1 ∙ is.refusal_none),
+  Putting-all from to text (plan.text mid.items) p (ap plan.text shows.1 ∙ is.text_none) t,
+)
+
+take-none : (n : ℕ) → take {A = ℕ} n [] ≡ []
+take-none zero = refl
+take-none (suc n) = refl
+
+-- What is written where a packet is refused: nothing more.
+pub Prints-refused : (fault : Fault) (text rest : List ℕ) (refusal : Option Refusal) (r : Refusal) (from mid : Writer) (held : List ℕ)
+    → Putting from mid text rest → rest ≡ [] → IsTrue from.told → refusal ≡ Some r
+    → Prints {A = Unit {0}} [] (Some r) mid.held (Err fault) held
+    → Prints {A = Unit {0}} text refusal from.held (Err fault) held
+Prints-refused (Refused s) text rest refusal r from mid held p none t is prints =
+    (is ∙ prints.0, prints.1 ∙ (append-nil mid.held ∙ Putting-all from mid text rest p none t))
+Prints-refused (Read file offset) text rest refusal r from mid held p none t is prints =
+    (p.at, prints.1 ∙ (ap (λ l. mid.held ++ l) (take-none prints.0) ∙ (append-nil mid.held ∙ p.written t)))
+Prints-refused Write text rest refusal r from mid held p none t is prints =
+    (p.at, prints.1 ∙ (ap (λ l. mid.held ++ l) (take-none prints.0) ∙ (append-nil mid.held ∙ p.written t)))
+Prints-refused Memory text rest refusal r from mid held p none t is prints =
+    (p.at, prints.1 ∙ (ap (λ l. mid.held ++ l) (take-none prints.0) ∙ (append-nil mid.held ∙ p.written t)))
+
+-- And where it isn't written whole: a front of its line.
+pub Prints-front : (fault : Fault) (text line behind : List ℕ) (refusal : Option Refusal) (from mid : Writer) (held : List ℕ)
+    → Putting from mid text (line ++ behind) → IsTrue from.told
+    → Prints {A = Unit {0}} line None mid.held (Err fault) held
+    → Prints {A = Unit {0}} text refusal from.held (Err fault) held
+Prints-front (Refused r) text line behind refusal from mid held p t prints = absurd (false≢true (subst IsSome (sym prints.0) refl))
+Prints-front (Read file offset) text line behind refusal from mid held p t prints =
+    Putting-front from mid held text line behind prints.0 p t prints.1
+Prints-front Write text line behind refusal from mid held p t prints = Putting-front from mid held text line behind prints.0 p t prints.1
+Prints-front Memory text line behind refusal from mid held p t prints = Putting-front from mid held text line behind prints.0 p t prints.1

@@ -1,0 +1,28 @@
+use Rattle.cap_source.proofs.Firsts.{knows, same_items, same_first, first_told}
+use Rattle.cap_source.specs.Lanes.{head_of}
+use Rattle.cap_source.specs.Reached.{progress_of}
+use Rattle.cap_source.specs.Readers.{lane_of}
+use Rattle.cap_source.proofs.captures.Capture.first.Goals as goal
+
+pub returns-clause-answer : goal.returns-clause-answer
+returns-clause-answer g c =
+    let was = c.args.self.now in
+    let old = lane_of was.reader (progress_of was.reached) in
+    let new = lane_of c.learn.new.reader (progress_of c.learn.new.reached) in
+    let tells = c.in_ok-learn.ensures.answer in
+    let next = c.in_ok-learn.field-0 in (
+      head_of next,
+      knows old new was.next c.learn.new.known next tells.0 tells.1,
+      first_told old c.learn.new.reader (progress_of c.learn.new.reached) was.next c.learn.new.known next c.learn.ensures.there tells.0 tells.1,
+    )
+
+pub returns-clause-items : goal.returns-clause-items
+returns-clause-items g c = λ t.
+    let was = c.args.self.now in
+    let old = lane_of was.reader (progress_of was.reached) in
+    let new = lane_of c.learn.new.reader (progress_of c.learn.new.reached) in
+    let tells = c.in_ok-learn.ensures.answer in
+    let next = c.in_ok-learn.field-0 in (
+      same_items old new was.next c.learn.new.known next tells.0 tells.1 t,
+      same_first old new was.next c.learn.new.known next tells.0 tells.1 t,
+    )

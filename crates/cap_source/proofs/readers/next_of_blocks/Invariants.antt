@@ -1,0 +1,16 @@
+use Rattle.std.proofs.Common.{◌≡◌, ◌≤◌, ◌-◌, ◌^◌, None}
+use Rattle.cap_source.specs.Lanes.{LaneKeeps, Waits, pcapng_lane}
+use Rattle.cap_source.specs.Reached.{progress_of, counted}
+use Rattle.cap_source.proofs.readers.next_of_blocks.Given as goal
+
+abbrev pub invariant-loop-next : goal.invariant-loop-next
+invariant-loop-next g l = record {
+  waits : Waits (pcapng_lane l.initial.reader (progress_of l.initial.reached)) (pcapng_lane l.reader (progress_of l.reached));
+  keeps : LaneKeeps (pcapng_lane l.initial.reader (progress_of l.initial.reached)) (pcapng_lane l.reader (progress_of l.reached));
+  counted : counted (progress_of l.reached) ≤ l.reader.offset;
+  free : l.reader.stop ≡ None;
+  limit : l.reader.offset ≤ 2 ^ 40;
+}
+
+abbrev pub decreases-loop-next : goal.decreases-loop-next
+decreases-loop-next g l = 2 ^ 40 - l.reader.offset

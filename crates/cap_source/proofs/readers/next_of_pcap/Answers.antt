@@ -1,0 +1,32 @@
+use Rattle.std.proofs.Common.{Some, None, refl, ap}
+use Rattle.cap_source.proofs.Going.{LaneKeeps-trans, Answers-behind}
+use Rattle.cap_source.proofs.Pcaps.{header_refused, header_waits, pcap_keeps}
+use Rattle.cap_source.specs.Items.{Progress}
+use Rattle.cap_source.specs.Lanes.{pcap_lane}
+use Rattle.cap_source.specs.Reached.{progress_of}
+use Rattle.cap_source.proofs.readers.next_of_pcap.Goals as goal
+
+pub returns-in-Ok-clause-answer : goal.returns-in-Ok-clause-answer
+returns-in-Ok-clause-answer g c =
+    let p = progress_of c.args.reached.now in
+    let q : Progress = record { interfaces = p.interfaces; base = p.base; skipped = p.skipped; first = Some c.interface_of_pcap.result } in
+    Answers-behind (pcap_lane c.args.reader.now p) (pcap_lane c.header.new.self q) (pcap_lane c.next_record_of.new.reader q) c.next_record_of.result
+    (header_waits c.in-Ok.header c.args.reader.now c.header.new.self p q c.requires c.in-Ok.ensures.answer c.in-Ok.ensures.keeps c.in-Ok.ensures.items)
+    (pcap_keeps c.args.reader.now c.header.new.self p q refl refl refl c.in-Ok.ensures.keeps)
+    (c.next_record_of.ensures.answer q (ap Some c.interface_of_pcap.ensures))
+
+pub returns-in-Ok-clause-keeps : goal.returns-in-Ok-clause-keeps
+returns-in-Ok-clause-keeps g c =
+    let p = progress_of c.args.reached.now in
+    let q : Progress = record { interfaces = p.interfaces; base = p.base; skipped = p.skipped; first = Some c.interface_of_pcap.result } in
+    LaneKeeps-trans (pcap_lane c.args.reader.now p) (pcap_lane c.header.new.self q) (pcap_lane c.next_record_of.new.reader q)
+    (pcap_keeps c.args.reader.now c.header.new.self p q refl refl refl c.in-Ok.ensures.keeps)
+    (c.next_record_of.ensures.keeps q)
+
+pub returns-in-Err-Refused-clause-answer : goal.returns-in-Err-Refused-clause-answer
+returns-in-Err-Refused-clause-answer g c =
+    let p = progress_of c.args.reached.now in
+    let q : Progress = record { interfaces = p.interfaces; base = p.base; skipped = p.skipped; first = None } in
+    let e = rw c.in-Err-Refused.field-0-is at c.in-Err-Refused.ensures in
+    rw c.ending_of_pcap.ensures
+    (header_refused c.in-Err-Refused.refusal c.args.reader.now c.header.new.self p q refl c.requires e.answer e.keeps (λ t. (e.items t).0))

@@ -1,0 +1,37 @@
+use Rattle.std.proofs.Common.{◌∙◌, ap, unwrap_or, []}
+use Rattle.cap_source.specs.Contents.{content_in}
+use Rattle.cap_source.specs.Reached.{progress_of}
+use Rattle.cap_source.proofs.Blocks.{block_stepped, block_kept, end_learned, refusal_kept}
+use Rattle.cap_source.proofs.readers.take_block.Goals as goal
+
+pub returns-in-Ok-Some-clause-answer : goal.returns-in-Ok-Some-clause-answer
+returns-in-Ok-Some-clause-answer g c =
+    let e = rw c.in-Ok-Some.field-0-is at c.in-Ok-Some.ensures in
+    let block = c.in-Ok-Some.block in
+    block_stepped c.file-file.result c.args.reader.now c.next_block.new.self (progress_of c.args.reached.now) (progress_of c.take_content.new.reached)
+    block c.read_content-content.result c.take_content.result
+    c.take_content.ensures.next c.take_content.ensures.behind
+    (c.file-file.ensures ∙ c.window.ensures.window.file) e.answer e.keeps e.items
+    (c.read_content-content.ensures ∙ ap (λ l. content_in l block.kind block.order (unwrap_or c.next_block.new.self.body [])) c.deref.ensures.value)
+
+pub returns-in-Ok-Some-clause-keeps : goal.returns-in-Ok-Some-clause-keeps
+returns-in-Ok-Some-clause-keeps g c =
+    let e = rw c.in-Ok-Some.field-0-is at c.in-Ok-Some.ensures in
+    let block = c.in-Ok-Some.block in
+    block_kept c.args.reader.now c.next_block.new.self (progress_of c.args.reached.now) (progress_of c.take_content.new.reached)
+    block c.read_content-content.result c.take_content.ensures.behind
+    e.answer e.keeps
+    (c.read_content-content.ensures ∙ ap (λ l. content_in l block.kind block.order (unwrap_or c.next_block.new.self.body [])) c.deref.ensures.value)
+
+pub returns-in-Ok-None-clause-answer : goal.returns-in-Ok-None-clause-answer
+returns-in-Ok-None-clause-answer g c =
+    let e = rw c.in-Ok-None.field-0-is at c.in-Ok-None.ensures in
+    rw c.ending_of_blocks.ensures
+    (end_learned c.was_cut.result e.answer.0 c.args.reader.now c.next_block.new.self (progress_of c.args.reached.now)
+    c.requires.free e.answer.1 e.answer.2 c.was_cut.ensures.cut e.keeps (λ t. (e.items t).3))
+
+pub returns-in-Err-Refused-clause-answer : goal.returns-in-Err-Refused-clause-answer
+returns-in-Err-Refused-clause-answer g c =
+    let e = rw c.in-Err-Refused.field-0-is at c.in-Err-Refused.ensures in
+    refusal_kept c.in-Err-Refused.refusal c.ending_of_blocks-in-Err-Refused.result c.args.reader.now c.next_block.new.self (progress_of c.args.reached.now)
+    c.ending_of_blocks-in-Err-Refused.ensures c.requires.free e.answer e.keeps (λ t. (e.items t).0)

@@ -1,0 +1,69 @@
+-- What the blocks of a pcapng file say, and the first rule that their bodies break.
+use Rattle.std.specs.Prelude.{◌==◌, ◌||◌, ◌*◌, ◌+◌, ◌^◌, nat_lt, ℕ, if◌then◌else◌, List, length, drop, slice_get, Option, Some, None, Result, Ok, Err}
+use Rattle.cap_bytes.specs.Number.{number}
+use Rattle.cap_bytes.specs.declared.faults.Rule.{Rule}
+use Rattle.cap_bytes.specs.declared.faults.Rule.TheVariants as rules
+use Rattle.cap_bytes.specs.declared.numbers.Order.{Order}
+use Rattle.cap_time.specs.declared.resolutions.Interface.{Interface}
+use Rattle.cap_blocks.specs.Grammar.{section_kind, interface_kind, obsolete_kind, simple_kind, enhanced_kind}
+use Rattle.cap_source.specs.Clocks.{interface_in}
+use Rattle.cap_source.specs.declared.contents.Content.{Content}
+use Rattle.cap_source.specs.declared.contents.Content.TheVariants as contents
+use Rattle.cap_source.specs.declared.contents.Packet.{Packet}
+
+-- A packet whose captured bytes are within the limit and within a body of that size, or the first rule
+-- that it breaks.
+unfoldable pub fitting : Packet → ℕ → Result Packet Rule
+fitting packet size =
+    if nat_lt 262144 packet.captured then Err rules.PacketLong else
+    if nat_lt size (packet.place + packet.captured) then Err rules.Captured else Ok packet
+
+-- a packet of the section's interface of a number, if it has that
+abbrev pub of_interface : Option Interface → (Interface → Result Packet Rule) → Result Packet Rule
+of_interface None packet = Err rules.InterfaceUnknown
+of_interface (Some interface) packet = packet interface
+
+-- The packet of an enhanced or an obsolete packet block of that interface.
+-- draft-ietf-opsawg-pcapng, 4.3 and Appendix A.
+unfoldable pub timed_in : List Interface → ℕ → Order → List ℕ → Result Packet Rule
+timed_in interfaces number_of order body =
+    of_interface (slice_get interfaces number_of) (λ interface.
+    fitting (record {
+      number = number_of;
+      interface = interface;
+      units = Some (number order 4 (drop 4 body) * 2 ^ 32 + number order 4 (drop 8 body));
+      captured = number order 4 (drop 12 body);
+      original = number order 4 (drop 16 body);
+      place = 20;
+    }) (length body))
+
+-- how many bytes are captured of a simple packet: the original or the lesser of it and a snaplen that isn't 0
+abbrev pub simple_captured : ℕ → ℕ → ℕ
+simple_captured snaplen original = if (snaplen == 0) || nat_lt original snaplen then original else snaplen
+
+-- The packet of a simple packet block, which is of interface 0 and has no time.
+-- draft-ietf-opsawg-pcapng, 4.4.
+unfoldable pub simple_in : List Interface → Order → List ℕ → Result Packet Rule
+simple_in interfaces order body =
+    of_interface (slice_get interfaces 0) (λ interface.
+    fitting (record {
+      number = 0;
+      interface = interface;
+      units = None;
+      captured = simple_captured interface.snaplen (number order 4 body);
+      original = number order 4 body;
+      place = 4;
+    }) (length body))
+
+abbrev pub of_body : {A : Type 0} → (A → Content) → Result A Rule → Result Content Rule
+of_body content (Ok x) = Ok (content x)
+of_body content (Err rule) = Err rule
+
+-- What a block says in a section with these interfaces, or the first rule that its body breaks.
+unfoldable pub content_in : List Interface → ℕ → Order → List ℕ → Result Content Rule
+content_in interfaces kind order body =
+    if kind == section_kind then Ok contents.Section else
+    if kind == interface_kind then of_body contents.Interface (interface_in (length interfaces) order body) else
+    if kind == enhanced_kind then of_body contents.Packet (timed_in interfaces (number order 4 body) order body) else
+    if kind == obsolete_kind then of_body contents.Packet (timed_in interfaces (number order 2 body) order body) else
+    if kind == simple_kind then of_body contents.Packet (simple_in interfaces order body) else Ok contents.Other

@@ -1,0 +1,242 @@
+-- The packets of a capture file, by the records or the blocks that it splits into.
+use Rattle.std.specs.Prelude.{◌+◌, ◌&&◌, ℕ, nat_le, if◌then◌else◌, Bool, true, false, List, [], ◌∷◌, ◌++◌, length, take, drop, Option, Some, None, Result, Ok, Err, refl}
+use Rattle.cap_bytes.specs.declared.faults.Rule.{Rule}
+use Rattle.cap_bytes.specs.declared.faults.Tail.{Tail}
+use Rattle.cap_time.specs.declared.resolutions.Interface.{Interface}
+use Rattle.cap_time.specs.declared.resolutions.Resolution.{Resolution}
+use Rattle.cap_time.specs.declared.stamps.Unit.{Unit as Fraction}
+use Rattle.cap_time.specs.declared.stamps.Unit.TheVariants.{Micro, Nano}
+use Rattle.std.specs.Prelude.{pos}
+use Rattle.cap_pcap.specs.Split as records
+use Rattle.cap_pcap.specs.declared.headers.PcapHeader.{PcapHeader}
+use Rattle.cap_pcap.specs.declared.records.Record.{Record}
+use Rattle.cap_pcap.specs.declared.records.Stop.{Stop as RecordStop}
+use Rattle.cap_pcap.specs.declared.records.Stop.TheVariants as record_stops
+use Rattle.cap_blocks.specs.Split as blocks
+use Rattle.cap_blocks.specs.Split.{is_section}
+use Rattle.cap_blocks.specs.declared.blocks.Block.{Block}
+use Rattle.cap_blocks.specs.declared.blocks.Stop.{Stop as BlockStop}
+use Rattle.cap_blocks.specs.declared.blocks.Stop.TheVariants as block_stops
+use Rattle.cap_source.specs.Contents.{content_in}
+use Rattle.cap_source.specs.Feed.{Item, packet, refused}
+use Rattle.cap_source.specs.declared.contents.Content.{Content}
+use Rattle.cap_source.specs.declared.contents.Content.TheVariants as contents
+use Rattle.cap_source.specs.declared.contents.Packet.{Packet}
+use Rattle.cap_source.specs.declared.feeds.Ending.{Ending}
+use Rattle.cap_source.specs.declared.packets.Format.TheVariants.{Pcap, Pcapng}
+use Rattle.cap_source.specs.declared.packets.Meta.{Meta}
+
+-- How far a pcapng file was read: the interfaces of the section that is being read, in order; how many
+-- interface blocks of the file stand before the section; how many of its blocks were skipped; and its
+-- interface of instance 0, once that was read.
+pub record Progress : Type 0 where
+  pub interfaces : List Interface
+  pub base : ℕ
+  pub skipped : ℕ
+  pub first : Option Interface
+
+-- nothing was read yet
+abbrev pub fresh : Progress
+fresh = record { interfaces = []; base = 0; skipped = 0; first = None }
+
+abbrev pub first_or : Option Interface → Interface → Interface
+first_or None interface = interface
+first_or (Some first) interface = first
+
+-- what a block adds that says this: a section header begins a section without interfaces
+abbrev pub after : Progress → Content → Progress
+after progress contents.Section =
+    record {
+      interfaces = [];
+      base = progress.base + length progress.interfaces;
+      skipped = progress.skipped;
+      first = progress.first;
+    }
+after progress (contents.Interface interface) =
+    record {
+      interfaces = progress.interfaces ++ interface ∷ [];
+      base = progress.base;
+      skipped = progress.skipped;
+      first = Some (first_or progress.first interface);
+    }
+after progress (contents.Packet p) = progress
+after progress contents.Other =
+    record {
+      interfaces = progress.interfaces;
+      base = progress.base;
+      skipped = progress.skipped + 1;
+      first = progress.first;
+    }
+
+-- what is told of a packet in that block, and its captured bytes in the block's body
+abbrev pub meta_in : ℕ → Progress → Block → Packet → Meta
+meta_in file progress block p =
+    record {
+      file = file;
+      offset = block.offset;
+      format = Pcapng;
+      skipped = progress.skipped;
+      instance = progress.base + p.number;
+      interface = p.interface;
+      units = p.units;
+      captured = p.captured;
+      original = p.original;
+    }
+
+abbrev pub frame_in : Packet → List ℕ → List ℕ
+frame_in p body = take p.captured (drop p.place body)
+
+-- the items of a file from a block on that says this, before those behind the block
+abbrev pub items_at : ℕ → Progress → Block → List ℕ → Result Content Rule → List Item → List Item
+items_at file progress block body (Ok contents.Section) rest = rest
+items_at file progress block body (Ok (contents.Interface interface)) rest = rest
+items_at file progress block body (Ok (contents.Packet p)) rest = packet (meta_in file progress block p) (frame_in p body) ∷ rest
+items_at file progress block body (Ok contents.Other) rest = rest
+items_at file progress block body (Err rule) rest = refused (record { file = file; offset = block.offset; rule = rule }) ∷ []
+
+-- how far a file was read behind that block
+abbrev pub behind : Progress → Result Content Rule → Progress
+behind progress (Ok content) = after progress content
+behind progress (Err rule) = progress
+
+-- what the end of the blocks is as an item
+abbrev pub items_of_stop : BlockStop → List Item
+items_of_stop block_stops.End = []
+items_of_stop block_stops.Cut = []
+items_of_stop (block_stops.Refused refusal) = refused refusal ∷ []
+
+-- the items of the rest of a pcapng file, by the blocks that it splits into
+unfoldable pub items_in : ℕ → Progress → List blocks.Item → List Item
+items_in file progress [] = []
+items_in file progress (blocks.stopped stop ∷ rest) = items_of_stop stop
+items_in file progress (blocks.given block body ∷ rest) =
+    let content = content_in progress.interfaces block.kind block.order body in
+    items_at file progress block body content (items_in file (behind progress content) rest)
+
+-- how a pcapng file ends that was read so far, and whether a rest was dropped
+abbrev pub ending_with : Progress → Bool → Ending
+ending_with progress was_cut = record { format = Pcapng; skipped = progress.skipped; was_cut = was_cut }
+
+abbrev pub is_cut : BlockStop → Bool
+is_cut block_stops.End = false
+is_cut block_stops.Cut = true
+is_cut (block_stops.Refused refusal) = false
+
+-- one of two, by whether a block breaks a rule
+abbrev pub unless_faulty : {A : Type 0} → Result Content Rule → A → A → A
+unless_faulty (Ok content) here later = later
+unless_faulty (Err rule) here later = here
+
+-- how it ends, by the blocks of its rest
+unfoldable pub ending_in : Progress → List blocks.Item → Ending
+ending_in progress [] = ending_with progress false
+ending_in progress (blocks.stopped stop ∷ rest) = ending_with progress (is_cut stop)
+ending_in progress (blocks.given block body ∷ rest) =
+    let content = content_in progress.interfaces block.kind block.order body in
+    unless_faulty content (ending_with progress false) (ending_in (behind progress content) rest)
+
+-- one of two, by whether a block gives an item
+abbrev pub unless_item : {A : Type 0} → Result Content Rule → A → A → A
+unless_item (Ok contents.Section) here later = later
+unless_item (Ok (contents.Interface interface)) here later = later
+unless_item (Ok (contents.Packet p)) here later = here
+unless_item (Ok contents.Other) here later = later
+unless_item (Err rule) here later = here
+
+-- the interface of instance 0 that stands before the next item or the end, by the blocks of its rest
+unfoldable pub first_in : Progress → List blocks.Item → Option Interface
+first_in progress [] = progress.first
+first_in progress (blocks.stopped stop ∷ rest) = progress.first
+first_in progress (blocks.given block body ∷ rest) =
+    let content = content_in progress.interfaces block.kind block.order body in
+    unless_item content progress.first (first_in (behind progress content) rest)
+
+-- the resolution of a pcap file, in which a second has a million units or a thousand million
+abbrev pub resolution_of_unit : Fraction → Resolution
+resolution_of_unit Micro = record { code = 6; allowed = refl }
+resolution_of_unit Nano = record { code = 9; allowed = refl }
+
+-- the one interface of a pcap file. draft-ietf-opsawg-pcap, 4.
+abbrev pub interface_of : PcapHeader → Interface
+interface_of header =
+    record {
+      link = header.link;
+      snaplen = header.snaplen;
+      resolution = resolution_of_unit header.unit;
+      offset = pos 0;
+    }
+
+-- what is told of a record's packet
+abbrev pub meta_of : ℕ → Interface → Record → Meta
+meta_of file interface r =
+    record {
+      file = file;
+      offset = r.offset;
+      format = Pcap;
+      skipped = 0;
+      instance = 0;
+      interface = interface;
+      units = Some r.units;
+      captured = r.captured;
+      original = r.original;
+    }
+
+abbrev pub items_of_record_stop : RecordStop → List Item
+items_of_record_stop record_stops.End = []
+items_of_record_stop record_stops.Cut = []
+items_of_record_stop (record_stops.Refused refusal) = refused refusal ∷ []
+
+-- the items of the rest of a pcap file, by the records that it splits into
+unfoldable pub pcap_items : ℕ → Interface → List records.Item → List Item
+pcap_items file interface [] = []
+pcap_items file interface (records.stopped stop ∷ rest) = items_of_record_stop stop
+pcap_items file interface (records.given r frame ∷ rest) = packet (meta_of file interface r) frame ∷ pcap_items file interface rest
+
+-- how a pcap file ends
+abbrev pub pcap_ending_with : Bool → Ending
+pcap_ending_with was_cut = record { format = Pcap; skipped = 0; was_cut = was_cut }
+
+abbrev pub is_record_cut : RecordStop → Bool
+is_record_cut record_stops.End = false
+is_record_cut record_stops.Cut = true
+is_record_cut (record_stops.Refused refusal) = false
+
+unfoldable pub pcap_ending : List records.Item → Ending
+pcap_ending [] = pcap_ending_with false
+pcap_ending (records.stopped stop ∷ rest) = pcap_ending_with (is_record_cut stop)
+pcap_ending (records.given r frame ∷ rest) = pcap_ending rest
+
+-- the interface of a pcap file, unless its header is refused
+abbrev pub unless_refused : Option Rule → Interface → Option Interface
+unless_refused (Some rule) interface = None
+unless_refused None interface = Some interface
+
+-- the items of a file whose bytes begin at `offset`, how it ends, and its first interface: of a pcapng
+-- file where the first four bytes are the kind of a section header, else of a pcap file
+abbrev pub is_pcapng : List ℕ → Bool
+is_pcapng bytes = nat_le 4 (length bytes) && is_section bytes
+
+unfoldable pub items_from : Tail → ℕ → Progress → ℕ → List ℕ → List Item
+items_from tail file progress offset bytes =
+    if is_pcapng bytes then items_in file progress (blocks.items_from None tail file offset bytes)
+    else pcap_items file (interface_of (records.header_at bytes)) (records.file_items tail file offset bytes)
+
+unfoldable pub ending_from : Tail → ℕ → Progress → ℕ → List ℕ → Ending
+ending_from tail file progress offset bytes =
+    if is_pcapng bytes then ending_in progress (blocks.items_from None tail file offset bytes)
+    else pcap_ending (records.file_items tail file offset bytes)
+
+unfoldable pub first_from : Tail → ℕ → Progress → ℕ → List ℕ → Option Interface
+first_from tail file progress offset bytes =
+    if is_pcapng bytes then first_in progress (blocks.items_from None tail file offset bytes)
+    else unless_refused (records.header_fault offset bytes) (interface_of (records.header_at bytes))
+
+-- the same of a whole file
+abbrev pub file_items : Tail → ℕ → List ℕ → List Item
+file_items tail file bytes = items_from tail file fresh 0 bytes
+
+abbrev pub file_ending : Tail → ℕ → List ℕ → Ending
+file_ending tail file bytes = ending_from tail file fresh 0 bytes
+
+abbrev pub file_first : Tail → ℕ → List ℕ → Option Interface
+file_first tail file bytes = first_from tail file fresh 0 bytes

@@ -1,0 +1,335 @@
+-- What a file's reader still gives, of either format, and what is learned of what comes next.
+use Rattle.std.specs.Prelude.{◌≡◌, ◌+◌, ◌-◌, ◌^◌, ◌≤◌, ◌<◌, ℕ, List, [], ◌∷◌, length, take, drop, Bool, true, false, not, IsTrue, Option, Some, None, Result, Ok, Err, ⊤, is_some}
+use Rattle.cap_bytes.specs.Window.{State as WindowState}
+use Rattle.cap_bytes.specs.Window as windows
+use Rattle.cap_bytes.specs.declared.faults.Fault.{Fault}
+use Rattle.cap_bytes.specs.declared.faults.Fault.TheVariants.{Refused, Read, Write, Memory}
+use Rattle.cap_bytes.specs.declared.faults.Rule.{Rule}
+use Rattle.cap_bytes.specs.declared.faults.Tail.{Tail}
+use Rattle.cap_time.specs.declared.resolutions.Interface.{Interface}
+use Rattle.cap_pcap.specs.Reader.{State as PcapState}
+use Rattle.cap_pcap.specs.Reader as pcaps
+use Rattle.cap_pcap.specs.Split as records
+use Rattle.cap_pcap.specs.declared.headers.PcapHeader.{PcapHeader}
+use Rattle.cap_pcap.specs.declared.records.Stop.{Stop as RecordStop}
+use Rattle.cap_blocks.specs.Reader.{State as BlockState}
+use Rattle.cap_blocks.specs.Reader as blocks
+use Rattle.cap_source.specs.Feed.{Feed, Item, packet, refused, Knows, GivesHead, SameItems}
+use Rattle.cap_blocks.specs.declared.blocks.Block.{Block}
+use Rattle.cap_source.specs.declared.contents.Content.{Content}
+use Rattle.cap_source.specs.declared.contents.Content.TheVariants as contents
+use Rattle.cap_source.specs.Items.{Progress, meta_in, ending_with, items_in, ending_in, first_in, interface_of, pcap_items, pcap_ending, unless_refused, items_from, ending_from, first_from}
+use Rattle.cap_source.specs.Reached.{counted}
+use Rattle.cap_source.specs.declared.feeds.Ending.{Ending}
+use Rattle.cap_source.specs.declared.feeds.Head.{Head}
+use Rattle.cap_source.specs.declared.feeds.Head.TheVariants as heads
+use Rattle.cap_source.specs.declared.readers.Next.{Next}
+use Rattle.cap_source.specs.declared.readers.Next.TheVariants as nexts
+
+-- The file of that number as its reader still gives it: the items to come, how the file ends, and its
+-- first interface where it stands before the next item or the end, where the device tells its bytes;
+-- `noted` is that interface as far as the file was read. The next record or block begins at `offset` or
+-- later, and `lent` is what the reader lends of the one that was given last. `stops` says that the reader
+-- has come to an end. `counted` blocks were counted.
+pub record Lane : Type 0 where
+  pub file : ℕ
+  pub told : Bool
+  pub items : List Item
+  pub ending : Ending
+  pub first : Option Interface
+  pub noted : Option Interface
+  pub offset : ℕ
+  pub lent : Option (List ℕ)
+  pub stops : Bool
+  pub failed : Bool
+  pub can_fail : Bool
+  pub held : ℕ
+  pub interfaces : ℕ
+  pub counted : ℕ
+
+-- a file of which nothing was read
+abbrev pub unread_lane : WindowState → Tail → Progress → Lane
+unread_lane window tail progress =
+    record {
+      file = window.file;
+      told = window.told;
+      items = items_from tail window.file progress window.offset (windows.coming window);
+      ending = ending_from tail window.file progress window.offset (windows.coming window);
+      first = first_from tail window.file progress window.offset (windows.coming window);
+      noted = progress.first;
+      offset = window.offset;
+      lent = None;
+      stops = false;
+      failed = window.failed;
+      can_fail = window.can_fail;
+      held = window.held;
+      interfaces = length progress.interfaces;
+      counted = counted progress;
+    }
+
+-- the header of a pcap file: the one that was read, or that of the bytes to come
+abbrev pub header_or : Option PcapHeader → List ℕ → PcapHeader
+header_or (Some header) bytes = header
+header_or None bytes = records.header_at bytes
+
+-- its interface, unless its header is refused
+abbrev pub first_unless : Option RecordStop → ℕ → List ℕ → Option Interface
+first_unless (Some stop) offset bytes = None
+first_unless None offset bytes = unless_refused (records.header_fault offset bytes) (interface_of (records.header_at bytes))
+
+abbrev pub first_of : Option PcapHeader → Option RecordStop → ℕ → List ℕ → Option Interface
+first_of (Some header) stop offset bytes = Some (interface_of header)
+first_of None stop offset bytes = first_unless stop offset bytes
+
+-- a pcap file
+abbrev pub pcap_lane : PcapState → Progress → Lane
+pcap_lane reader progress =
+    record {
+      file = reader.file;
+      told = reader.told;
+      items = pcap_items reader.file (interface_of (header_or reader.header reader.coming)) (pcaps.items_of reader);
+      ending = pcap_ending (pcaps.items_of reader);
+      first = first_of reader.header reader.stop reader.offset reader.coming;
+      noted = progress.first;
+      offset = reader.offset;
+      lent = reader.frame;
+      stops = is_some reader.stop;
+      failed = reader.failed;
+      can_fail = reader.can_fail;
+      held = reader.held;
+      interfaces = length progress.interfaces;
+      counted = counted progress;
+    }
+
+-- a pcapng file
+abbrev pub pcapng_lane : BlockState → Progress → Lane
+pcapng_lane reader progress =
+    record {
+      file = reader.file;
+      told = reader.told;
+      items = items_in reader.file progress (blocks.items_of reader);
+      ending = ending_in progress (blocks.items_of reader);
+      first = first_in progress (blocks.items_of reader);
+      noted = progress.first;
+      offset = reader.offset;
+      lent = reader.body;
+      stops = is_some reader.stop;
+      failed = reader.failed;
+      can_fail = reader.can_fail;
+      held = reader.held;
+      interfaces = length progress.interfaces;
+      counted = counted progress;
+    }
+
+-- what every answer keeps of a file
+pub record LaneKeeps (old new : Lane) : Type 0 where
+  pub file : new.file ≡ old.file
+  pub told : IsTrue old.told → IsTrue new.told
+  pub can_fail : IsTrue new.can_fail → IsTrue old.can_fail
+  pub offset : old.offset ≤ new.offset
+  pub limit : old.offset ≤ 2 ^ 40 → new.offset ≤ 2 ^ 40
+  pub held : old.held ≤ 524288 → new.held ≤ 524288
+  pub interfaces : old.interfaces ≤ 1024 → new.interfaces ≤ 1024
+  pub counted : old.counted ≤ old.offset → new.counted ≤ new.offset
+
+-- what is to come of a file is the same
+pub record SameRest (old new : Lane) : Type 0 where
+  pub items : new.items ≡ old.items
+  pub ending : new.ending ≡ old.ending
+  pub first : new.first ≡ old.first
+
+-- where the captured bytes of a packet end in what is lent, and how long that is, each counted from 1
+abbrev pub end_of : Option Next → ℕ
+end_of None = 0
+end_of (Some (nexts.Packet meta place)) = place + meta.captured + 1
+end_of (Some (nexts.Refused refusal ending)) = 0
+end_of (Some (nexts.End ending)) = 0
+
+abbrev pub size_of : Option (List ℕ) → ℕ
+size_of None = 0
+size_of (Some bytes) = length bytes + 1
+
+-- how many bytes are captured of a packet
+abbrev pub captured_of : Option Next → ℕ
+captured_of None = 0
+captured_of (Some (nexts.Packet meta place)) = meta.captured
+captured_of (Some (nexts.Refused refusal ending)) = 0
+captured_of (Some (nexts.End ending)) = 0
+
+-- the place behind the first byte of a packet's record or block
+abbrev pub behind_of : Option Next → ℕ
+behind_of None = 0
+behind_of (Some (nexts.Packet meta place)) = meta.offset + 1
+behind_of (Some (nexts.Refused refusal ending)) = 0
+behind_of (Some (nexts.End ending)) = 0
+
+-- where the next record or block begins, or that of a packet that comes next
+abbrev pub place_of : Option Next → ℕ → ℕ
+place_of None offset = offset
+place_of (Some (nexts.Packet meta place)) offset = meta.offset
+place_of (Some (nexts.Refused refusal ending)) offset = offset
+place_of (Some (nexts.End ending)) offset = offset
+
+-- the file that is named by what comes next
+abbrev pub file_of : Option Next → ℕ → ℕ
+file_of None file = file
+file_of (Some (nexts.Packet meta place)) file = meta.file
+file_of (Some (nexts.Refused refusal ending)) file = refusal.file
+file_of (Some (nexts.End ending)) file = file
+
+-- the captured bytes of a packet
+abbrev pub part_of : Option (List ℕ) → ℕ → ℕ → List ℕ
+part_of None place captured = []
+part_of (Some bytes) place captured = take captured (drop place bytes)
+
+abbrev pub frame_of : Option Next → Option (List ℕ) → List ℕ
+frame_of None lent = []
+frame_of (Some (nexts.Packet meta place)) lent = part_of lent place meta.captured
+frame_of (Some (nexts.Refused refusal ending)) lent = []
+frame_of (Some (nexts.End ending)) lent = []
+
+-- the reader has not come to an end, unless that is known
+abbrev pub is_free : Option Next → Bool → Bool
+is_free None stops = not stops
+is_free (Some (nexts.Packet meta place)) stops = not stops
+is_free (Some (nexts.Refused refusal ending)) stops = true
+is_free (Some (nexts.End ending)) stops = true
+
+-- what is always true of what comes next of a file
+pub record IsNext (next : Option Next) (lane : Lane) : Type 0 where
+  pub file : file_of next lane.file ≡ lane.file
+  pub lent : end_of next ≤ size_of lane.lent
+  pub captured : captured_of next ≤ 262144
+  pub behind : behind_of next ≤ lane.offset
+
+-- the items to come, by what comes next
+abbrev pub items_by : Option Next → List ℕ → List Item → List Item
+items_by None frame rest = rest
+items_by (Some (nexts.Packet meta place)) frame rest = packet meta frame ∷ rest
+items_by (Some (nexts.Refused refusal ending)) frame rest = refused refusal ∷ []
+items_by (Some (nexts.End ending)) frame rest = []
+
+-- how the file ends
+abbrev pub ending_by : Option Next → Ending → Ending
+ending_by None later = later
+ending_by (Some (nexts.Packet meta place)) later = later
+ending_by (Some (nexts.Refused refusal ending)) later = ending
+ending_by (Some (nexts.End ending)) later = ending
+
+-- its first interface, where it stands before what comes next
+abbrev pub first_by : Option Next → Lane → Option Interface
+first_by None lane = lane.first
+first_by (Some next) lane = lane.noted
+
+abbrev pub head_of : Next → Head
+head_of (nexts.Packet meta place) = heads.Packet meta
+head_of (nexts.Refused refusal ending) = heads.Refused refusal
+head_of (nexts.End ending) = heads.End
+
+abbrev pub head_by : Option Next → Option Head
+head_by None = None
+head_by (Some next) = Some (head_of next)
+
+-- the file, of which that comes next where it is known, as a feed
+abbrev pub feed_of : Lane → Option Next → Feed
+feed_of lane next =
+    record {
+      files = lane.file ∷ [];
+      told = lane.told;
+      items = items_by next (frame_of next lane.lent) lane.items;
+      endings = λ file. ending_by next lane.ending;
+      known = head_by next;
+      frame = frame_of next lane.lent;
+      places = λ file. place_of next lane.offset;
+      left = 2 ^ 40 - place_of next lane.offset;
+      can_fail = lane.can_fail;
+      held = record { window = lane.held; interfaces = lane.interfaces; failed = lane.failed };
+    }
+
+-- What comes next of a file is learned.
+pub record Learns (old : Lane) (next : Next) (new : Lane) : Type 0 where
+  pub is : IsNext (Some next) new
+  pub place : old.offset ≤ place_of (Some next) new.offset
+  pub free : IsTrue (is_free (Some next) new.stops)
+  pub failed : new.failed ≡ old.failed
+  pub items : IsTrue old.told → items_by (Some next) (frame_of (Some next) new.lent) new.items ≡ old.items
+  pub ending : IsTrue old.told → ending_by (Some next) new.ending ≡ old.ending
+  pub first : IsTrue old.told → new.noted ≡ old.first
+
+-- A read failed of it.
+pub record Fails (old : Lane) (file : ℕ) (new : Lane) : Type 0 where
+  pub stops : new.stops ≡ false
+  pub file_is : file ≡ old.file
+  pub failed : IsTrue new.failed
+  pub can_fail : IsTrue old.can_fail
+
+-- Nothing is learned, and what is to come is the same.
+pub record Waits (old new : Lane) : Type 0 where
+  pub stops : new.stops ≡ false
+  pub failed : new.failed ≡ old.failed
+  pub rest : IsTrue old.told → SameRest old new
+
+-- what a look at what comes next answers
+abbrev pub Answers : Lane → Result Next Fault → Lane → Type 0
+Answers old (Ok next) new = Learns old next new
+Answers old (Err (Refused refusal)) new = ⊥
+Answers old (Err (Read file offset)) new = Fails old file new
+Answers old (Err Write) new = ⊥
+Answers old (Err Memory) new = Waits old new
+
+-- the same of a look at one block, behind which a pcapng file may go on
+pub record GoesOn (old new : Lane) : Type 0 where
+  pub waits : Waits old new
+  pub further : old.offset < new.offset
+
+abbrev pub Steps : Lane → Result (Option Next) Fault → Lane → Type 0
+Steps old (Ok (Some next)) new = Learns old next new
+Steps old (Ok None) new = GoesOn old new
+Steps old (Err (Refused refusal)) new = ⊥
+Steps old (Err (Read file offset)) new = Fails old file new
+Steps old (Err Write) new = ⊥
+Steps old (Err Memory) new = Waits old new
+
+-- what comes next where a block says that, if anything does
+abbrev pub next_at : ℕ → Progress → Block → Result Content Rule → Option Next
+next_at file progress block (Ok contents.Section) = None
+next_at file progress block (Ok (contents.Interface interface)) = None
+next_at file progress block (Ok (contents.Packet p)) = Some (nexts.Packet (meta_in file progress block p) p.place)
+next_at file progress block (Ok contents.Other) = None
+next_at file progress block (Err rule) =
+    Some (nexts.Refused (record { file = file; offset = block.offset; rule = rule }) (ending_with progress false))
+
+-- what is always true of a file and of what comes next of it, where that is known
+pub record IsSound (lane : Lane) (next : Option Next) : Type 0 where
+  pub is : IsNext next lane
+  pub free : IsTrue (is_free next lane.stops)
+  pub limit : lane.offset ≤ 2 ^ 40
+  pub held : lane.held ≤ 524288
+  pub interfaces : lane.interfaces ≤ 1024
+  pub counted : lane.counted ≤ lane.offset
+
+-- What is learned, or was known before.
+abbrev pub LearnsOr : Lane → Option Next → Next → Lane → Type 0
+LearnsOr old None next new = Learns old next new
+LearnsOr old (Some known) next new = (next ≡ known) × (new ≡ old)
+
+-- what asking for what comes next answers
+abbrev pub Tells : Lane → Option Next → Result Next Fault → Lane → Option Next → Type 0
+Tells old known (Ok next) new after = (after ≡ Some next) × LearnsOr old known next new
+Tells old known (Err (Refused refusal)) new after = ⊥
+Tells old known (Err (Read file offset)) new after = (known ≡ None) × (after ≡ None) × Fails old file new
+Tells old known (Err Write) new after = ⊥
+Tells old known (Err Memory) new after = (known ≡ None) × (after ≡ None) × Waits old new
+
+-- what asking for the first interface answers, of the file as a feed
+abbrev pub GivesFirst : Feed → Option Interface → Result (Option Interface) Fault → Feed → Type 0
+GivesFirst old first (Ok given) new = (head : Head) × Knows old head new × (IsTrue old.told → given ≡ first)
+GivesFirst old first (Err fault) new = GivesHead old (Err fault) new
+
+-- what it does to the items to come, and to the first interface
+abbrev pub KeepsFirst : Feed → Option Interface → Result (Option Interface) Fault → Feed → Option Interface → Type 0
+KeepsFirst old first (Ok given) new later = SameItems old new × (later ≡ first)
+KeepsFirst old first (Err (Refused refusal)) new later = ⊥
+KeepsFirst old first (Err (Read file offset)) new later = ⊤
+KeepsFirst old first (Err Write) new later = ⊥
+KeepsFirst old first (Err Memory) new later = SameItems old new × (later ≡ first)

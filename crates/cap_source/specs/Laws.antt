@@ -1,0 +1,56 @@
+-- Why a capture file is a lawful feed.
+use Rattle.std.proofs.Common.{◌≡◌, ◌≤◌, ◌+◌, ◌^◌, ℕ, List, [], ◌∷◌, length, drop, Option, Some, None, refl, sym, subst, arith, length-drop}
+use Rattle.std.proofs.lemmas.List.{length-take-le}
+use Rattle.std.proofs.lemmas.Bool.Decides.{nat_tests}
+use Rattle.cap_source.specs.Feed.{HasFile, Leads, IfPacket, IsPacketOf, IsRefusedOf, IsFeed}
+use Rattle.cap_source.specs.Lanes.{Lane, feed_of, items_by, end_of, size_of, captured_of, behind_of, file_of, part_of, frame_of, head_by}
+use Rattle.cap_source.specs.declared.readers.Next.{Next}
+use Rattle.cap_source.specs.declared.readers.Next.TheVariants as nexts
+
+has_file : (file n : ℕ) → n ≡ file → HasFile (file ∷ []) n
+has_file file n is = grind (arith, nat_tests)
+
+-- the file is the only one
+pub has_file_alone : (files : List ℕ) (n : ℕ) → files ≡ n ∷ [] → HasFile files n
+has_file_alone files n is = subst (λ (l : List ℕ). HasFile l n) (sym is) (has_file n n refl)
+
+leads : (next : Option Next) (frame : List ℕ) (rest : _) → Leads (head_by next) frame (items_by next frame rest)
+leads None frame rest = tt
+leads (Some (nexts.Packet meta place)) frame rest = refl
+leads (Some (nexts.Refused refusal ending)) frame rest = refl
+leads (Some (nexts.End ending)) frame rest = refl
+
+part_size : (lent : Option (List ℕ)) (place captured : ℕ) → place + captured + 1 ≤ size_of lent → length (part_of lent place captured) ≡ captured
+part_size None place captured h = absurd (omega (arith, h))
+part_size (Some bytes) place captured h = length-take-le captured (drop place bytes) (omega (arith, h, length-drop place bytes))
+
+packet : (lane : Lane) (next : Option Next) → file_of next lane.file ≡ lane.file → end_of next ≤ size_of lane.lent → captured_of next ≤ 262144
+    → behind_of next ≤ lane.offset → lane.offset ≤ 2 ^ 40 → IfPacket (head_by next) (λ meta. IsPacketOf (feed_of lane next) meta)
+packet lane None own lent captured behind limit = tt
+packet lane (Some (nexts.Packet meta place)) own lent captured behind limit = record {
+  file = has_file lane.file meta.file own;
+  captured = part_size lane.lent place meta.captured lent;
+  limit = captured;
+  place = omega arith;
+  offset = omega (arith, behind, limit);
+  left = omega (arith, behind, limit);
+}
+packet lane (Some (nexts.Refused refusal ending)) own lent captured behind limit = tt
+packet lane (Some (nexts.End ending)) own lent captured behind limit = tt
+
+refusal : (lane : Lane) (next : Option Next) → file_of next lane.file ≡ lane.file → IsRefusedOf (lane.file ∷ []) (head_by next)
+refusal lane None own = tt
+refusal lane (Some (nexts.Packet meta place)) own = tt
+refusal lane (Some (nexts.Refused r ending)) own = has_file lane.file r.file own
+refusal lane (Some (nexts.End ending)) own = tt
+
+pub captures_lawful : (lane : Lane) (next : Option Next) → file_of next lane.file ≡ lane.file → end_of next ≤ size_of lane.lent → captured_of next ≤ 262144
+    → behind_of next ≤ lane.offset → lane.offset ≤ 2 ^ 40 → lane.held ≤ 524288 → lane.interfaces ≤ 1024 → IsFeed (feed_of lane next)
+captures_lawful lane next own lent captured behind limit held interfaces = record {
+  leads = λ t. leads next (frame_of next lane.lent) lane.items;
+  packet = packet lane next own lent captured behind limit;
+  refusal = refusal lane next own;
+  most = omega arith;
+  window = held;
+  interfaces = interfaces;
+}

@@ -1,0 +1,12 @@
+pub mod Captures
+pub mod Clocks
+pub mod Contents
+pub mod Feed
+pub mod Items
+pub mod Lanes
+pub mod Laws
+pub mod ListLaws
+pub mod Listings
+pub mod Reached
+pub mod Readers
+pub mod Walk

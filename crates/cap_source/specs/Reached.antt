@@ -1,0 +1,17 @@
+-- How far a pcapng file was read, as it is kept.
+use Rattle.std.specs.Prelude.{◌+◌, ℕ, length}
+use Rattle.cap_source.specs.Items.{Progress}
+use Rattle.cap_source.specs.declared.reached.Reached.{Reached}
+
+abbrev pub progress_of : Reached → Progress
+progress_of reached =
+    record {
+      interfaces = reached.interfaces.items;
+      base = reached.base;
+      skipped = reached.skipped;
+      first = reached.first;
+    }
+
+-- how many blocks of the file are counted in it
+abbrev pub counted : Progress → ℕ
+counted progress = progress.base + length progress.interfaces + progress.skipped

@@ -1,0 +1,112 @@
+//! The packets of one capture file.
+ghost use Rattle.std.specs.Prelude.{◌≡◌, ◌+◌, ◌≤◌, ◌^◌, List, [], ◌∷◌, ℕ, None, IsTrue, length};
+ghost use Rattle.cap_source.specs.Feed.{Keeps};
+ghost use Rattle.cap_source.specs.Items.{file_items, file_ending, file_first};
+ghost use Rattle.cap_source.specs.Lanes.{feed_of, GivesFirst, KeepsFirst, IsNext, end_of, size_of, captured_of, behind_of, file_of, is_free};
+ghost use Rattle.cap_source.specs.Laws.{captures_lawful};
+ghost use Rattle.cap_source.specs.Reached.{progress_of};
+ghost use Rattle.cap_source.specs.Readers.{lane_of, is_there};
+
+use crate::feeds::{Ending, FeedHeld, Head, PacketFeed};
+use crate::reached::{Reached, nothing_reached};
+use crate::readers::{
+    Next, Reader, ending_of, failed_of, head_of, held_of, learn, number_of, part_of,
+};
+use cap_bytes::{Fault, Source, Tail, Window};
+use cap_time::Interface;
+use std::alloc::Global;
+
+/// The packets of one capture file, of either format. It keeps no more of the file than its window shows,
+/// and the interfaces of the section that is being read.
+#[derive(Drop)]
+pub struct Capture<R: Source> {
+    reader: Reader<R>,
+    reached: Reached,
+    // what comes next, once it was asked for
+    next: Option<Next>,
+    ghost there: { IsTrue (is_there reader) },
+    ghost free: { IsTrue (is_free next (lane_of reader (progress_of reached)).stops) },
+    ghost own: { file_of next (lane_of reader (progress_of reached)).file ≡ (lane_of reader (progress_of reached)).file },
+    ghost lent: { end_of next ≤ size_of (lane_of reader (progress_of reached)).lent },
+    ghost captured: { captured_of next ≤ 262144 },
+    ghost behind: { behind_of next ≤ (lane_of reader (progress_of reached)).offset },
+    ghost limit: { (lane_of reader (progress_of reached)).offset ≤ 2 ^ 40 },
+    ghost held: { (lane_of reader (progress_of reached)).held ≤ 524288 },
+    ghost interfaces: { (lane_of reader (progress_of reached)).interfaces ≤ 1024 },
+    ghost counted: { (lane_of reader (progress_of reached)).counted ≤ (lane_of reader (progress_of reached)).offset },
+}
+
+impl<R: Source> Capture<R> {
+    ghost use Rattle.cap_source.specs.Captures.{number_of, first_of};
+
+    /// The packets that `reader` gives, which is the file of that number. It reads nothing yet, so a faulty
+    /// file header is the first item.
+    pub fn new(alloc: Global, reader: R, file: u32, tail: Tail) -> Capture<R>
+        ensures files { (⟦<Capture<R> as PacketFeed>⟧.feed result).files ≡ file ∷ [] }
+        ensures told { (⟦<Capture<R> as PacketFeed>⟧.feed result).told ≡ R.tells_coming reader }
+        ensures items { (⟦<Capture<R> as PacketFeed>⟧.feed result).items ≡ file_items tail file (R.coming reader) }
+        ensures endings { (n : ℕ) → (⟦<Capture<R> as PacketFeed>⟧.feed result).endings n ≡ file_ending tail file (R.coming reader) }
+        ensures known { (⟦<Capture<R> as PacketFeed>⟧.feed result).known ≡ None }
+        ensures can_fail { (⟦<Capture<R> as PacketFeed>⟧.feed result).can_fail ≡ R.can_fail reader }
+        ensures held { (⟦<Capture<R> as PacketFeed>⟧.feed result).held ≡ record { window = 0; interfaces = 0; failed = R.has_failed reader } }
+        ensures first { first_of result ≡ file_first tail file (R.coming reader) }
+        ensures number { number_of result ≡ file }
+    {
+        Capture {
+            reader: Reader::Unread(Window::new(alloc, reader, file), tail),
+            reached: nothing_reached(alloc),
+            next: None,
+        }
+    }
+
+    /// The number of the file.
+    pub fn file(&self) -> u32
+        ensures file { result ≡ number_of self.now }
+    {
+        number_of(&self.reader)
+    }
+
+    /// The first interface of the file that stands before what comes next: before the first item where
+    /// nothing was passed. `Read` and `Memory` come as of `head`, which is known afterwards.
+    pub fn first(&mut self) -> Result<Option<Interface>, Fault>
+        ensures answer { GivesFirst (⟦<Capture<R> as PacketFeed>⟧.feed self.old) (first_of self.old) result (⟦<Capture<R> as PacketFeed>⟧.feed self.new) }
+        ensures keeps { Keeps (⟦<Capture<R> as PacketFeed>⟧.feed self.old) (⟦<Capture<R> as PacketFeed>⟧.feed self.new) }
+        ensures items { IsTrue (⟦<Capture<R> as PacketFeed>⟧.feed self.old).told
+            → KeepsFirst (⟦<Capture<R> as PacketFeed>⟧.feed self.old) (first_of self.old) result (⟦<Capture<R> as PacketFeed>⟧.feed self.new) (first_of self.new) }
+    {
+        learn(&mut self.reader, &mut self.reached, &mut self.next)?;
+        Ok(self.reached.first)
+    }
+}
+
+impl<R: Source> PacketFeed for Capture<R> {
+    ghost feed = { λ c. feed_of (lane_of c.reader (progress_of c.reached)) c.next };
+
+    fn head(&mut self) -> Result<Head, Fault> {
+        let next = learn(&mut self.reader, &mut self.reached, &mut self.next)?;
+        Ok(head_of(next))
+    }
+
+    fn frame(&self) -> &[u8] {
+        part_of(&self.reader, self.next)
+    }
+
+    fn pass(&mut self) {
+        self.next = None;
+    }
+
+    fn ending(&self, _file: u32) -> Ending {
+        ending_of(self.next)
+    }
+
+    fn feed_held(&self) -> FeedHeld {
+        FeedHeld {
+            window: held_of(&self.reader),
+            interfaces: self.reached.interfaces.len() as u64,
+            failed: failed_of(&self.reader),
+        }
+    }
+
+    ghost lawful = { λ c. captures_lawful (lane_of c.reader (progress_of c.reached)) c.next
+        c.own c.lent c.captured c.behind c.limit c.held c.interfaces };
+}

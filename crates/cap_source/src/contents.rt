@@ -1,0 +1,166 @@
+//! What the blocks of a pcapng file say. draft-ietf-opsawg-pcapng, 4.
+ghost use Rattle.std.specs.Prelude.{◌≡◌, ◌≤◌, ◌+◌, ◌%◌, length};
+ghost use Rattle.cap_blocks.specs.Grammar.{least_total};
+ghost use Rattle.cap_source.specs.Contents.{fitting, timed_in, simple_captured, simple_in, content_in};
+
+use crate::interfaces::interface_of;
+use cap_bytes::{Order, Rule, u16_at, u32_at};
+use cap_time::Interface;
+
+/// The kind of a section header, which reads the same in both orders.
+pub const SECTION: u32 = 0x0A0D_0D0A;
+/// The kind of an interface block.
+pub const INTERFACE: u32 = 1;
+/// The kind of an obsolete packet block.
+pub const OBSOLETE_PACKET: u32 = 2;
+/// The kind of a simple packet block.
+pub const SIMPLE_PACKET: u32 = 3;
+/// The kind of an enhanced packet block.
+pub const ENHANCED_PACKET: u32 = 6;
+
+/// The most bytes that may be captured of a packet.
+pub const PACKET_LIMIT: u32 = 262_144;
+
+// Where the captured bytes begin in the body of a packet with a time, and of a simple one.
+const TIMED_HEAD: u32 = 20;
+
+const SIMPLE_HEAD: u32 = 4;
+
+/// What a block says of a packet.
+#[derive(Clone, Copy, Debug, PartialEq, Eq)]
+pub struct Packet {
+    /// The number of its interface in the section.
+    pub number: u32,
+    /// Its interface.
+    pub interface: Interface,
+    /// Its time in units of the interface's clock, where it has one.
+    pub units: Option<u64>,
+    /// How many bytes of it were captured.
+    pub captured: u32,
+    /// How many bytes it had.
+    pub original: u32,
+    /// Where the captured bytes begin in the block's body.
+    pub place: u32,
+}
+
+/// What a block says.
+#[derive(Clone, Copy, Debug, PartialEq, Eq)]
+pub enum Content {
+    /// A section begins.
+    Section,
+    /// An interface of the section.
+    Interface(Interface),
+    /// A packet.
+    Packet(Packet),
+    /// Nothing that is read.
+    Other,
+}
+
+// A packet whose captured bytes are within the limit and within the body.
+#[tactic(auto, unfolding(crate::specs::Contents::fitting))]
+fn fit(packet: Packet, size: usize) -> Result<Packet, Rule>
+    ensures { result ≡ fitting packet size }
+{
+    if packet.captured > PACKET_LIMIT {
+        return Err(Rule::PacketLong);
+    }
+    if size < packet.place as usize + packet.captured as usize {
+        return Err(Rule::Captured);
+    }
+    Ok(packet)
+}
+
+// The packet of an enhanced or an obsolete packet block, which names the interface of that number.
+// draft-ietf-opsawg-pcapng, 4.3 and Appendix A.
+#[tactic(auto, unfolding(crate::specs::Contents::timed_in))]
+fn timed_packet(
+    interfaces: &[Interface],
+    number: u32,
+    order: Order,
+    body: &[u8],
+) -> Result<Packet, Rule>
+    requires { 20 ≤ length body.now }
+    ensures { result ≡ timed_in interfaces.now number order body.now }
+{
+    match interfaces.get(number as usize) {
+        Some(interface) => {
+            let high = u64::from(u32_at(order, body, 4));
+            let low = u64::from(u32_at(order, body, 8));
+            let packet = Packet {
+                number,
+                interface: *interface,
+                units: Some(high * 0x1_0000_0000 + low),
+                captured: u32_at(order, body, 12),
+                original: u32_at(order, body, 16),
+                place: TIMED_HEAD,
+            };
+            fit(packet, body.len())
+        }
+        None => Err(Rule::InterfaceUnknown),
+    }
+}
+
+// How many bytes are captured of a simple packet.
+fn simple_captured(snaplen: u32, original: u32) -> u32
+    ensures { result ≡ simple_captured snaplen original }
+{
+    if snaplen == 0 || original < snaplen {
+        original
+    } else {
+        snaplen
+    }
+}
+
+// The packet of a simple packet block, which is of the section's first interface and has no time.
+// draft-ietf-opsawg-pcapng, 4.4.
+#[tactic(auto, unfolding(crate::specs::Contents::simple_in))]
+fn simple_packet(interfaces: &[Interface], order: Order, body: &[u8]) -> Result<Packet, Rule>
+    requires { 4 ≤ length body.now }
+    ensures { result ≡ simple_in interfaces.now order body.now }
+{
+    match interfaces.get(0) {
+        Some(interface) => {
+            let original = u32_at(order, body, 0);
+            let packet = Packet {
+                number: 0,
+                interface: *interface,
+                units: None,
+                captured: simple_captured(interface.snaplen, original),
+                original,
+                place: SIMPLE_HEAD,
+            };
+            fit(packet, body.len())
+        }
+        None => Err(Rule::InterfaceUnknown),
+    }
+}
+
+/// What a block of a known kind says in a section with these interfaces, or the first rule that its
+/// body breaks: of an interface block 13, and then for each option 10, 11 and 12; of a packet 9, 4
+/// and 8.
+#[tactic(auto, using(crate::proofs::Bodies::room_of_body), unfolding(crate::specs::Contents::content_in))]
+pub fn content_of(
+    interfaces: &[Interface],
+    kind: u32,
+    order: Order,
+    body: &[u8],
+) -> Result<Content, Rule>
+    requires least { least_total kind ≤ 12 + length body.now }
+    requires padded { length body.now % 4 ≡ 0 }
+    ensures { result ≡ content_in interfaces.now kind order body.now }
+{
+    match kind {
+        SECTION => Ok(Content::Section),
+        INTERFACE => Ok(Content::Interface(interface_of(interfaces.len(), order, body)?)),
+        ENHANCED_PACKET => {
+            let number = u32_at(order, body, 0);
+            Ok(Content::Packet(timed_packet(interfaces, number, order, body)?))
+        }
+        OBSOLETE_PACKET => {
+            let number = u32::from(u16_at(order, body, 0));
+            Ok(Content::Packet(timed_packet(interfaces, number, order, body)?))
+        }
+        SIMPLE_PACKET => Ok(Content::Packet(simple_packet(interfaces, order, body)?)),
+        _ => Ok(Content::Other),
+    }
+}

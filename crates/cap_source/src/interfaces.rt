@@ -1,0 +1,175 @@
+//! The interface blocks of a pcapng file. draft-ietf-opsawg-pcapng, 4.2.
+ghost use Rattle.std.specs.Prelude.{◌≡◌, ◌≤◌, ◌%◌, drop, length, unwrap_or, pos};
+ghost use Rattle.cap_blocks.specs.OptionList.{options_of};
+ghost use Rattle.cap_source.specs.Clocks.{resolution_of, resolution_in, offset_in, with_resolution, with_offset, option_read, options_read, no_clock, microseconds, interface_with, interface_by, interface_in};
+
+use cap_blocks::Options;
+use cap_bytes::{Order, Rule, u16_at, u32_at, u64_at};
+use cap_time::{Interface, Resolution};
+
+/// The most interfaces that a section may have.
+pub const INTERFACE_LIMIT: usize = 1_024;
+
+// The codes of the options that are read.
+const RESOLUTION: u16 = 9;
+
+const OFFSET: u16 = 14;
+
+// The code of a millionth of a second, which stands where no resolution is given.
+const MICROSECONDS: u8 = 6;
+
+/// What the options so far say of an interface's clock.
+#[derive(Clone, Copy)]
+pub struct Clock {
+    /// The first `if_tsresol`.
+    pub resolution: Option<Resolution>,
+    /// The first `if_tsoffset`.
+    pub offset: Option<i64>,
+}
+
+// The resolution of a code, where it is one that is read.
+fn resolution_of(code: u8) -> Option<Resolution>
+    ensures { result ≡ resolution_of code }
+{
+    Resolution::from_code(code)
+}
+
+// The resolution that an `if_tsresol` gives.
+fn resolution_in(value: &[u8]) -> Result<Resolution, Rule>
+    ensures { result ≡ resolution_in value.now }
+{
+    match value {
+        [code] => match resolution_of(*code) {
+            Some(resolution) => Ok(resolution),
+            None => Err(Rule::Resolution),
+        },
+        _ => Err(Rule::OptionLength),
+    }
+}
+
+// The offset that an `if_tsoffset` gives.
+#[tactic(auto, unfolding(crate::specs::Clocks::offset_in))]
+fn offset_in(order: Order, value: &[u8]) -> Result<i64, Rule>
+    ensures { result ≡ offset_in order value.now }
+{
+    if value.len() == 8 {
+        Ok(u64_at(order, value, 0).cast_signed())
+    } else {
+        Err(Rule::OptionLength)
+    }
+}
+
+// The clock with its resolution.
+fn with_resolution(clock: Clock, value: &[u8]) -> Result<Clock, Rule>
+    ensures { result ≡ with_resolution clock (resolution_in value.now) }
+{
+    match resolution_in(value) {
+        Ok(resolution) => Ok(Clock {
+            resolution: Some(resolution),
+            offset: clock.offset,
+        }),
+        Err(rule) => Err(rule),
+    }
+}
+
+// The clock with its offset.
+fn with_offset(clock: Clock, order: Order, value: &[u8]) -> Result<Clock, Rule>
+    ensures { result ≡ with_offset clock (offset_in order value.now) }
+{
+    match offset_in(order, value) {
+        Ok(offset) => Ok(Clock {
+            resolution: clock.resolution,
+            offset: Some(offset),
+        }),
+        Err(rule) => Err(rule),
+    }
+}
+
+// The clock with one more option.
+#[tactic(auto, unfolding(crate::specs::Clocks::option_read))]
+fn with_option(clock: Clock, order: Order, code: u16, value: &[u8]) -> Result<Clock, Rule>
+    ensures { result ≡ option_read order clock code value.now }
+{
+    if code == RESOLUTION && clock.resolution.is_none() {
+        return with_resolution(clock, value);
+    }
+    if code == OFFSET && clock.offset.is_none() {
+        return with_offset(clock, order, value);
+    }
+    Ok(clock)
+}
+
+// What the options of an interface say of its clock, or the first rule that they break.
+fn clock_of(order: Order, options: &[u8]) -> Result<Clock, Rule>
+    requires { length options.now % 4 ≡ 0 }
+    ensures { result ≡ options_read order no_clock (options_of order options.now) }
+{
+    let mut clock = Clock {
+        resolution: None,
+        offset: None,
+    };
+    for option in Options::new(order, options) {
+        match option {
+            Ok((code, value)) => clock = with_option(clock, order, code, value)?,
+            Err(rule) => return Err(rule),
+        }
+    }
+    Ok(clock)
+}
+
+// What an interface block says, whatever stands before it, or the first rule that its options break.
+fn read_interface(order: Order, body: &[u8]) -> Result<Interface, Rule>
+    requires least { 8 ≤ length body.now }
+    requires padded { length body.now % 4 ≡ 0 }
+    ensures { result ≡ interface_by order body.now (options_read order no_clock (options_of order (drop 8 body.now))) }
+{
+    let (_, options) = body.split_at(8);
+    match clock_of(order, options) {
+        Ok(clock) => Ok(interface_by(clock, order, body)),
+        Err(rule) => Err(rule),
+    }
+}
+
+/// The interface of an interface block, before which so many stand in its section, or the first rule
+/// that it breaks: 13, and then for each option 10, 11 and 12.
+pub fn interface_of(before: usize, order: Order, body: &[u8]) -> Result<Interface, Rule>
+    requires least { 8 ≤ length body.now }
+    requires padded { length body.now % 4 ≡ 0 }
+    ensures { result ≡ interface_in before order body.now }
+{
+    if before >= INTERFACE_LIMIT {
+        return Err(Rule::InterfaceLimit);
+    }
+    read_interface(order, body)
+}
+
+// A millionth of a second, which stands where no resolution is given.
+#[tactic(auto, using(crate::proofs::Resolutions::same_microseconds))]
+fn microseconds() -> Resolution
+    ensures { result ≡ microseconds }
+{
+    Resolution::from_code(MICROSECONDS).unwrap()
+}
+
+// The offset, which is 0 where none is given.
+fn offset_or_0(offset: Option<i64>) -> i64
+    ensures { result ≡ unwrap_or offset (pos 0) }
+{
+    match offset {
+        Some(seconds) => seconds,
+        None => 0,
+    }
+}
+
+// The interface of a body whose options say that of its clock.
+fn interface_by(clock: Clock, order: Order, body: &[u8]) -> Interface
+    requires { 8 ≤ length body.now }
+    ensures { result ≡ interface_with clock order body.now }
+{
+    Interface {
+        link: u16_at(order, body, 0),
+        snaplen: u32_at(order, body, 4),
+        resolution: clock.resolution.unwrap_or(microseconds()),
+        offset: offset_or_0(clock.offset),
+    }
+}

@@ -1,0 +1,23 @@
+//! One packet list from a capture file of either format.
+#![tactic(auto)]
+
+mod captures;
+mod contents;
+mod feeds;
+mod interfaces;
+mod listed;
+mod listings;
+mod packets;
+mod reached;
+mod readers;
+mod walks;
+
+pub use crate::captures::Capture;
+pub use crate::feeds::{Ending, FeedHeld, Head, PacketFeed};
+pub use crate::listed::Listed;
+pub use crate::listings::Listing;
+pub use crate::packets::{Format, Meta};
+pub use crate::walks::next_packet;
+
+#[cfg(test)]
+mod tests;

@@ -1,0 +1,35 @@
+//! What is told of a packet beside its bytes.
+
+use cap_time::Interface;
+
+/// The format of a capture file.
+#[derive(Clone, Copy, Debug, PartialEq, Eq)]
+pub enum Format {
+    /// Pcap 2.4. draft-ietf-opsawg-pcap.
+    Pcap,
+    /// Pcapng 1.0. draft-ietf-opsawg-pcapng.
+    Pcapng,
+}
+
+/// What is told of a packet beside its captured bytes.
+#[derive(Clone, Copy, Debug, PartialEq, Eq)]
+pub struct Meta {
+    /// The number of its file, from 1.
+    pub file: u32,
+    /// Where its record or block begins, in bytes.
+    pub offset: u64,
+    /// The format of its file.
+    pub format: Format,
+    /// How many blocks of its file were skipped before it.
+    pub skipped: u64,
+    /// How many interface blocks of its file stand before its own interface's; 0 in a pcap file.
+    pub instance: u64,
+    /// The interface that it was captured at.
+    pub interface: Interface,
+    /// Its time in units of the interface's clock, where it has one.
+    pub units: Option<u64>,
+    /// How many bytes of it were captured.
+    pub captured: u32,
+    /// How many bytes it had.
+    pub original: u32,
+}

@@ -1,0 +1,520 @@
+//! Whole files, by one byte a read and by many. The files and what they give are worked out by hand from
+//! draft-ietf-opsawg-pcap and draft-ietf-opsawg-pcapng.
+ghost use Rattle.std.specs.Prelude.{◌≡◌, ◌≤◌, [], ◌∷◌, false, Some};
+
+use crate::{Capture, Ending, Format, Head, Listed, Listing, Meta, PacketFeed, next_packet};
+use cap_bytes::{Broken, Device, Fault, Pieces, Refusal, Rule, Source, Tail};
+use cap_time::{Interface, Resolution};
+use std::alloc::{AllocError, Global};
+use std::cmp::min;
+use std::process::Abort;
+use std::test::Fail;
+
+// One packet of 4 bytes, at 1 second and 1,500,000 microseconds.
+const CARRY_PCAP: [u8; 44] = [
+    0xd4, 0xc3, 0xb2, 0xa1, 2, 0, 4, 0, 0, 0, 0, 0, 0, 0, 0, 0, 0, 0, 4, 0, 1, 0, 0, 0, //
+    1, 0, 0, 0, 0x60, 0xe3, 0x16, 0, 4, 0, 0, 0, 4, 0, 0, 0, 1, 2, 3, 4,
+];
+
+// A section of version 1.0, little-endian.
+const SECTION: [u8; 28] = [
+    0x0a, 0x0d, 0x0d, 0x0a, 28, 0, 0, 0, 0x4d, 0x3c, 0x2b, 0x1a, 1, 0, 0, 0, //
+    0xff, 0xff, 0xff, 0xff, 0xff, 0xff, 0xff, 0xff, 28, 0, 0, 0,
+];
+
+// An interface of link 1 without options, of snaplen 262,144.
+const INTERFACE: [u8; 20] = [1, 0, 0, 0, 20, 0, 0, 0, 1, 0, 0, 0, 0, 0, 4, 0, 20, 0, 0, 0];
+
+// A packet of 4 bytes on interface 0, at 2,500,000 units.
+const PACKET: [u8; 36] = [
+    6, 0, 0, 0, 36, 0, 0, 0, 0, 0, 0, 0, 0, 0, 0, 0, 0xa0, 0x25, 0x26, 0, 4, 0, 0, 0, 4, 0, 0, 0,
+    1, 2, 3, 4, 36, 0, 0, 0,
+];
+
+// The same as an obsolete packet.
+const OBSOLETE: [u8; 36] = [
+    2, 0, 0, 0, 36, 0, 0, 0, 0, 0, 0xff, 0xff, 0, 0, 0, 0, 0xa0, 0x25, 0x26, 0, 4, 0, 0, 0, 4, 0,
+    0, 0, 1, 2, 3, 4, 36, 0, 0, 0,
+];
+
+// Section options 4; interface options 2, 9, 12; packet option 2; a block of type 5.
+const OPTIONS_PCAPNG: [u8; 168] = [
+    0x0a, 0x0d, 0x0d, 0x0a, 0x2c, 0, 0, 0, 0x4d, 0x3c, 0x2b, 0x1a, 1, 0, 0, 0, //
+    0xff, 0xff, 0xff, 0xff, 0xff, 0xff, 0xff, 0xff, //
+    4, 0, 7, 0, 0x44, 0x75, 0x6d, 0x70, 0x63, 0x61, 0x70, 0, 0, 0, 0, 0, 0x2c, 0, 0, 0, //
+    1, 0, 0, 0, 0x34, 0, 0, 0, 1, 0, 0, 0, 0, 0, 4, 0, 2, 0, 4, 0, 0x65, 0x74, 0x68, 0x30, //
+    9, 0, 1, 0, 6, 0, 0, 0, 0x0c, 0, 5, 0, 0x4c, 0x69, 0x6e, 0x75, 0x78, 0, 0, 0, 0, 0, 0, 0, //
+    0x34, 0, 0, 0, //
+    6, 0, 0, 0, 0x30, 0, 0, 0, 0, 0, 0, 0, 0, 0, 0, 0, 0xa0, 0x25, 0x26, 0, 4, 0, 0, 0, 4, 0, 0, 0,
+    1, 2, 3, 4, 2, 0, 4, 0, 1, 0, 0, 0, 0, 0, 0, 0, 0x30, 0, 0, 0, //
+    5, 0, 0, 0, 0x18, 0, 0, 0, 0, 0, 0, 0, 0, 0, 0, 0, 0xa0, 0x25, 0x26, 0, 0x18, 0, 0, 0,
+];
+
+fn capture(
+    alloc: Global,
+    bytes: &[u8],
+    piece: usize,
+    tail: Tail,
+) -> Result<Capture<Pieces>, AllocError>
+    requires { 1 ≤ piece }
+{
+    let pieces = Pieces::new(bytes.to_vec(alloc)?, piece, None);
+    Ok(Capture::new(alloc, pieces, 7, tail))
+}
+
+// Some blocks behind a section header.
+fn in_section(alloc: Global, blocks: &[&[u8]]) -> Result<Vec<u8>, AllocError> {
+    let mut bytes = SECTION.to_vec(alloc)?;
+    for block in blocks {
+        bytes.extend_from_slice(block)?;
+    }
+    Ok(bytes)
+}
+
+fn interface(rt: &impl Abort, link: u16, snaplen: u32, code: u8, offset: i64) -> Interface {
+    Interface {
+        link,
+        snaplen,
+        resolution: Resolution::from_code(code).expect(rt, "a code that is read"),
+        offset,
+    }
+}
+
+// The packet of 4 bytes at 2,500,000 units of the file above, at a place.
+fn carried(rt: &impl Abort, offset: u64, format: Format) -> Meta {
+    Meta {
+        file: 7,
+        offset,
+        format,
+        skipped: 0,
+        instance: 0,
+        interface: interface(rt, 1, 262_144, 6, 0),
+        units: Some(2_500_000),
+        captured: 4,
+        original: 4,
+    }
+}
+
+// What comes next, where it is no packet or that packet with those bytes, which is passed.
+fn takes<F: PacketFeed>(
+    rt: &impl Abort,
+    feed: &mut F,
+    meta: Meta,
+    frame: &[u8],
+) -> Result<(), Fault> {
+    let head = feed.head()?;
+    assert_eq!(rt; head, Head::Packet(meta));
+    assert_eq!(rt; feed.head()?, head);
+    assert_eq!(rt; feed.frame(), frame);
+    feed.pass();
+    Ok(())
+}
+
+// How the file ended, which is the only one.
+#[tactic(auto, using(crate::specs::Laws::has_file_alone))]
+fn ended<F: PacketFeed>(feed: &F) -> Ending
+    requires end { (F.feed feed.now).known ≡ Some Head.End }
+    requires files { (F.feed feed.now).files ≡ 7 ∷ [] }
+{
+    feed.ending(7)
+}
+
+fn refused(offset: u64, rule: Rule) -> Head {
+    Head::Refused(Refusal {
+        file: 7,
+        offset,
+        rule,
+    })
+}
+
+// The file's first item is that, by one byte a read and by many.
+fn begins(rt: &impl Abort, alloc: Global, bytes: &[u8], head: Head) -> Result<(), Fault> {
+    for piece in [1, 4_096] {
+        let mut feed = capture(alloc, bytes, piece, Tail::Refuse)?;
+        assert_eq!(rt; feed.head()?, head);
+        assert_eq!(rt; feed.head()?, head);
+    }
+    Ok(())
+}
+
+#[test]
+fn a_pcap_file(rt: HostRuntime) -> Result<(), Fail> {
+    for piece in [1, 4_096] {
+        let mut feed = capture(rt.alloc(), &CARRY_PCAP, piece, Tail::Refuse)?;
+        assert_eq!(rt; feed.first()?, Some(interface(&rt, 1, 262_144, 6, 0)));
+        takes(
+            &rt,
+            &mut feed,
+            carried(&rt, 24, Format::Pcap),
+            &[1, 2, 3, 4],
+        )?;
+        assert_eq!(rt; feed.head()?, Head::End);
+        let held = feed.feed_held();
+        assert!(rt; held.window > 0);
+        assert_eq!(rt; held.interfaces, 0);
+    }
+    Ok(())
+}
+
+// A little-endian section with a packet on interface 0, and a big-endian one.
+#[test]
+fn two_sections(rt: HostRuntime) -> Result<(), Fail> {
+    let mut bytes = in_section(rt.alloc(), &[&INTERFACE, &PACKET])?;
+    bytes.extend_from_slice(&[
+        0x0a, 0x0d, 0x0d, 0x0a, 0, 0, 0, 28, 0x1a, 0x2b, 0x3c, 0x4d, 0, 1, 0, 0, //
+        0xff, 0xff, 0xff, 0xff, 0xff, 0xff, 0xff, 0xff, 0, 0, 0, 28, //
+        0, 0, 0, 1, 0, 0, 0, 20, 0, 101, 0, 0, 0, 0, 0, 0, 0, 0, 0, 20, //
+        0, 0, 0, 6, 0, 0, 0, 36, 0, 0, 0, 0, 0, 0, 0, 0, 0, 0x26, 0x25, 0xa0, //
+        0, 0, 0, 4, 0, 0, 0, 4, 1, 2, 3, 4, 0, 0, 0, 36,
+    ])?;
+    for piece in [1, 4_096] {
+        let mut feed = capture(rt.alloc(), &bytes, piece, Tail::Refuse)?;
+        takes(
+            &rt,
+            &mut feed,
+            carried(&rt, 48, Format::Pcapng),
+            &[1, 2, 3, 4],
+        )?;
+        let second = Meta {
+            instance: 1,
+            interface: interface(&rt, 101, 0, 6, 0),
+            ..carried(&rt, 132, Format::Pcapng)
+        };
+        takes(&rt, &mut feed, second, &[1, 2, 3, 4])?;
+        assert_eq!(rt; feed.first()?, Some(interface(&rt, 1, 262_144, 6, 0)));
+        assert_eq!(rt; feed.head()?, Head::End);
+        assert_eq!(rt; feed.feed_held().interfaces, 1);
+    }
+    Ok(())
+}
+
+#[test]
+fn unknown_trailer(rt: HostRuntime) -> Result<(), Fail> {
+    let mut bytes = in_section(rt.alloc(), &[&[1, 0, 0, 0x40, 0, 0, 32, 0]])?;
+    for _ in 0..524_286 {
+        bytes.extend_from_slice(&[0; 4])?;
+    }
+    bytes.extend_from_slice(&[0xfc, 0xff, 31, 0])?;
+    begins(&rt, rt.alloc(), &bytes, refused(28, Rule::BlockTrailer))?;
+    Ok(())
+}
+
+// Interfaces of an offset of -1 second, and of a resolution whose second option doesn't count.
+#[test]
+fn clocks(rt: HostRuntime) -> Result<(), Fail> {
+    let negative = [
+        1, 0, 0, 0, 32, 0, 0, 0, 1, 0, 0, 0, 0, 0, 4, 0, 14, 0, 8, 0, //
+        0xff, 0xff, 0xff, 0xff, 0xff, 0xff, 0xff, 0xff, 32, 0, 0, 0,
+    ];
+    let twice = [
+        1, 0, 0, 0, 40, 0, 0, 0, 1, 0, 0, 0, 0, 0, 4, 0, 9, 0, 1, 0, 0x8a, 0, 0, 0, //
+        9, 0, 1, 0, 0x14, 0, 0, 0, 0, 0, 9, 9, 40, 0, 0, 0,
+    ];
+    let bytes = in_section(rt.alloc(), &[&negative, &PACKET])?;
+    let mut feed = capture(rt.alloc(), &bytes, 1, Tail::Refuse)?;
+    let meta = Meta {
+        interface: interface(&rt, 1, 262_144, 6, -1),
+        ..carried(&rt, 60, Format::Pcapng)
+    };
+    takes(&rt, &mut feed, meta, &[1, 2, 3, 4])?;
+    let bytes = in_section(rt.alloc(), &[&twice, &PACKET])?;
+    let mut feed = capture(rt.alloc(), &bytes, 1, Tail::Refuse)?;
+    let meta = Meta {
+        interface: interface(&rt, 1, 262_144, 0x8a, 0),
+        ..carried(&rt, 68, Format::Pcapng)
+    };
+    takes(&rt, &mut feed, meta, &[1, 2, 3, 4])?;
+    Ok(())
+}
+
+#[test]
+fn simple_packet(rt: HostRuntime) -> Result<(), Fail> {
+    let four = [1, 0, 0, 0, 20, 0, 0, 0, 1, 0, 0, 0, 4, 0, 0, 0, 20, 0, 0, 0];
+    let simple = [
+        3, 0, 0, 0, 20, 0, 0, 0, 10, 0, 0, 0, 1, 2, 3, 4, 20, 0, 0, 0,
+    ];
+    let bytes = in_section(rt.alloc(), &[&four, &simple])?;
+    let mut feed = capture(rt.alloc(), &bytes, 1, Tail::Refuse)?;
+    let meta = Meta {
+        interface: interface(&rt, 1, 4, 6, 0),
+        units: None,
+        original: 10,
+        ..carried(&rt, 48, Format::Pcapng)
+    };
+    takes(&rt, &mut feed, meta, &[1, 2, 3, 4])?;
+    assert_eq!(rt; feed.head()?, Head::End);
+    Ok(())
+}
+
+#[test]
+fn options_file(rt: HostRuntime) -> Result<(), Fail> {
+    let pieces = Pieces::new(OPTIONS_PCAPNG.to_vec(rt.alloc())?, 1, None);
+    let mut feed = Capture::new(rt.alloc(), pieces, 7, Tail::Refuse);
+    assert_eq!(rt;
+        feed.head()?,
+        Head::Packet(carried(&rt, 96, Format::Pcapng))
+    );
+    assert_eq!(rt; feed.frame(), [1, 2, 3, 4].as_slice());
+    feed.pass();
+    assert_eq!(rt; feed.head()?, Head::End);
+    let ending = Ending {
+        format: Format::Pcapng,
+        skipped: 1,
+        was_cut: false,
+    };
+    assert_eq!(rt; ended(&feed), ending);
+    Ok(())
+}
+
+#[test]
+fn obsolete_packet(rt: HostRuntime) -> Result<(), Fail> {
+    let bytes = in_section(rt.alloc(), &[&INTERFACE, &OBSOLETE])?;
+    let mut feed = capture(rt.alloc(), &bytes, 1, Tail::Refuse)?;
+    takes(
+        &rt,
+        &mut feed,
+        carried(&rt, 48, Format::Pcapng),
+        &[1, 2, 3, 4],
+    )?;
+    Ok(())
+}
+
+// What is refused behind a section header, and where.
+#[test]
+fn refused_files(rt: HostRuntime) -> Result<(), Fail> {
+    let long_code: [u8; 28] = [
+        1, 0, 0, 0, 28, 0, 0, 0, 1, 0, 0, 0, 0, 0, 0, 0, 9, 0, 2, 0, 6, 0, 0, 0, 28, 0, 0, 0,
+    ];
+    let fine_code: [u8; 28] = [
+        1, 0, 0, 0, 28, 0, 0, 0, 1, 0, 0, 0, 0, 0, 0, 0, 9, 0, 1, 0, 0x14, 0, 0, 0, 28, 0, 0, 0,
+    ];
+    let binary_code: [u8; 28] = [
+        1, 0, 0, 0, 28, 0, 0, 0, 1, 0, 0, 0, 0, 0, 0, 0, 9, 0, 1, 0, 0xc0, 0, 0, 0, 28, 0, 0, 0,
+    ];
+    let past_end: [u8; 28] = [
+        1, 0, 0, 0, 28, 0, 0, 0, 1, 0, 0, 0, 0, 0, 0, 0, 2, 0, 9, 0, 0, 0, 0, 0, 28, 0, 0, 0,
+    ];
+    let other_interface: [u8; 52] = [
+        1, 0, 0, 0, 20, 0, 0, 0, 1, 0, 0, 0, 0, 0, 0, 0, 20, 0, 0, 0, //
+        6, 0, 0, 0, 32, 0, 0, 0, 1, 0, 0, 0, 0, 0, 0, 0, 0, 0, 0, 0, 0, 0, 0, 0, 0, 0, 0, 0, //
+        32, 0, 0, 0,
+    ];
+    let five: [u8; 56] = [
+        1, 0, 0, 0, 20, 0, 0, 0, 1, 0, 0, 0, 0, 0, 0, 0, 20, 0, 0, 0, //
+        6, 0, 0, 0, 36, 0, 0, 0, 0, 0, 0, 0, 0, 0, 0, 0, 0, 0, 0, 0, 5, 0, 0, 0, 5, 0, 0, 0, //
+        1, 2, 3, 4, 36, 0, 0, 0,
+    ];
+    let alone: [u8; 16] = [3, 0, 0, 0, 16, 0, 0, 0, 0, 0, 0, 0, 16, 0, 0, 0];
+    let rows = [
+        (long_code.as_slice(), 28, Rule::OptionLength),
+        (fine_code.as_slice(), 28, Rule::Resolution),
+        (binary_code.as_slice(), 28, Rule::Resolution),
+        (past_end.as_slice(), 28, Rule::OptionEnd),
+        (other_interface.as_slice(), 48, Rule::InterfaceUnknown),
+        (five.as_slice(), 48, Rule::Captured),
+        (alone.as_slice(), 28, Rule::InterfaceUnknown),
+    ];
+    for (block, offset, rule) in rows {
+        let bytes = in_section(rt.alloc(), &[block])?;
+        begins(&rt, rt.alloc(), &bytes, refused(offset, rule))?;
+    }
+    begins(&rt, rt.alloc(), &[], refused(0, Rule::Cut))?;
+    begins(&rt, rt.alloc(), &[0; 4], refused(0, Rule::Magic))?;
+    begins(&rt, rt.alloc(), &SECTION, Head::End)?;
+    Ok(())
+}
+
+// 1,024 interfaces are accepted, and one more is refused.
+#[test]
+fn interface_limit(rt: HostRuntime) -> Result<(), Fail> {
+    let mut bytes = SECTION.to_vec(rt.alloc())?;
+    for _ in 0..1_024 {
+        bytes.extend_from_slice(&INTERFACE)?;
+    }
+    begins(&rt, rt.alloc(), &bytes, Head::End)?;
+    bytes.extend_from_slice(&INTERFACE)?;
+    begins(
+        &rt,
+        rt.alloc(),
+        &bytes,
+        refused(20_508, Rule::InterfaceLimit),
+    )?;
+    Ok(())
+}
+
+// A rest that is cut is dropped where that is asked for.
+#[test]
+fn cut_rest(rt: HostRuntime) -> Result<(), Fail> {
+    let pieces = Pieces::new(CARRY_PCAP.split_at(43).0.to_vec(rt.alloc())?, 1, None);
+    let mut feed = Capture::new(rt.alloc(), pieces, 7, Tail::Accept);
+    assert_eq!(rt; feed.head()?, Head::End);
+    let ending = Ending {
+        format: Format::Pcap,
+        skipped: 0,
+        was_cut: true,
+    };
+    assert_eq!(rt; ended(&feed), ending);
+    let mut feed = capture(rt.alloc(), CARRY_PCAP.split_at(43).0, 1, Tail::Refuse)?;
+    assert_eq!(rt; feed.first()?, Some(interface(&rt, 1, 262_144, 6, 0)));
+    assert_eq!(rt; feed.head()?, refused(24, Rule::Cut));
+    Ok(())
+}
+
+// A read that fails comes again.
+#[test]
+fn failing_reads(rt: HostRuntime) -> Result<(), Fail> {
+    for (call, offset) in [(1, 0), (45, 44), (100, 96)] {
+        let pieces = Pieces::new(OPTIONS_PCAPNG.to_vec(rt.alloc())?, 1, Some(call));
+        let mut feed = Capture::new(rt.alloc(), pieces, 7, Tail::Refuse);
+        let fault = Err(Fault::Read { file: 7, offset });
+        assert_eq!(rt; feed.head(), fault);
+        assert_eq!(rt; feed.head(), fault);
+        assert!(rt; feed.feed_held().failed);
+    }
+    Ok(())
+}
+
+// The head, asked again where a growth was refused.
+fn asked<F: PacketFeed>(feed: &mut F) -> Result<Head, Fault> {
+    match feed.head() {
+        Err(Fault::Memory) => feed.head(),
+        answer => answer,
+    }
+}
+
+// Each answer as with memory, whichever growth is refused.
+#[test]
+fn a_refused_growth(rt: HostRuntime) -> Result<(), Fail> {
+    let bytes = match OPTIONS_PCAPNG.to_vec(rt.alloc()) {
+        Ok(bytes) => bytes,
+        Err(_) => OPTIONS_PCAPNG.to_vec(rt.alloc())?,
+    };
+    let pieces = Pieces::new(bytes, 4_096, None);
+    let mut feed = Capture::new(rt.alloc(), pieces, 7, Tail::Refuse);
+    let head = asked(&mut feed)?;
+    assert_eq!(rt; head, Head::Packet(carried(&rt, 96, Format::Pcapng)));
+    assert_eq!(rt; feed.first()?, Some(interface(&rt, 1, 262_144, 6, 0)));
+    Ok(())
+}
+
+// A section, a block of kind 40000001 of 67,108,864 bytes, and then an interface and a packet. The bytes
+// are made as they are asked for.
+#[derive(Drop)]
+struct Making {
+    at: u64,
+}
+
+const SKIPPED: u64 = 0x400_0000;
+
+impl Making {
+    fn byte(&self) -> u8 {
+        if self.at < 28 {
+            return SECTION.get(self.at as usize).copied().unwrap_or(0);
+        }
+        let head = [1, 0, 0, 0x40, 0, 0, 0, 4];
+        if self.at < 36 {
+            return head.get(self.at as usize - 28).copied().unwrap_or(0);
+        }
+        let place = self.at.saturating_sub(SKIPPED.saturating_add(24)) as usize;
+        if place < 4 {
+            return head.get(place.saturating_add(4)).copied().unwrap_or(0);
+        }
+        if place < 24 {
+            return INTERFACE.get(place - 4).copied().unwrap_or(0);
+        }
+        PACKET.get(place - 24).copied().unwrap_or(0)
+    }
+}
+
+impl Device for Making {
+    ghost has_failed = { λ _. false };
+
+    ghost can_fail = { λ _. false };
+
+    fn failed(&self) -> bool {
+        false
+    }
+}
+
+impl Source for Making {
+    ghost tells_coming = { λ _. false };
+
+    ghost coming = { λ _. [] };
+
+    fn take(&mut self, buffer: &mut [u8]) -> Result<usize, Broken> {
+        let body = if self.at < 36 {
+            0
+        } else {
+            SKIPPED.saturating_add(24).saturating_sub(self.at)
+        };
+        let count = min(buffer.len() as u64, body) as usize;
+        if count > 0 {
+            self.at = self.at.saturating_add(count as u64);
+            return Ok(count);
+        }
+        let Some(slot) = buffer.first_mut() else {
+            return Ok(0);
+        };
+        if self.at >= SKIPPED.saturating_add(84) {
+            return Ok(0);
+        }
+        *slot = self.byte();
+        self.at = self.at.saturating_add(1);
+        Ok(1)
+    }
+}
+
+// A long block is skipped in pieces: no more than a window is held.
+#[test]
+fn a_long_block(rt: HostRuntime) -> Result<(), Fail> {
+    let mut feed = Capture::new(rt.alloc(), Making { at: 0 }, 7, Tail::Refuse);
+    let meta = Meta {
+        skipped: 1,
+        ..carried(&rt, 67_108_912, Format::Pcapng)
+    };
+    assert_eq!(rt; feed.head()?, Head::Packet(meta));
+    assert!(rt; feed.feed_held().window <= 524_288);
+    feed.pass();
+    assert_eq!(rt; feed.head()?, Head::End);
+    assert!(rt; feed.feed_held().window <= 524_288);
+    Ok(())
+}
+
+// Two packets in memory, and then a refusal.
+#[test]
+fn a_list(rt: HostRuntime) -> Result<(), Fail> {
+    let mut packets = Vec::new(rt.alloc());
+    for byte in [5, 6] {
+        packets.push(Listing {
+            interface: interface(&rt, 101, 0, 6, 0),
+            instance: 0,
+            units: Some(u64::from(byte)),
+            original: 9,
+            frame: [byte].to_vec(rt.alloc())?,
+        })?;
+    }
+    let mut feed = Listed::new(7, packets, Some(Rule::Cut));
+    for (offset, byte) in [(0, 5), (1, 6)] {
+        let meta = Meta {
+            interface: interface(&rt, 101, 0, 6, 0),
+            units: Some(u64::from(byte)),
+            captured: 1,
+            original: 9,
+            ..carried(&rt, offset, Format::Pcap)
+        };
+        takes(&rt, &mut feed, meta, &[byte])?;
+    }
+    assert_eq!(rt; feed.head()?, refused(2, Rule::Cut));
+    Ok(())
+}
+
+#[test]
+fn a_walk(rt: HostRuntime) -> Result<(), Fail> {
+    let mut capture = capture(rt.alloc(), &CARRY_PCAP, 1, Tail::Refuse)?;
+    assert_eq!(rt; capture.file(), 7);
+    let meta = next_packet(&mut capture)?.expect(&rt, "the one packet");
+    assert_eq!(rt; (meta.file, meta.offset, meta.captured), (7, 24, 4));
+    capture.pass();
+    assert_eq!(rt; next_packet(&mut capture)?, None);
+    Ok(())
+}

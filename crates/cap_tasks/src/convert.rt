@@ -1,0 +1,39 @@
+//! `capt convert`: the packets of a file, written in either format.
+ghost use Rattle.std.specs.Prelude.{◌≡◌, ◌||◌, IsTrue};
+ghost use Rattle.cap_tasks.specs.Converted.{convert_text, convert_refusal};
+ghost use Rattle.cap_bytes.specs.Printing.{Prints, IsRead, is_write};
+
+use cap_bytes::{Fault, Order, Sink, Source, Tail};
+use cap_source::{Capture, Format};
+use cap_write::{to_pcap, to_pcapng};
+use std::alloc::Global;
+
+/// Writes the packets of a capture file of either format as a file of that format, with numbers in that
+/// order, exactly as they were read, up to the first refusal, which it answers: one of the file that is
+/// read, or of a packet that the format can't hold (rules 13 and 17 in pcapng, 17 to 21 in pcap, as of
+/// `to_pcapng` and `to_pcap`). After any other fault a front of that text is written.
+pub fn convert_to<R: Source, W: Sink>(
+    alloc: Global,
+    source: R,
+    tail: Tail,
+    order: Order,
+    format: Format,
+    writer: &mut W,
+) -> Result<(), Fault>
+    ensures text { IsTrue (R.tells_coming source) → IsTrue (W.tells_held writer.old)
+        → Prints (convert_text format order tail (R.coming source)) (convert_refusal format tail (R.coming source))
+        (W.held writer.old) result (W.held writer.new) }
+    ensures told { IsTrue (W.tells_held writer.old) → IsTrue (W.tells_held writer.new) }
+    ensures failed { W.has_failed writer.new ≡ (W.has_failed writer.old || is_write result) }
+    ensures read { IsRead result → IsTrue (R.can_fail source) }
+    ensures write { IsTrue (is_write result) → IsTrue (W.can_fail writer.old) }
+{
+    let mut capture = Capture::new(alloc, source, 1, tail);
+    match format {
+        Format::Pcap => to_pcap(&mut capture, order, writer),
+        Format::Pcapng => to_pcapng(alloc, &mut capture, order, writer),
+    }
+}
+
+#[cfg(test)]
+mod tests;

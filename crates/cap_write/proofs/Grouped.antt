@@ -1,0 +1,277 @@
+-- Merging in rounds writes what merging at once writes.
+use Rattle.std.proofs.Common.{◌≡◌, ℕ, suc, ◌+◌, ◌<◌, ◌≤◌, Bool, true, false, cond, List, [], ◌∷◌, ◌++◌, length, refl, sym, ap, ◌∙◌, subst, arith, inl, inr, Option, Some, None, is_none}
+use Rattle.std.specs.Prelude.{map, ⊤, ◌&&◌, ◌==◌, unwrap_or, if◌then◌else◌}
+use Rattle.std.specs.List.{AllZip, AllByRecursion, flat_map}
+use Rattle.std.specs.Option.{option_map}
+use Rattle.std.proofs.lemmas.Bool.Decides.{nat_tests}
+use Rattle.cap_bytes.specs.declared.faults.Refusal.{Refusal}
+use Rattle.cap_bytes.specs.declared.faults.Rule.{Rule}
+use Rattle.cap_bytes.specs.declared.faults.Rule.TheVariants.{NoTime, InterfaceLimit}
+use Rattle.cap_source.specs.Feed.{Item, packet, refused}
+use Rattle.cap_source.specs.declared.packets.Meta.{Meta}
+use Rattle.cap_write.specs.Numbering.{Name, name_of, Numbered, with_name, is_full, number_of, write_fault, numbered_of, numbered_or, numbered, refusal_or, refusal_in}
+use Rattle.cap_merge.specs.Run.{Clocked, opened, merged, through_first}
+use Rattle.cap_merge.specs.Parts.{item_time, is_refusal}
+use Rattle.cap_write.specs.Rounds.{in_file, numbered_files, run_of, merged_packets, IsItemOf, IsMergeOf, FileRoundsLaw, RoundsLaw, file_of, ClockLaw}
+use Rattle.cap_merge.proofs.Rounds.{files_in}
+use Rattle.cap_merge.proofs.Rounds as merged_rounds
+use Rattle.cap_merge.proofs.RunLaws as run_laws
+use Rattle.cap_write.proofs.Renaming.{IsOneToOne, Renamed, renamed-implied, numbered-renamed, refusal-renamed}
+use Rattle.cap_write.proofs.UsedNames.{IsNumberIn, all_names, number-given, number-kept, GroupNames, IsOfGroup, IsOfGroups, groups-apart}
+use Rattle.cap_write.proofs.Alike.{merge_of, merge-alike, merge-all}
+
+pub clock-law : ClockLaw
+clock-law files before after x e = run_laws.clock-law item_time is_refusal files before after x e
+
+-- ---- the run and the merged list
+
+through_items : (xs : List (Clocked Item)) → map (λ x. x.item) (through_first (λ x. is_refusal x.item) xs) ≡ through_first is_refusal (map (λ x. x.item) xs)
+through_items [] = refl
+through_items (x ∷ xs) = ap (λ ys. x.item ∷ ys) (more (is_refusal x.item) (through_items xs))
+  where
+    more : (b : Bool) → map (λ y. y.item) (through_first (λ y. is_refusal y.item) xs) ≡ through_first is_refusal (map (λ y. y.item) xs)
+        → map (λ y. y.item) (cond b [] (through_first (λ y. is_refusal y.item) xs)) ≡ cond b [] (through_first is_refusal (map (λ y. y.item) xs))
+    more true e = refl
+    more false e = e
+
+-- what stands behind a refusal isn't written
+numbered_through : (ns : List Name) (xs : List Item) → numbered ns (through_first is_refusal xs) ≡ numbered ns xs
+unfolding numbered
+numbered_through ns [] = refl
+numbered_through ns (packet m f ∷ xs) = ap (numbered_or (write_fault ns m) (numbered_of ns m f)) (numbered_through (with_name ns m) xs)
+numbered_through ns (refused r ∷ xs) = refl
+
+refusal_through : (ns : List Name) (xs : List Item) → refusal_in ns (through_first is_refusal xs) ≡ refusal_in ns xs
+unfolding refusal_in
+refusal_through ns [] = refl
+refusal_through ns (packet m f ∷ xs) = ap (refusal_or (write_fault ns m) m) (refusal_through (with_name ns m) xs)
+refusal_through ns (refused r ∷ xs) = refl
+
+run_is : (files : List (List Item)) → run_of files ≡ through_first is_refusal (merge_of item_time (numbered_files 1 files))
+unfolding run_of
+run_is files = through_items (merged item_time (map opened (numbered_files 1 files)))
+
+packets_are : (files : List (List Item)) → merged_packets files ≡ numbered [] (merge_of item_time (numbered_files 1 files))
+packets_are files = ap (numbered []) (run_is files) ∙ numbered_through [] (merge_of item_time (numbered_files 1 files))
+
+refusal_is : (files : List (List Item)) → refusal_in [] (run_of files) ≡ refusal_in [] (merge_of item_time (numbered_files 1 files))
+refusal_is files = ap (refusal_in []) (run_is files) ∙ refusal_through [] (merge_of item_time (numbered_files 1 files))
+
+-- ---- other numbers of files
+
+-- another name of an interface leaves the time
+pub same_time : (R : Name → Name → Type 0) (x y : Item) → Renamed R x y → item_time y ≡ item_time x
+same_time R (packet m f) (packet n g) h = λ i. option_map (λ units. Rattle.cap_time.specs.Stamp.stamp_in units (h.0.interface i)) (h.0.units i)
+same_time R (packet m f) (refused s) h = absurd h
+same_time R (refused r) (packet n g) h = absurd h
+same_time R (refused r) (refused s) h = refl
+
+-- The file's number is another, as far from the first.
+record IsMoved (p q : ℕ) (a b : Name) : Type 0 where
+  file : b.0 + p ≡ a.0 + q
+  instance : b.1 ≡ a.1
+
+same_tests : (a b c d p q : ℕ) → b + p ≡ a + q → d + p ≡ c + q → (b == d) ≡ (a == c)
+same_tests a b c d p q e h = grind (arith, nat_tests)
+
+moved_apart : (p q : ℕ) → IsOneToOne (IsMoved p q)
+moved_apart p q a b c d h k = λ i. same_tests a.0 b.0 c.0 d.0 p q h.file k.file i && (h.instance i == k.instance i)
+
+item_moved : (p q n m : ℕ) → m + p ≡ n + q → (x : Item) → Renamed (IsMoved p q) (in_file n x) (in_file m x)
+item_moved p q n m e (packet meta frame) =
+    (record { name = record { file = e; instance = refl }; interface = refl; units = refl; original = refl }, refl)
+item_moved p q n m e (refused refusal) = refl
+
+items_moved : (p q n m : ℕ) → m + p ≡ n + q → (xs : List Item) → AllZip (Renamed (IsMoved p q)) (map (in_file n) xs) (map (in_file m) xs)
+items_moved p q n m e [] = tt
+items_moved p q n m e (x ∷ xs) = (item_moved p q n m e x, items_moved p q n m e xs)
+
+files_moved : (p q n m : ℕ) → m + p ≡ n + q → (files : List (List Item)) → AllZip (AllZip (Renamed (IsMoved p q))) (numbered_files n files) (numbered_files m files)
+files_moved p q n m e [] = tt
+files_moved p q n m e (f ∷ fs) = (items_moved p q n m e f, files_moved p q (suc n) (suc m) (omega arith) fs)
+
+merge_moved : (m : ℕ) (files : List (List Item)) → AllZip (Renamed (IsMoved 1 m)) (merge_of item_time (numbered_files 1 files)) (merge_of item_time (numbered_files m files))
+merge_moved m files =
+    merge-alike (Renamed (IsMoved 1 m)) item_time (same_time (IsMoved 1 m)) (numbered_files 1 files) (numbered_files m files) (files_moved 1 m 1 m (omega arith) files)
+
+-- a merge writes the same from whatever number on the files are numbered
+packets_moved : (m : ℕ) (files : List (List Item)) → numbered [] (merge_of item_time (numbered_files m files)) ≡ merged_packets files
+packets_moved m files =
+    numbered-renamed (IsMoved 1 m) (moved_apart 1 m) [] [] tt (merge_of item_time (numbered_files 1 files)) (merge_of item_time (numbered_files m files)) (merge_moved m files)
+    ∙ sym (packets_are files)
+
+no_rule : (o : Option Refusal) → option_map (λ f. f.rule) o ≡ None → o ≡ None
+no_rule None e = refl
+no_rule (Some r) e = absurd (cc)
+
+accepted_moved : (m : ℕ) (files : List (List Item)) → refusal_in [] (run_of files) ≡ None → refusal_in [] (merge_of item_time (numbered_files m files)) ≡ None
+accepted_moved m files e =
+    no_rule (refusal_in [] (merge_of item_time (numbered_files m files)))
+    (refusal-renamed (IsMoved 1 m) (moved_apart 1 m) [] [] tt (merge_of item_time (numbered_files 1 files)) (merge_of item_time (numbered_files m files)) (merge_moved m files)
+    ∙ ap (option_map (λ f. f.rule)) (sym (refusal_is files) ∙ e))
+
+-- ---- one group
+
+-- the item is of a file of those numbers
+abbrev InFiles : ℕ → ℕ → Item → Type 0
+InFiles first past (packet m f) = (first ≤ m.file) × (m.file < past)
+InFiles first past (refused r) = ⊤
+
+item_in : (n first past : ℕ) → first ≤ n → n < past → (x : Item) → InFiles first past (in_file n x)
+item_in n first past l h (packet m f) = (l, h)
+item_in n first past l h (refused r) = tt
+
+items_in : (n first past : ℕ) → first ≤ n → n < past → (xs : List Item) → AllByRecursion (InFiles first past) (map (in_file n) xs)
+items_in n first past l h [] = tt
+items_in n first past l h (x ∷ xs) = (item_in n first past l h x, items_in n first past l h xs)
+
+all_in : (n first past : ℕ) (files : List (List Item)) → first ≤ n → n + length files ≤ past → AllByRecursion (AllByRecursion (InFiles first past)) (numbered_files n files)
+all_in n first past [] l h = tt
+all_in n first past (f ∷ fs) l h = (items_in n first past l (omega arith) f, all_in (suc n) first past fs (omega arith) (omega arith))
+
+timed : (units : Option ℕ) (full : Bool) → (if is_none units then Some NoTime else if full then Some InterfaceLimit else None) ≡ None → Some (unwrap_or units 0) ≡ units
+timed None full e = absurd (cc)
+timed (Some n) full e = refl
+
+timed_by : (ns : List Name) (m : Meta) → write_fault ns m ≡ None → Some (unwrap_or m.units 0) ≡ m.units
+unfolding write_fault
+timed_by ns m e = timed m.units (is_full ns m) e
+
+-- a packet as the file of the group has it
+group_item : (file place count : ℕ) (ns : List Name) (m : Meta) (f : List ℕ) (xs : List Item) (y : Item)
+    → write_fault ns m ≡ None → IsItemOf (numbered_of ns m f) y → InFiles file (file + count) (packet m f)
+    → Renamed (IsOfGroup file place (record { count = count; names = all_names (with_name ns m) xs })) (packet m f) (in_file place y)
+group_item file place count ns m f xs (packet n g) e w h = (
+  record {
+    name = record {
+      from = h.0;
+      below = h.1;
+      group = refl;
+      number = subst (λ (k : ℕ). IsNumberIn (all_names (with_name ns m) xs) (name_of m) k) (sym w.instance) (number-kept (with_name ns m) xs (name_of m) (number_of ns m) (number-given ns m));
+    };
+    interface = w.interface;
+    units = w.units ∙ timed_by ns m e;
+    original = w.original;
+  },
+  w.frame,
+)
+group_item file place count ns m f xs (refused r) e w h = absurd w
+
+group_next : (file place count : ℕ) (ns : List Name) (m : Meta) (f : List ℕ) (xs ys : List Item) (fault : Option Rule)
+    → write_fault ns m ≡ fault → refusal_or fault m (refusal_in (with_name ns m) xs) ≡ None
+    → AllZip IsItemOf (numbered_or fault (numbered_of ns m f) (numbered (with_name ns m) xs)) ys
+    → InFiles file (file + count) (packet m f)
+    → ((zs : List Item) → refusal_in (with_name ns m) xs ≡ None → AllZip IsItemOf (numbered (with_name ns m) xs) zs
+    → AllZip (Renamed (IsOfGroup file place (record { count = count; names = all_names (with_name ns m) xs }))) xs (map (in_file place) zs))
+    → AllZip (Renamed (IsOfGroup file place (record { count = count; names = all_names (with_name ns m) xs }))) (packet m f ∷ xs) (map (in_file place) ys)
+group_next file place count ns m f xs ys (Some rule) w e z h deeper = absurd (cc)
+group_next file place count ns m f xs [] None w e z h deeper = absurd z
+group_next file place count ns m f xs (y ∷ ys) None w e z h deeper = (group_item file place count ns m f xs y w z.0 h, deeper ys e z.1)
+
+group_items : (file place count : ℕ) (ns : List Name) (xs ys : List Item) → refusal_in ns xs ≡ None → AllZip IsItemOf (numbered ns xs) ys
+    → AllByRecursion (InFiles file (file + count)) xs
+    → AllZip (Renamed (IsOfGroup file place (record { count = count; names = all_names ns xs }))) xs (map (in_file place) ys)
+unfolding numbered refusal_in
+group_items file place count ns [] [] e z h = tt
+group_items file place count ns [] (y ∷ ys) e z h = absurd z
+group_items file place count ns (packet m f ∷ xs) ys e z h =
+    group_next file place count ns m f xs ys (write_fault ns m) refl e z h.0
+    (λ zs d w. group_items file place count (with_name ns m) xs zs d w h.1)
+group_items file place count ns (refused r ∷ xs) ys e z h = absurd (cc)
+
+names_of : ℕ → List (List Item) → GroupNames
+names_of file files = record { count = length files; names = all_names [] (merge_of item_time (numbered_files file files)) }
+
+group_alike : (file place : ℕ) (files : List (List Item)) (items : List Item) → IsMergeOf files items
+    → AllZip (Renamed (IsOfGroup file place (names_of file files))) (merge_of item_time (numbered_files file files)) (map (in_file place) items)
+unfolding names_of
+group_alike file place files items h =
+    group_items file place (length files) [] (merge_of item_time (numbered_files file files)) items (accepted_moved file files h.accepted)
+    (subst (λ (ns : List Numbered). AllZip IsItemOf ns items) (sym (packets_moved file files)) h.packets)
+    (merge-all (InFiles file (file + length files)) item_time (numbered_files file files) (all_in file file (file + length files) files (omega arith) (omega arith)))
+
+-- ---- all groups
+
+-- the files of the groups, numbered from that number on
+grouped : ℕ → List (List (List Item)) → List (List (List Item))
+grouped file [] = []
+grouped file (g ∷ gs) = numbered_files file g ∷ grouped (file + length g) gs
+
+all_names_of : ℕ → List (List (List Item)) → List GroupNames
+all_names_of file [] = []
+all_names_of file (g ∷ gs) = names_of file g ∷ all_names_of (file + length g) gs
+
+numbered_both : (file : ℕ) (fs gs : List (List Item)) → numbered_files file (fs ++ gs) ≡ numbered_files file fs ++ numbered_files (file + length fs) gs
+numbered_both file [] gs =
+    let e : file ≡ file + 0 = omega arith in
+    ap (λ n. numbered_files n gs) e
+numbered_both file (f ∷ fs) gs =
+    let e : suc file + length fs ≡ file + suc (length fs) = omega arith in
+    ap (λ r. map (in_file file) f ∷ r) (numbered_both (suc file) fs gs ∙ ap (λ n. numbered_files (suc file) fs ++ numbered_files n gs) e)
+
+grouped_files : (file : ℕ) (gs : List (List (List Item))) → files_in (grouped file gs) ≡ numbered_files file (flat_map (λ g. g) gs)
+unfolding grouped
+grouped_files file [] = refl
+grouped_files file (g ∷ gs) =
+    ap (λ r. numbered_files file g ++ r) (grouped_files (file + length g) gs) ∙ sym (numbered_both file g (flat_map (λ h. h) gs))
+
+zip_implied : (R S : Name → Name → Type 0) → ((a b : Name) → R a b → S a b) → (xs ys : List Item) → AllZip (Renamed R) xs ys → AllZip (Renamed S) xs ys
+zip_implied R S f [] [] h = tt
+zip_implied R S f [] (y ∷ ys) h = absurd h
+zip_implied R S f (x ∷ xs) [] h = absurd h
+zip_implied R S f (x ∷ xs) (y ∷ ys) h = (renamed-implied R S f x y h.0, zip_implied R S f xs ys h.1)
+
+zips_implied : (R S : Name → Name → Type 0) → ((a b : Name) → R a b → S a b) → (fs gs : List (List Item)) → AllZip (AllZip (Renamed R)) fs gs → AllZip (AllZip (Renamed S)) fs gs
+zips_implied R S f [] [] h = tt
+zips_implied R S f [] (y ∷ ys) h = absurd h
+zips_implied R S f (x ∷ xs) [] h = absurd h
+zips_implied R S f (x ∷ xs) (y ∷ ys) h = (zip_implied R S f x y h.0, zips_implied R S f xs ys h.1)
+
+groups_alike : (file place : ℕ) (groups : List (List (List Item))) (files : List (List Item)) → AllZip IsMergeOf groups files
+    → AllZip (AllZip (Renamed (IsOfGroups file place (all_names_of file groups)))) (map (merge_of item_time) (grouped file groups)) (numbered_files place files)
+unfolding grouped all_names_of names_of
+groups_alike file place [] [] h = tt
+groups_alike file place [] (f ∷ fs) h = absurd h
+groups_alike file place (g ∷ gs) [] h = absurd h
+groups_alike file place (g ∷ gs) (f ∷ fs) h = (
+  zip_implied (IsOfGroup file place (names_of file g)) (IsOfGroups file place (all_names_of file (g ∷ gs))) (λ a b r. inl r)
+      (merge_of item_time (numbered_files file g)) (map (in_file place) f) (group_alike file place g f h.0),
+  zips_implied (IsOfGroups (file + length g) (suc place) (all_names_of (file + length g) gs)) (IsOfGroups file place (all_names_of file (g ∷ gs))) (λ a b r. inr r)
+      (map (merge_of item_time) (grouped (file + length g) gs)) (numbered_files (suc place) fs) (groups_alike (file + length g) (suc place) gs fs h.1),
+)
+
+-- the merge of the groups' files, and that of all files, item by item
+rounds_alike : (groups : List (List (List Item))) (files : List (List Item)) → AllZip IsMergeOf groups files
+    → AllZip (Renamed (IsOfGroups 1 1 (all_names_of 1 groups))) (merge_of item_time (numbered_files 1 (flat_map (λ g. g) groups))) (merge_of item_time (numbered_files 1 files))
+rounds_alike groups files h =
+    let R = IsOfGroups 1 1 (all_names_of 1 groups) in
+    subst (λ (xs : List Item). AllZip (Renamed R) xs (merge_of item_time (numbered_files 1 files)))
+    (merged_rounds.rounds-law item_time (grouped 1 groups) ∙ ap (merge_of item_time) (grouped_files 1 groups))
+    (merge-alike (Renamed R) item_time (same_time R) (map (merge_of item_time) (grouped 1 groups)) (numbered_files 1 files) (groups_alike 1 1 groups files h))
+
+pub file_rounds-law : FileRoundsLaw
+file_rounds-law groups files h =
+    let R = IsOfGroups 1 1 (all_names_of 1 groups) in
+    let whole = flat_map (λ g. g) groups in
+    let apart = groups-apart 1 1 (all_names_of 1 groups) in
+    let alike = rounds_alike groups files h in (
+      packets_are files
+          ∙ numbered-renamed R apart [] [] tt (merge_of item_time (numbered_files 1 whole)) (merge_of item_time (numbered_files 1 files)) alike
+          ∙ sym (packets_are whole),
+      ap (option_map (λ f. f.rule)) (refusal_is files)
+          ∙ refusal-renamed R apart [] [] tt (merge_of item_time (numbered_files 1 whole)) (merge_of item_time (numbered_files 1 files)) alike
+          ∙ sym (ap (option_map (λ f. f.rule)) (refusal_is whole)),
+    )
+
+-- what a merge writes, as the items of a file, is what it writes
+made : (ns : List Numbered) → AllZip IsItemOf ns (file_of ns)
+made [] = tt
+made (n ∷ ns) = (record { instance = refl; interface = refl; units = refl; original = refl; frame = refl }, made ns)
+
+all_made : (groups : List (List (List Item))) → AllByRecursion (λ g. refusal_in [] (run_of g) ≡ None) groups
+    → AllZip IsMergeOf groups (map (λ g. file_of (merged_packets g)) groups)
+all_made [] h = tt
+all_made (g ∷ gs) h = (record { accepted = h.0; packets = made (merged_packets g) }, all_made gs h.1)
+
+pub rounds-law : RoundsLaw
+rounds-law groups h = file_rounds-law groups (map (λ g. file_of (merged_packets g)) groups) (all_made groups h)

@@ -1,0 +1,130 @@
+-- The packets that pcap bytes spell, and what is written for packets, read again.
+use Rattle.std.proofs.Common.{◌≡◌, ℕ, zero, suc, ◌+◌, ◌*◌, ◌/◌, ◌%◌, ◌^◌, ◌≤◌, ◌<◌, List, [], ◌∷◌, ◌++◌, length, take, drop, get_or, Bool, true, false, refl, ap, ◌∙◌, subst, arith, length-append, if◌then◌else◌}
+use Rattle.std.proofs.Math.Nat.{mod-add-div, mul_comm, add_comm}
+use Rattle.std.proofs.lemmas.Bool.{ltb-true, lt-ltb}
+use Rattle.std.proofs.lemmas.List.{get_or-drop}
+use Rattle.std.specs.Prelude.{FitsSigned}
+use Rattle.std.specs.Int.{w64}
+use Rattle.cap_blocks.specs.Split.{AreBytes}
+use Rattle.cap_bytes.proofs.Spelling.{number-lt}
+use Rattle.cap_bytes.specs.Number.{number}
+use Rattle.cap_bytes.specs.declared.faults.Tail.{Tail}
+use Rattle.cap_bytes.specs.declared.numbers.Order.{Order}
+use Rattle.cap_pcap.proofs.Again.{record_again-law}
+use Rattle.cap_pcap.proofs.Items.{items_from-none}
+use Rattle.cap_pcap.proofs.Splitting.{record_read-law, length-spelled}
+use Rattle.cap_pcap.specs.Grammar.{Packet, packet_size, SpellsRecord, record_text}
+use Rattle.cap_pcap.specs.Split.{Splits, items_with, items_from, given, record_of}
+use Rattle.cap_pcap.specs.declared.headers.PcapHeader.{PcapHeader}
+use Rattle.cap_pcap.specs.declared.records.Stop.TheVariants as stops
+use Rattle.cap_time.specs.Unit.{in_second}
+use Rattle.cap_time.specs.declared.resolutions.Interface.{Interface}
+use Rattle.cap_time.specs.declared.stamps.Unit.{Unit as Fraction}
+use Rattle.cap_time.specs.declared.stamps.Unit.TheVariants.{Micro, Nano}
+use Rattle.cap_write.proofs.Out.{fits, early}
+use Rattle.cap_write.proofs.Packed.{number_all}
+use Rattle.cap_write.specs.Laws.{AllFit, records_form, AllWritten}
+
+-- the fields of some packets fit in their widths
+abbrev pub AllHeld : List Packet → Type 0
+AllHeld [] = Unit {0}
+AllHeld (p ∷ ps) = (p.units < 2 ^ 64) × (p.original < 2 ^ 32) × (length p.frame ≤ 262144) × AllHeld ps
+
+pub AreBytes-drop : (n : ℕ) (bytes : List ℕ) → AreBytes bytes → AreBytes (drop n bytes)
+AreBytes-drop n bytes are k = rw get_or-drop (are (n + k))
+
+units_below : (unit : Fraction) (a b : ℕ) → a < 256 ^ 4 → b < 256 ^ 4 → a * in_second unit + b < 2 ^ 64
+units_below Micro a b h k = omega arith
+units_below Nano a b h k = omega arith
+
+-- those that bytes spell
+pub held-spelled : (order : Order) (unit : Fraction) (p : Packet) (xs : List ℕ) → AreBytes xs → SpellsRecord order unit p xs
+    → (p.units < 2 ^ 64) × (p.original < 2 ^ 32) × (length p.frame ≤ 262144)
+held-spelled order unit p xs are s =
+    let seconds = number-lt order 4 xs are in
+    let fraction = number-lt order 4 (drop 4 xs) (AreBytes-drop 4 xs are) in
+    let original = number-lt order 4 (drop 12 xs) (AreBytes-drop 12 xs are) in (
+      rw s.units (units_below unit (number order 4 xs) (number order 4 (drop 4 xs)) seconds fraction),
+      rw s.original (omega (arith, original)),
+      s.limit,
+    )
+
+take_below : (n : ℕ) (xs : List ℕ) (k : ℕ) → ((j : ℕ) → get_or xs j 0 < 256) → get_or (take n xs) k 0 < 256
+take_below zero xs k h = omega arith
+take_below (suc n) [] k h = h k
+take_below (suc n) (x ∷ xs) zero h = h 0
+take_below (suc n) (x ∷ xs) (suc k) h = take_below n xs k (λ j. h (suc j))
+
+AreBytes-take : (n : ℕ) (bytes : List ℕ) → AreBytes bytes → AreBytes (take n bytes)
+AreBytes-take n bytes are k = take_below n bytes k are
+
+pub held-splits : (order : Order) (unit : Fraction) (offset : ℕ) (bytes : List ℕ) (ps : List Packet) (rest : List ℕ) → AreBytes bytes
+    → Splits order unit offset bytes ps rest → AllHeld ps
+held-splits order unit offset bytes [] rest are s = tt
+held-splits order unit offset bytes (p ∷ ps) rest are s =
+    let here = held-spelled order unit p (take (packet_size p) bytes) (AreBytes-take (packet_size p) bytes are) s.0 in
+    (here.0, here.1, here.2, held-splits order unit (offset + packet_size p) (drop (packet_size p) bytes) ps rest (AreBytes-drop (packet_size p) bytes are) s.2)
+
+-- their fields fit, as they are numbered
+pub AllFit-held : (i : Interface) (ps : List Packet) → i.link < 2 ^ 16 → i.snaplen < 2 ^ 32 → FitsSigned w64 i.offset → AllHeld ps → AllFit (number_all i ps)
+AllFit-held i [] link snaplen offset held = tt
+AllFit-held i (p ∷ ps) link snaplen offset held =
+    (record { link = link; snaplen = snaplen; offset = offset; units = held.0; original = held.1; frame = held.2 }, AllFit-held i ps link snaplen offset held.3)
+
+-- A packet is read again where its seconds fit.
+same_units : (d : ℕ) (p : Packet) → record { units = p.units / d * d + p.units % d; original = p.original; frame = p.frame } ≡ p
+same_units d p = ap (λ (u : ℕ). record { units = u; original = p.original; frame = p.frame })
+    (ap (λ n. n + p.units % d) (mul_comm (p.units / d) d) ∙ (add_comm (d * (p.units / d)) (p.units % d) ∙ mod-add-div p.units d))
+
+below_second : (unit : Fraction) (u : ℕ) → u % in_second unit < 2 ^ 32
+below_second Micro u = omega arith
+below_second Nano u = omega arith
+
+spelled-again : (order : Order) (unit : Fraction) (p : Packet) → p.units / in_second unit < 2 ^ 32 → p.original < 2 ^ 32 → length p.frame ≤ 262144
+    → SpellsRecord order unit p (record_text order (p.units / in_second unit) (p.units % in_second unit) p.original p.frame)
+spelled-again order unit p seconds original frame =
+    subst (λ q. SpellsRecord order unit q (record_text order (p.units / in_second unit) (p.units % in_second unit) p.original p.frame))
+    (same_units (in_second unit) p)
+    (record_again-law order unit (p.units / in_second unit) (p.units % in_second unit) p.original p.frame seconds (below_second unit p.units) original frame)
+
+-- The packets of a written text whose seconds fit are read again.
+pub records-again : (h : PcapHeader) (tail : Tail) (file offset : ℕ) (ps : List Packet) → AllHeld ps
+    → offset + length (records_form h.order h.unit (early h.unit ps)) ≤ 2 ^ 40
+    → items_from h tail file offset (records_form h.order h.unit (early h.unit ps)) ≡ items_with offset (early h.unit ps) stops.End
+records-again h tail file offset [] held limit = items_from-none h tail file offset
+records-again h tail file offset (p ∷ ps) held limit =
+    by (fits h.unit p) refl (λ offset limit. records-again h tail file offset ps held.3 limit) limit
+  where
+    by : (b : Bool) → fits h.unit p ≡ b
+        → ((offset : ℕ) → offset + length (records_form h.order h.unit (early h.unit ps)) ≤ 2 ^ 40
+        → items_from h tail file offset (records_form h.order h.unit (early h.unit ps)) ≡ items_with offset (early h.unit ps) stops.End)
+        → offset + length (records_form h.order h.unit (if fits h.unit p then p ∷ early h.unit ps else [])) ≤ 2 ^ 40
+        → items_from h tail file offset (records_form h.order h.unit (if fits h.unit p then p ∷ early h.unit ps else []))
+        ≡ items_with offset (if fits h.unit p then p ∷ early h.unit ps else []) stops.End
+    by true is later few =
+        let text = record_text h.order (p.units / in_second h.unit) (p.units % in_second h.unit) p.original p.frame in
+        let rest = records_form h.order h.unit (early h.unit ps) in
+        let s = spelled-again h.order h.unit p (ltb-true (p.units / in_second h.unit) (2 ^ 32) is) held.1 held.2 in
+        let size = length-spelled h.order h.unit p text s in
+        let room : offset + length (text ++ rest) ≤ 2 ^ 40 =
+        subst (λ b. offset + length (records_form h.order h.unit (if b then p ∷ early h.unit ps else [])) ≤ 2 ^ 40) is few in
+        rw is
+        (record_read-law h tail file offset p text rest s (omega (arith, room, length-append text rest))
+        ∙ (ap (λ n. given (record_of offset p) p.frame ∷ items_from h tail file (offset + n) rest) size
+        ∙ ap (λ l. given (record_of offset p) p.frame ∷ l) (later (offset + packet_size p) (omega (arith, room, length-append text rest, size)))))
+    by false is later few = rw is (items_from-none h tail file offset)
+
+-- Packets in the written form are held, and all their seconds fit.
+units_written : (unit : Fraction) (u : ℕ) → u / in_second unit < 2 ^ 32 → u < 2 ^ 64
+units_written Micro u h = omega arith
+units_written Nano u h = omega arith
+
+pub held-written : (unit : Fraction) (ps : List Packet) → AllWritten unit ps → AllHeld ps
+held-written unit [] w = tt
+held-written unit (p ∷ ps) w = (units_written unit p.units w.0, w.1, w.2, held-written unit ps w.3)
+
+pub early-written : (unit : Fraction) (ps : List Packet) → AllWritten unit ps → early unit ps ≡ ps
+early-written unit [] w = refl
+early-written unit (p ∷ ps) w =
+    ap (λ b. if b then p ∷ early unit ps else []) (lt-ltb (p.units / in_second unit) (2 ^ 32) w.0)
+    ∙ ap (λ l. p ∷ l) (early-written unit ps w.3)

@@ -1,0 +1,194 @@
+-- The packets of a written file, numbered again.
+use Rattle.std.proofs.Common.{◌≡◌, ◌==◌, ◌&&◌, ℕ, zero, suc, ◌+◌, ◌≤◌, ◌<◌, min, nat_le, nat_lt, not, cond, List, [], ◌∷◌, ◌++◌, length, Bool, true, false, Option, Some, None, refl, sym, ap, ◌∙◌, subst, arith, length-append, if◌then◌else◌}
+use Rattle.std.proofs.lemmas.Bool.{eq-eqb, eqb-true, eqb-false, ne_eqb, false≢true, lt-ltb, ltb-true, ltb-false}
+use Rattle.std.proofs.lemmas.Bool.Decides.{nat_tests}
+use Rattle.std.proofs.lemmas.List.Folds.{position_or_len_push}
+use Rattle.std.specs.List.{list_any, position_or_len}
+use Rattle.indexmap.specs.IndexSet.{insert_key}
+use Rattle.cap_bytes.specs.declared.faults.Rule.{Rule}
+use Rattle.cap_bytes.specs.declared.faults.Rule.TheVariants.{InterfaceLimit}
+use Rattle.cap_bytes.specs.declared.numbers.Order.{Order}
+use Rattle.cap_source.specs.Feed.{Item, packet, refused}
+use Rattle.cap_source.specs.Items.{file_items}
+use Rattle.cap_source.specs.declared.packets.Meta.{Meta}
+use Rattle.cap_write.proofs.Feeding.{count_after-is}
+use Rattle.cap_write.proofs.Files.{merged-again}
+use Rattle.cap_write.proofs.MergedAgain.{number-used, room_left, IsNumbered-given, AllFit-given, all_described-given}
+use Rattle.cap_write.proofs.Places.{position_or_len-none, position_or_len-some}
+use Rattle.cap_write.specs.Laws.{read_items, meta_again, instances, numbers, refusal_of, MergedAgain}
+use Rattle.cap_write.specs.Numbering.{Name, name_of, is_name, is_used, number_of, with_name, write_fault, Numbered, numbered_of, numbered_or, numbered, refusal_or, refusal_in}
+use Rattle.cap_write.specs.Texts.{interface_part, packet_part, count_after, merged_text}
+
+-- the names of so many interfaces of one file
+abbrev pub file_names : ℕ → ℕ → List Name
+file_names file zero = []
+file_names file (suc k) = file_names file k ++ (file, k) ∷ []
+
+length-file_names : (file count : ℕ) → length (file_names file count) ≡ count
+length-file_names file zero = refl
+length-file_names file (suc k) = length-append (file_names file k) ((file, k) ∷ []) ∙ omega (arith, length-file_names file k)
+
+own_file : (file k m : ℕ) → is_name (file, k) (file, m) ≡ (k == m)
+own_file file k m = ap (λ b. b && (k == m)) (eq-eqb file file refl)
+
+least_by : (k m : ℕ) (here same : Bool) → (min k m == m) ≡ here → (k == m) ≡ same
+    → (if here then m + (if same then 0 else 1) else min k m) ≡ min k (suc m)
+least_by k m true true is e = omega (arith, eqb-true (min k m) m is, eqb-true k m e)
+least_by k m true false is e = omega (arith, eqb-true (min k m) m is, eqb-false k m e)
+least_by k m false same is e = omega (arith, eqb-false (min k m) m is)
+
+-- where one of them stands
+place_of : (file k count : ℕ) → position_or_len (is_name (file, k)) (file_names file count) ≡ min k count
+place_of file k zero = omega arith
+place_of file k (suc m) =
+    let p = is_name (file, k) in
+    let names = file_names file m in
+    position_or_len_push p names (file, m)
+    ∙ (ap (λ l. cond (position_or_len p names == l) (l + cond (p (file, m)) 0 1) (position_or_len p names)) (length-file_names file m)
+    ∙ (ap (λ x. cond (x == m) (m + cond (p (file, m)) 0 1) x) (place_of file k m)
+    ∙ (ap (λ b. cond (min k m == m) (m + cond b 0 1) (min k m)) (own_file file k m)
+    ∙ least_by k m (min k m == m) (k == m) refl refl)))
+
+-- whether it stands there
+used_of : (file k count : ℕ) (used : Bool) → list_any (is_name (file, k)) (file_names file count) ≡ used → nat_lt k count ≡ used
+used_of file k count true is =
+    lt-ltb k count (omega (arith, position_or_len-some (is_name (file, k)) (file_names file count) is, place_of file k count, length-file_names file count))
+used_of file k count false is =
+    not_below k count (omega (arith, position_or_len-none (is_name (file, k)) (file_names file count) is, place_of file k count, length-file_names file count))
+  where
+    not_below : (a b : ℕ) → b ≤ a → nat_lt a b ≡ false
+    not_below a b h = grind (arith, nat_tests)
+
+-- The packets have the numbers of a file's interfaces in their order of first use.
+abbrev pub InOrder : ℕ → List Numbered → Type 0
+InOrder count [] = Unit {0}
+InOrder count (n ∷ rest) = (n.number ≤ count) × ((n.number == count) ≡ true → count < 1024) × InOrder (count_after count n) rest
+
+one_more : (k : ℕ) → suc k ≡ k + 1
+one_more k = omega arith
+
+-- the names behind a packet that was read again
+names_behind : (file count : ℕ) (n : Numbered) → n.number ≤ count
+    → insert_key is_name (file_names file count) (file, n.number) ≡ file_names file (count_after count n)
+names_behind file count n few = by (list_any (is_name (file, n.number)) (file_names file count)) refl
+  where
+    by : (used : Bool) → list_any (is_name (file, n.number)) (file_names file count) ≡ used
+        → (if used then file_names file count else file_names file count ++ (file, n.number) ∷ []) ≡ file_names file (count_after count n)
+    by true is =
+        let below = ltb-true n.number count (used_of file n.number count true is) in
+        ap (λ b. file_names file (if b then count + 1 else count)) (sym (ne_eqb n.number count (λ e. absurd (omega (arith, below, e)))))
+    by false is =
+        let same : n.number ≡ count = omega (arith, ltb-false n.number count (used_of file n.number count false is), few) in
+        ap (λ k. file_names file count ++ (file, k) ∷ []) same
+        ∙ (ap (file_names file) (one_more count) ∙ ap (λ b. file_names file (if b then count + 1 else count)) (sym (eq-eqb n.number count same)))
+
+never : (b : Bool) → (if b && false then Some InterfaceLimit else None) ≡ None
+never true = refl
+never false = refl
+
+few_left : (n : ℕ) → n < 1024 → nat_le 1024 n ≡ false
+few_left n h = grind (arith, nat_tests)
+
+number-most : (names : List Name) (meta : Meta) → number_of names meta ≤ length names
+number-most names meta = by (is_used names meta) refl
+  where
+    by : (used : Bool) → is_used names meta ≡ used → number_of names meta ≤ length names
+    by true used = omega (arith, position_or_len-some (is_name (name_of meta)) names used)
+    by false used = omega (arith, position_or_len-none (is_name (name_of meta)) names used)
+
+next_room : (names : List Name) (meta : Meta) → write_fault names meta ≡ None → (number_of names meta == length names) ≡ true → length names < 1024
+next_room names meta none next = by (is_used names meta) refl
+  where
+    by : (used : Bool) → is_used names meta ≡ used → length names < 1024
+    by true used = absurd (false≢true (sym (number-used names meta used) ∙ next))
+    by false used = room_left names meta none used
+
+-- which isn't refused
+unrefused : (file place count : ℕ) (n : Numbered) → n.number ≤ count → ((n.number == count) ≡ true → count < 1024)
+    → write_fault (file_names file count) (meta_again file place n) ≡ None
+unfolding write_fault
+unrefused file place count n few room = by (list_any (is_name (file, n.number)) (file_names file count)) refl
+  where
+    by : (used : Bool) → list_any (is_name (file, n.number)) (file_names file count) ≡ used
+        → (if nat_le 1024 (length (file_names file count)) && not (list_any (is_name (file, n.number)) (file_names file count)) then Some InterfaceLimit else None) ≡ None
+    by true is = ap (λ u. if nat_le 1024 (length (file_names file count)) && not u then Some InterfaceLimit else None) is ∙ never (nat_le 1024 (length (file_names file count)))
+    by false is =
+        let same : n.number ≡ count = omega (arith, ltb-false n.number count (used_of file n.number count false is), few) in
+        let left = room (eq-eqb n.number count same) in
+        ap (λ b. if b && not (list_any (is_name (file, n.number)) (file_names file count)) then Some InterfaceLimit else None)
+        (few_left (length (file_names file count)) (omega (arith, left, length-file_names file count)))
+
+-- Packets that are read again have the numbers that they had, and none is refused.
+pub numbered-again : (order : Order) (file offset count : ℕ) (ns : List Numbered) → InOrder count ns
+    → numbered (file_names file count) (read_items order file offset count ns) ≡ ns
+unfolding numbered read_items
+numbered-again order file offset count [] in_order = refl
+numbered-again order file offset count (n ∷ rest) in_order =
+    let place = offset + length (interface_part order count n) in
+    let next = place + length (packet_part order n) in
+    let items = read_items order file next (count_after count n) rest in
+    let number : position_or_len (is_name (file, n.number)) (file_names file count) ≡ n.number =
+    place_of file n.number count ∙ omega (arith, in_order.0) in
+    ap (λ f. numbered_or f (numbered_of (file_names file count) (meta_again file place n) n.frame) (numbered (with_name (file_names file count) (meta_again file place n)) items))
+    (unrefused file place count n in_order.0 in_order.1)
+    ∙ (ap (λ k. record { number = k; interface = n.interface; units = n.units; original = n.original; frame = n.frame }
+    ∷ numbered (with_name (file_names file count) (meta_again file place n)) items) number
+    ∙ (ap (λ names. n ∷ numbered names items) (names_behind file count n in_order.0)
+    ∙ ap (λ l. n ∷ l) (numbered-again order file next (count_after count n) rest in_order.2)))
+
+pub refusal-again : (order : Order) (file offset count : ℕ) (ns : List Numbered) → InOrder count ns
+    → refusal_in (file_names file count) (read_items order file offset count ns) ≡ None
+unfolding refusal_in read_items
+refusal-again order file offset count [] in_order = refl
+refusal-again order file offset count (n ∷ rest) in_order =
+    let place = offset + length (interface_part order count n) in
+    let next = place + length (packet_part order n) in
+    let items = read_items order file next (count_after count n) rest in
+    ap (λ f. refusal_or f (meta_again file place n) (refusal_in (with_name (file_names file count) (meta_again file place n)) items))
+    (unrefused file place count n in_order.0 in_order.1)
+    ∙ (ap (λ names. refusal_in names items) (names_behind file count n in_order.0)
+    ∙ refusal-again order file next (count_after count n) rest in_order.2)
+
+pub refusal_of-again : (order : Order) (file offset count : ℕ) (ns : List Numbered) → refusal_of (read_items order file offset count ns) ≡ None
+unfolding refusal_of read_items
+refusal_of-again order file offset count [] = refl
+refusal_of-again order file offset count (n ∷ rest) =
+    refusal_of-again order file (offset + length (interface_part order count n) + length (packet_part order n)) (count_after count n) rest
+
+-- and their instances are those numbers
+pub instances-again : (order : Order) (file offset count : ℕ) (ns : List Numbered) → instances (read_items order file offset count ns) ≡ numbers ns
+unfolding instances read_items
+instances-again order file offset count [] = refl
+instances-again order file offset count (n ∷ rest) =
+    ap (λ l. n.number ∷ l)
+    (instances-again order file (offset + length (interface_part order count n) + length (packet_part order n)) (count_after count n) rest)
+
+-- what is numbered is in order
+pub InOrder-numbered : (names : List Name) (items : List Item) → InOrder (length names) (numbered names items)
+unfolding numbered
+InOrder-numbered names [] = tt
+InOrder-numbered names (refused refusal ∷ items) = tt
+InOrder-numbered names (packet meta frame ∷ items) = by (write_fault names meta) refl (InOrder-numbered (with_name names meta) items)
+  where
+    by : (fault : Option Rule) → write_fault names meta ≡ fault → InOrder (length (with_name names meta)) (numbered (with_name names meta) items)
+        → InOrder (length names) (numbered_or fault (numbered_of names meta frame) (numbered (with_name names meta) items))
+    by (Some rule) is later = tt
+    by None is later = (
+      number-most names meta,
+      next_room names meta is,
+      subst (λ k. InOrder k (numbered (with_name names meta) items)) (sym (count_after-is names meta frame)) later,
+    )
+
+-- What is written of a list is read again as what was numbered of it.
+pub merged_again-law : MergedAgain
+merged_again-law order tail file given items have limit =
+    let ns = numbered [] items in
+    let read : file_items tail file (merged_text order items) ≡ read_items order file 28 0 ns =
+    merged-again order tail file ns (IsNumbered-given given [] items have) (AllFit-given given [] items have) (all_described-given given [] items have (omega arith)) limit in
+    let in_order = InOrder-numbered [] items in
+    let same : numbered [] (file_items tail file (merged_text order items)) ≡ ns = ap (numbered []) read ∙ numbered-again order file 28 0 ns in_order in (
+      same,
+      ap (refusal_in []) read ∙ refusal-again order file 28 0 ns in_order,
+      ap refusal_of read ∙ refusal_of-again order file 28 0 ns,
+      ap instances read ∙ (instances-again order file 28 0 ns ∙ sym (ap numbers same)),
+    )

@@ -1,0 +1,59 @@
+use Rattle.std.proofs.Common.{Some, None, Ok, drop, subst, sym, rules}
+use Rattle.std.proofs.lemmas.Result.{err_from_is_err_and}
+use Rattle.cap_source.proofs.Walking.{GoesOn, Walking-more, Prints-fault, Prints-end}
+use Rattle.cap_source.specs.Walk.{ShowsItem}
+use Rattle.cap_write.proofs.Feeding.{plan_of, plan_of-is, plan_of-next, Prints-one}
+use Rattle.cap_write.specs.Texts.{one_text}
+use Rattle.cap_write.proofs.packets.put_packets.Goals as goal
+
+pub returns-in_err-meta-clause-text : goal.returns-in_err-meta-clause-text
+returns-in_err-meta-clause-text g c = λ t w.
+    let p = err_from_is_err_and c.from_residual.result c.from_residual.ensures.1 in
+    let i = c.loop-meta.invariant.walk in
+    let names = c.loop-meta.names.keys in
+    rw (p.1, p.2) (Prints-fault (plan_of c.args.order names) c.in_err-meta.field-0.0 _ _ _ _
+    (g.F.PacketFeed.feed c.loop-meta.feed) (g.F.PacketFeed.feed c.next_packet.new.feed) (plan_of-is c.args.order names) (i.text t) w (i.refusal_same t)
+    (c.in_err-meta.ensures.items (i.told t)))
+
+pub returns-in_err-put_one-clause-text : goal.returns-in_err-put_one-clause-text
+returns-in_err-put_one-clause-text g c = λ t w.
+    let p = err_from_is_err_and c.from_residual-in_err-put_one.result c.from_residual-in_err-put_one.ensures.1 in
+    let i = c.loop-meta.invariant.walk in
+    let mid = g.F.PacketFeed.feed c.loop-meta.feed in
+    let shown = g.F.PacketFeed.feed c.next_packet.new.feed in
+    let names = c.loop-meta.names.keys in
+    let shows : ShowsItem mid (Ok (Some c.in-Some.meta)) shown = rw c.in-Some.is at (c.in_ok-meta.ensures.items (i.told t)) in
+    rw (p.1, p.2)
+    (Prints-one c.args.order c.in_err-put_one.field-0.0 _ _ _ _ _ names c.in-Some.meta shown.frame c.frame.result.now mid.items (drop 1 mid.items)
+    shows.1 c.frame.ensures.frame (i.text t) w (i.refusal_same t) (c.in_err-put_one.ensures.text (i.writer_told w)))
+
+pub loop-meta-preserved : goal.loop-meta-preserved
+loop-meta-preserved g c =
+    let i = c.loop-meta.invariant in
+    let mid = g.F.PacketFeed.feed c.loop-meta.feed in
+    let shown = g.F.PacketFeed.feed c.next_packet.new.feed in
+    let names = c.loop-meta.names.keys in
+    let meta = c.in-Some.meta in
+    let e = c.in_ok-put_one.ensures in
+    let line = one_text c.args.order names meta shown.frame in
+    let goes : GoesOn (plan_of c.args.order names) meta shown.frame line (plan_of c.args.order c.put_one.new.names.keys) =
+    subst (λ n. GoesOn (plan_of c.args.order names) meta shown.frame line (plan_of c.args.order n)) (sym e.names.0)
+    (plan_of-next c.args.order names meta shown.frame e.names.1) in
+    record {
+      limit = e.limit;
+      walk =
+          Walking-more _ _ _ _ mid shown (g.F.PacketFeed.feed c.pass.new.self) _ _ _ _ _ _ meta line
+          i.walk c.in_ok-meta.ensures.keeps (λ t. rw c.in-Some.is at (c.in_ok-meta.ensures.items t))
+          c.pass.ensures.keeps c.pass.ensures.passes.items goes
+          (λ w. (rw c.frame.ensures.frame at (e.text w)).1)
+          e.told e.cannot (search rules);
+    }
+
+pub returns-clause-text : goal.returns-clause-text
+returns-clause-text g c = λ t w.
+    let i = c.loop-meta.invariant.walk in
+    let mid = g.F.PacketFeed.feed c.loop-meta.feed in
+    let shown = g.F.PacketFeed.feed c.next_packet.new.feed in
+    let names = c.loop-meta.names.keys in
+    let shows : ShowsItem mid (Ok None) shown = rw c.in_default.is at (c.in_ok-meta.ensures.items (i.told t)) in
+    Prints-end (plan_of c.args.order names) _ _ _ _ mid shown (plan_of-is c.args.order names) (i.text t) w (i.refusal_same t) shows

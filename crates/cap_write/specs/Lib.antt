@@ -1,0 +1,7 @@
+pub mod Laws
+pub mod Names
+pub mod Numbering
+pub mod Pcap
+pub mod Rounds
+pub mod Texts
+pub mod Times

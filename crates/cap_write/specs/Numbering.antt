@@ -1,0 +1,92 @@
+-- The packets that are written of a list, each with the number of its interface, and what refuses a packet.
+use Rattle.std.specs.Prelude.{◌==◌, ◌&&◌, not, ℕ, nat_le, if◌then◌else◌, Bool, List, [], ◌∷◌, length, Option, Some, None, is_none, unwrap_or, option_map}
+use Rattle.std.specs.List.{list_any, position_or_len}
+use Rattle.indexmap.specs.IndexSet.{insert_key}
+use Rattle.cap_bytes.specs.declared.faults.Refusal.{Refusal}
+use Rattle.cap_bytes.specs.declared.faults.Rule.{Rule}
+use Rattle.cap_bytes.specs.declared.faults.Rule.TheVariants.{NoTime, InterfaceLimit}
+use Rattle.cap_source.specs.Feed.{Item, packet, refused}
+use Rattle.cap_source.specs.declared.packets.Meta.{Meta}
+use Rattle.cap_time.specs.declared.resolutions.Interface.{Interface}
+
+-- An interface by its file's number and by how many interface blocks of the file stand before its own.
+abbrev pub Name : Type 0
+Name = ℕ × ℕ
+
+abbrev pub name_of : Meta → Name
+name_of meta = (meta.file, meta.instance)
+
+abbrev pub is_name : Name → Name → Bool
+is_name a b = (a.0 == b.0) && (a.1 == b.1)
+
+-- A packet as it is written: the number of its interface, the interface, its time in the interface's
+-- units, how long it was, and the bytes that were captured of it.
+pub record Numbered : Type 0 where
+  pub number : ℕ
+  pub interface : Interface
+  pub units : ℕ
+  pub original : ℕ
+  pub frame : List ℕ
+
+-- whether an interface was used, where those of `names` were
+abbrev pub is_used : List Name → Meta → Bool
+is_used names meta = list_any (is_name (name_of meta)) names
+
+-- Interfaces are numbered from 0 in the order of their first use: the number of a packet's, where those
+-- of `names` were used before it, and those that are used then.
+abbrev pub number_of : List Name → Meta → ℕ
+number_of names meta = position_or_len (is_name (name_of meta)) names
+
+abbrev pub with_name : List Name → Meta → List Name
+with_name names meta = insert_key is_name names (name_of meta)
+
+-- whether a packet would need the 1,025th interface
+abbrev pub is_full : List Name → Meta → Bool
+is_full names meta = nat_le 1024 (length names) && not (is_used names meta)
+
+-- Why a packet isn't written, where those interfaces were used: it has no time, or its interface would be
+-- the 1,025th.
+unfoldable pub write_fault : List Name → Meta → Option Rule
+write_fault names meta =
+    if is_none meta.units then Some NoTime else
+    if is_full names meta then Some InterfaceLimit else None
+
+abbrev pub numbered_of : List Name → Meta → List ℕ → Numbered
+numbered_of names meta frame =
+    record {
+      number = number_of names meta;
+      interface = meta.interface;
+      units = unwrap_or meta.units 0;
+      original = meta.original;
+      frame = frame;
+    }
+
+-- The packets that are written of a list, where those interfaces were used before: all up to the first
+-- that is refused, or to the refusal that ends the list.
+abbrev pub numbered_or : Option Rule → Numbered → List Numbered → List Numbered
+numbered_or (Some rule) first rest = []
+numbered_or None first rest = first ∷ rest
+
+unfoldable pub numbered : List Name → List Item → List Numbered
+numbered names [] = []
+numbered names (packet meta frame ∷ items) =
+    numbered_or (write_fault names meta) (numbered_of names meta frame) (numbered (with_name names meta) items)
+numbered names (refused refusal ∷ items) = []
+
+-- the refusal of a packet
+abbrev pub refusal_at : Meta → Rule → Refusal
+refusal_at meta rule = record { file = meta.file; offset = meta.offset; rule = rule }
+
+abbrev pub refusal_by : Meta → Option Rule → Option Refusal
+refusal_by meta fault = option_map (refusal_at meta) fault
+
+-- the refusal behind those packets, if there is one
+abbrev pub refusal_or : Option Rule → Meta → Option Refusal → Option Refusal
+refusal_or (Some rule) meta rest = Some (refusal_at meta rule)
+refusal_or None meta rest = rest
+
+unfoldable pub refusal_in : List Name → List Item → Option Refusal
+refusal_in names [] = None
+refusal_in names (packet meta frame ∷ items) =
+    refusal_or (write_fault names meta) meta (refusal_in (with_name names meta) items)
+refusal_in names (refused refusal ∷ items) = Some refusal

@@ -1,0 +1,34 @@
+//! Laws of written files, each the contract of a function that does nothing.
+ghost use Rattle.cap_write.specs.Laws.{MergedAgain, RoundTrip, SameBytes};
+ghost use Rattle.cap_write.specs.Rounds.{ClockLaw, FileRoundsLaw, RoundsLaw};
+
+/// An accepted pcap file, written as pcapng and then as pcap again, comes back: the pcapng file has its
+/// packets, in order, with link, snaplen, exact time, lengths and bytes, and the pcap file has those before
+/// the first with a time of 2^32 seconds or more, which is refused (rule 20, time-range); nothing else is. A
+/// file in the written form comes back byte for byte in the same order.
+pub fn round_trip()
+    ensures packets { RoundTrip }
+    ensures bytes { SameBytes }
+{}
+
+/// What `write_merged` writes of a list, in which the packets of one instance have one interface, has the
+/// packets of that list, those before a refusal, in order: with the same numbers of interfaces, which are
+/// the instances there, and the same interfaces, times, lengths and bytes.
+pub fn merged_again()
+    ensures packets { MergedAgain }
+{}
+
+/// In the run of some files, the greatest time among the packets up to and with one equals that packet's
+/// clock by the order of times, also where files run back in time.
+pub fn clock_law()
+    ensures clocks { ClockLaw }
+{}
+
+/// Files are split, in their order, into neighbouring groups, and each group is merged. Where nothing is
+/// refused in these merges, the merge of what came of the groups, in their order, writes the packets that the
+/// merge of all files at once writes, in that order and with the same numbers of interfaces; and where one of
+/// the two is refused behind these packets, so is the other, by the same rule.
+pub fn rounds_law()
+    ensures packets { RoundsLaw }
+    ensures files { FileRoundsLaw }
+{}

@@ -1,0 +1,16 @@
+//! Written files: packets of one capture file or of several, exactly as they were read, or a refusal.
+#![tactic(auto)]
+
+pub mod laws;
+mod merged;
+mod names;
+mod packets;
+mod pcap;
+mod pcapng;
+
+pub use crate::merged::write_merged;
+pub use crate::pcap::to_pcap;
+pub use crate::pcapng::to_pcapng;
+
+#[cfg(test)]
+mod tests;

@@ -1,0 +1,37 @@
+//! Merged files.
+ghost use Rattle.std.specs.Prelude.{◌≡◌, ◌||◌, IsTrue};
+ghost use Rattle.cap_bytes.specs.Printing.{Prints, IsRead, is_write};
+ghost use Rattle.cap_write.specs.Texts.{merged_text, merged_refusal};
+
+use crate::names::Names;
+use crate::packets::put_packets;
+use cap_blocks::put_section;
+use cap_bytes::{Fault, Order, Sink};
+use cap_source::PacketFeed;
+use std::alloc::Global;
+
+/// Writes the packets of a feed as a pcapng file of one section in that order, each packet's interface
+/// in front of its first packet. Interfaces are numbered by first use. `Refused` comes at a packet that
+/// has no time (rule 17, no-time), at one whose interface would be the 1,025th (rule 13,
+/// interface-limit), and where the feed's packets end in a refusal: what is written is the text of the
+/// packets before it. After `Read`, `Write` or `Memory` a front of the text is written.
+/// draft-ietf-opsawg-pcapng, 4.
+pub fn write_merged<F: PacketFeed, W: Sink>(
+    alloc: Global,
+    feed: &mut F,
+    order: Order,
+    writer: &mut W,
+) -> Result<(), Fault>
+    ensures text { IsTrue (F.feed feed.old).told → IsTrue (W.tells_held writer.old)
+        → Prints (merged_text order (F.feed feed.old).items) (merged_refusal (F.feed feed.old).items)
+        (W.held writer.old) result (W.held writer.new) }
+    ensures told { IsTrue (W.tells_held writer.old) → IsTrue (W.tells_held writer.new) }
+    ensures failed { W.has_failed writer.new ≡ (W.has_failed writer.old || is_write result) }
+    ensures read { IsRead result → IsTrue (F.feed feed.old).can_fail }
+    ensures write { IsTrue (is_write result) → IsTrue (W.can_fail writer.old) }
+    ensures cannot { IsTrue (W.can_fail writer.new) → IsTrue (W.can_fail writer.old) }
+{
+    put_section(writer, order)?;
+    let mut names = Names::new(alloc);
+    put_packets(feed, order, &mut names, writer)
+}

@@ -1,0 +1,121 @@
+//! The packets of a feed, written one by one in the form of pcapng.
+ghost use Rattle.std.specs.Prelude.{◌≡◌, ◌+◌, ◌≤◌, ◌++◌, ◌||◌, length, IsTrue, is_err, IsErr, IsOkUnless, OnOk, None, if◌then◌else◌, ◌==◌, []};
+ghost use Rattle.cap_bytes.specs.Device.{Puts};
+ghost use Rattle.cap_bytes.specs.Printing.{Prints, IsRead, is_write};
+ghost use Rattle.cap_blocks.specs.Grammar.{interface_text, packet_text};
+ghost use Rattle.cap_write.specs.Numbering.{number_of, with_name, refusal_in, refusal_by, write_fault};
+ghost use Rattle.cap_write.specs.Texts.{text_behind, one_text};
+
+use crate::names::{Names, number_of, units_of};
+use cap_blocks::{put_interface, put_packet};
+use cap_bytes::{Fault, Order, Sink};
+use cap_source::{Meta, PacketFeed, next_packet};
+
+// Writes a packet's interface where it is the next one.
+fn put_new_interface<W: Sink>(
+    writer: &mut W,
+    order: Order,
+    is_new: bool,
+    meta: &Meta,
+) -> Result<(), Fault>
+    ensures bytes { IsTrue (W.tells_held writer.old)
+        → Puts (W.held writer.old) result (W.held writer.new)
+        (if is_new then interface_text order meta.now.interface else []) }
+    ensures told { IsTrue (W.tells_held writer.old) → IsTrue (W.tells_held writer.new) }
+    ensures failed { W.has_failed writer.new ≡ (W.has_failed writer.old || is_err result) }
+    ensures can { IsErr result → IsTrue (W.can_fail writer.old) }
+    ensures cannot { IsTrue (W.can_fail writer.new) → IsTrue (W.can_fail writer.old) }
+    ensures fault { IsOkUnless result Fault.Write }
+{
+    if is_new {
+        put_interface(writer, order, &meta.interface)
+    } else {
+        Ok(())
+    }
+}
+
+// Writes a packet, behind its interface where that is the next one.
+fn put_numbered<W: Sink>(
+    writer: &mut W,
+    order: Order,
+    is_new: bool,
+    number: u32,
+    units: u64,
+    meta: &Meta,
+    frame: &[u8],
+) -> Result<(), Fault>
+    requires captured { length frame.now ≤ 262144 }
+    ensures bytes { IsTrue (W.tells_held writer.old)
+        → Puts (W.held writer.old) result (W.held writer.new)
+        ((if is_new then interface_text order meta.now.interface else [])
+        ++ packet_text order number units meta.now.original frame.now) }
+    ensures told { IsTrue (W.tells_held writer.old) → IsTrue (W.tells_held writer.new) }
+    ensures failed { W.has_failed writer.new ≡ (W.has_failed writer.old || is_err result) }
+    ensures can { IsErr result → IsTrue (W.can_fail writer.old) }
+    ensures cannot { IsTrue (W.can_fail writer.new) → IsTrue (W.can_fail writer.old) }
+    ensures fault { IsOkUnless result Fault.Write }
+{
+    put_new_interface(writer, order, is_new, meta)?;
+    put_packet(writer, order, number, units, meta.original, frame)
+}
+
+// Writes a packet, or answers why it isn't written.
+fn put_one<W: Sink>(
+    names: &mut Names,
+    order: Order,
+    meta: &Meta,
+    frame: &[u8],
+    writer: &mut W,
+) -> Result<(), Fault>
+    requires captured { length frame.now ≤ 262144 }
+    requires limit { length names.old.keys ≤ 1024 }
+    ensures text { IsTrue (W.tells_held writer.old)
+        → Prints (one_text order names.old.keys meta.now frame.now)
+        (refusal_by meta.now (write_fault names.old.keys meta.now))
+        (W.held writer.old) result (W.held writer.new) }
+    ensures names { OnOk result ((names.new.keys ≡ with_name names.old.keys meta.now) × (write_fault names.old.keys meta.now ≡ None)) }
+    ensures limit { length names.new.keys ≤ 1024 }
+    ensures told { IsTrue (W.tells_held writer.old) → IsTrue (W.tells_held writer.new) }
+    ensures failed { W.has_failed writer.new ≡ (W.has_failed writer.old || is_write result) }
+    ensures read { IsRead result → ⊥ }
+    ensures write { IsTrue (is_write result) → IsTrue (W.can_fail writer.old) }
+    ensures cannot { IsTrue (W.can_fail writer.new) → IsTrue (W.can_fail writer.old) }
+{
+    let units = units_of(meta)?;
+    let count = names.len();
+    let number = number_of(names, meta)?;
+    put_numbered(
+        writer,
+        order,
+        number as usize == count,
+        number,
+        units,
+        meta,
+        frame,
+    )
+}
+
+/// Writes the packets of a feed, where the interfaces of `names` were described before.
+pub fn put_packets<F: PacketFeed, W: Sink>(
+    feed: &mut F,
+    order: Order,
+    names: &mut Names,
+    writer: &mut W,
+) -> Result<(), Fault>
+    requires limit { length names.old.keys ≤ 1024 }
+    ensures text { IsTrue (F.feed feed.old).told → IsTrue (W.tells_held writer.old)
+        → Prints (text_behind order names.old.keys (F.feed feed.old).items)
+        (refusal_in names.old.keys (F.feed feed.old).items)
+        (W.held writer.old) result (W.held writer.new) }
+    ensures told { IsTrue (W.tells_held writer.old) → IsTrue (W.tells_held writer.new) }
+    ensures failed { W.has_failed writer.new ≡ (W.has_failed writer.old || is_write result) }
+    ensures read { IsRead result → IsTrue (F.feed feed.old).can_fail }
+    ensures write { IsTrue (is_write result) → IsTrue (W.can_fail writer.old) }
+    ensures cannot { IsTrue (W.can_fail writer.new) → IsTrue (W.can_fail writer.old) }
+{
+    while let Some(meta) = next_packet(feed)? {
+        put_one(names, order, &meta, feed.frame(), writer)?;
+        feed.pass();
+    }
+    Ok(())
+}

@@ -1,0 +1,110 @@
+//! Files written as pcapng.
+ghost use Rattle.std.specs.Prelude.{◌≡◌, ◌||◌, IsTrue, is_err, IsErr, IsOkUnless};
+ghost use Rattle.cap_bytes.specs.Device.{Puts};
+ghost use Rattle.cap_bytes.specs.Printing.{Prints, IsRead, is_write};
+ghost use Rattle.cap_source.specs.Captures.{feed_of, number_of, first_of};
+ghost use Rattle.cap_write.specs.Names.{Holds};
+ghost use Rattle.cap_write.specs.Texts.{first_names, first_text, front_text, pcapng_text, pcapng_refusal};
+
+use crate::names::Names;
+use crate::packets::put_packets;
+use cap_blocks::{put_interface, put_section};
+use cap_bytes::{Fault, Order, Sink, Source};
+use cap_source::{Capture, PacketFeed};
+use cap_time::Interface;
+use std::alloc::Global;
+
+// The interfaces that are described before the first packet.
+fn first_names(alloc: Global, file: u32, first: Option<Interface>) -> Result<Names, Fault>
+    ensures names { Holds (λ names. names.keys) (first_names file first) result }
+{
+    let mut names = Names::new(alloc);
+    match first {
+        Some(_) => match names.insert((file, 0)) {
+            Ok(_) => Ok(names),
+            Err(_) => Err(Fault::Memory),
+        },
+        None => Ok(names),
+    }
+}
+
+// Writes the first interface, where there is one.
+fn put_first<W: Sink>(writer: &mut W, order: Order, first: Option<Interface>) -> Result<(), Fault>
+    ensures bytes { IsTrue (W.tells_held writer.old)
+        → Puts (W.held writer.old) result (W.held writer.new) (first_text order first) }
+    ensures told { IsTrue (W.tells_held writer.old) → IsTrue (W.tells_held writer.new) }
+    ensures failed { W.has_failed writer.new ≡ (W.has_failed writer.old || is_err result) }
+    ensures can { IsErr result → IsTrue (W.can_fail writer.old) }
+    ensures cannot { IsTrue (W.can_fail writer.new) → IsTrue (W.can_fail writer.old) }
+    ensures fault { IsOkUnless result Fault.Write }
+{
+    match first {
+        Some(interface) => put_interface(writer, order, &interface),
+        None => Ok(()),
+    }
+}
+
+// Writes what stands before the first packet: a section header, and the first interface.
+fn put_front<W: Sink>(writer: &mut W, order: Order, first: Option<Interface>) -> Result<(), Fault>
+    ensures bytes { IsTrue (W.tells_held writer.old)
+        → Puts (W.held writer.old) result (W.held writer.new) (front_text order first) }
+    ensures told { IsTrue (W.tells_held writer.old) → IsTrue (W.tells_held writer.new) }
+    ensures failed { W.has_failed writer.new ≡ (W.has_failed writer.old || is_err result) }
+    ensures can { IsErr result → IsTrue (W.can_fail writer.old) }
+    ensures cannot { IsTrue (W.can_fail writer.new) → IsTrue (W.can_fail writer.old) }
+    ensures fault { IsOkUnless result Fault.Write }
+{
+    put_section(writer, order)?;
+    put_first(writer, order, first)
+}
+
+/// Writes a file as a pcapng file of one section in that order: its first interface, where one stands
+/// before the first packet, right behind the section header, and each other interface in front of its
+/// first packet. Nothing of the file was passed before. `Refused` comes at a packet that has no time
+/// (rule 17, no-time), at one whose interface would be the 1,025th (rule 13, interface-limit), and where
+/// the file's packets end in a refusal: what is written is the text of the packets before it. After
+/// `Read`, `Write` or `Memory` a front of the text is written. draft-ietf-opsawg-pcapng, 4.
+pub fn to_pcapng<R: Source, W: Sink>(
+    alloc: Global,
+    capture: &mut Capture<R>,
+    order: Order,
+    writer: &mut W,
+) -> Result<(), Fault>
+    ensures text { IsTrue (feed_of capture.old).told → IsTrue (W.tells_held writer.old)
+        → Prints (pcapng_text order (number_of capture.old) (first_of capture.old) (feed_of capture.old).items)
+        (pcapng_refusal (number_of capture.old) (first_of capture.old) (feed_of capture.old).items)
+        (W.held writer.old) result (W.held writer.new) }
+    ensures told { IsTrue (W.tells_held writer.old) → IsTrue (W.tells_held writer.new) }
+    ensures failed { W.has_failed writer.new ≡ (W.has_failed writer.old || is_write result) }
+    ensures read { IsRead result → IsTrue (feed_of capture.old).can_fail }
+    ensures write { IsTrue (is_write result) → IsTrue (W.can_fail writer.old) }
+    ensures cannot { IsTrue (W.can_fail writer.new) → IsTrue (W.can_fail writer.old) }
+{
+    let file = capture.file();
+    let first = capture.first()?;
+    put_pcapng(alloc, capture, file, first, order, writer)
+}
+
+// Writes the packets of a feed as the pcapng file of a file of that number with that first interface.
+fn put_pcapng<F: PacketFeed, W: Sink>(
+    alloc: Global,
+    feed: &mut F,
+    file: u32,
+    first: Option<Interface>,
+    order: Order,
+    writer: &mut W,
+) -> Result<(), Fault>
+    ensures text { IsTrue (F.feed feed.old).told → IsTrue (W.tells_held writer.old)
+        → Prints (pcapng_text order file first (F.feed feed.old).items)
+        (pcapng_refusal file first (F.feed feed.old).items)
+        (W.held writer.old) result (W.held writer.new) }
+    ensures told { IsTrue (W.tells_held writer.old) → IsTrue (W.tells_held writer.new) }
+    ensures failed { W.has_failed writer.new ≡ (W.has_failed writer.old || is_write result) }
+    ensures read { IsRead result → IsTrue (F.feed feed.old).can_fail }
+    ensures write { IsTrue (is_write result) → IsTrue (W.can_fail writer.old) }
+    ensures cannot { IsTrue (W.can_fail writer.new) → IsTrue (W.can_fail writer.old) }
+{
+    let mut names = first_names(alloc, file, first)?;
+    put_front(writer, order, first)?;
+    put_packets(feed, order, &mut names, writer)
+}
