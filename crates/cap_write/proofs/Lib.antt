@@ -8,6 +8,7 @@ mod Grouped
 mod Held
 mod Instances
 mod MergedAgain
+mod MergedFiles
 mod Numbers
 mod Out
 mod Packed

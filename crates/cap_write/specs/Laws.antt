@@ -1,5 +1,5 @@
 -- What is true of written files, whatever writes or reads them.
-use Rattle.std.specs.Prelude.{◌≡◌, ℕ, ◌+◌, ◌/◌, ◌%◌, ◌^◌, ◌≤◌, ◌<◌, ◌==◌, FitsSigned, List, [], ◌∷◌, ◌++◌, length, slice_get, Option, Some, None, unwrap_or, not, pos, int_lt, Bool, ⊤, false, if◌then◌else◌}
+use Rattle.std.specs.Prelude.{◌≡◌, ℕ, ◌+◌, ◌/◌, ◌%◌, ◌^◌, ◌≤◌, ◌<◌, ◌==◌, FitsSigned, List, [], ◌∷◌, ◌++◌, length, slice_get, Option, Some, None, unwrap_or, map, not, pos, int_lt, Bool, ⊤, false, if◌then◌else◌}
 use Rattle.std.specs.Int.{w64}
 use Rattle.cap_bytes.specs.declared.numbers.Order.{Order}
 use Rattle.cap_bytes.specs.declared.faults.Refusal.{Refusal}
@@ -8,6 +8,9 @@ use Rattle.cap_bytes.specs.declared.faults.Tail.{Tail}
 use Rattle.cap_blocks.specs.Split.{AreBytes}
 use Rattle.cap_pcap.specs.Grammar.{Packet, header_text, record_text}
 use Rattle.cap_pcap.specs.declared.headers.PcapHeader.{PcapHeader}
+use Rattle.cap_merge.specs.Parts.{item_time, is_refusal}
+use Rattle.cap_merge.specs.Run.{opened, run}
+use Rattle.std.specs.List.{AllByRecursion}
 use Rattle.cap_source.specs.Feed.{Item, packet, refused}
 use Rattle.cap_source.specs.Items.{is_pcapng, file_items, file_first}
 use Rattle.cap_source.specs.declared.packets.Format.TheVariants.{Pcapng}
@@ -205,9 +208,47 @@ MergedAgain =
 abbrev pub AllAlike : ℕ → (ℕ → Interface) → List Item → Type 0
 AllAlike file given [] = ⊤
 AllAlike file given (packet meta frame ∷ items) = (meta.file ≡ file) × (meta.interface ≡ given meta.instance) × AllAlike file given items
-AllAlike file given (refused refusal ∷ items) = ⊤
+AllAlike file given (refused refusal ∷ items) = AllAlike file given items
 
 -- In every file the packets of one instance have one interface.
 abbrev pub OneInterface : Type 0
 OneInterface =
     (tail : Tail) (file : ℕ) (bytes : List ℕ) → (given : ℕ → Interface) × AllAlike file given (file_items tail file bytes)
+
+-- The fields of an item's packet and of its interface fit in their widths.
+pub record FitsMeta (meta : Meta) (bytes : List ℕ) : Type 0 where
+  pub link : meta.interface.link < 2 ^ 16
+  pub snaplen : meta.interface.snaplen < 2 ^ 32
+  pub offset : FitsSigned w64 meta.interface.offset
+  pub units : unwrap_or meta.units 0 < 2 ^ 64
+  pub original : meta.original < 2 ^ 32
+  pub captured : length bytes ≤ 262144
+
+abbrev pub ItemFits : Item → Type 0
+ItemFits (packet meta frame) = FitsMeta meta frame
+ItemFits (refused refusal) = ⊤
+
+-- the items of files of those bytes, the first of which has that number
+abbrev pub items_of_files : Tail → ℕ → List (List ℕ) → List (List Item)
+items_of_files tail file [] = []
+items_of_files tail file (bytes ∷ files) = file_items tail file bytes ∷ items_of_files tail (file + 1) files
+
+-- their packets in the order of exact time, up to the first refusal
+unfoldable pub run_of_files : Tail → List (List ℕ) → List Item
+run_of_files tail files = map (λ x. x.item) (run item_time is_refusal (map opened (items_of_files tail 1 files)))
+
+-- What is written of a merge of any files, where it is at most 2^40 bytes long, has the packets of their run,
+-- those before a refusal, in order: both have the same numbered packets, and a packet's instance is its number
+-- there.
+abbrev pub MergeLaw : Type 0
+MergeLaw =
+    (order : Order) (tail tail_again : Tail) (file_again : ℕ) (files : List (List ℕ))
+    → AllByRecursion (AllByRecursion ItemFits) (items_of_files tail 1 files)
+    → (let items = run_of_files tail files in
+    let text = merged_text order items in
+    let again = file_items tail_again file_again text in
+    length text ≤ 2 ^ 40
+    → (numbered [] again ≡ numbered [] items)
+    × (refusal_in [] again ≡ None)
+    × (refusal_of again ≡ None)
+    × (instances again ≡ numbers (numbered [] again)))
