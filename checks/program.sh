@@ -74,6 +74,17 @@ run convert --to pcap -o /dev/full "$work/cut.pcap"; check 'a refusal on a full 
 run convert --to pcap -o /dev/full "$work/section"; check 'a refusal with nothing to write, on a full disk' 1 '' 'refused: file 1 offset 0 rule 21 no-interface'
 run convert --to pcap "$one"; check 'no output' 2 '' '*'
 run convert -o "$work/none" "$one"; check 'no format' 2 '' '*'; absent 'no format' "$work/none"
+# merge: the packet twice, each behind an interface of its own
+{ cat "$work/want.pcapng"; tail -c +29 "$work/want.pcapng" | head -c 32
+  printf '\x06\0\0\0\x24\0\0\0\x01\0\0\0\0\0\0\0\xa0\x25\x26\0\x04\0\0\0\x04\0\0\0\x01\x02\x03\x04\x24\0\0\0'; } > "$work/twice"
+run merge -o "$work/new" "$one" "$one"; check 'merge' 0 '' ''; same 'merge' "$work/new" "$work/twice"
+input=$one; run merge -o - "$one" -; check 'merge with standard streams' 0 '*' ''; input=; same 'merge with standard streams' "$work/out" "$work/twice"
+run merge -o "$work/new" "$one" "$work/cut.pcap"; check 'a refusal in the second file' 1 '' 'refused: file 2 offset 24 rule 3 cut'
+run merge -o "$work/none" "$one" "$work/missing"; check 'a second file that is missing' 1 '' 'fault: open file 2'; absent 'a second file that is missing' "$work/none"
+run merge -o "$one" "$one" "$one"; check 'a merge into one of its files' 2 '' 'fault: output'; same 'one of its files' "$one" "$work/kept"
+run merge -o "$work/none" - -; check 'standard input twice' 2 '' 'fault: input'
+run merge -o "$work/none" $(yes a | head -n 33); check '33 files' 2 '' 'fault: files'
+run merge -o /dev/full "$one" "$one"; check 'a merge on a full disk' 1 '' 'fault: write'
 run --help; check 'help' 0 '*' ''; grep -q 'capt list' "$work/out" || { failed=$((failed + 1)); echo 'help: no example'; }
 run list --help; check 'help of a subcommand' 0 '*' ''
 run list -h; check 'short help' 0 '*' ''

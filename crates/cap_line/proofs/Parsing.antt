@@ -7,7 +7,7 @@ use Rattle.clap.specs.declared.error.kind.ErrorKind.TheVariants as kind
 use Rattle.clap.specs.Words.{AddsSubcommand, shape_of, with_subcommand}
 use Rattle.clap.specs.declared.builder.command.Command.{Command}
 use Rattle.clap.specs.declared.builder.command.Command.TheViews.{out-Command}
-use Rattle.cap_line.specs.Command.{IsCapt, IsConvert, capt_app, printing_app}
+use Rattle.cap_line.specs.Command.{IsCapt, IsConvert, IsMerge, capt_app, convert_app, printing_app}
 use Rattle.cap_line.specs.CommandLine.{Parses, IsJobOf, fault_by}
 use Rattle.cap_line.specs.declared.job.Job.{Job}
 use Rattle.cap_line.specs.declared.faults.LineFault.{LineFault}
@@ -17,12 +17,14 @@ use Rattle.cap_line.specs.declared.faults.LineFault.TheVariants.{Help, Line, Fil
 pub IsCapt-simple_and_free : (app : App) → IsCapt app → is_simple_and_free app ≡ true
 unfolding clap_on_literals
 IsCapt-simple_and_free app is =
-    ap is_simple_and_free (is.app_is ∙ ap capt_app is.is_convert.app_is)
+    ap is_simple_and_free (is.app_is ∙ (ap (λ a. capt_app a is.merge) is.is_convert.app_is
+    ∙ ap (capt_app (convert_app is.is_convert.orders is.is_convert.formats)) is.is_merge.app_is))
 
 pub IsCapt-simple : (app : App) → IsCapt app → is_simple app ≡ true
 unfolding clap_on_literals
 IsCapt-simple app is =
-    ap is_simple (is.app_is ∙ ap capt_app is.is_convert.app_is)
+    ap is_simple (is.app_is ∙ (ap (λ a. capt_app a is.merge) is.is_convert.app_is
+    ∙ ap (capt_app (convert_app is.is_convert.orders is.is_convert.formats)) is.is_merge.app_is))
 
 -- an answer of the subcommand is the parse's
 pub Parses-answered : (words : List Text) (app : App) (r : Result Job LineFault) → IsCapt app → fault_of app words ≡ []
@@ -75,13 +77,19 @@ Parses-refused words app kind.Format is errs = refused_line words app kind.Forma
 pub IfOk-none : {A E : Type 0} (P : A → Type 0) (r : Result A E) (error : E) → r ≡ Err error → IfOk r P
 IfOk-none P r error is = subst (λ s. IfOk s P) (sym is) tt
 
--- capt is what prints, with `convert` added
-pub IsCapt-added : (printing convert all : Command) → app_of printing ≡ printing_app
-    → IsConvert (app_of convert) → (out-Command convert).has_globals ≡ false → AddsSubcommand printing convert all
+-- capt is what prints, with `convert` and `merge` added
+pub IsCapt-added : (printing convert mid merge all : Command) → app_of printing ≡ printing_app
+    → IsConvert (app_of convert) → (out-Command convert).has_globals ≡ false → AddsSubcommand printing convert mid
+    → IsMerge (app_of merge) → (out-Command merge).has_globals ≡ false → AddsSubcommand mid merge all
     → IsCapt (app_of all)
-IsCapt-added printing convert all is is_convert local added =
+IsCapt-added printing convert mid merge all is is_convert convert_local convert_added is_merge merge_local merge_added =
     record {
       convert = app_of convert;
+      merge = app_of merge;
       is_convert = is_convert;
-      app_is = added.shape local ∙ ap (λ a. with_subcommand a (shape_of convert)) is;
+      is_merge = is_merge;
+      app_is =
+          merge_added.shape merge_local
+          ∙ ap (λ a. with_subcommand a (shape_of merge))
+          (convert_added.shape convert_local ∙ ap (λ a. with_subcommand a (shape_of convert)) is);
     }

@@ -1,6 +1,7 @@
 -- capt's command line: what a parse reads of it.
 use Rattle.std.specs.Prelude.{◌≡◌, true, List, [], ◌∷◌, map, codes, Some}
 use Rattle.std.specs.Borrow.{Bor}
+use Rattle.clap.specs.Lexer.{usize_max}
 use Rattle.clap.specs.Words.{App, Rule, Text, new_app, new_rule, with_rule, with_subcommand}
 use Rattle.clap.specs.Simple.{on_top}
 use Rattle.clap.specs.declared.builder.action.ArgAction.TheVariants.{SetTrue}
@@ -40,6 +41,14 @@ out_rule = record (new_rule (codes "out")) { short = Some 111; required = true }
 abbrev pub file_rule : Rule
 file_rule = record (new_rule (codes "FILE")) { required = true }
 
+-- the arguments FILE.., of which there is at least one
+abbrev pub files_rule : Rule
+files_rule =
+    record (new_rule (codes "FILE")) {
+      required = true;
+      range = Some (record { start_inclusive = 1; end_inclusive = usize_max });
+    }
+
 -- the subcommand of that name with `[--allow-cut] FILE`
 abbrev pub capture_app : Text → App
 capture_app name = with_rule (with_rule (new_app name) allow_cut_rule) file_rule
@@ -72,6 +81,15 @@ pub record IsConvert (app : App) : Type 0 where
   pub formats_are : AreNames formats (codes "pcap" ∷ codes "pcapng" ∷ [])
   pub app_is : app ≡ convert_app orders formats
 
+-- `merge [--allow-cut] [--order ORDER] -o OUT FILE..`
+abbrev pub merge_app : Names → App
+merge_app orders = with_rule (writing_app (codes "merge") orders) files_rule
+
+pub record IsMerge (app : App) : Type 0 where
+  pub orders : Names
+  pub orders_are : AreNames orders (codes "big" ∷ codes "little" ∷ [])
+  pub app_is : app ≡ merge_app orders
+
 -- `capt` without its subcommands: one is required, and `help` is none
 abbrev pub capt_alone : App
 capt_alone = on_top (λ s. record s { subcommand_required = true; disable_help_subcommand = true }) (new_app (codes "capt"))
@@ -80,11 +98,13 @@ capt_alone = on_top (λ s. record s { subcommand_required = true; disable_help_s
 abbrev pub printing_app : App
 printing_app = with_subcommand (with_subcommand capt_alone list_app.top) blocks_app.top
 
-abbrev pub capt_app : App → App
-capt_app convert = with_subcommand printing_app convert.top
+abbrev pub capt_app : App → App → App
+capt_app convert merge = with_subcommand (with_subcommand printing_app convert.top) merge.top
 
 -- The application is capt's: `capt` and its subcommands.
 pub record IsCapt (app : App) : Type 0 where
   pub convert : App
+  pub merge : App
   pub is_convert : IsConvert convert
-  pub app_is : app ≡ capt_app convert
+  pub is_merge : IsMerge merge
+  pub app_is : app ≡ capt_app convert merge

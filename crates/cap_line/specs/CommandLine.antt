@@ -32,7 +32,8 @@ abbrev pub task_by : Text → Option Task
 task_by name =
     if bytes_eq name (codes "list") then Some tasks.List else
     if bytes_eq name (codes "blocks") then Some tasks.Blocks else
-    if bytes_eq name (codes "convert") then Some tasks.Convert else None
+    if bytes_eq name (codes "convert") then Some tasks.Convert else
+    if bytes_eq name (codes "merge") then Some tasks.Merge else None
 
 -- the order that is named: little where none is
 abbrev pub order_by : Option Text → Order

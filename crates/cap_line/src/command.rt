@@ -2,7 +2,7 @@
 ghost use Rattle.std.specs.Prelude.{◌≡◌, codes, false, IfOk};
 ghost use Rattle.clap.specs.Words.{app_of, rule_of};
 ghost use Rattle.clap.specs.declared.builder.command.Command.TheViews.{out-Command as fields_of};
-ghost use Rattle.cap_line.specs.Command.{IsCapt, IsConvert, IsOrderRule, IsToRule, IsWriting, allow_cut_rule, blocks_app, capt_alone, capture_app, file_rule, list_app, out_rule, printing_app};
+ghost use Rattle.cap_line.specs.Command.{IsCapt, IsConvert, IsMerge, IsOrderRule, IsToRule, IsWriting, allow_cut_rule, blocks_app, capt_alone, capture_app, file_rule, files_rule, list_app, out_rule, printing_app};
 
 use clap::{Arg, ArgAction, Command};
 use std::alloc::{AllocError, Global};
@@ -14,6 +14,8 @@ const LIST_EXAMPLE: &str = "Example: capt list --allow-cut trace.pcap";
 const BLOCKS_EXAMPLE: &str = "Example: capt blocks trace.pcapng";
 
 const CONVERT_EXAMPLE: &str = "Example: capt convert --to pcapng -o trace.pcapng trace.pcap";
+
+const MERGE_EXAMPLE: &str = "Example: capt merge -o day.pcapng morning.pcap evening.pcapng";
 
 // The names of the orders, and of the formats.
 static ORDERS: [&str; 2] = ["big", "little"];
@@ -109,6 +111,17 @@ fn out<'a>(alloc: Global) -> Arg<'a>
         .help("The output file, or - for standard output")
 }
 
+// `FILE..`
+fn files<'a>(alloc: Global) -> Arg<'a>
+    ensures rule { rule_of result ≡ files_rule }
+    ensures local { result.global ≡ false }
+{
+    Arg::new(alloc, "FILE")
+        .required(true)
+        .num_args(1..)
+        .help("Capture files, of which one may be - for standard input")
+}
+
 // A subcommand with `[--allow-cut] [--order ORDER] -o OUT`, without its files and its texts
 fn writing_command<'a>(alloc: Global, name: &'a str) -> Result<Command<'a>, AllocError>
     ensures app { IfOk result (λ c. IsWriting name.entry.now (app_of c)) }
@@ -131,6 +144,19 @@ fn convert<'a>(alloc: Global) -> Result<Command<'a>, AllocError>
             .arg(file(alloc))?
             .about("Writes the packets of a capture in either format")
             .after_help(CONVERT_EXAMPLE),
+    )
+}
+
+// `merge`
+fn merge<'a>(alloc: Global) -> Result<Command<'a>, AllocError>
+    ensures app { IfOk result (λ c. IsMerge (app_of c)) }
+    ensures local { IfOk result (λ c. (fields_of c).has_globals ≡ false) }
+{
+    Ok(
+        writing_command(alloc, "merge")?
+            .arg(files(alloc))?
+            .about("Writes the packets of captures as one, in the order of time")
+            .after_help(MERGE_EXAMPLE),
     )
 }
 
@@ -160,5 +186,7 @@ fn printing<'a>(alloc: Global) -> Result<Command<'a>, AllocError>
 pub fn capt<'a>(alloc: Global) -> Result<Command<'a>, AllocError>
     ensures { IfOk result (λ c. IsCapt (app_of c)) }
 {
-    printing(alloc)?.subcommand(convert(alloc)?)
+    printing(alloc)?
+        .subcommand(convert(alloc)?)?
+        .subcommand(merge(alloc)?)
 }

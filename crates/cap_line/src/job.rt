@@ -23,6 +23,8 @@ pub enum Task {
     Blocks,
     /// Write the packets of a file in one of the formats.
     Convert,
+    /// Write the packets of files as one pcapng file, in the order of time.
+    Merge,
 }
 
 /// A format of capture files.
@@ -97,6 +99,7 @@ fn task_of(name: &str) -> Option<Task>
         "list" => Some(Task::List),
         "blocks" => Some(Task::Blocks),
         "convert" => Some(Task::Convert),
+        "merge" => Some(Task::Merge),
         _ => None,
     }
 }

@@ -1,3 +1,4 @@
 pub mod BlockListing
 pub mod Listing
 pub mod Telling
+pub mod Merging

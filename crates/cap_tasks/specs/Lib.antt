@@ -2,4 +2,5 @@ pub mod BlockText
 pub mod Converted
 pub mod Lines
 pub mod ListText
+pub mod MergeText
 pub mod Outcomes

@@ -5,6 +5,7 @@ mod blocks;
 mod convert;
 mod lines;
 mod list;
+mod merge;
 mod outcomes;
 #[cfg(test)]
 mod tests;
@@ -13,4 +14,5 @@ pub use crate::blocks::blocks_to;
 pub use crate::convert::convert_to;
 pub use crate::lines::{Line, block_line, packet_line};
 pub use crate::list::list_to;
+pub use crate::merge::merge_to;
 pub use crate::outcomes::{Outcome, USAGE, end_of, outcome_line, status_of, tell};

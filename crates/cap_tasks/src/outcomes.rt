@@ -15,12 +15,14 @@ pub const USAGE: &[u8] = b"capt reads packet captures.
 Usage: capt list [--allow-cut] FILE
        capt blocks [--allow-cut] FILE
        capt convert [--allow-cut] [--order ORDER] --to FORMAT -o OUT FILE
+       capt merge [--allow-cut] [--order ORDER] -o OUT FILE...
 
 list prints one line for each packet:
   packet N offset O time T captured C original G link L data X
 blocks prints one line for each block of a pcapng file:
   block N offset O order little kind 0a0d0d0a total T
 convert writes the packets of a capture to OUT
+merge writes the packets of captures to OUT, in the order of time
 
   FILE            a capture; - is standard input
   --allow-cut     drops a last packet or block that the end of the capture cuts
@@ -32,6 +34,7 @@ convert writes the packets of a capture to OUT
 Examples: capt list --allow-cut monday.pcap
           capt blocks monday.pcapng
           capt convert --to pcapng -o monday.pcapng monday.pcap
+          capt merge -o week.pcapng monday.pcapng tuesday.pcap
 
 Status 0: done; 1: the capture is refused, or a read, a write, an open, a
 creation or memory failed; 2: the command line is faulty.

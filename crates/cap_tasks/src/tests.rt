@@ -73,15 +73,20 @@ fn help_and_usage_go_to_two_writers(rt: HostRuntime) -> Result<(), Fail> {
     Ok(())
 }
 
-// Takes nothing where it is full.
+/// A writer of the standard library that takes 0 bytes once it has taken so many.
 #[derive(Drop)]
-struct Disk {
-    full: bool,
+pub struct Disk<'a> {
+    pub taken: &'a mut Vec<u8>,
+    pub left: usize,
 }
 
-impl Write for Disk {
+impl<'a> Write for Disk<'a> {
     fn write(&mut self, bytes: &[u8]) -> io::Result<usize> {
-        Ok(if self.full { 0 } else { bytes.len() })
+        let count = bytes.len().min(self.left);
+        let (front, _) = bytes.split_at(count);
+        self.taken.extend_from_slice(front)?;
+        self.left -= count;
+        Ok(count)
     }
 
     fn flush(&mut self) -> io::Result<()> {
@@ -99,7 +104,12 @@ fn a_flush_that_fails_comes_before_a_refusal(rt: HostRuntime) -> Result<(), Fail
         (Err(refusal), true, Err(Outcome::Fault(Fault::Write))),
     ];
     for (answer, full, ending) in cases {
-        let mut writer = BufWriter::new(rt.alloc(), Disk { full })?;
+        let mut taken = Vec::new(rt.alloc());
+        let disk = Disk {
+            taken: &mut taken,
+            left: if full { 0 } else { 16 },
+        };
+        let mut writer = BufWriter::new(rt.alloc(), disk)?;
         writer.write_all(b"a line\n")?;
         assert_eq!(rt; end_of(answer, writer.flush()), ending);
     }

@@ -21,7 +21,7 @@ fn writing(alloc: Global, words: &'static [&'static str]) -> Writing {
     Ok((job.task, job.files.len(), job.order, job.to, job.out))
 }
 
-static WRITING: [(&[&str], Writing); 12] = [
+static WRITING: [(&[&str], Writing); 22] = [
     (
         &["capt", "convert", "--to", "pcap", "-o", "c", "a"],
         Ok((
@@ -97,6 +97,44 @@ static WRITING: [(&[&str], Writing); 12] = [
         Err(LineFault::Output),
     ),
     (&["capt", "convert", "-h"], Err(LineFault::Help)),
+    (
+        &["capt", "merge", "-o", "c", "a", "b", "-"],
+        Ok((Task::Merge, 3, Order::Little, None, Some("c"))),
+    ),
+    (
+        &["capt", "merge", "--order", "big", "-o", "-", "-"],
+        Ok((Task::Merge, 1, Order::Big, None, Some("-"))),
+    ),
+    (&["capt", "merge", "a", "b"], Err(LineFault::Line)),
+    (&["capt", "merge", "-o", "c"], Err(LineFault::Line)),
+    (
+        &["capt", "merge", "--to", "pcap", "-o", "c", "a"],
+        Err(LineFault::Line),
+    ),
+    (
+        &["capt", "merge", "-o", "c", "-o", "d", "a"],
+        Err(LineFault::Line),
+    ),
+    (
+        &["capt", "merge", "-o", "c", "-", "-"],
+        Err(LineFault::Input),
+    ),
+    (
+        &["capt", "merge", "-o", "a", "a", "b"],
+        Err(LineFault::Output),
+    ),
+    (
+        &["capt", "merge", "-o", "a", "a", "-", "-"],
+        Err(LineFault::Input),
+    ),
+    (
+        &[
+            "capt", "merge", "-o", "a", "a", "-", "-", "a", "a", "a", "a", "a", "a", "a", "a", "a",
+            "a", "a", "a", "a", "a", "a", "a", "a", "a", "a", "a", "a", "a", "a", "a", "a", "a",
+            "a", "a", "a", "a",
+        ],
+        Err(LineFault::Files),
+    ),
 ];
 
 static LINES: [(&[&str], Answer); 25] = [

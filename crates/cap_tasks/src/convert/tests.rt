@@ -2,11 +2,10 @@
 ghost use Rattle.std.specs.Prelude.{◌≤◌};
 
 use crate::convert::convert_to;
+use crate::tests::Disk;
 use cap_bytes::{Fault, Order, Pieces, Refusal, Room, Rule, Sink, Tail, Tracked};
 use cap_source::Format;
 use std::alloc::Global;
-use std::io;
-use std::io::Write;
 use std::test::Fail;
 
 // One record of 1 second and 1,500,000 millionths.
@@ -156,27 +155,6 @@ fn a_refused_capture_is_written_up_to_there(rt: HostRuntime) -> Result<(), Fail>
         assert_eq!(rt; writer.bytes(), wanted.as_slice());
     }
     Ok(())
-}
-
-// A writer of the standard library that takes 0 bytes once it has taken so many.
-#[derive(Drop)]
-struct Disk<'a> {
-    taken: &'a mut Vec<u8>,
-    left: usize,
-}
-
-impl<'a> Write for Disk<'a> {
-    fn write(&mut self, bytes: &[u8]) -> io::Result<usize> {
-        let count = bytes.len().min(self.left);
-        let (front, _) = bytes.split_at(count);
-        self.taken.extend_from_slice(front)?;
-        self.left -= count;
-        Ok(count)
-    }
-
-    fn flush(&mut self) -> io::Result<()> {
-        Ok(())
-    }
 }
 
 #[test]

@@ -12,9 +12,20 @@ returns-in_err-convert c =
     let p = err_from_is_err_and c.from_residual-in_err-convert.result c.from_residual-in_err-convert.ensures.1 in
     IfOk-none _ c.from_residual-in_err-convert.result p.0 p.1
 
+pub returns-in_err-subcommand : goal.returns-in_err-subcommand
+returns-in_err-subcommand c =
+    let p = err_from_is_err_and c.from_residual-in_err-subcommand.result c.from_residual-in_err-subcommand.ensures.1 in
+    IfOk-none _ c.from_residual-in_err-subcommand.result p.0 p.1
+
+pub returns-in_err-merge : goal.returns-in_err-merge
+returns-in_err-merge c =
+    let p = err_from_is_err_and c.from_residual-in_err-merge.result c.from_residual-in_err-merge.ensures.1 in
+    IfOk-none _ c.from_residual-in_err-merge.result p.0 p.1
+
 pub returns : goal.returns
 returns c =
-    IfOk-weaker c.subcommand.result _ _
-    (λ all added. IsCapt-added c.in_ok-printing.field-0 c.in_ok-convert.field-0 all
-    c.in_ok-printing.ensures.app c.in_ok-convert.ensures.app c.in_ok-convert.ensures.local added)
-    c.subcommand.ensures
+    IfOk-weaker c.subcommand-2.result _ _
+    (λ all added. IsCapt-added c.in_ok-printing.field-0 c.in_ok-convert.field-0 c.in_ok-subcommand.field-0 c.in_ok-merge.field-0 all
+    c.in_ok-printing.ensures.app c.in_ok-convert.ensures.app c.in_ok-convert.ensures.local c.in_ok-subcommand.ensures
+    c.in_ok-merge.ensures.app c.in_ok-merge.ensures.local added)
+    c.subcommand-2.ensures

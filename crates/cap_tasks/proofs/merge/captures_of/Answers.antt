@@ -1,0 +1,38 @@
+use Rattle.std.proofs.Common.{◌≡◌, ◌+◌, ◌++◌, [], ◌∷◌, length, map, sym, ◌∙◌, subst, arith, rules, map-id, length-append}
+use Rattle.std.proofs.lemmas.List.{map-append, length-map}
+use Rattle.std.proofs.lemmas.Iterator.Adapters.{YieldsList-from_vec}
+use Rattle.std.proofs.lemmas.Iterator.Consumers.{YieldsList-end}
+use Rattle.cap_source.specs.Captures.{feed_of}
+use Rattle.cap_tasks.proofs.Merging.{AreUnread-more}
+use Rattle.cap_tasks.specs.MergeText.{IsUnread, AreUnread, reader_of}
+use Rattle.cap_tasks.proofs.merge.captures_of.Goals as goal
+
+pub loop-source-preserved : goal.loop-source-preserved
+loop-source-preserved g c =
+    let i = c.loop-source.invariant in
+    let reader = reader_of g.R.Source.tells_coming g.R.Device.can_fail g.R.Source.coming in
+    let seen = c.loop-source.yielded in
+    let x = c.in-Some.source in
+    let e = c.new-capture.ensures in
+    let place : c.loop-source.file ≡ 1 + length (map reader seen) = omega (arith, i.number, length-map seen reader) in
+    let is : IsUnread c.args.tail (1 + length (map reader seen)) (reader x) (feed_of c.new-capture.result) =
+    subst (λ n. IsUnread c.args.tail n (reader x) (feed_of c.new-capture.result)) place
+    (record { files = e.files; told = e.told; items = e.items; can_fail = e.can_fail }) in
+    let more = AreUnread-more c.args.tail 1 (map reader seen) (map feed_of c.loop-source.captures.items) (reader x) (feed_of c.new-capture.result) i.unread is in
+    let pushed : c.push.new.self.items ≡ c.loop-source.captures.items ++ c.new-capture.result ∷ [] = search rules in
+    record {
+      number = omega (arith, i.number, length-append seen (x ∷ []));
+      unread =
+          rw (map-append reader seen (x ∷ []), pushed, map-append feed_of c.loop-source.captures.items (c.new-capture.result ∷ [])) more;
+    }
+
+pub returns-clause-unread : goal.returns-clause-unread
+returns-clause-unread g c =
+    let reader = reader_of g.R.Source.tells_coming g.R.Device.can_fail g.R.Source.coming in
+    let it = c.into_iter-source-iterator in
+    let given = it.ensures.into_iter_gives in
+    let end =
+    YieldsList-end (YieldsList-from_vec {s = it.result} c.args.sources.items given.0 (given.1 ∙ c.args.sources.ok.0))
+    c.loop-source.yielded c.loop-source.source-iterator c.loop-source.yielded_by c.next.result c.next.new.self c.in-None.is c.next.ensures.steps in
+    let all : c.loop-source.yielded ≡ c.args.sources.items = sym (map-id c.loop-source.yielded) ∙ end.0 in
+    subst (λ l. AreUnread c.args.tail 1 (map reader l) (map feed_of c.loop-source.captures.items)) all c.loop-source.invariant.unread

@@ -1,0 +1,65 @@
+//! `capt merge`: the packets of several files, written as one pcapng file.
+ghost use Rattle.std.specs.Prelude.{◌≡◌, ◌≤◌, ◌||◌, IsTrue, IfOk, IsOkUnless, map, vec_len};
+ghost use Rattle.std.specs.List.{list_all, list_any};
+ghost use Rattle.cap_tasks.specs.MergeText.{AreUnread, reader_of, merge_text, merge_refusal};
+ghost use Rattle.cap_bytes.specs.Printing.{Prints, IsRead, is_write};
+
+use cap_bytes::{Fault, Order, Sink, Source, Tail};
+use cap_merge::Merged;
+use cap_source::{Capture, PacketFeed};
+use cap_write::write_merged;
+use std::alloc::Global;
+
+// The packets of files, which have the numbers from 1 on. Nothing is read yet.
+fn captures_of<R: Source>(
+    alloc: Global,
+    sources: Vec<R>,
+    tail: Tail,
+) -> Result<Vec<Capture<R>>, Fault>
+    requires most { vec_len sources ≤ 32 }
+    ensures unread { IfOk result (λ captures. AreUnread tail 1
+        (map (reader_of R.tells_coming R.can_fail R.coming) sources.items)
+        (map ⟦<Capture<R> as PacketFeed>⟧.feed captures.items)) }
+    ensures memory { IsOkUnless result Fault.Memory }
+{
+    let mut captures = Vec::new(alloc);
+    let mut file = 1u32;
+    for source in sources {
+        let capture = Capture::new(alloc, source, file, tail);
+        if captures.push(capture).is_err() {
+            return Err(Fault::Memory);
+        }
+        file += 1;
+    }
+    Ok(captures)
+}
+
+/// Writes the packets of 1 to 32 capture files, each of either format, as a pcapng file of one section in
+/// that order, in the order of exact time: by the greatest time so far in a packet's file, of equal ones
+/// by file, then by place in the file. It ends at the first refusal, which it answers: one of a file that
+/// is read, or of a packet that can't be written (rules 13 and 17, as of `write_merged`). After any other
+/// fault a front of that text is written.
+pub fn merge_to<R: Source, W: Sink>(
+    alloc: Global,
+    sources: Vec<R>,
+    tail: Tail,
+    order: Order,
+    writer: &mut W,
+) -> Result<(), Fault>
+    requires some { 1 ≤ vec_len sources }
+    requires most { vec_len sources ≤ 32 }
+    ensures text { IsTrue (list_all R.tells_coming sources.items) → IsTrue (W.tells_held writer.old)
+        → Prints (merge_text order tail (map R.coming sources.items)) (merge_refusal tail (map R.coming sources.items))
+        (W.held writer.old) result (W.held writer.new) }
+    ensures told { IsTrue (W.tells_held writer.old) → IsTrue (W.tells_held writer.new) }
+    ensures failed { W.has_failed writer.new ≡ (W.has_failed writer.old || is_write result) }
+    ensures read { IsRead result → IsTrue (list_any R.can_fail sources.items) }
+    ensures write { IsTrue (is_write result) → IsTrue (W.can_fail writer.old) }
+{
+    let captures = captures_of(alloc, sources, tail)?;
+    let mut merged = Merged::new(captures);
+    write_merged(alloc, &mut merged, order, writer)
+}
+
+#[cfg(test)]
+mod tests;

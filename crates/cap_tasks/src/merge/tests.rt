@@ -1,0 +1,150 @@
+//! Merged files: values from the formats and from worked captures.
+ghost use Rattle.std.specs.Prelude.{◌≤◌};
+
+use crate::merge::merge_to;
+use crate::tests::Disk;
+use cap_bytes::{Fault, Order, Pieces, Refusal, Room, Rule, Sink, Tail, Tracked};
+use std::alloc::Global;
+use std::test::Fail;
+
+// One record of 1 second and 1,500,000 millionths.
+const CARRY: &str = "d4c3b2a1020004000000000000000000000004000100000001000000\
+    60e31600040000000400000001020304";
+
+// A packet at 5 seconds and one at 1 second; and at 2 and at 5 seconds.
+const RUNS_BACK: &str = "d4c3b2a1020004000000000000000000000004000100000005000000\
+    000000000100000001000000a501000000000000000100000001000000a1";
+
+const RUNS_ON: &str = "d4c3b2a1020004000000000000000000000004000100000002000000\
+    000000000100000001000000b205000000000000000100000001000000b5";
+
+// A packet of 0 bytes at 5 seconds, and at 1 second, and 8 bytes of the next record.
+const LATE: &str = "d4c3b2a102000400000000000000000000000400010000000500000000000000\
+    00000000000000000000000000000000";
+
+const EARLY: &str = "d4c3b2a102000400000000000000000000000400010000000100000000000000\
+    00000000000000000000000000000000";
+
+// A packet without a time.
+const UNTIMED: &str = "0a0d0d0a1c0000004d3c2b1a01000000ffffffffffffffff1c000000\
+    0100000014000000010000000400000014000000\
+    03000000140000000a0000000102030414000000";
+
+// CARRY twice: a section, and for each file its interface and its packet.
+const TWICE: &str = "0a0d0d0a1c0000004d3c2b1a01000000ffffffffffffffff1c000000\
+    0100000020000000010000000000040009000100060000000000000020000000\
+    06000000240000000000000000000000a025260004000000040000000102030424000000\
+    0100000020000000010000000000040009000100060000000000000020000000\
+    06000000240000000100000000000000a025260004000000040000000102030424000000";
+
+// The packets at 2, 5, 1 and 5 seconds, of files 2, 1, 1 and 2.
+const BY_CLOCK: &str = "0a0d0d0a1c0000004d3c2b1a01000000ffffffffffffffff1c000000\
+    0100000020000000010000000000040009000100060000000000000020000000\
+    0600000024000000000000000000000080841e000100000001000000b200000024000000\
+    0100000020000000010000000000040009000100060000000000000020000000\
+    06000000240000000100000000000000404b4c000100000001000000a500000024000000\
+    0600000024000000010000000000000040420f000100000001000000a100000024000000\
+    06000000240000000000000000000000404b4c000100000001000000b500000024000000";
+
+const EARLY_ALONE: &str = "0a0d0d0a1c0000004d3c2b1a01000000ffffffffffffffff1c000000\
+    0100000020000000010000000000040009000100060000000000000020000000\
+    0600000020000000000000000000000040420f00000000000000000020000000";
+
+const SECTION: &str = "0a0d0d0a1c0000004d3c2b1a01000000ffffffffffffffff1c000000";
+
+// Files, what is written of them, and how that ends.
+const MERGED: [(&[&str], &str, Result<(), (u32, u64, Rule)>); 6] = [
+    (&[CARRY, CARRY], TWICE, Ok(())),
+    (&[RUNS_BACK, RUNS_ON], BY_CLOCK, Ok(())),
+    (&[BY_CLOCK], BY_CLOCK, Ok(())),
+    (&[LATE, EARLY], EARLY_ALONE, Err((2, 40, Rule::Cut))),
+    (&[EARLY, LATE], EARLY_ALONE, Err((1, 40, Rule::Cut))),
+    (&[UNTIMED], SECTION, Err((1, 48, Rule::NoTime))),
+];
+
+// Merges files in hex that are given by `piece` bytes at a time.
+fn merge<W: Sink>(
+    alloc: Global,
+    files: &[&str],
+    piece: usize,
+    writer: &mut W,
+) -> Result<Result<(), Fault>, Fail>
+    requires { 1 ≤ piece }
+{
+    let mut sources = Vec::new(alloc);
+    for file in files {
+        sources.push(Pieces::new(hex::decode(alloc, *file)?, piece, None))?;
+    }
+    if sources.is_empty() || sources.len() > 32 {
+        return Ok(Ok(()));
+    }
+    Ok(merge_to(alloc, sources, Tail::Refuse, Order::Little, writer))
+}
+
+#[test]
+fn files_are_merged_by_time(rt: HostRuntime) -> Result<(), Fail> {
+    for (files, wanted, ending) in MERGED {
+        for piece in [1, 4096] {
+            let mut writer = Room::new(Vec::with_capacity(rt.alloc(), 512)?);
+            let answer = merge(rt.alloc(), files, piece, &mut writer)?;
+            let ending = ending.map_err(|(file, offset, rule)| Fault::Refused(Refusal {
+                file,
+                offset,
+                rule,
+            }));
+            assert_eq!(rt; answer, ending);
+            let wanted = hex::decode(rt.alloc(), wanted)?;
+            assert_eq!(rt; writer.bytes(), wanted.as_slice());
+        }
+    }
+    Ok(())
+}
+
+#[test]
+fn a_write_that_fails_leaves_a_front(rt: HostRuntime) -> Result<(), Fail> {
+    let wanted = hex::decode(rt.alloc(), BY_CLOCK)?;
+    for length in 0..wanted.len() {
+        let mut writer = Room::new(Vec::with_capacity(rt.alloc(), length)?);
+        let answer = merge(rt.alloc(), &[RUNS_BACK, RUNS_ON], 4096, &mut writer)?;
+        assert_eq!(rt; answer, Err(Fault::Write));
+        assert_eq!(rt; Some(writer.bytes()), wanted.as_slice().get(..length));
+        let mut taken = Vec::new(rt.alloc());
+        let mut writer = Tracked::new(Disk {
+            taken: &mut taken,
+            left: length,
+        });
+        let answer = merge(rt.alloc(), &[RUNS_BACK, RUNS_ON], 4096, &mut writer)?;
+        assert_eq!(rt; answer, Err(Fault::Write));
+        assert_eq!(rt; Some(taken.as_slice()), wanted.as_slice().get(..length));
+    }
+    Ok(())
+}
+
+#[test]
+fn a_read_that_fails_is_told_with_its_file(rt: HostRuntime) -> Result<(), Fail> {
+    let mut sources = Vec::new(rt.alloc());
+    // file 1 fails at its first read past its first record
+    sources.push(Pieces::new(hex::decode(rt.alloc(), RUNS_BACK)?, 1, Some(42)))?;
+    sources.push(Pieces::new(hex::decode(rt.alloc(), RUNS_ON)?, 1, None))?;
+    if sources.len() != 2 {
+        return Ok(());
+    }
+    let mut writer = Room::new(Vec::with_capacity(rt.alloc(), 512)?);
+    let answer = merge_to(
+        rt.alloc(),
+        sources,
+        Tail::Refuse,
+        Order::Little,
+        &mut writer,
+    );
+    assert_eq!(rt;
+        answer,
+        Err(Fault::Read {
+            file: 1,
+            offset: 41
+        })
+    );
+    let wanted = hex::decode(rt.alloc(), BY_CLOCK)?;
+    assert_eq!(rt; Some(writer.bytes()), wanted.as_slice().get(..164));
+    Ok(())
+}
