@@ -1,5 +1,5 @@
 #!/usr/bin/env bash
-# Each growth refused in turn: runs a crate's tests with the Nth allocation refused, for N from 1 up to
+# Each growth refused in turn (of cap_bytes, or of cap_source and cap_tasks): runs a crate's tests with the Nth allocation refused, for N from 1 up to
 # a given number. The tests of windows and readers call again after `Fault::Memory`, and every answer
 # must be as with memory; those whose names don't match make data of their own and are left out.
 #
@@ -7,7 +7,7 @@
 set -eu
 crate=${1:-cap_bytes}
 last=${2:-12}
-names=${3:-a_window|a_standard_reader}
+names=${3:-a_window|a_standard_reader|a_refused_growth|merge::tests::a_refused_growth}
 failures=0
 cd "$(dirname "$0")/../crates/$crate"
 log=$(mktemp)
@@ -15,7 +15,7 @@ trap 'rm -f "$log"' EXIT
 for ((n = 1; n <= last; n++)); do
     rt try --test --fail-alloc "$n" > "$log" 2>&1 || true
     grep -qE '^test result' "$log" || { tail -5 "$log"; exit 1; }
-    wrong=$(grep -E "^test tests::($names)" "$log" | grep -v ' ok$' || true)
+    wrong=$(grep -E "^test (tests::)?($names)" "$log" | grep -v ' ok$' || true)
     if [ -n "$wrong" ]; then
         echo "allocation $n: $wrong"
         failures=1

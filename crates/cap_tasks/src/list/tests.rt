@@ -71,8 +71,9 @@ const OPTIONS_LINE: &str = "packet 1 offset 96 time 2+500000/1000000 captured 4 
     link 1 data 01020304\n";
 
 // Pcapng files and their lines: a second section in the other order with another link, an offset of -1
-// second, and simple packets, of 10 bytes with a snaplen of 4, and of none.
-const BLOCKS: [(&str, &str); 7] = [
+// second, and simple packets, of 10 bytes with a snaplen of 4, and of none; the finest resolutions, and
+// version 1.2, without packets.
+const BLOCKS: [(&str, &str); 10] = [
     (CARRY_PCAPNG, CARRY_BLOCK_LINE),
     (OBSOLETE_PCAPNG, CARRY_BLOCK_LINE),
     (OPTIONS, OPTIONS_LINE),
@@ -104,6 +105,20 @@ const BLOCKS: [(&str, &str); 7] = [
         0100000014000000010000000400000014000000\
         03000000100000000000000010000000",
         "packet 1 offset 48 time - captured 0 original 0 link 1 data -\n",
+    ),
+    (
+        "0a0d0d0a1c0000004d3c2b1a01000000ffffffffffffffff1c000000\
+        010000001c000000010000000000040009000100130000001c000000",
+        "",
+    ),
+    (
+        "0a0d0d0a1c0000004d3c2b1a01000000ffffffffffffffff1c000000\
+        010000001c000000010000000000040009000100bf0000001c000000",
+        "",
+    ),
+    (
+        "0a0d0d0a1c0000004d3c2b1a01000200ffffffffffffffff1c000000",
+        "",
     ),
 ];
 

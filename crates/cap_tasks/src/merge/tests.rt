@@ -148,3 +148,61 @@ fn a_read_that_fails_is_told_with_its_file(rt: HostRuntime) -> Result<(), Fail> 
     assert_eq!(rt; Some(writer.bytes()), wanted.as_slice().get(..164));
     Ok(())
 }
+
+// Three files at once, and the first two first: the same bytes.
+#[test]
+fn files_are_merged_in_rounds(rt: HostRuntime) -> Result<(), Fail> {
+    let mut once = Room::new(Vec::with_capacity(rt.alloc(), 512)?);
+    let answer = merge(rt.alloc(), &[RUNS_BACK, RUNS_ON, CARRY], 4096, &mut once)?;
+    assert_eq!(rt; answer, Ok(()));
+    let mut rounds = Room::new(Vec::with_capacity(rt.alloc(), 512)?);
+    let answer = merge(rt.alloc(), &[BY_CLOCK, CARRY], 4096, &mut rounds)?;
+    assert_eq!(rt; answer, Ok(()));
+    assert_eq!(rt; once.bytes(), rounds.bytes());
+    assert_eq!(rt; once.bytes().len(), 28 + 3 * 32 + 5 * 36);
+    Ok(())
+}
+
+// The bytes of a text in hex, where at most one growth is refused.
+fn decoded(alloc: Global, text: &str) -> Result<Vec<u8>, Fail> {
+    match hex::decode(alloc, text) {
+        Ok(bytes) => Ok(bytes),
+        Err(_) => Ok(hex::decode(alloc, text)?),
+    }
+}
+
+// Room for so many, where at most one growth is refused.
+fn roomy<T>(alloc: Global, count: usize) -> Result<Vec<T>, Fail> {
+    match Vec::with_capacity(alloc, count) {
+        Ok(room) => Ok(room),
+        Err(_) => Ok(Vec::with_capacity(alloc, count)?),
+    }
+}
+
+// The answer is as with memory, or `Memory` behind a front, whichever growth is refused.
+#[test]
+fn a_refused_growth_leaves_a_front(rt: HostRuntime) -> Result<(), Fail> {
+    let wanted = decoded(rt.alloc(), BY_CLOCK)?;
+    let mut sources = roomy(rt.alloc(), 2)?;
+    sources.push(Pieces::new(decoded(rt.alloc(), RUNS_BACK)?, 4096, None))?;
+    sources.push(Pieces::new(decoded(rt.alloc(), RUNS_ON)?, 4096, None))?;
+    if sources.len() != 2 {
+        return Ok(());
+    }
+    let mut writer = Room::new(roomy(rt.alloc(), 512)?);
+    let answer = merge_to(
+        rt.alloc(),
+        sources,
+        Tail::Refuse,
+        Order::Little,
+        &mut writer,
+    );
+    let taken = writer.bytes().len();
+    assert_eq!(rt; Some(writer.bytes()), wanted.as_slice().get(..taken));
+    if answer == Ok(()) {
+        assert_eq!(rt; taken, wanted.len());
+    } else {
+        assert_eq!(rt; answer, Err(Fault::Memory));
+    }
+    Ok(())
+}
