@@ -9,18 +9,20 @@ use Rattle.cap_bytes.specs.declared.faults.Fault.TheVariants.{Refused, Read, Wri
 use Rattle.cap_time.specs.declared.stamps.Stamp.{Stamp}
 use Rattle.cap_source.specs.declared.feeds.Head.{Head}
 use Rattle.cap_source.specs.declared.feeds.Head.TheVariants as heads
-use Rattle.cap_source.specs.Feed.{IsFeed, SameItems, Knows, Breaks, GivesHead, KeepsItems}
+use Rattle.cap_source.specs.Feed.{IsFeed, SameItems, Knows, Breaks, Waits, GivesHead, KeepsItems}
 use Rattle.cap_merge.specs.Lists.{and-both, and-none, any-back, any-front, or-back}
 use Rattle.cap_merge.specs.Clock.{later}
 use Rattle.cap_merge.specs.Parts.{Part, head_time, has_file, is_known, known_of, head_by, first_of, feed_of, ClocksFrom}
 use Rattle.cap_merge.specs.Merge.{LearnsBy, Stops, LearnsAll, StopsAt, AsksAll}
 use Rattle.cap_merge.specs.Clocks.{AtMost, at_most-trans, later-first}
-use Rattle.cap_merge.specs.Sound.{IsSound}
+use Rattle.cap_merge.specs.Sound.{IsSound, AreFrom}
+use Rattle.cap_merge.specs.Lawful.{whole_known}
+use Rattle.cap_merge.proofs.Breaking.{known_by, stopped-place, stopped-again, stopped-broken, learned-whole, waited-before, waited-after}
 use Rattle.cap_merge.proofs.FromClock.{From, EachFrom, each-from, from-each}
 use Rattle.cap_merge.proofs.Moving.{Each, learns-each, stops-each, Kept, kept-itself, kept-learns_by, ComesAlike, alike-itself, alike-learns_by, alike-waits, items-alike, sound-learns_by, sound-stops, sound-all}
 
 failed_learns : (p q : Part) (h : Option Head) → LearnsBy h p q → q.feed.held.failed ≡ p.feed.held.failed
-failed_learns p q None l = l.1.knows.failed
+failed_learns p q None l = l.1.knows.goes.failed
 failed_learns p q (Some head) l = ap (λ w. w.feed.held.failed) l
 
 any_failed : (ps qs : List Part) → Each (λ p q. q.feed.held.failed ≡ p.feed.held.failed) ps qs
@@ -33,10 +35,6 @@ any_failed (p ∷ ps) (q ∷ qs) e = λ i. e.0 i || any_failed ps qs e.1 i
 failed_each : (ps qs : List Part) → Each (λ p q. q.feed.held.failed ≡ p.feed.held.failed) ps qs → (feed_of qs).held.failed ≡ (feed_of ps).held.failed
 unfolding feed_of
 failed_each ps qs e = any_failed ps qs e
-
-known_by : (p q : Part) (h : Option Head) → p.lane.head ≡ h → LearnsBy h p q → is_some q.lane.head ≡ true
-known_by p q None e l = ap (λ w. is_some w.head) l.1.lane
-known_by p q (Some head) e l = ap (λ w. is_some w.lane.head) l ∙ ap is_some e
 
 -- all feeds that were asked are known
 pub known_all : (ps qs : List Part) → LearnsAll ps qs → is_known qs ≡ true
@@ -88,7 +86,11 @@ knows-asked ps qs head l k f =
     record {
       known = k;
       again = same_known ps qs head (is_known ps) refl l k;
-      failed = any_failed ps qs (learns-each (λ p q. q.feed.held.failed ≡ p.feed.held.failed) (λ p q _. failed_learns p q p.lane.head) ps qs f l);
+      goes = record {
+        before = learned-whole ps qs l;
+        after = whole_known qs (known_all ps qs l);
+        failed = any_failed ps qs (learns-each (λ p q. q.feed.held.failed ≡ p.feed.held.failed) (λ p q _. failed_learns p q p.lane.head) ps qs f l);
+      };
     }
 
 abbrev FailsAt : ℕ → List Part → List Part → Type 0
@@ -130,30 +132,41 @@ never (p ∷ ps) [] fault f s = s
 never (p ∷ ps) (q ∷ qs) fault f (inl s) = f p q s.0
 never (p ∷ ps) (q ∷ qs) fault f (inr s) = never ps qs fault f s.1
 
-breaks-stopped : (ps qs : List Part) (file offset : ℕ) → StopsAt (Read file offset) ps qs → Breaks (feed_of ps) file (feed_of qs)
+breaks-stopped : (ps qs : List Part) (file offset : ℕ) → AreFrom 1 qs → StopsAt (Read file offset) ps qs → Breaks (feed_of ps) file offset (feed_of qs)
 unfolding feed_of
-breaks-stopped ps qs file offset h =
+breaks-stopped ps qs file offset a h =
     let at_fault = fails_at file offset ps qs h in
     let unknown = unknown_stops (Read file offset) ps qs h in
     record {
       before = unknown_feed ps unknown.0;
       after = unknown_feed qs unknown.1;
       of = at_fault.0;
+      again = stopped-again file offset ps qs h;
+      broken = stopped-broken file offset ps qs h;
+      place = stopped-place 1 file offset ps qs a h;
       failed = at_fault.1;
       can_fail = at_fault.2;
     }
 
-pub gives-stopped : (ps qs : List Part) (fault : Fault) → StopsAt fault ps qs → AllByRecursion (λ q. IsFeed q.feed) qs → GivesHead (feed_of ps) (Err fault) (feed_of qs)
-gives-stopped ps qs (Refused refusal) s f = never ps qs (Refused refusal) (λ p q h. h.gives) s
-gives-stopped ps qs (Read file offset) s f = breaks-stopped ps qs file offset s
-gives-stopped ps qs Write s f = never ps qs Write (λ p q h. h.gives) s
-gives-stopped ps qs Memory s f =
+waits-stopped : (ps qs : List Part) → StopsAt Memory ps qs → AllByRecursion (λ q. IsFeed q.feed) qs → Waits (feed_of ps) (feed_of qs)
+unfolding feed_of
+waits-stopped ps qs s f =
     let unknown = unknown_stops Memory ps qs s in
     record {
       before = unknown_feed ps unknown.0;
       after = unknown_feed qs unknown.1;
-      failed = failed_each ps qs (stops-each (λ p q. q.feed.held.failed ≡ p.feed.held.failed) Memory (λ p. refl) (λ p q _. failed_learns p q p.lane.head) (λ p q h. h.gives.failed) ps qs f s);
+      goes = record {
+        before = waited-before ps qs s;
+        after = waited-after ps qs s;
+        failed = failed_each ps qs (stops-each (λ p q. q.feed.held.failed ≡ p.feed.held.failed) Memory (λ p. refl) (λ p q _. failed_learns p q p.lane.head) (λ p q h. h.gives.goes.failed) ps qs f s);
+      };
     }
+
+pub gives-stopped : (ps qs : List Part) (fault : Fault) → AreFrom 1 qs → StopsAt fault ps qs → AllByRecursion (λ q. IsFeed q.feed) qs → GivesHead (feed_of ps) (Err fault) (feed_of qs)
+gives-stopped ps qs (Refused refusal) a s f = never ps qs (Refused refusal) (λ p q h. h.gives) s
+gives-stopped ps qs (Read file offset) a s f = breaks-stopped ps qs file offset a s
+gives-stopped ps qs Write a s f = never ps qs Write (λ p q h. h.gives) s
+gives-stopped ps qs Memory a s f = waits-stopped ps qs s f
 
 items-waited : (ps qs : List Part) → StopsAt Memory ps qs → AllByRecursion (λ q. IsFeed q.feed) qs → IsTrue (feed_of ps).told → SameItems (feed_of ps) (feed_of qs)
 unfolding feed_of

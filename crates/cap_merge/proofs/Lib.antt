@@ -1,4 +1,5 @@
 pub mod Asking
+pub mod Breaking
 pub mod Moving
 pub mod Heads
 pub mod Passing

@@ -20,6 +20,7 @@ use Rattle.cap_merge.specs.Leading.{Split, first-split}
 use Rattle.cap_merge.specs.Sound.{IsSound, AreFrom}
 use Rattle.cap_merge.specs.Coming.{IsReady, leads_known, reached_known, run-first, run_behind}
 use Rattle.cap_merge.specs.Lawful.{ready_all, at_first, places_at, packet_known}
+use Rattle.cap_merge.proofs.Breaking.{passed-whole}
 use Rattle.cap_merge.proofs.FromClock.{EachFrom}
 use Rattle.cap_merge.proofs.Moving.{Each, each-itself, Kept, kept-itself, keeps-each, from-each, sound-all}
 
@@ -127,6 +128,7 @@ passes-first before after p q meta s b a e k h sound lawful from =
     let kept = each_at Kept kept-itself before after p q h.keeps in
     record {
       known = ap (λ b. cond b (head_by (first_of (before ++ (q ∷ after)))) None) (unknown_at before after q (ap (λ w. is_some w.head) h.lane));
+      broken = passed-whole before after p q k (ap (λ w. w.head) h.lane) h.passes.broken;
       held = held_same before after p q h.passes.held;
       left = left_less before after p q h.passes.left;
       place = subst (λ (w : Option Head). IfPacket w (λ m. m.offset < places_of (before ++ (q ∷ after)) m.file))

@@ -8,9 +8,9 @@ use Rattle.cap_source.specs.declared.feeds.Head.{Head}
 use Rattle.cap_source.specs.declared.feeds.Head.TheVariants as heads
 use Rattle.cap_source.specs.declared.packets.Meta.{Meta}
 use Rattle.cap_source.specs.Feed.{Item, packet, refused, Leads, IsFeed, IsPacketOf, IfPacket, IsRefusedOf, HasFile}
-use Rattle.cap_merge.specs.Lists.{all-back, all-each, any-back, any-front}
+use Rattle.cap_merge.specs.Lists.{all-back, all-each, and-both, any-back, any-front}
 use Rattle.cap_merge.specs.Run.{Clocked}
-use Rattle.cap_merge.specs.Parts.{Part, has_next, has_file, is_known, head_by, known_of, frame_by, first_of, run_of, places_of, most_of, left_of, feed_of}
+use Rattle.cap_merge.specs.Parts.{Part, has_next, has_file, is_known, head_by, known_of, frame_by, first_of, run_of, broken_of, places_of, most_of, left_of, feed_of}
 use Rattle.cap_merge.specs.Leading.{Split, IsFirstOf, first_is}
 use Rattle.cap_merge.specs.Sound.{IsSound, AreFrom}
 use Rattle.cap_merge.specs.Coming.{IsReady, leads_known, reached_known, run-first, run-none, run_behind}
@@ -185,6 +185,21 @@ refusal_if : (ps : List Part) (b : Bool) → AllByRecursion IsSound ps → AllBy
 refusal_if ps true s f = refusal_first ps (first_of ps) (first_is ps) s f
 refusal_if ps false s f = tt
 
+pub whole_known : (ps : List Part) → is_known ps ≡ true → broken_of ps ≡ None
+unfolding broken_of
+whole_known [] k = refl
+whole_known (p ∷ ps) k =
+    let both = and-both (is_some p.lane.head) (is_known ps) k in
+    rw both.0 (whole_known ps both.1)
+
+where_some : (h : Option Head) (P : Type 0) → P → IfSome h (λ head. P)
+where_some None P is = tt
+where_some (Some head) P is = is
+
+whole_if : (ps : List Part) (b : Bool) → is_known ps ≡ b → IfSome (cond b (head_by (first_of ps)) None) (λ head. broken_of ps ≡ None)
+whole_if ps true e = where_some (head_by (first_of ps)) (broken_of ps ≡ None) (whole_known ps e)
+whole_if ps false e = tt
+
 -- The feeds as one are a lawful feed.
 pub merged-lawful : (ps : List Part) → AreFrom 1 ps → AllByRecursion IsSound ps → AllByRecursion (λ p. IsFeed p.feed) ps → IsFeed (feed_of ps)
 unfolding feed_of known_of
@@ -193,6 +208,7 @@ merged-lawful ps a s f =
       leads = λ t. leads_if ps (is_known ps) refl s f t;
       packet = packet_if ps (is_known ps) a s f;
       refusal = refusal_if ps (is_known ps) s f;
+      whole = whole_if ps (is_known ps) refl;
       most = left_most ps f;
       window = most_by (λ p. p.feed.held.window) 524288 ps (windows ps f);
       interfaces = most_by (λ p. p.feed.held.interfaces) 1024 ps (interface_counts ps f);

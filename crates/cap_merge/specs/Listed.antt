@@ -1,9 +1,10 @@
 -- A file of packets without bytes as a feed, for tests.
-use Rattle.std.specs.Prelude.{◌≡◌, ◌==◌, ◌||◌, ◌-◌, ◌≤◌, ◌<◌, ℕ, Bool, true, false, List, [], ◌∷◌, length, slice_index, Some, None, nat_lt, if◌then◌else◌}
+use Rattle.std.specs.Prelude.{◌≡◌, ◌==◌, ◌||◌, ◌-◌, ◌≤◌, ◌<◌, ℕ, Bool, true, false, List, [], ◌∷◌, length, slice_index, Option, Some, None, IfSome, nat_lt, if◌then◌else◌}
 use Rattle.std.proofs.Common.{arith, refl, sym, lit≤}
 use Rattle.std.proofs.lemmas.Bool.{true≢false}
 use Rattle.std.proofs.lemmas.Bool.Decides.{nat_tests}
 use borrow.Author.Tests.{ltb-true}
+use Rattle.cap_bytes.specs.declared.faults.Fault.{Fault}
 use Rattle.cap_bytes.specs.declared.faults.Rule.TheVariants.{Cut}
 use Rattle.cap_time.specs.declared.resolutions.Interface.{Interface}
 use Rattle.cap_source.specs.declared.feeds.Head.{Head}
@@ -28,6 +29,7 @@ listed_feed file interface times broken place known =
       endings = λ n. record { format = Pcap; skipped = 0; was_cut = false };
       known = if known then Some (listed_head file interface times broken place) else None;
       frame = [];
+      broken = None;
       places = λ n. place;
       left = length times - place;
       can_fail = false;
@@ -75,6 +77,10 @@ refusal_known : (file : ℕ) (interface : Interface) (times : List ℕ) (broken 
 refusal_known file interface times broken place true = refusal_next file interface times broken place (nat_lt place (length times))
 refusal_known file interface times broken place false = tt
 
+whole_always : (fault : Option Fault) → fault ≡ None → (known : Option Head) → IfSome known (λ head. fault ≡ None)
+whole_always fault is None = tt
+whole_always fault is (Some head) = is
+
 pub listed_lawful : (file : ℕ) (interface : Interface) (times : List ℕ) (broken : Bool) (place : ℕ) (known : Bool) → length times ≤ 1000
     → IsFeed (listed_feed file interface times broken place known)
 listed_lawful file interface times broken place known few =
@@ -82,6 +88,7 @@ listed_lawful file interface times broken place known few =
       leads = λ told. absurd (true≢false (sym told));
       packet = packet_known file interface times broken place known known few;
       refusal = refusal_known file interface times broken place known;
+      whole = whole_always None refl (if known then Some (listed_head file interface times broken place) else None);
       most = omega (arith, few);
       window = omega (arith, few);
       interfaces = omega arith;

@@ -128,6 +128,11 @@ unfoldable pub endings_of : List Part → ℕ → Ending
 endings_of [] file = record { format = Pcap; skipped = 0; was_cut = false }
 endings_of (p ∷ ps) file = if has_file p.feed.files file then p.feed.endings file else endings_of ps file
 
+-- the fault of a read that failed of the first feed of which it isn't known what comes next
+unfoldable pub broken_of : List Part → Option Fault
+broken_of [] = None
+broken_of (p ∷ ps) = if is_some p.lane.head then broken_of ps else p.feed.broken
+
 -- where the packets of a file begin that are to come, as its feed says
 unfoldable pub places_of : List Part → ℕ → ℕ
 places_of [] file = 0
@@ -161,6 +166,7 @@ feed_of ps =
       endings = endings_of ps;
       known = known_of ps;
       frame = frame_by (first_of ps);
+      broken = broken_of ps;
       places = places_of ps;
       left = left_of ps;
       can_fail = list_any (λ p. p.feed.can_fail) ps;

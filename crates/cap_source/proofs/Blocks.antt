@@ -163,6 +163,7 @@ block_steps file old new p block content named g k taken is =
     goes q items ending first = record {
       waits = record {
         stops = none_stops new.stop g.stop;
+        broken = g.goes.after ∙ sym g.goes.before;
         failed = g.goes.failed;
         rest = λ t. record { items = items t; ending = ending t; first = first t };
       };
@@ -189,7 +190,7 @@ block_steps file old new p block content named g k taken is =
           };
           place = omega (arith, g.offset);
           free = ap not (none_stops new.stop g.stop);
-          failed = g.goes.failed;
+          goes = record { before = g.goes.before; after = g.goes.after; failed = g.goes.failed };
           items = λ t. packet_same file new.file pk (part_of new.body pk.place pk.captured) (frame_in pk (body_in block.total old.coming)) (items_in new.file p (items_of new))
               (named ∙ sym k.file) (frame_same new.body (body_in block.total old.coming) pk there (g.body_is t)) ∙ items t;
           ending = ending;
@@ -203,7 +204,7 @@ block_steps file old new p block content named g k taken is =
       is = record { file = named ∙ sym k.file; lent = omega arith; captured = omega arith; behind = omega arith };
       place = k.offset;
       free = refl;
-      failed = g.goes.failed;
+      goes = record { before = g.goes.before; after = g.goes.after; failed = g.goes.failed };
       items = λ t. refusal_same file new.file (named ∙ sym k.file) ∙ items t;
       ending = ending;
       first = first;
@@ -283,7 +284,7 @@ end_learned cut stop old new p free ends g was k same =
       is = record { file = refl; lent = omega arith; captured = omega arith; behind = omega arith };
       place = k.offset;
       free = refl;
-      failed = at.goes.failed;
+      goes = record { before = at.goes.before; after = at.goes.after; failed = at.goes.failed };
       items = λ t. no_items stop old.file p (items_of old) ends (sym (same t) ∙ stopped_again new stop g.stop_is);
       ending = λ t. ap (ending_with p) which ∙ ending_stopped stop p (items_of old) (sym (same t) ∙ stopped_again new stop g.stop_is);
       first = λ t. first_stopped stop p (items_of old) (sym (same t) ∙ stopped_again new stop g.stop_is);
@@ -300,7 +301,7 @@ refusal_learned refusal old new p free g k same =
       is = record { file = at.is_stop.0 ∙ sym k.file; lent = omega arith; captured = omega arith; behind = omega arith };
       place = k.offset;
       free = refl;
-      failed = at.goes.failed;
+      goes = record { before = at.goes.before; after = at.goes.after; failed = at.goes.failed };
       items = λ t. refused_items refusal old.file p (items_of old) (same t);
       ending = λ t. ending_stopped (stops.Refused refusal) p (items_of old) (same t);
       first = λ t. first_stopped (stops.Refused refusal) p (items_of old) (same t);

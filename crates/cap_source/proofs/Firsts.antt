@@ -1,8 +1,8 @@
 -- What asking for what comes next tells of the file as a feed, and of its first interface.
-use Rattle.std.proofs.Common.{◌≡◌, true, false, Option, Some, None, IsTrue, refl, sym, ap, ◌∙◌}
+use Rattle.std.proofs.Common.{◌≡◌, ℕ, true, false, Option, Some, None, IsTrue, refl, sym, ap, ◌∙◌}
 use Rattle.cap_source.specs.Feed.{Feed, Knows, SameItems}
 use Rattle.cap_source.specs.Items.{Progress}
-use Rattle.cap_source.specs.Lanes.{Lane, feed_of, head_of, head_by, items_by, frame_of, ending_by, first_by, LearnsOr}
+use Rattle.cap_source.specs.Lanes.{Lane, feed_of, head_of, head_by, items_by, frame_of, ending_by, first_by, is_whole, break_at, LearnsOr}
 use Rattle.cap_source.specs.Readers.{lane_of, is_there}
 use Rattle.cap_source.specs.declared.readers.Next.{Next}
 use Rattle.cap_source.specs.declared.readers.Reader.{Reader}
@@ -18,13 +18,21 @@ noted_is readers.Moved p there = absurd (let e : false ≡ true = there in cc)
 same_feed : (old new : Lane) (m n : Next) (after : Option Next) → after ≡ Some n → (n ≡ m) × (new ≡ old) → feed_of new after ≡ feed_of old (Some m)
 same_feed old new m n after is h = let e : after ≡ Some m = is ∙ ap Some h.0 in λ i. feed_of (h.1 i) (e i)
 
-pub knows : (old new : Lane) (known after : Option Next) (n : Next) → after ≡ Some n → LearnsOr old known n new
+unbroken : (m : Next) (broken : Option ℕ) → IsTrue (is_whole (Some m) broken) → broken ≡ None
+unbroken m None is = refl
+unbroken m (Some first) is = absurd (let e : false ≡ true = is in cc)
+
+pub knows : (old new : Lane) (known after : Option Next) (n : Next) → IsTrue (is_whole known old.broken) → after ≡ Some n → LearnsOr old known n new
     → Knows (feed_of old known) (head_of n) (feed_of new after)
-knows old new None after n is h = record { known = ap head_by is; again = tt; failed = h.failed }
-knows old new (Some m) after n is h = record {
+knows old new None after n whole is h = record { known = ap head_by is; again = tt; goes = record { before = ap (break_at old.file) h.goes.before; after = ap (break_at new.file) h.goes.after; failed = h.goes.failed } }
+knows old new (Some m) after n whole is h = record {
   known = ap head_by is;
   again = (ap head_of h.0, same_feed old new m n after is h);
-  failed = ap (λ (l : Lane). l.failed) h.1;
+  goes = record {
+    before = ap (break_at old.file) (unbroken m old.broken whole);
+    after = ap (λ (l : Lane). break_at l.file l.broken) h.1 ∙ ap (break_at old.file) (unbroken m old.broken whole);
+    failed = ap (λ (l : Lane). l.failed) h.1;
+  };
 }
 
 pub same_items : (old new : Lane) (known after : Option Next) (n : Next) → after ≡ Some n → LearnsOr old known n new → IsTrue old.told

@@ -1,5 +1,5 @@
 -- One look after another at what comes next of a file.
-use Rattle.std.proofs.Common.{Result, Ok, Err, refl, ◌∙◌, arith}
+use Rattle.std.proofs.Common.{◌≡◌, ◌≤◌, ℕ, Option, Some, None, IfSome, IfNone, Result, Ok, Err, refl, sym, subst, ◌∙◌, arith}
 use Rattle.cap_bytes.specs.declared.faults.Fault.{Fault}
 use Rattle.cap_bytes.specs.declared.faults.Fault.TheVariants.{Refused, Read, Write, Memory}
 use Rattle.cap_source.specs.Lanes.{Lane, LaneKeeps, SameRest, Waits, Answers}
@@ -35,9 +35,14 @@ SameRest-trans a b c s t = record { items = t.items ∙ s.items; ending = t.endi
 pub Waits-trans : (a b c : Lane) → Waits a b → LaneKeeps a b → Waits b c → Waits a c
 Waits-trans a b c v k w = record {
   stops = w.stops;
+  broken = w.broken ∙ v.broken;
   failed = w.failed ∙ v.failed;
   rest = λ t. SameRest-trans a b c (v.rest t) (w.rest (k.told t));
 }
+
+behind_first : (a b c : Lane) (offset : ℕ) → a.offset ≤ b.offset → (broken : Option ℕ) → IfNone broken (b.offset ≤ offset) → IfNone broken (a.offset ≤ offset)
+behind_first a b c offset le None h = omega (arith, le, h)
+behind_first a b c offset le (Some first) h = tt
 
 -- What is answered behind something that left what is to come.
 pub Answers-behind : (a b c : Lane) (result : Result Next Fault) → Waits a b → LaneKeeps a b → Answers b result c → Answers a result c
@@ -45,7 +50,7 @@ Answers-behind a b c (Ok next) w k h = record {
   is = h.is;
   place = omega (arith, h.place, k.offset);
   free = h.free;
-  failed = h.failed ∙ w.failed;
+  goes = record { before = sym w.broken ∙ h.goes.before; after = h.goes.after; failed = h.goes.failed ∙ w.failed };
   items = λ t. h.items (k.told t) ∙ (w.rest t).items;
   ending = λ t. h.ending (k.told t) ∙ (w.rest t).ending;
   first = λ t. h.first (k.told t) ∙ (w.rest t).first;
@@ -54,8 +59,11 @@ Answers-behind a b c (Err (Refused refusal)) w k h = absurd h
 Answers-behind a b c (Err (Read file offset)) w k h = record {
   stops = h.stops;
   file_is = h.file_is ∙ k.file;
+  again = subst (λ (b : Option ℕ). IfSome b (λ first. offset ≡ first)) w.broken h.again;
+  first = behind_first a b c offset k.offset a.broken (subst (λ (x : Option ℕ). IfNone x (b.offset ≤ offset)) w.broken h.first);
+  after = h.after;
   failed = h.failed;
   can_fail = k.can_fail h.can_fail;
 }
 Answers-behind a b c (Err Write) w k h = absurd h
-Answers-behind a b c (Err Memory) w k h = Waits-trans a b c w k h
+Answers-behind a b c (Err Memory) w k h = (Waits-trans a b c w k h.0, sym w.broken ∙ h.1)

@@ -32,6 +32,7 @@ list_passes file packets end place asked most is =
     let some = some_left file place (drop place packets) end asked is in
     record {
       known = refl;
+      broken = refl;
       held = refl;
       left = omega (arith, most, some, length-drop place packets);
       place = place_passed file place (drop place packets) end asked;

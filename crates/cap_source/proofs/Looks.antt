@@ -66,6 +66,7 @@ pub opened_waits : (R : Type 0) (w v : WindowState) (tail : Tail) (format : Form
     → (IsTrue w.told → has_format format (coming w)) → Waits (unread_lane w tail p) (lane_of {R = R} (reader_by (readers.Unread v tail) format) p)
 opened_waits R w v tail Pcap p s k is = record {
   stops = refl;
+  broken = s.goes.after ∙ sym s.goes.before;
   failed = s.goes.failed;
   rest = λ t. record {
     items = pcap_items_from tail v.file w.file p v.offset w.offset (coming w) (coming v) k.file s.offset (s.coming_same t) (is t);
@@ -75,6 +76,7 @@ opened_waits R w v tail Pcap p s k is = record {
 }
 opened_waits R w v tail Pcapng p s k is = record {
   stops = refl;
+  broken = s.goes.after ∙ sym s.goes.before;
   failed = s.goes.failed;
   rest = λ t. record {
     items = pcapng_items_from tail v.file w.file p v.offset w.offset (coming w) (coming v) k.file s.offset (s.coming_same t) (is t);

@@ -75,7 +75,7 @@ record_learned header file r old new progress named known first g k taken =
       };
       place = omega (arith, g.offset);
       free = ap not (is_none new.stop g.stop);
-      failed = g.goes.failed;
+      goes = record { before = g.goes.before; after = g.goes.after; failed = g.goes.failed };
       items = λ t.
           items_given file new.file old.file (interface_of header) (interface_of (header_or new.header new.coming)) (interface_of (header_or old.header old.coming))
           r new.frame (items_of old) (items_of new) named k.file
@@ -125,7 +125,7 @@ end_learned header cut stop old new progress known first free ends g was k same 
       is = record { file = refl; lent = omega arith; captured = omega arith; behind = omega arith };
       place = k.offset;
       free = refl;
-      failed = at.goes.failed;
+      goes = record { before = at.goes.before; after = at.goes.after; failed = at.goes.failed };
       items = λ t. no_items stop old.file (interface_of (header_or old.header old.coming)) (items_of old) ends (sym (same t) ∙ stopped_again new stop g.stop_is);
       ending = λ t. ap pcap_ending_with which ∙ ending_stopped stop (items_of old) (sym (same t) ∙ stopped_again new stop g.stop_is);
       first = λ t. first ∙ sym (known_first old.header header old.stop old.offset old.coming known);
@@ -143,7 +143,7 @@ refusal_learned header refusal old new progress known first free g k same =
       is = record { file = at.is_stop.0 ∙ sym k.file; lent = omega arith; captured = omega arith; behind = omega arith };
       place = k.offset;
       free = refl;
-      failed = at.goes.failed;
+      goes = record { before = at.goes.before; after = at.goes.after; failed = at.goes.failed };
       items = λ t. refused_items refusal old.file (interface_of (header_or old.header old.coming)) (items_of old) (same t);
       ending = λ t. ending_stopped (stops.Refused refusal) (items_of old) (same t);
       first = λ t. first ∙ sym (known_first old.header header old.stop old.offset old.coming known);
@@ -164,7 +164,7 @@ header_refused refusal old new p q none free g k same =
       is = record { file = at.file ∙ sym k.file; lent = omega arith; captured = omega arith; behind = omega arith };
       place = k.offset;
       free = refl;
-      failed = at.goes.failed;
+      goes = record { before = at.goes.before; after = at.goes.after; failed = at.goes.failed };
       items = λ t. refused_items refusal old.file (interface_of (header_or old.header old.coming)) (items_of old) (same t);
       ending = λ t. ending_stopped (stops.Refused refusal) (items_of old) (same t);
       first = λ t. none ∙ refused_first old.header old.stop old.offset old.coming refusal.rule at.header_unknown free (at.rule t);
@@ -190,6 +190,10 @@ header_failed : (header : PcapHeader) (known : Option PcapHeader) (old new : Sta
 header_failed header None old new is h = (if_none old.header (ReadsHeader header old new) is h.first).goes.failed
 header_failed header (Some was) old new is h = ap (λ (s : State). s.failed) (if_some old.header was (λ w. (header ≡ w) × (new ≡ old)) is h.again).1
 
+header_broken : (header : PcapHeader) (known : Option PcapHeader) (old new : State) → old.header ≡ known → HasHeader header old new → new.broken ≡ old.broken
+header_broken header None old new is h = let first = if_none old.header (ReadsHeader header old new) is h.first in first.goes.after ∙ sym first.goes.before
+header_broken header (Some was) old new is h = ap (λ (s : State). s.broken) (if_some old.header was (λ w. (header ≡ w) × (new ≡ old)) is h.again).1
+
 pub header_free : (header : PcapHeader) (known : Option PcapHeader) (old new : State) → old.header ≡ known → old.stop ≡ None → HasHeader header old new → new.stop ≡ None
 header_free header None old new is free h = (if_none old.header (ReadsHeader header old new) is h.first).stop
 header_free header (Some was) old new is free h = ap (λ (s : State). s.stop) (if_some old.header was (λ w. (header ≡ w) × (new ≡ old)) is h.again).1 ∙ free
@@ -199,6 +203,7 @@ pub header_waits : (header : PcapHeader) (old new : State) (p q : Progress) → 
     → (IsTrue old.told → items_of new ≡ items_of old) → Waits (pcap_lane old p) (pcap_lane new q)
 header_waits header old new p q free h k same = record {
   stops = is_none new.stop (header_free header old.header old new refl free h);
+  broken = header_broken header old.header old new refl h;
   failed = header_failed header old.header old new refl h;
   rest = λ t.
       let read = header_read header old.header old new refl free h t in

@@ -17,9 +17,9 @@ pub data Item : Type 0 where
 
 -- A feed of the packets of the files of those numbers. `items` are those to come, where the devices tell
 -- their bytes, and `endings` says how each file ends, where no refusal comes before. `known` is what comes
--- next, once that was asked for, and `frame` are the captured bytes of a packet that comes next. No packet
--- to come of a file begins before its place of `places`, and at most `left` packets are to come, whatever
--- the devices do.
+-- next, once that was asked for, and `frame` are the captured bytes of a packet that comes next. `broken` is
+-- the fault of a read that failed, once `head` has answered it. No packet to come of a file begins before its
+-- place of `places`, and at most `left` packets are to come, whatever the devices do.
 pub record Feed : Type 0 where
   pub files : List ℕ
   pub told : Bool
@@ -27,6 +27,7 @@ pub record Feed : Type 0 where
   pub endings : ℕ → Ending
   pub known : Option Head
   pub frame : List ℕ
+  pub broken : Option Fault
   pub places : ℕ → ℕ
   pub left : ℕ
   pub can_fail : Bool
@@ -63,17 +64,28 @@ pub record SameItems (old new : Feed) : Type 0 where
   pub items : new.items ≡ old.items
   pub endings : (file : ℕ) → new.endings file ≡ old.endings file
 
+-- No read has failed, and none does.
+pub record Goes (old new : Feed) : Type 0 where
+  pub before : old.broken ≡ None
+  pub after : new.broken ≡ None
+  pub failed : new.held.failed ≡ old.held.failed
+
 -- What comes next is known now. If it was known before, nothing has changed.
 pub record Knows (old : Feed) (head : Head) (new : Feed) : Type 0 where
   pub known : new.known ≡ Some head
   pub again : IfSome old.known (λ first. (head ≡ first) × (new ≡ old))
-  pub failed : new.held.failed ≡ old.held.failed
+  pub goes : Goes old new
 
--- A read failed, of one of the files, in this call or in an earlier one.
-pub record Breaks (old : Feed) (file : ℕ) (new : Feed) : Type 0 where
+-- A read of one of the files fails in this call, or failed in an earlier one: then the file and the offset
+-- are the same. The offset is where the header, the record or the block begins that was being read, which
+-- is the file's place from then on.
+pub record Breaks (old : Feed) (file offset : ℕ) (new : Feed) : Type 0 where
   pub before : old.known ≡ None
   pub after : new.known ≡ None
   pub of : HasFile old.files file
+  pub again : IfSome old.broken (λ first. Read file offset ≡ first)
+  pub broken : new.broken ≡ Some (Read file offset)
+  pub place : offset ≡ new.places file
   pub failed : IsTrue new.held.failed
   pub can_fail : IsTrue old.can_fail
 
@@ -81,13 +93,13 @@ pub record Breaks (old : Feed) (file : ℕ) (new : Feed) : Type 0 where
 pub record Waits (old new : Feed) : Type 0 where
   pub before : old.known ≡ None
   pub after : new.known ≡ None
-  pub failed : new.held.failed ≡ old.held.failed
+  pub goes : Goes old new
 
 -- what `head` answers
 abbrev pub GivesHead : Feed → Result Head Fault → Feed → Type 0
 GivesHead old (Ok head) new = Knows old head new
 GivesHead old (Err (Refused refusal)) new = ⊥
-GivesHead old (Err (Read file offset)) new = Breaks old file new
+GivesHead old (Err (Read file offset)) new = Breaks old file offset new
 GivesHead old (Err Write) new = ⊥
 GivesHead old (Err Memory) new = Waits old new
 
@@ -102,6 +114,7 @@ KeepsItems old (Err Memory) new = SameItems old new
 -- The packet that came next is dropped: the packets of its file that are to come begin behind its offset.
 pub record Passes (old new : Feed) : Type 0 where
   pub known : new.known ≡ None
+  pub broken : new.broken ≡ None
   pub held : new.held ≡ old.held
   pub left : new.left < old.left
   pub place : IfPacket old.known (λ meta. meta.offset < new.places meta.file)
@@ -136,6 +149,7 @@ pub record IsFeed (feed : Feed) : Type 0 where
   pub leads : IsTrue feed.told → Leads feed.known feed.frame feed.items
   pub packet : IfPacket feed.known (λ meta. IsPacketOf feed meta)
   pub refusal : IsRefusedOf feed.files feed.known
+  pub whole : IfSome feed.known (λ head. feed.broken ≡ None)
   pub most : feed.left ≤ length feed.files * 2 ^ 40
   pub window : feed.held.window ≤ 524288
   pub interfaces : feed.held.interfaces ≤ 1024

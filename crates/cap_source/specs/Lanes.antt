@@ -1,5 +1,5 @@
 -- What a file's reader still gives, of either format, and what is learned of what comes next.
-use Rattle.std.specs.Prelude.{◌≡◌, ◌+◌, ◌-◌, ◌^◌, ◌≤◌, ◌<◌, ℕ, List, [], ◌∷◌, length, take, drop, Bool, true, false, not, IsTrue, Option, Some, None, Result, Ok, Err, ⊤, is_some}
+use Rattle.std.specs.Prelude.{◌≡◌, ◌+◌, ◌-◌, ◌^◌, ◌≤◌, ◌<◌, ℕ, List, [], ◌∷◌, length, take, drop, Bool, true, false, not, IsTrue, Option, Some, None, IfSome, IfNone, Result, Ok, Err, ⊤, is_some}
 use Rattle.cap_bytes.specs.Window.{State as WindowState}
 use Rattle.cap_bytes.specs.Window as windows
 use Rattle.cap_bytes.specs.declared.faults.Fault.{Fault}
@@ -30,7 +30,8 @@ use Rattle.cap_source.specs.declared.readers.Next.TheVariants as nexts
 -- first interface where it stands before the next item or the end, where the device tells its bytes;
 -- `noted` is that interface as far as the file was read. The next record or block begins at `offset` or
 -- later, and `lent` is what the reader lends of the one that was given last. `stops` says that the reader
--- has come to an end. `counted` blocks were counted.
+-- has come to an end. `broken` is where the header, the record or the block begins in which a read failed,
+-- once one has. `counted` blocks were counted.
 pub record Lane : Type 0 where
   pub file : ℕ
   pub told : Bool
@@ -41,6 +42,7 @@ pub record Lane : Type 0 where
   pub offset : ℕ
   pub lent : Option (List ℕ)
   pub stops : Bool
+  pub broken : Option ℕ
   pub failed : Bool
   pub can_fail : Bool
   pub held : ℕ
@@ -60,6 +62,7 @@ unread_lane window tail progress =
       offset = window.offset;
       lent = None;
       stops = false;
+      broken = window.broken;
       failed = window.failed;
       can_fail = window.can_fail;
       held = window.held;
@@ -94,6 +97,7 @@ pcap_lane reader progress =
       offset = reader.offset;
       lent = reader.frame;
       stops = is_some reader.stop;
+      broken = reader.broken;
       failed = reader.failed;
       can_fail = reader.can_fail;
       held = reader.held;
@@ -114,6 +118,7 @@ pcapng_lane reader progress =
       offset = reader.offset;
       lent = reader.body;
       stops = is_some reader.stop;
+      broken = reader.broken;
       failed = reader.failed;
       can_fail = reader.can_fail;
       held = reader.held;
@@ -195,6 +200,11 @@ is_free (Some (nexts.Packet meta place)) stops = not stops
 is_free (Some (nexts.Refused refusal ending)) stops = true
 is_free (Some (nexts.End ending)) stops = true
 
+-- no read has failed, where it is known what comes next
+abbrev pub is_whole : Option Next → Option ℕ → Bool
+is_whole None broken = true
+is_whole (Some next) broken = not (is_some broken)
+
 -- what is always true of what comes next of a file
 pub record IsNext (next : Option Next) (lane : Lane) : Type 0 where
   pub file : file_of next lane.file ≡ lane.file
@@ -230,6 +240,16 @@ abbrev pub head_by : Option Next → Option Head
 head_by None = None
 head_by (Some next) = Some (head_of next)
 
+-- the fault of a read that failed in what begins there
+abbrev pub break_at : ℕ → Option ℕ → Option Fault
+break_at file None = None
+break_at file (Some offset) = Some (Read file offset)
+
+-- where the next record or block begins, or the one in which a read failed
+abbrev pub offset_at : Option ℕ → ℕ → ℕ
+offset_at None offset = offset
+offset_at (Some first) offset = first
+
 -- the file, of which that comes next where it is known, as a feed
 abbrev pub feed_of : Lane → Option Next → Feed
 feed_of lane next =
@@ -240,32 +260,43 @@ feed_of lane next =
       endings = λ file. ending_by next lane.ending;
       known = head_by next;
       frame = frame_of next lane.lent;
-      places = λ file. place_of next lane.offset;
+      broken = break_at lane.file lane.broken;
+      places = λ file. place_of next (offset_at lane.broken lane.offset);
       left = 2 ^ 40 - place_of next lane.offset;
       can_fail = lane.can_fail;
       held = record { window = lane.held; interfaces = lane.interfaces; failed = lane.failed };
     }
+
+-- No read has failed of a file, and none does.
+pub record Goes (old new : Lane) : Type 0 where
+  pub before : old.broken ≡ None
+  pub after : new.broken ≡ None
+  pub failed : new.failed ≡ old.failed
 
 -- What comes next of a file is learned.
 pub record Learns (old : Lane) (next : Next) (new : Lane) : Type 0 where
   pub is : IsNext (Some next) new
   pub place : old.offset ≤ place_of (Some next) new.offset
   pub free : IsTrue (is_free (Some next) new.stops)
-  pub failed : new.failed ≡ old.failed
+  pub goes : Goes old new
   pub items : IsTrue old.told → items_by (Some next) (frame_of (Some next) new.lent) new.items ≡ old.items
   pub ending : IsTrue old.told → ending_by (Some next) new.ending ≡ old.ending
   pub first : IsTrue old.told → new.noted ≡ old.first
 
--- A read failed of it.
-pub record Fails (old : Lane) (file : ℕ) (new : Lane) : Type 0 where
+-- A read of it fails in this call, or failed in an earlier one: then the offset is the same.
+pub record Fails (old : Lane) (file offset : ℕ) (new : Lane) : Type 0 where
   pub stops : new.stops ≡ false
   pub file_is : file ≡ old.file
+  pub again : IfSome old.broken (λ first. offset ≡ first)
+  pub first : IfNone old.broken (old.offset ≤ offset)
+  pub after : new.broken ≡ Some offset
   pub failed : IsTrue new.failed
   pub can_fail : IsTrue old.can_fail
 
 -- Nothing is learned, and what is to come is the same.
 pub record Waits (old new : Lane) : Type 0 where
   pub stops : new.stops ≡ false
+  pub broken : new.broken ≡ old.broken
   pub failed : new.failed ≡ old.failed
   pub rest : IsTrue old.told → SameRest old new
 
@@ -273,9 +304,9 @@ pub record Waits (old new : Lane) : Type 0 where
 abbrev pub Answers : Lane → Result Next Fault → Lane → Type 0
 Answers old (Ok next) new = Learns old next new
 Answers old (Err (Refused refusal)) new = ⊥
-Answers old (Err (Read file offset)) new = Fails old file new
+Answers old (Err (Read file offset)) new = Fails old file offset new
 Answers old (Err Write) new = ⊥
-Answers old (Err Memory) new = Waits old new
+Answers old (Err Memory) new = Waits old new × (old.broken ≡ None)
 
 -- the same of a look at one block, behind which a pcapng file may go on
 pub record GoesOn (old new : Lane) : Type 0 where
@@ -286,9 +317,9 @@ abbrev pub Steps : Lane → Result (Option Next) Fault → Lane → Type 0
 Steps old (Ok (Some next)) new = Learns old next new
 Steps old (Ok None) new = GoesOn old new
 Steps old (Err (Refused refusal)) new = ⊥
-Steps old (Err (Read file offset)) new = Fails old file new
+Steps old (Err (Read file offset)) new = Fails old file offset new
 Steps old (Err Write) new = ⊥
-Steps old (Err Memory) new = Waits old new
+Steps old (Err Memory) new = Waits old new × (old.broken ≡ None)
 
 -- what comes next where a block says that, if anything does
 abbrev pub next_at : ℕ → Progress → Block → Result Content Rule → Option Next
@@ -303,6 +334,7 @@ next_at file progress block (Err rule) =
 pub record IsSound (lane : Lane) (next : Option Next) : Type 0 where
   pub is : IsNext next lane
   pub free : IsTrue (is_free next lane.stops)
+  pub whole : IsTrue (is_whole next lane.broken)
   pub limit : lane.offset ≤ 2 ^ 40
   pub held : lane.held ≤ 524288
   pub interfaces : lane.interfaces ≤ 1024
@@ -317,9 +349,9 @@ LearnsOr old (Some known) next new = (next ≡ known) × (new ≡ old)
 abbrev pub Tells : Lane → Option Next → Result Next Fault → Lane → Option Next → Type 0
 Tells old known (Ok next) new after = (after ≡ Some next) × LearnsOr old known next new
 Tells old known (Err (Refused refusal)) new after = ⊥
-Tells old known (Err (Read file offset)) new after = (known ≡ None) × (after ≡ None) × Fails old file new
+Tells old known (Err (Read file offset)) new after = (known ≡ None) × (after ≡ None) × Fails old file offset new
 Tells old known (Err Write) new after = ⊥
-Tells old known (Err Memory) new after = (known ≡ None) × (after ≡ None) × Waits old new
+Tells old known (Err Memory) new after = (known ≡ None) × (after ≡ None) × Waits old new × (old.broken ≡ None)
 
 -- what asking for the first interface answers, of the file as a feed
 abbrev pub GivesFirst : Feed → Option Interface → Result (Option Interface) Fault → Feed → Type 0

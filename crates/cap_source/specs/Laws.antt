@@ -1,9 +1,9 @@
 -- Why a capture file is a lawful feed.
-use Rattle.std.proofs.Common.{◌≡◌, ◌≤◌, ◌+◌, ◌^◌, ℕ, List, [], ◌∷◌, length, drop, Option, Some, None, refl, sym, subst, arith, length-drop}
+use Rattle.std.proofs.Common.{◌≡◌, ◌≤◌, ◌+◌, ◌^◌, ℕ, false, true, IsTrue, IfSome, List, [], ◌∷◌, length, drop, Option, Some, None, refl, sym, subst, arith, length-drop}
 use Rattle.std.proofs.lemmas.List.{length-take-le}
 use Rattle.std.proofs.lemmas.Bool.Decides.{nat_tests}
 use Rattle.cap_source.specs.Feed.{HasFile, Leads, IfPacket, IsPacketOf, IsRefusedOf, IsFeed}
-use Rattle.cap_source.specs.Lanes.{Lane, feed_of, items_by, end_of, size_of, captured_of, behind_of, file_of, part_of, frame_of, head_by}
+use Rattle.cap_source.specs.Lanes.{Lane, feed_of, items_by, end_of, size_of, captured_of, behind_of, file_of, part_of, frame_of, head_by, is_whole, break_at}
 use Rattle.cap_source.specs.declared.readers.Next.{Next}
 use Rattle.cap_source.specs.declared.readers.Next.TheVariants as nexts
 
@@ -44,12 +44,18 @@ refusal lane (Some (nexts.Packet meta place)) own = tt
 refusal lane (Some (nexts.Refused r ending)) own = has_file lane.file r.file own
 refusal lane (Some (nexts.End ending)) own = tt
 
-pub captures_lawful : (lane : Lane) (next : Option Next) → file_of next lane.file ≡ lane.file → end_of next ≤ size_of lane.lent → captured_of next ≤ 262144
+whole : (next : Option Next) (file : ℕ) (broken : Option ℕ) → IsTrue (is_whole next broken) → IfSome (head_by next) (λ head. break_at file broken ≡ None)
+whole None file broken is = tt
+whole (Some next) file None is = refl
+whole (Some next) file (Some first) is = absurd (let e : false ≡ true = is in cc)
+
+pub captures_lawful : (lane : Lane) (next : Option Next) → IsTrue (is_whole next lane.broken) → file_of next lane.file ≡ lane.file → end_of next ≤ size_of lane.lent → captured_of next ≤ 262144
     → behind_of next ≤ lane.offset → lane.offset ≤ 2 ^ 40 → lane.held ≤ 524288 → lane.interfaces ≤ 1024 → IsFeed (feed_of lane next)
-captures_lawful lane next own lent captured behind limit held interfaces = record {
+captures_lawful lane next unbroken own lent captured behind limit held interfaces = record {
   leads = λ t. leads next (frame_of next lane.lent) lane.items;
   packet = packet lane next own lent captured behind limit;
   refusal = refusal lane next own;
+  whole = whole next lane.file lane.broken unbroken;
   most = omega arith;
   window = held;
   interfaces = interfaces;

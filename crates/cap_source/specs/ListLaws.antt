@@ -1,10 +1,12 @@
 -- Why a list of packets in memory is a lawful feed.
-use Rattle.std.proofs.Common.{◌≡◌, ◌≤◌, ◌+◌, ◌-◌, ◌^◌, ℕ, Bool, true, false, List, [], ◌∷◌, length, drop, Option, Some, None, refl, sym, ap, subst, arith, length-drop}
+use Rattle.std.proofs.Common.{◌≡◌, ◌≤◌, ◌+◌, ◌-◌, ◌^◌, ℕ, Bool, true, false, List, [], ◌∷◌, length, drop, Option, Some, None, IfSome, refl, sym, ap, subst, arith, length-drop}
 use Rattle.std.proofs.lemmas.Bool.Decides.{nat_tests}
 use Rattle.std.proofs.lemmas.List.{length-take}
+use Rattle.cap_bytes.specs.declared.faults.Fault.{Fault}
 use Rattle.cap_bytes.specs.declared.faults.Rule.{Rule}
 use Rattle.cap_source.specs.Feed.{Feed, HasFile, Leads, IfPacket, IsPacketOf, IsRefusedOf, IsFeed}
 use Rattle.cap_source.specs.Listings.{head_at, known_at, listed_items, frame_in, frame_at, list_feed}
+use Rattle.cap_source.specs.declared.feeds.Head.{Head}
 use Rattle.cap_source.specs.declared.listings.Listing.{Listing}
 
 has_file : (file : ℕ) → HasFile (file ∷ []) file
@@ -22,6 +24,10 @@ refusal file place rest end false = tt
 refusal file place [] None true = tt
 refusal file place [] (Some rule) true = has_file file
 refusal file place (p ∷ ps) end true = tt
+
+whole : (broken : Option Fault) → broken ≡ None → (known : Option Head) → IfSome known (λ head. broken ≡ None)
+whole broken is None = tt
+whole broken is (Some head) = is
 
 few : (frame : List ℕ) → length (frame_at frame) ≤ 262144
 few frame = omega (arith, length-take 262144 frame)
@@ -47,6 +53,7 @@ lists_lawful file packets end place asked most within = record {
   leads = λ t. leads file place (drop place packets) end asked;
   packet = packet (list_feed file packets end place asked) file place (drop place packets) end asked refl refl refl refl (omega (arith, length-drop place packets));
   refusal = refusal file place (drop place packets) end asked;
+  whole = whole None refl (known_at asked (head_at file place (drop place packets) end));
   most = omega arith;
   window = omega arith;
   interfaces = omega arith;

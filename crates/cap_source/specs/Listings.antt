@@ -57,6 +57,7 @@ list_feed file packets end place asked =
       endings = λ f. record { format = Pcap; skipped = 0; was_cut = false };
       known = known_at asked (head_at file place (drop place packets) end);
       frame = frame_in (drop place packets);
+      broken = None;
       places = λ f. place;
       left = 2 ^ 40 - place;
       can_fail = false;

@@ -1,5 +1,5 @@
 -- How far a pcapng file was read, as it is kept.
-use Rattle.std.specs.Prelude.{◌+◌, ℕ, length}
+use Rattle.std.specs.Prelude.{◌+◌, ℕ, nat_lt, Bool, true, length, Option, Some, None, vec_len, vec_capacity}
 use Rattle.cap_source.specs.Items.{Progress}
 use Rattle.cap_source.specs.declared.reached.Reached.{Reached}
 
@@ -15,3 +15,8 @@ progress_of reached =
 -- how many blocks of the file are counted in it
 abbrev pub counted : Progress → ℕ
 counted progress = progress.base + length progress.interfaces + progress.skipped
+
+-- whether there is room for an interface, once a read has failed
+abbrev pub has_room : Option ℕ → Reached → Bool
+has_room None reached = true
+has_room (Some first) reached = nat_lt (vec_len reached.interfaces) (vec_capacity reached.interfaces)

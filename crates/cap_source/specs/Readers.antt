@@ -10,6 +10,8 @@ use Rattle.cap_source.specs.declared.packets.Format.{Format}
 use Rattle.cap_source.specs.declared.packets.Format.TheVariants.{Pcap, Pcapng}
 use Rattle.cap_source.specs.Items.{Progress, ending_with}
 use Rattle.cap_source.specs.Lanes.{Lane, Fails, Waits, unread_lane, pcap_lane, pcapng_lane}
+use Rattle.cap_source.specs.Reached.{has_room}
+use Rattle.cap_source.specs.declared.reached.Reached.{Reached}
 use Rattle.cap_source.specs.declared.readers.Reader.{Reader}
 use Rattle.cap_source.specs.declared.readers.Reader.TheVariants as readers
 
@@ -26,6 +28,7 @@ moved_lane progress =
       offset = 0;
       lent = None;
       stops = false;
+      broken = None;
       failed = false;
       can_fail = false;
       held = 0;
@@ -74,11 +77,18 @@ is_stopped (readers.Pcap reader) = is_some reader.stop
 is_stopped (readers.Pcapng reader) = is_some reader.stop
 is_stopped readers.Moved = false
 
+-- whether there is room for an interface in a pcapng file of which a read has failed
+abbrev pub reader_room : {R : Type 0} → Reader R → Reached → Bool
+reader_room (readers.Unread window tail) reached = true
+reader_room (readers.Pcap reader) reached = true
+reader_room (readers.Pcapng reader) reached = has_room reader.broken reached
+reader_room readers.Moved reached = true
+
 -- what making the reader answers, of the file before and behind that
 abbrev pub Opens : {A : Type 0} → Lane → Result A Fault → Lane → Type 0
 Opens old (Ok _) new = Waits old new
-Opens old (Err (Read file offset)) new = Fails old file new
-Opens old (Err Memory) new = Waits old new
+Opens old (Err (Read file offset)) new = Fails old file offset new
+Opens old (Err Memory) new = Waits old new × (old.broken ≡ None)
 Opens old (Err Write) new = ⊥
 Opens old (Err (Refused refusal)) new = ⊥
 

@@ -11,7 +11,7 @@ abbrev pub GivesPacket : Feed → Result (Option Meta) Fault → Feed → Type 0
 GivesPacket old (Ok (Some meta)) new = Knows old (heads.Packet meta) new
 GivesPacket old (Ok None) new = Knows old heads.End new
 GivesPacket old (Err (Refused refusal)) new = Knows old (heads.Refused refusal) new
-GivesPacket old (Err (Read file offset)) new = Breaks old file new
+GivesPacket old (Err (Read file offset)) new = Breaks old file offset new
 GivesPacket old (Err Write) new = ⊥
 GivesPacket old (Err Memory) new = Waits old new
 

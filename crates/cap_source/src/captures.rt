@@ -2,10 +2,10 @@
 ghost use Rattle.std.specs.Prelude.{◌≡◌, ◌+◌, ◌≤◌, ◌^◌, List, [], ◌∷◌, ℕ, None, IsTrue, length};
 ghost use Rattle.cap_source.specs.Feed.{Keeps};
 ghost use Rattle.cap_source.specs.Items.{file_items, file_ending, file_first};
-ghost use Rattle.cap_source.specs.Lanes.{feed_of, GivesFirst, KeepsFirst, IsNext, end_of, size_of, captured_of, behind_of, file_of, is_free};
+ghost use Rattle.cap_source.specs.Lanes.{feed_of, GivesFirst, KeepsFirst, IsNext, end_of, size_of, captured_of, behind_of, file_of, is_free, is_whole};
 ghost use Rattle.cap_source.specs.Laws.{captures_lawful};
 ghost use Rattle.cap_source.specs.Reached.{progress_of};
-ghost use Rattle.cap_source.specs.Readers.{lane_of, is_there};
+ghost use Rattle.cap_source.specs.Readers.{lane_of, is_there, reader_room};
 
 use crate::feeds::{Ending, FeedHeld, Head, PacketFeed};
 use crate::reached::{Reached, nothing_reached};
@@ -26,6 +26,8 @@ pub struct Capture<R: Source> {
     next: Option<Next>,
     ghost there: { IsTrue (is_there reader) },
     ghost free: { IsTrue (is_free next (lane_of reader (progress_of reached)).stops) },
+    ghost whole: { IsTrue (is_whole next (lane_of reader (progress_of reached)).broken) },
+    ghost room: { IsTrue (reader_room reader reached) },
     ghost own: { file_of next (lane_of reader (progress_of reached)).file ≡ (lane_of reader (progress_of reached)).file },
     ghost lent: { end_of next ≤ size_of (lane_of reader (progress_of reached)).lent },
     ghost captured: { captured_of next ≤ 262144 },
@@ -47,6 +49,7 @@ impl<R: Source> Capture<R> {
         ensures items { (⟦<Capture<R> as PacketFeed>⟧.feed result).items ≡ file_items tail file (R.coming reader) }
         ensures endings { (n : ℕ) → (⟦<Capture<R> as PacketFeed>⟧.feed result).endings n ≡ file_ending tail file (R.coming reader) }
         ensures known { (⟦<Capture<R> as PacketFeed>⟧.feed result).known ≡ None }
+        ensures whole { (⟦<Capture<R> as PacketFeed>⟧.feed result).broken ≡ None }
         ensures can_fail { (⟦<Capture<R> as PacketFeed>⟧.feed result).can_fail ≡ R.can_fail reader }
         ensures held { (⟦<Capture<R> as PacketFeed>⟧.feed result).held ≡ record { window = 0; interfaces = 0; failed = R.has_failed reader } }
         ensures first { first_of result ≡ file_first tail file (R.coming reader) }
@@ -108,5 +111,5 @@ impl<R: Source> PacketFeed for Capture<R> {
     }
 
     ghost lawful = { λ c. captures_lawful (lane_of c.reader (progress_of c.reached)) c.next
-        c.own c.lent c.captured c.behind c.limit c.held c.interfaces };
+        c.whole c.own c.lent c.captured c.behind c.limit c.held c.interfaces };
 }

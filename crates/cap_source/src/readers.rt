@@ -8,8 +8,9 @@ ghost use Rattle.cap_source.specs.Items.{Progress, resolution_of_unit, interface
 ghost use Rattle.cap_source.specs.Feed.{IsPacket};
 ghost use Rattle.cap_source.specs.Lanes.{head_of, head_by, end_of, size_of, frame_of, ending_by, IsSound, Tells, Answers, LaneKeeps, Steps, pcap_lane, pcapng_lane, unread_lane, next_at};
 ghost use Rattle.cap_source.specs.declared.feeds.Ending.{Ending};
-ghost use Rattle.cap_source.specs.Reached.{progress_of, counted};
-ghost use Rattle.cap_source.specs.Readers.{lane_of, is_there, IsReady, is_stopped, lent_of, Opens, LooksAtWindow, reader_by};
+ghost use Rattle.cap_source.specs.Reached.{progress_of, counted, has_room};
+ghost use Rattle.cap_source.specs.Readers.{lane_of, is_there, IsReady, is_stopped, lent_of, Opens, LooksAtWindow, reader_by, reader_room};
+ghost use Rattle.cap_source.specs.declared.reached.Reached.{Reached};
 
 use crate::contents::{
     Content, ENHANCED_PACKET, INTERFACE, OBSOLETE_PACKET, Packet, SECTION, SIMPLE_PACKET,
@@ -250,6 +251,7 @@ fn take_block<R: Source>(
     requires free { reader.old.stop ≡ None }
     ensures answer { Steps (pcapng_lane reader.old (progress_of reached.old)) result (pcapng_lane reader.new (progress_of reached.new)) }
     ensures keeps { LaneKeeps (pcapng_lane reader.old (progress_of reached.old)) (pcapng_lane reader.new (progress_of reached.new)) }
+    ensures room { IsTrue (has_room reader.new.broken reached.new) }
 {
     let file = reader.window().file();
     match reader.next_block() {
@@ -275,8 +277,10 @@ fn step<R: Source>(
 ) -> Result<Option<Next>, Fault>
     requires counted { counted (progress_of reached.old) ≤ reader.old.offset }
     requires free { reader.old.stop ≡ None }
+    requires room { IsTrue (has_room reader.old.broken reached.old) }
     ensures answer { Steps (pcapng_lane reader.old (progress_of reached.old)) result (pcapng_lane reader.new (progress_of reached.new)) }
     ensures keeps { LaneKeeps (pcapng_lane reader.old (progress_of reached.old)) (pcapng_lane reader.new (progress_of reached.new)) }
+    ensures room { IsTrue (has_room reader.new.broken reached.new) }
 {
     reached.interfaces.reserve(1)?;
     take_block(reader, reached)
@@ -290,8 +294,10 @@ fn next_of_blocks<R: Source>(
     requires counted { counted (progress_of reached.old) ≤ reader.old.offset }
     requires free { reader.old.stop ≡ None }
     requires limit { reader.old.offset ≤ 2 ^ 40 }
+    requires room { IsTrue (has_room reader.old.broken reached.old) }
     ensures answer { Answers (pcapng_lane reader.old (progress_of reached.old)) result (pcapng_lane reader.new (progress_of reached.new)) }
     ensures keeps { LaneKeeps (pcapng_lane reader.old (progress_of reached.old)) (pcapng_lane reader.new (progress_of reached.new)) }
+    ensures room { IsTrue (has_room reader.new.broken reached.new) }
 {
     loop {
         if let Some(next) = step(reader, reached)? {
@@ -346,6 +352,7 @@ fn open<R: Source>(reader: &mut Reader<R>) -> Result<(), Fault>
     ensures ready { IfOk result (λ _. IsReady reader.new) }
     ensures answer { (progress : Progress) → Opens (lane_of reader.old progress) result (lane_of reader.new progress) }
     ensures keeps { (progress : Progress) → LaneKeeps (lane_of reader.old progress) (lane_of reader.new progress) }
+    ensures room { (reached : Reached) → IsTrue (reader_room reader.old reached) → IsTrue (reader_room reader.new reached) }
 {
     match reader {
         Reader::Unread(window, _) => {
@@ -364,9 +371,11 @@ pub fn next_of<R: Source>(reader: &mut Reader<R>, reached: &mut Reached) -> Resu
     requires free { is_stopped reader.old ≡ false }
     requires limit { (lane_of reader.old (progress_of reached.old)).offset ≤ 2 ^ 40 }
     requires counted { counted (progress_of reached.old) ≤ (lane_of reader.old (progress_of reached.old)).offset }
+    requires room { IsTrue (reader_room reader.old reached.old) }
     ensures there { IsTrue (is_there reader.new) }
     ensures answer { Answers (lane_of reader.old (progress_of reached.old)) result (lane_of reader.new (progress_of reached.new)) }
     ensures keeps { LaneKeeps (lane_of reader.old (progress_of reached.old)) (lane_of reader.new (progress_of reached.new)) }
+    ensures room { IsTrue (reader_room reader.new reached.new) }
 {
     open(reader)?;
     match reader {
@@ -384,11 +393,13 @@ pub fn learn<R: Source>(
 ) -> Result<Next, Fault>
     requires there { IsTrue (is_there reader.old) }
     requires sound { IsSound (lane_of reader.old (progress_of reached.old)) known.old }
+    requires room { IsTrue (reader_room reader.old reached.old) }
     ensures there { IsTrue (is_there reader.new) }
     ensures sound { IsSound (lane_of reader.new (progress_of reached.new)) known.new }
     ensures answer { Tells (lane_of reader.old (progress_of reached.old)) known.old result
         (lane_of reader.new (progress_of reached.new)) known.new }
     ensures keeps { LaneKeeps (lane_of reader.old (progress_of reached.old)) (lane_of reader.new (progress_of reached.new)) }
+    ensures room { IsTrue (reader_room reader.new reached.new) }
 {
     match *known {
         Some(next) => Ok(next),

@@ -1,12 +1,13 @@
-use Rattle.std.proofs.Common.{◌≡◌, ◌≤◌, ◌-◌, ◌^◌, None}
+use Rattle.std.proofs.Common.{◌≡◌, ◌≤◌, ◌-◌, ◌^◌, None, IsTrue}
 use Rattle.cap_source.specs.Lanes.{LaneKeeps, Waits, pcapng_lane}
-use Rattle.cap_source.specs.Reached.{progress_of, counted}
+use Rattle.cap_source.specs.Reached.{progress_of, counted, has_room}
 use Rattle.cap_source.proofs.readers.next_of_blocks.Given as goal
 
 abbrev pub invariant-loop-next : goal.invariant-loop-next
 invariant-loop-next g l = record {
   waits : Waits (pcapng_lane l.initial.reader (progress_of l.initial.reached)) (pcapng_lane l.reader (progress_of l.reached));
   keeps : LaneKeeps (pcapng_lane l.initial.reader (progress_of l.initial.reached)) (pcapng_lane l.reader (progress_of l.reached));
+  room : IsTrue (has_room l.reader.broken l.reached);
   counted : counted (progress_of l.reached) ≤ l.reader.offset;
   free : l.reader.stop ≡ None;
   limit : l.reader.offset ≤ 2 ^ 40;

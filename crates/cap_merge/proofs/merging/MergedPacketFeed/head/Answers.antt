@@ -2,8 +2,9 @@ use Rattle.std.proofs.Common.{sym, ◌∙◌, map}
 use Rattle.std.proofs.lemmas.Result.{err_from_is_err_and}
 use Rattle.cap_merge.specs.Lists.{length-mapped}
 use Rattle.cap_merge.specs.Parts.{parts}
-use Rattle.cap_merge.specs.Sound.{each-agrees, each-reached, lawful-each}
-use Rattle.cap_merge.proofs.Heads.{knows-asked, items-asked, gives-stopped, items-stopped, clocks-asked}
+use Rattle.cap_merge.specs.Sound.{each-agrees, each-reached, lawful-each, numbered-from}
+use Rattle.cap_merge.proofs.Heads.{asked-keeps, knows-asked, items-asked, gives-stopped, items-stopped, clocks-asked}
+use Rattle.cap_merge.proofs.Moving.{from-each}
 use Rattle.cap_merge.proofs.Calls.{asked-numbered, asked-sound-each, asked-keeps-all, asked-known, run-asked, run-stopped}
 use Rattle.cap_merge.proofs.merging.MergedPacketFeed.head.Goals as goal
 
@@ -31,9 +32,10 @@ returns-in_err-ask_all g c =
     let fault = c.in_err-ask_all.field-0.0 in
     let stops = c.in_err-ask_all.ensures.asks in
     let lawful = lawful-each g.F.PacketFeed.feed g.met.F.PacketFeed.lawful c.ask_all.new.lanes.items c.ask_all.new.feeds.items in
+    let from = from-each 1 ps qs (asked-keeps ps qs c.ask_all.result c.ask_all.ensures.asks lawful) (numbered-from g.F.PacketFeed.feed m.lanes.items m.feeds.items m.alike m.numbered) in
     rw (p.1, p.2)
     (record {
-      answer = gives-stopped ps qs fault stops lawful;
+      answer = gives-stopped ps qs fault from stops lawful;
       keeps = asked-keeps-all ps qs c.ask_all.result c.ask_all.ensures.asks lawful;
       items = items-stopped ps qs fault stops lawful;
       asks = stops;

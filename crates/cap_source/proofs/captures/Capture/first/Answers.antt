@@ -12,7 +12,7 @@ returns-clause-answer g c =
     let tells = c.in_ok-learn.ensures.answer in
     let next = c.in_ok-learn.field-0 in (
       head_of next,
-      knows old new was.next c.learn.new.known next tells.0 tells.1,
+      knows old new was.next c.learn.new.known next was.whole tells.0 tells.1,
       first_told old c.learn.new.reader (progress_of c.learn.new.reached) was.next c.learn.new.known next c.learn.ensures.there tells.0 tells.1,
     )
 

@@ -1,0 +1,103 @@
+-- What a read that failed of one feed is to the feeds as one.
+use Rattle.std.proofs.Common.{◌≡◌, ◌≤◌, ℕ, suc, Bool, true, false, cond, List, [], ◌∷◌, ◌++◌, refl, sym, ap, ◌∙◌, subst, arith, inl, inr, Option, Some, None}
+use Rattle.std.specs.Prelude.{◌&&◌, IfSome, is_some}
+use Rattle.cap_bytes.specs.declared.faults.Fault.{Fault}
+use Rattle.cap_bytes.specs.declared.faults.Fault.TheVariants.{Read, Memory}
+use Rattle.cap_source.specs.declared.feeds.Head.{Head}
+use Rattle.cap_source.specs.declared.feeds.Head.TheVariants as heads
+use Rattle.cap_merge.specs.Lists.{and-both}
+use Rattle.cap_merge.specs.Parts.{Part, has_file, is_known, broken_of, places_of}
+use Rattle.cap_merge.specs.Merge.{LearnsBy, Stops, LearnsAll, StopsAt}
+use Rattle.cap_merge.specs.Sound.{AreFrom}
+use Rattle.cap_merge.specs.Lawful.{one_file}
+
+-- the file isn't before that of the first feed
+stopped_from : (n file offset : ℕ) (ps qs : List Part) → AreFrom n qs → StopsAt (Read file offset) ps qs → n ≤ file
+stopped_from n file offset [] qs a s = absurd s
+stopped_from n file offset (p ∷ ps) [] a s = absurd s
+stopped_from n file offset (p ∷ ps) (q ∷ qs) a (inl s) =
+    let own : has_file q.feed.files file ≡ true = ap (λ fs. has_file fs file) s.0.keeps.files ∙ s.0.gives.of in
+    let is : n ≡ file = one_file q.feed.files n file a.0 own in
+    omega (arith, is)
+stopped_from n file offset (p ∷ ps) (q ∷ qs) a (inr s) = omega (arith, stopped_from (suc n) file offset ps qs a.1 s.1)
+
+before_file : (n file : ℕ) (files : List ℕ) → files ≡ n ∷ [] → suc n ≤ file → (b : Bool) → has_file files file ≡ b → b ≡ false
+before_file n file files is l true own = let same : n ≡ file = one_file files n file is own in absurd (omega (arith, l, same))
+before_file n file files is l false own = refl
+
+-- the offset is the file's place then
+pub stopped-place : (n file offset : ℕ) (ps qs : List Part) → AreFrom n qs → StopsAt (Read file offset) ps qs → offset ≡ places_of qs file
+unfolding places_of
+stopped-place n file offset [] qs a s = absurd s
+stopped-place n file offset (p ∷ ps) [] a s = absurd s
+stopped-place n file offset (p ∷ ps) (q ∷ qs) a (inl s) =
+    let own : has_file q.feed.files file ≡ true = ap (λ fs. has_file fs file) s.0.keeps.files ∙ s.0.gives.of in
+    rw own s.0.gives.place
+stopped-place n file offset (p ∷ ps) (q ∷ qs) a (inr s) =
+    rw (before_file n file q.feed.files a.0 (stopped_from (suc n) file offset ps qs a.1 s.1) (has_file q.feed.files file) refl)
+    (stopped-place (suc n) file offset ps qs a.1 s.1)
+
+pub known_by : (p q : Part) (h : Option Head) → p.lane.head ≡ h → LearnsBy h p q → is_some q.lane.head ≡ true
+known_by p q None e l = ap (λ w. is_some w.head) l.1.lane
+known_by p q (Some head) e l = ap (λ w. is_some w.lane.head) l ∙ ap is_some e
+
+own_break : (h : Option Head) (rest own : Option Fault) → h ≡ None → cond (is_some h) rest own ≡ own
+own_break h rest own is = rw is refl
+
+-- a feed that was asked has no break
+learned_break : (h : Option Head) (p q : Part) (P : Option Fault → Type 0) (rest : Option Fault) → LearnsBy h p q → P None → P rest → P (cond (is_some h) rest p.feed.broken)
+learned_break None p q P rest l none r = subst P (sym l.1.knows.goes.before) none
+learned_break (Some head) p q P rest l none r = r
+
+-- the same fault comes again
+pub stopped-again : (file offset : ℕ) (ps qs : List Part) → StopsAt (Read file offset) ps qs → IfSome (broken_of ps) (λ first. Read file offset ≡ first)
+unfolding broken_of
+stopped-again file offset [] qs s = absurd s
+stopped-again file offset (p ∷ ps) [] s = absurd s
+stopped-again file offset (p ∷ ps) (q ∷ qs) (inl s) =
+    subst (λ (w : Option Fault). IfSome w (λ first. Read file offset ≡ first)) (sym (own_break p.lane.head (broken_of ps) p.feed.broken s.0.unknown)) s.0.gives.again
+stopped-again file offset (p ∷ ps) (q ∷ qs) (inr s) =
+    learned_break p.lane.head p q (λ w. IfSome w (λ first. Read file offset ≡ first)) (broken_of ps) s.0 tt (stopped-again file offset ps qs s.1)
+
+-- where a feed has stopped, its break is that of all
+own_stopped : (p q : Part) (fault : Fault) (rest : Option Fault) → Stops p fault q → cond (is_some q.lane.head) rest q.feed.broken ≡ q.feed.broken
+own_stopped p q fault rest s = own_break q.lane.head rest q.feed.broken (ap (λ w. w.head) s.lane ∙ s.unknown)
+
+pub stopped-broken : (file offset : ℕ) (ps qs : List Part) → StopsAt (Read file offset) ps qs → broken_of qs ≡ Some (Read file offset)
+unfolding broken_of
+stopped-broken file offset [] qs s = absurd s
+stopped-broken file offset (p ∷ ps) [] s = absurd s
+stopped-broken file offset (p ∷ ps) (q ∷ qs) (inl s) = own_stopped p q (Read file offset) (broken_of qs) s.0 ∙ s.0.gives.broken
+stopped-broken file offset (p ∷ ps) (q ∷ qs) (inr s) = rw (known_by p q p.lane.head refl s.0) (stopped-broken file offset ps qs s.1)
+
+-- no read has failed where all feeds tell what comes next
+pub learned-whole : (ps qs : List Part) → LearnsAll ps qs → broken_of ps ≡ None
+unfolding broken_of
+learned-whole [] [] l = refl
+learned-whole [] (q ∷ qs) l = absurd l
+learned-whole (p ∷ ps) [] l = absurd l
+learned-whole (p ∷ ps) (q ∷ qs) l = learned_break p.lane.head p q (λ w. w ≡ None) (broken_of ps) l.0 refl (learned-whole ps qs l.1)
+
+-- nor where a growth was refused
+pub waited-before : (ps qs : List Part) → StopsAt Memory ps qs → broken_of ps ≡ None
+unfolding broken_of
+waited-before [] qs s = absurd s
+waited-before (p ∷ ps) [] s = absurd s
+waited-before (p ∷ ps) (q ∷ qs) (inl s) = own_break p.lane.head (broken_of ps) p.feed.broken s.0.unknown ∙ s.0.gives.goes.before
+waited-before (p ∷ ps) (q ∷ qs) (inr s) = learned_break p.lane.head p q (λ w. w ≡ None) (broken_of ps) s.0 refl (waited-before ps qs s.1)
+
+pub waited-after : (ps qs : List Part) → StopsAt Memory ps qs → broken_of qs ≡ None
+unfolding broken_of
+waited-after [] qs s = absurd s
+waited-after (p ∷ ps) [] s = absurd s
+waited-after (p ∷ ps) (q ∷ qs) (inl s) = own_stopped p q Memory (broken_of qs) s.0 ∙ s.0.gives.goes.after
+waited-after (p ∷ ps) (q ∷ qs) (inr s) = rw (known_by p q p.lane.head refl s.0) (waited-after ps qs s.1)
+
+-- nor behind a packet that is passed
+pub passed-whole : (before after : List Part) (p q : Part) → is_known (before ++ (p ∷ after)) ≡ true → q.lane.head ≡ None → q.feed.broken ≡ None
+    → broken_of (before ++ (q ∷ after)) ≡ None
+unfolding broken_of
+passed-whole [] after p q k unknown whole = own_break q.lane.head (broken_of after) q.feed.broken unknown ∙ whole
+passed-whole (x ∷ before) after p q k unknown whole =
+    let both = and-both (is_some x.lane.head) (is_known (before ++ (p ∷ after))) k in
+    rw both.0 (passed-whole before after p q both.1 unknown whole)
