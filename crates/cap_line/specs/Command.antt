@@ -61,6 +61,10 @@ list_app = capture_app (codes "list")
 abbrev pub blocks_app : App
 blocks_app = capture_app (codes "blocks")
 
+-- `info [--allow-cut] FILE..`
+abbrev pub info_app : App
+info_app = with_rule (with_rule (new_app (codes "info")) allow_cut_rule) files_rule
+
 -- the subcommand of that name with `[--allow-cut] [--order ORDER] -o OUT`, before its files
 abbrev pub writing_app : Text → Names → App
 writing_app name orders = with_rule (with_rule (with_rule (new_app name) allow_cut_rule) (order_rule orders)) out_rule
@@ -96,7 +100,7 @@ capt_alone = on_top (λ s. record s { subcommand_required = true; disable_help_s
 
 -- `capt` with the subcommands that print, and with all
 abbrev pub printing_app : App
-printing_app = with_subcommand (with_subcommand capt_alone list_app.top) blocks_app.top
+printing_app = with_subcommand (with_subcommand (with_subcommand capt_alone list_app.top) blocks_app.top) info_app.top
 
 abbrev pub capt_app : App → App → App
 capt_app convert merge = with_subcommand (with_subcommand printing_app convert.top) merge.top

@@ -32,6 +32,7 @@ abbrev pub task_by : Text → Option Task
 task_by name =
     if bytes_eq name (codes "list") then Some tasks.List else
     if bytes_eq name (codes "blocks") then Some tasks.Blocks else
+    if bytes_eq name (codes "info") then Some tasks.Info else
     if bytes_eq name (codes "convert") then Some tasks.Convert else
     if bytes_eq name (codes "merge") then Some tasks.Merge else None
 

@@ -2,7 +2,7 @@
 ghost use Rattle.std.specs.Prelude.{◌≡◌, codes, false, IfOk};
 ghost use Rattle.clap.specs.Words.{app_of, rule_of};
 ghost use Rattle.clap.specs.declared.builder.command.Command.TheViews.{out-Command as fields_of};
-ghost use Rattle.cap_line.specs.Command.{IsCapt, IsConvert, IsMerge, IsOrderRule, IsToRule, IsWriting, allow_cut_rule, blocks_app, capt_alone, capture_app, file_rule, files_rule, list_app, out_rule, printing_app};
+ghost use Rattle.cap_line.specs.Command.{IsCapt, IsConvert, IsMerge, IsOrderRule, IsToRule, IsWriting, allow_cut_rule, blocks_app, capt_alone, capture_app, file_rule, files_rule, info_app, list_app, out_rule, printing_app};
 
 use clap::{Arg, ArgAction, Command};
 use std::alloc::{AllocError, Global};
@@ -12,6 +12,8 @@ const EXAMPLE: &str = "Example: capt list trace.pcap";
 const LIST_EXAMPLE: &str = "Example: capt list --allow-cut trace.pcap";
 
 const BLOCKS_EXAMPLE: &str = "Example: capt blocks trace.pcapng";
+
+const INFO_EXAMPLE: &str = "Example: capt info morning.pcap evening.pcapng";
 
 const CONVERT_EXAMPLE: &str = "Example: capt convert --to pcapng -o trace.pcapng trace.pcap";
 
@@ -122,6 +124,20 @@ fn files<'a>(alloc: Global) -> Arg<'a>
         .help("Capture files, of which one may be - for standard input")
 }
 
+// `info`
+fn info<'a>(alloc: Global) -> Result<Command<'a>, AllocError>
+    ensures app { IfOk result (λ c. app_of c ≡ info_app) }
+    ensures local { IfOk result (λ c. (fields_of c).has_globals ≡ false) }
+{
+    Ok(
+        Command::new(alloc, "info")
+            .arg(allow_cut(alloc))?
+            .arg(files(alloc))?
+            .about("Prints a line for each capture")
+            .after_help(INFO_EXAMPLE),
+    )
+}
+
 // A subcommand with `[--allow-cut] [--order ORDER] -o OUT`, without its files and its texts
 fn writing_command<'a>(alloc: Global, name: &'a str) -> Result<Command<'a>, AllocError>
     ensures app { IfOk result (λ c. IsWriting name.entry.now (app_of c)) }
@@ -179,7 +195,8 @@ fn printing<'a>(alloc: Global) -> Result<Command<'a>, AllocError>
 {
     capt_itself(alloc)
         .subcommand(list(alloc)?)?
-        .subcommand(blocks(alloc)?)
+        .subcommand(blocks(alloc)?)?
+        .subcommand(info(alloc)?)
 }
 
 /// The command line of `capt`.

@@ -21,6 +21,8 @@ pub enum Task {
     List,
     /// Print a line for each block of a pcapng file.
     Blocks,
+    /// Print a line for each of some files.
+    Info,
     /// Write the packets of a file in one of the formats.
     Convert,
     /// Write the packets of files as one pcapng file, in the order of time.
@@ -98,6 +100,7 @@ fn task_of(name: &str) -> Option<Task>
     match name {
         "list" => Some(Task::List),
         "blocks" => Some(Task::Blocks),
+        "info" => Some(Task::Info),
         "convert" => Some(Task::Convert),
         "merge" => Some(Task::Merge),
         _ => None,

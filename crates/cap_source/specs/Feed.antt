@@ -15,6 +15,12 @@ pub data Item : Type 0 where
   packet : Meta → List ℕ → Item
   refused : Refusal → Item
 
+-- the refusal that ends some items, if one does
+unfoldable pub refusal_of : List Item → Option Refusal
+refusal_of [] = None
+refusal_of (packet meta frame ∷ items) = refusal_of items
+refusal_of (refused refusal ∷ items) = Some refusal
+
 -- A feed of the packets of the files of those numbers. `items` are those to come, where the devices tell
 -- their bytes, and `endings` says how each file ends, where no refusal comes before. `known` is what comes
 -- next, once that was asked for, and `frame` are the captured bytes of a packet that comes next. `broken` is

@@ -4,7 +4,8 @@ use Rattle.cap_bytes.proofs.Putting.{Writer}
 use Rattle.cap_source.proofs.Walking.{Plan, IsPlan, GoesOn, Walking}
 use Rattle.cap_source.specs.Feed.{Feed}
 use Rattle.cap_source.specs.declared.packets.Meta.{Meta}
-use Rattle.cap_tasks.specs.ListText.{list_lines, packet_text, refusal_of}
+use Rattle.cap_tasks.specs.ListText.{list_lines, packet_text}
+use Rattle.cap_source.specs.Feed.{refusal_of}
 
 -- what is to be written from the packet number n on
 abbrev pub plan_of : ℕ → Plan

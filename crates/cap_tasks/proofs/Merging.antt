@@ -10,7 +10,8 @@ use Rattle.cap_merge.specs.Parts.{Part, new_parts, item_time, is_refusal, feed_o
 use Rattle.cap_merge.specs.Run.{opened, run}
 use Rattle.cap_source.specs.Feed.{Feed}
 use Rattle.cap_source.specs.Items.{file_items}
-use Rattle.cap_tasks.specs.MergeText.{Reader, IsUnread, AreUnread, tracks_from, merge_items, merge_text, merge_refusal}
+use Rattle.cap_tasks.specs.MergeText.{Reader, IsUnread, AreUnread, merge_text, merge_refusal}
+use Rattle.cap_write.specs.Runs.{items_of_files, run_of_files}
 use Rattle.cap_write.specs.Texts.{merged_text, merged_refusal}
 
 -- one more feed behind some
@@ -46,7 +47,7 @@ pub AreUnread-numbered : (tail : Tail) (readers : List Reader) (feeds : List Fee
 AreUnread-numbered tail readers feeds a = numbered_from tail 1 readers feeds a
 
 tracks_are : (tail : Tail) (file : ℕ) (readers : List Reader) (feeds : List Feed) → AreUnread tail file readers feeds
-    → map (λ f. opened f.items) feeds ≡ tracks_from tail file (map (λ r. r.bytes) readers)
+    → map (λ f. opened f.items) feeds ≡ map opened (items_of_files tail file (map (λ r. r.bytes) readers))
 tracks_are tail file [] [] a = refl
 tracks_are tail file [] (f ∷ fs) a = absurd a
 tracks_are tail file (r ∷ rs) [] a = absurd a
@@ -98,11 +99,11 @@ merged_can_fail reader tail sources feeds a = can_fail_same tail 1 (map reader s
 
 merged_items : {A : Type 0} (reader : A → Reader) (tail : Tail) (sources : List A) (feeds : List Feed) → AreUnread tail 1 (map reader sources) feeds
     → run_of (new_parts feeds) ≡ run item_time is_refusal (map (λ f. opened f.items) feeds)
-    → (feed_of (new_parts feeds)).items ≡ merge_items tail (map (λ s. (reader s).bytes) sources)
-unfolding feed_of merge_items
+    → (feed_of (new_parts feeds)).items ≡ run_of_files tail (map (λ s. (reader s).bytes) sources)
+unfolding feed_of run_of_files
 merged_items reader tail sources feeds a ran =
     ap (map (λ x. x.item))
-    (ran ∙ ap (run item_time is_refusal) (tracks_are tail 1 (map reader sources) feeds a ∙ ap (tracks_from tail 1) (map-map reader (λ r. r.bytes) sources)))
+    (ran ∙ ap (run item_time is_refusal) (tracks_are tail 1 (map reader sources) feeds a ∙ ap (λ files. map opened (items_of_files tail 1 files)) (map-map reader (λ r. r.bytes) sources)))
 
 -- what is written of them
 pub Prints-merged : {A : Type 0} (reader : A → Reader) (tail : Tail) (order : Order) (sources : List A) (feeds : List Feed) (ps : List Part)

@@ -8,7 +8,9 @@ use Rattle.cap_source.specs.declared.packets.Meta.{Meta}
 use Rattle.cap_time.specs.Stamp.{time_in}
 use Rattle.cap_time.specs.Time.{Printed, printed_form}
 use Rattle.cap_time.specs.declared.resolutions.Interface.{Interface}
-use Rattle.cap_tasks.specs.Lines.{time_text, data_text}
+use Rattle.cap_source.specs.Feed.{refusal_of}
+use Rattle.cap_print.specs.Lines.{time_text}
+use Rattle.cap_tasks.specs.Lines.{data_text}
 
 -- a time in the form of its own interface, where there is one
 abbrev pub printed_in : Option ℕ → Interface → Option Printed
@@ -28,12 +30,6 @@ unfoldable pub list_lines : ℕ → List Item → List ℕ
 list_lines n [] = []
 list_lines n (packet meta frame ∷ items) = packet_text n meta frame ++ list_lines (n + 1) items
 list_lines n (refused refusal ∷ items) = []
-
--- the refusal that ends the packets, if one does
-unfoldable pub refusal_of : List Item → Option Refusal
-refusal_of [] = None
-refusal_of (packet meta frame ∷ items) = refusal_of items
-refusal_of (refused refusal ∷ items) = Some refusal
 
 -- what `list` prints of a file with those bytes, and the refusal that it then answers, if there is one
 abbrev pub list_text : Tail → List ℕ → List ℕ

@@ -1,29 +1,19 @@
 -- What `capt merge` writes.
-use Rattle.std.specs.Prelude.{◌≡◌, ℕ, ◌+◌, Bool, List, [], ◌∷◌, map, Option, ⊤}
+use Rattle.std.specs.Prelude.{◌≡◌, ℕ, ◌+◌, Bool, List, [], ◌∷◌, Option, ⊤}
 use Rattle.cap_bytes.specs.declared.faults.Refusal.{Refusal}
 use Rattle.cap_bytes.specs.declared.faults.Tail.{Tail}
 use Rattle.cap_bytes.specs.declared.numbers.Order.{Order}
-use Rattle.cap_merge.specs.Parts.{item_time, is_refusal}
-use Rattle.cap_merge.specs.Run.{Track, opened, run}
-use Rattle.cap_source.specs.Feed.{Feed, Item}
+use Rattle.cap_source.specs.Feed.{Feed}
 use Rattle.cap_source.specs.Items.{file_items}
+use Rattle.cap_write.specs.Runs.{run_of_files}
 use Rattle.cap_write.specs.Texts.{merged_text, merged_refusal}
 
--- files of those bytes, from that number on, before anything is read of them
-abbrev pub tracks_from : Tail → ℕ → List (List ℕ) → List (Track Item)
-tracks_from tail file [] = []
-tracks_from tail file (bytes ∷ files) = opened (file_items tail file bytes) ∷ tracks_from tail (file + 1) files
-
--- their packets in the order of time, up to the first refusal
-unfoldable pub merge_items : Tail → List (List ℕ) → List Item
-merge_items tail files = map (λ x. x.item) (run item_time is_refusal (tracks_from tail 1 files))
-
--- what is written of them in that order, and the refusal that is then answered, if there is one
+-- what is written of files of those bytes in the order of time, and the refusal that is then answered, if there is one
 abbrev pub merge_text : Order → Tail → List (List ℕ) → List ℕ
-merge_text order tail files = merged_text order (merge_items tail files)
+merge_text order tail files = merged_text order (run_of_files tail files)
 
 abbrev pub merge_refusal : Tail → List (List ℕ) → Option Refusal
-merge_refusal tail files = merged_refusal (merge_items tail files)
+merge_refusal tail files = merged_refusal (run_of_files tail files)
 
 -- A reader: whether it tells its bytes, whether it can fail, and the bytes.
 pub record Reader : Type 0 where

@@ -1,66 +1,20 @@
-//! Printed lines, of at most 512 bytes each. They take no memory.
-ghost use Rattle.std.specs.Prelude.{◌≡◌, ℕ, ◌+◌, ◌≤◌, ◌++◌, length, option_map};
+//! The lines of packets and blocks.
+ghost use Rattle.std.specs.Prelude.{◌≡◌, ◌+◌, ◌≤◌, ◌++◌, length, option_map};
 ghost use Rattle.arrayvec.specs.ArrayVec.{array_vec_len};
 ghost use Rattle.cap_tasks.specs.BlockText.{block_text, kind_text, order_text};
-ghost use Rattle.cap_tasks.specs.Lines.{time_text, data_text};
+ghost use Rattle.cap_tasks.specs.Lines.{data_text};
 ghost use Rattle.cap_time.specs.Stamp.{printed_of};
 ghost use Rattle.cap_tasks.specs.ListText.{packet_text, printed_in};
 
-use arrayvec::ArrayVec;
 use cap_blocks::Block;
 use cap_bytes::Order;
+use cap_print::{Line, put_field, put_text, put_time};
 use cap_source::Meta;
 use cap_time::Stamp;
-use itoa::{Buffer, Integer};
 use std::cmp::min;
 
-/// The most bytes of a line.
-pub const LINE: usize = 512;
-
-/// A line that is being written.
-pub type Line = ArrayVec<u8, LINE>;
-
-/// Appends a text.
-pub fn put_text(line: &mut Line, text: &[u8])
-    requires { array_vec_len line.old + length text.now ≤ 512 }
-    ensures items { line.new.items ≡ line.old.items ++ text.now }
-    ensures len { array_vec_len line.new ≡ array_vec_len line.old + length text.now }
-{
-    let _ = line.try_extend_from_slice(text);
-}
-
-/// Appends a label and a whole number, in decimal.
-pub fn put_field<I: Integer>(line: &mut Line, label: &[u8], number: I)
-    requires { array_vec_len line.old + length label.now + 40 ≤ 512 }
-    ensures items { line.new.items ≡ line.old.items ++ label.now ++ I.text number }
-    ensures len { array_vec_len line.new ≤ array_vec_len line.old + length label.now + 40 }
-{
-    let mut buffer = Buffer::new();
-    put_text(line, label);
-    put_text(line, buffer.format(number).as_bytes());
-}
-
-/// Appends a time as `SEC+NUM/DEN`, or `-` where there is none.
-pub fn put_time(line: &mut Line, label: &[u8], time: Option<Stamp>)
-    requires { array_vec_len line.old + length label.now + 122 ≤ 512 }
-    ensures items { line.new.items ≡ line.old.items ++ label.now ++ time_text (option_map printed_of time) }
-    ensures len { array_vec_len line.new ≤ array_vec_len line.old + length label.now + 122 }
-{
-    match time {
-        None => {
-            put_text(line, label);
-            put_text(line, b"-");
-        }
-        Some(stamp) => {
-            put_field(line, label, stamp.seconds());
-            put_field(line, b"+", stamp.numerator());
-            put_field(line, b"/", stamp.denominator());
-        }
-    }
-}
-
-/// Appends the first bytes of a packet, at most 16, in lower case hex, or `-` where there are none.
-pub fn put_data(line: &mut Line, label: &[u8], bytes: &[u8])
+// Appends the first bytes of a packet, at most 16, in lower case hex, or `-` where there are none.
+fn put_data(line: &mut Line, label: &[u8], bytes: &[u8])
     requires { array_vec_len line.old + length label.now + 32 ≤ 512 }
     ensures items { line.new.items ≡ line.old.items ++ label.now ++ data_text bytes.now }
     ensures len { array_vec_len line.new ≤ array_vec_len line.old + length label.now + 32 }

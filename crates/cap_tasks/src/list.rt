@@ -1,7 +1,8 @@
 //! `capt list`: one line for each packet, as it is found.
 ghost use Rattle.std.specs.Prelude.{◌≡◌, ◌||◌, ◌≤◌, ◌^◌, IsTrue};
-ghost use Rattle.cap_tasks.specs.ListText.{list_lines, list_text, list_refusal, refusal_of};
+ghost use Rattle.cap_tasks.specs.ListText.{list_lines, list_text, list_refusal};
 ghost use Rattle.cap_bytes.specs.Printing.{Prints, IsRead, is_write};
+ghost use Rattle.cap_source.specs.Feed.{refusal_of};
 
 use crate::lines::packet_line;
 use cap_bytes::{Fault, Sink, Source, Tail, put_all};

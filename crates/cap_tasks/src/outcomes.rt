@@ -4,9 +4,9 @@ ghost use Rattle.cap_bytes.specs.Device.{Puts};
 ghost use Rattle.cap_tasks.specs.Outcomes.{ends_by, status_after, outcome_text, refusal_text, read_text, open_text, is_help, HelpEnds};
 ghost use Rattle.cap_bytes.specs.Printing.{PrintsFront};
 
-use crate::lines::{Line, put_field, put_text};
 use cap_bytes::{Fault, Refusal, Sink, put_all};
 use cap_line::LineFault;
+use cap_print::{Line, put_field, put_text};
 use std::io;
 
 /// What `capt` says of itself: help, and what is told of a faulty command line.
@@ -14,6 +14,7 @@ pub const USAGE: &[u8] = b"capt reads packet captures.
 
 Usage: capt list [--allow-cut] FILE
        capt blocks [--allow-cut] FILE
+       capt info [--allow-cut] FILE...
        capt convert [--allow-cut] [--order ORDER] --to FORMAT -o OUT FILE
        capt merge [--allow-cut] [--order ORDER] -o OUT FILE...
 
@@ -21,6 +22,8 @@ list prints one line for each packet:
   packet N offset O time T captured C original G link L data X
 blocks prints one line for each block of a pcapng file:
   block N offset O order little kind 0a0d0d0a total T
+info prints how many captures there are, and one line for each:
+  file I FORMAT packets P bytes B truncated Q skipped S first T last T
 convert writes the packets of a capture to OUT
 merge writes the packets of captures to OUT, in the order of time
 
@@ -33,6 +36,7 @@ merge writes the packets of captures to OUT, in the order of time
 
 Examples: capt list --allow-cut monday.pcap
           capt blocks monday.pcapng
+          capt info monday.pcap tuesday.pcapng
           capt convert --to pcapng -o monday.pcapng monday.pcap
           capt merge -o week.pcapng monday.pcapng tuesday.pcap
 

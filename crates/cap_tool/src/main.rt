@@ -1,4 +1,4 @@
-//! The program `capt`: packet captures, read, listed and converted by proved code.
+//! The program `capt`: packet captures, read, listed, counted, converted and merged by proved code.
 #![tactic(auto)]
 
 ghost use Rattle.std.specs.Prelude.{◌≡◌, ◌≤◌, ◌⊎◌, IfErr, vec_len};
@@ -11,6 +11,7 @@ use crate::streams::{create_output, open_all};
 use cap_bytes::{Fault, Order, Sink, Source, Tail, Tracked};
 use cap_line::{Format as Named, Job, LineFault, Task, parse};
 use cap_source::Format;
+use cap_talks::file_lines;
 use cap_tasks::{Outcome, blocks_to, convert_to, end_of, list_to, merge_to, status_of, tell};
 use std::alloc::Global;
 use std::env;
@@ -34,6 +35,7 @@ enum Single {
 #[derive(Clone, Copy)]
 enum Work {
     Single(Single),
+    Info,
     Merge,
 }
 
@@ -70,6 +72,7 @@ fn work_of(job: &Job) -> Option<Work> {
     match job.task {
         Task::List => Some(Work::Single(Single::List)),
         Task::Blocks => Some(Work::Single(Single::Blocks)),
+        Task::Info => Some(Work::Info),
         Task::Convert => match (job.to, job.out) {
             (Some(named), Some(_)) => Some(Work::Single(Single::Convert(format_of(named)))),
             _ => None,
@@ -117,6 +120,7 @@ fn work_to<R: Source, W: Sink>(
     requires most { vec_len sources ≤ 32 }
 {
     match work {
+        Work::Info => file_lines(alloc, sources, ways.tail, writer),
         Work::Merge => merge_to(alloc, sources, ways.tail, ways.order, writer),
         Work::Single(single) => match sources.pop() {
             Some(source) => single_to(alloc, single, source, ways, writer),

@@ -55,7 +55,7 @@ take_below (suc n) [] k h = h k
 take_below (suc n) (x ∷ xs) zero h = h 0
 take_below (suc n) (x ∷ xs) (suc k) h = take_below n xs k (λ j. h (suc j))
 
-AreBytes-take : (n : ℕ) (bytes : List ℕ) → AreBytes bytes → AreBytes (take n bytes)
+pub AreBytes-take : (n : ℕ) (bytes : List ℕ) → AreBytes bytes → AreBytes (take n bytes)
 AreBytes-take n bytes are k = take_below n bytes k are
 
 pub held-splits : (order : Order) (unit : Fraction) (offset : ℕ) (bytes : List ℕ) (ps : List Packet) (rest : List ℕ) → AreBytes bytes

@@ -1,7 +1,9 @@
 mod Again
 mod Alike
 mod Back
+mod Contents
 mod Feeding
+mod Fields
 mod FileNumbers
 mod Files
 mod Grouped

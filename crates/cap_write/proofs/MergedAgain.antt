@@ -123,7 +123,14 @@ AllFit-given given names (packet meta frame ∷ items) have =
         → AllFit (numbered_or fault (numbered_of names meta frame) (numbered (with_name names meta) items))
     by (Some rule) later = tt
     by None later = (
-      record { link = have.0.link; snaplen = have.0.snaplen; offset = have.0.offset; units = have.0.units; original = have.0.original; frame = have.0.captured },
+      record {
+        link = have.0.fits.link;
+        snaplen = have.0.fits.snaplen;
+        offset = have.0.fits.offset;
+        units = have.0.fits.units;
+        original = have.0.fits.original;
+        frame = have.0.fits.captured;
+      },
       later,
     )
 

@@ -1,19 +1,21 @@
 -- The run of any files, written and read again.
-use Rattle.std.proofs.Common.{◌≡◌, ◌==◌, ℕ, ◌+◌, ◌≤◌, map, List, [], ◌∷◌, Bool, true, false, sym, ap, ◌∙◌, arith, if◌then◌else◌}
+use Rattle.std.proofs.Common.{◌==◌, ℕ, ◌+◌, ◌≤◌, map, List, [], ◌∷◌, Bool, true, false, sym, ap, ◌∙◌, arith, if◌then◌else◌}
 use Rattle.std.proofs.lemmas.Bool.{eq-eqb, ne_eqb}
 use Rattle.std.specs.List.{AllByRecursion}
+use Rattle.cap_blocks.specs.Split.{AreBytes}
 use Rattle.cap_bytes.specs.declared.faults.Tail.{Tail}
 use Rattle.cap_merge.specs.Parts.{item_time, is_refusal}
 use Rattle.cap_merge.specs.Run.{Clocked, opened, merged, through_first}
 use Rattle.cap_source.specs.Feed.{Item, packet, refused}
 use Rattle.cap_source.specs.Items.{file_items}
-use Rattle.cap_source.specs.declared.packets.Meta.{Meta}
 use Rattle.cap_time.specs.declared.resolutions.Interface.{Interface}
 use Rattle.cap_write.proofs.Alike.{merge-all}
+use Rattle.cap_write.proofs.Fields.{fields_fit-law}
 use Rattle.cap_write.proofs.Instances.{one_interface-law}
 use Rattle.cap_write.proofs.Renumbered.{merged_again-law}
-use Rattle.cap_write.specs.Laws.{AllAlike, HasFields, AllHave, FitsMeta, ItemFits, items_of_files, run_of_files, MergeLaw}
+use Rattle.cap_write.specs.Laws.{AllAlike, HasFields, AllHave, ItemFits, MergeLaw}
 use Rattle.cap_write.specs.Numbering.{Name, name_of}
+use Rattle.cap_write.specs.Runs.{items_of_files, run_of_files}
 
 -- A packet has the interface of its name, its fields fit, and its file has at least that number.
 abbrev IsOfFile : ℕ → (Name → Interface) → Item → Type 0
@@ -26,17 +28,6 @@ given_from tail file [] name = (one_interface-law tail 0 []).0 0
 given_from tail file (bytes ∷ files) name =
     if name.0 == file then (one_interface-law tail file bytes).0 name.1 else given_from tail (file + 1) files name
 
-fields_of : (given : Name → Interface) (meta : Meta) (frame : List ℕ) → meta.interface ≡ given (name_of meta) → FitsMeta meta frame → HasFields given meta frame
-fields_of given meta frame interface fits = record {
-  interface = interface;
-  link = fits.link;
-  snaplen = fits.snaplen;
-  offset = fits.offset;
-  units = fits.units;
-  original = fits.original;
-  captured = fits.captured;
-}
-
 -- what one file gives
 of_one : (tail : Tail) (file : ℕ) (bytes : List ℕ) (files : List (List ℕ)) (items : List Item)
     → AllAlike file (one_interface-law tail file bytes).0 items → AllByRecursion ItemFits items
@@ -47,9 +38,13 @@ of_one tail file bytes files (refused refusal ∷ items) alike fit = (tt, of_one
 of_one tail file bytes files (packet meta frame ∷ items) alike fit = (
   (
     omega (arith, alike.0),
-    fields_of (given_from tail file (bytes ∷ files)) meta frame
-        (alike.1 ∙ sym (ap (λ b. if b then (one_interface-law tail file bytes).0 meta.instance else given_from tail (file + 1) files (name_of meta))
-        (eq-eqb meta.file file alike.0))) fit.0,
+    record {
+      interface =
+          alike.1
+          ∙ sym (ap (λ b. if b then (one_interface-law tail file bytes).0 meta.instance else given_from tail (file + 1) files (name_of meta))
+          (eq-eqb meta.file file alike.0));
+      fits = fit.0;
+    },
   ),
   of_one tail file bytes files items alike.2 fit.1,
 )
@@ -67,12 +62,7 @@ raised tail file bytes files (packet meta frame) is =
             is.1.interface
             ∙ sym (ap (λ b. if b then (one_interface-law tail file bytes).0 meta.instance else given_from tail (file + 1) files (name_of meta))
             (ne_eqb meta.file file (λ e. absurd (omega (arith, least, e)))));
-        link = is.1.link;
-        snaplen = is.1.snaplen;
-        offset = is.1.offset;
-        units = is.1.units;
-        original = is.1.original;
-        captured = is.1.captured;
+        fits = is.1.fits;
       },
     )
 
@@ -80,14 +70,14 @@ each : {A : Type 0} (P Q : A → Type 0) → ((x : A) → P x → Q x) → (xs :
 each P Q f [] h = tt
 each P Q f (x ∷ xs) h = (f x h.0, each P Q f xs h.1)
 
-of_all : (tail : Tail) (file : ℕ) (files : List (List ℕ)) → AllByRecursion (AllByRecursion ItemFits) (items_of_files tail file files)
+of_all : (tail : Tail) (file : ℕ) (files : List (List ℕ)) → AllByRecursion AreBytes files
     → AllByRecursion (AllByRecursion (IsOfFile file (given_from tail file files))) (items_of_files tail file files)
-of_all tail file [] fit = tt
-of_all tail file (bytes ∷ files) fit = (
-  of_one tail file bytes files (file_items tail file bytes) (one_interface-law tail file bytes).1 fit.0,
+of_all tail file [] are = tt
+of_all tail file (bytes ∷ files) are = (
+  of_one tail file bytes files (file_items tail file bytes) (one_interface-law tail file bytes).1 (fields_fit-law tail file bytes are.0),
   each (AllByRecursion (IsOfFile (file + 1) (given_from tail (file + 1) files))) (AllByRecursion (IsOfFile file (given_from tail file (bytes ∷ files))))
       (λ xs h. each (IsOfFile (file + 1) (given_from tail (file + 1) files)) (IsOfFile file (given_from tail file (bytes ∷ files))) (raised tail file bytes files) xs h)
-      (items_of_files tail (file + 1) files) (of_all tail (file + 1) files fit.1),
+      (items_of_files tail (file + 1) files) (of_all tail (file + 1) files are.1),
 )
 
 -- what is true of all merged items is true of those of the run
@@ -108,11 +98,11 @@ all_have least given (packet meta frame ∷ items) h = (h.0.1, all_have least gi
 
 pub merge-law : MergeLaw
 unfolding run_of_files
-merge-law order tail tail_again file_again files fit limit =
+merge-law order tail tail_again file_again files are limit =
     let given = given_from tail 1 files in
     let lists = items_of_files tail 1 files in
     merged_again-law order tail_again file_again given (run_of_files tail files)
     (all_have 1 given (run_of_files tail files)
     (front (IsOfFile 1 given) (λ x. is_refusal x.item) (merged item_time (map opened lists))
-    (merge-all (IsOfFile 1 given) item_time lists (of_all tail 1 files fit))))
+    (merge-all (IsOfFile 1 given) item_time lists (of_all tail 1 files are))))
     limit

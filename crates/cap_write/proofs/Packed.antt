@@ -8,7 +8,8 @@ use Rattle.cap_pcap.specs.declared.records.Stop.{Stop}
 use Rattle.cap_pcap.specs.declared.records.Stop.TheVariants as stops
 use Rattle.cap_source.specs.Items.{pcap_items}
 use Rattle.cap_time.specs.declared.resolutions.Interface.{Interface}
-use Rattle.cap_write.specs.Laws.{Kept, kept, refusal_of, read_items, IsNumbered, all_described}
+use Rattle.cap_write.specs.Laws.{Kept, kept, read_items, IsNumbered, all_described}
+use Rattle.cap_source.specs.Feed.{refusal_of}
 use Rattle.cap_write.specs.Numbering.{Name, is_name, Numbered, numbered, refusal_in, write_fault}
 use Rattle.cap_write.specs.Texts.{interface_part, packet_part, count_after}
 use Rattle.indexmap.specs.IndexSet.{insert_key}

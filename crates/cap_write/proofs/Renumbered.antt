@@ -15,7 +15,8 @@ use Rattle.cap_write.proofs.Feeding.{count_after-is}
 use Rattle.cap_write.proofs.Files.{merged-again}
 use Rattle.cap_write.proofs.MergedAgain.{number-used, room_left, IsNumbered-given, AllFit-given, all_described-given}
 use Rattle.cap_write.proofs.Places.{position_or_len-none, position_or_len-some}
-use Rattle.cap_write.specs.Laws.{read_items, meta_again, instances, numbers, refusal_of, MergedAgain}
+use Rattle.cap_write.specs.Laws.{read_items, meta_again, instances, numbers, MergedAgain}
+use Rattle.cap_source.specs.Feed.{refusal_of}
 use Rattle.cap_write.specs.Numbering.{Name, name_of, is_name, is_used, number_of, with_name, write_fault, Numbered, numbered_of, numbered_or, numbered, refusal_or, refusal_in}
 use Rattle.cap_write.specs.Texts.{interface_part, packet_part, count_after, merged_text}
 

@@ -30,9 +30,10 @@ use Rattle.cap_write.proofs.Held.{AllHeld, AllFit-held, AreBytes-drop, held-spli
 use Rattle.cap_write.proofs.Out.{fits, early, records_text-read, records_refusal-read, timely-packets}
 use Rattle.cap_write.proofs.Packed.{number_one, number_all, stop_refusal, numbered-packets, refusal-packets, refusal_of-packets, kept-packets, kept-read, IsNumbered-packets, all_described-packets}
 use Rattle.cap_write.proofs.Trips.{fraction_of-header}
-use Rattle.cap_write.specs.Laws.{refusal_of, kept, timely, late_in, read_items, record_form, records_form, AllWritten, RoundTrip, SameBytes}
+use Rattle.cap_write.specs.Laws.{kept, timely, late_in, read_items, record_form, records_form, AllWritten, RoundTrip, SameBytes}
 use Rattle.cap_write.specs.Numbering.{Numbered}
 use Rattle.cap_write.specs.Pcap.{header_of, pcap_text, pcap_refusal, records_text, records_refusal}
+use Rattle.cap_source.specs.Feed.{refusal_of}
 use Rattle.cap_write.specs.Texts.{interface_part, packet_part, count_after, packets_text, front_text, pcapng_text, pcapng_refusal}
 
 -- a written pcap header is no section header
@@ -93,12 +94,12 @@ refused_header tail file bytes i rule is none =
     absurd (false≢true (sym (ap is_some
     (sym (ap (λ f. refusal_of (pcap_items file i (records.refused_or f file 0 (records.items_from (records.header_at bytes) tail file 24 (drop 24 bytes))))) is) ∙ none))))
 
-read_header : (tail : Tail) (file : ℕ) (bytes : List ℕ) → records.header_fault 0 bytes ≡ None
+pub read_header : (tail : Tail) (file : ℕ) (bytes : List ℕ) → records.header_fault 0 bytes ≡ None
     → records.file_items tail file 0 bytes ≡ records.items_from (records.header_at bytes) tail file 24 (drop 24 bytes)
 unfolding records.file_items
 read_header tail file bytes is = rw is refl
 
-below_header : (bytes : List ℕ) → AreBytes bytes → ((records.header_at bytes).snaplen < 2 ^ 32) × ((records.header_at bytes).link < 2 ^ 16)
+pub below_header : (bytes : List ℕ) → AreBytes bytes → ((records.header_at bytes).snaplen < 2 ^ 32) × ((records.header_at bytes).link < 2 ^ 16)
 unfolding records.header_at
 below_header bytes are =
     (omega (arith, number-lt (records.order_at bytes) 4 (drop 16 bytes) (AreBytes-drop 16 bytes are)), mod-lt (number (records.order_at bytes) 4 (drop 20 bytes)) {m = 65536} (omega arith))

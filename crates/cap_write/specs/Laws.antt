@@ -1,5 +1,5 @@
 -- What is true of written files, whatever writes or reads them.
-use Rattle.std.specs.Prelude.{◌≡◌, ℕ, ◌+◌, ◌/◌, ◌%◌, ◌^◌, ◌≤◌, ◌<◌, ◌==◌, FitsSigned, List, [], ◌∷◌, ◌++◌, length, slice_get, Option, Some, None, unwrap_or, map, not, pos, int_lt, Bool, ⊤, false, if◌then◌else◌}
+use Rattle.std.specs.Prelude.{◌≡◌, ℕ, ◌+◌, ◌/◌, ◌%◌, ◌^◌, ◌≤◌, ◌<◌, ◌==◌, FitsSigned, List, [], ◌∷◌, ◌++◌, length, slice_get, Option, Some, None, unwrap_or, not, pos, int_lt, Bool, ⊤, false, if◌then◌else◌}
 use Rattle.std.specs.Int.{w64}
 use Rattle.cap_bytes.specs.declared.numbers.Order.{Order}
 use Rattle.cap_bytes.specs.declared.faults.Refusal.{Refusal}
@@ -8,10 +8,8 @@ use Rattle.cap_bytes.specs.declared.faults.Tail.{Tail}
 use Rattle.cap_blocks.specs.Split.{AreBytes}
 use Rattle.cap_pcap.specs.Grammar.{Packet, header_text, record_text}
 use Rattle.cap_pcap.specs.declared.headers.PcapHeader.{PcapHeader}
-use Rattle.cap_merge.specs.Parts.{item_time, is_refusal}
-use Rattle.cap_merge.specs.Run.{opened, run}
 use Rattle.std.specs.List.{AllByRecursion}
-use Rattle.cap_source.specs.Feed.{Item, packet, refused}
+use Rattle.cap_source.specs.Feed.{Item, packet, refused, refusal_of}
 use Rattle.cap_source.specs.Items.{is_pcapng, file_items, file_first}
 use Rattle.cap_source.specs.declared.packets.Format.TheVariants.{Pcapng}
 use Rattle.cap_source.specs.declared.packets.Meta.{Meta}
@@ -21,6 +19,7 @@ use Rattle.cap_time.specs.Unit.{in_second}
 use Rattle.cap_time.specs.declared.stamps.Unit.{Unit as Fraction}
 use Rattle.cap_write.specs.Numbering.{Name, name_of, Numbered, numbered, refusal_in, refusal_at}
 use Rattle.cap_write.specs.Pcap.{pcap_text, pcap_refusal}
+use Rattle.cap_write.specs.Runs.{run_of_files}
 use Rattle.cap_write.specs.Texts.{interface_part, packet_part, count_after, pcapng_text, pcapng_refusal, merged_text}
 
 -- The fields of a packet and of its interface fit in their widths, and so many bytes may be captured.
@@ -97,12 +96,6 @@ kept [] = []
 kept (packet meta frame ∷ items) = kept_of meta frame ∷ kept items
 kept (refused refusal ∷ items) = []
 
--- the refusal that ends a list, if one does
-unfoldable pub refusal_of : List Item → Option Refusal
-refusal_of [] = None
-refusal_of (packet meta frame ∷ items) = refusal_of items
-refusal_of (refused refusal ∷ items) = Some refusal
-
 -- A time is too late for a pcap file where it is 2^32 seconds or more.
 abbrev pub is_late : Interface → Option ℕ → Bool
 is_late interface None = false
@@ -165,15 +158,25 @@ SameBytes =
     length bytes ≤ 2 ^ 40 → length text ≤ 2 ^ 40
     → pcap_text header.order (file_first tail_again file_again text) (file_items tail_again file_again text) ≡ bytes)
 
--- An interface for each name, which the packets of a list have, and whose fields fit, as theirs do.
-pub record HasFields (given : Name → Interface) (meta : Meta) (bytes : List ℕ) : Type 0 where
-  pub interface : meta.interface ≡ given (name_of meta)
+-- The fields of an item's packet and of its interface fit in their widths, and so many bytes may be captured.
+-- draft-ietf-opsawg-pcap, 4 and 5; draft-ietf-opsawg-pcapng, 4.2 to 4.4 and Appendix A.
+pub record FitsMeta (meta : Meta) (bytes : List ℕ) : Type 0 where
   pub link : meta.interface.link < 2 ^ 16
   pub snaplen : meta.interface.snaplen < 2 ^ 32
   pub offset : FitsSigned w64 meta.interface.offset
   pub units : unwrap_or meta.units 0 < 2 ^ 64
   pub original : meta.original < 2 ^ 32
   pub captured : length bytes ≤ 262144
+
+-- a refusal has no fields
+abbrev pub ItemFits : Item → Type 0
+ItemFits (packet meta frame) = FitsMeta meta frame
+ItemFits (refused refusal) = ⊤
+
+-- An interface for each name, which the packets of a list have, and the fields of which fit, as theirs do.
+pub record HasFields (given : Name → Interface) (meta : Meta) (bytes : List ℕ) : Type 0 where
+  pub interface : meta.interface ≡ given (name_of meta)
+  pub fits : FitsMeta meta bytes
 
 abbrev pub AllHave : (Name → Interface) → List Item → Type 0
 AllHave given [] = ⊤
@@ -215,35 +218,16 @@ abbrev pub OneInterface : Type 0
 OneInterface =
     (tail : Tail) (file : ℕ) (bytes : List ℕ) → (given : ℕ → Interface) × AllAlike file given (file_items tail file bytes)
 
--- The fields of an item's packet and of its interface fit in their widths.
-pub record FitsMeta (meta : Meta) (bytes : List ℕ) : Type 0 where
-  pub link : meta.interface.link < 2 ^ 16
-  pub snaplen : meta.interface.snaplen < 2 ^ 32
-  pub offset : FitsSigned w64 meta.interface.offset
-  pub units : unwrap_or meta.units 0 < 2 ^ 64
-  pub original : meta.original < 2 ^ 32
-  pub captured : length bytes ≤ 262144
-
-abbrev pub ItemFits : Item → Type 0
-ItemFits (packet meta frame) = FitsMeta meta frame
-ItemFits (refused refusal) = ⊤
-
--- the items of files of those bytes, the first of which has that number
-abbrev pub items_of_files : Tail → ℕ → List (List ℕ) → List (List Item)
-items_of_files tail file [] = []
-items_of_files tail file (bytes ∷ files) = file_items tail file bytes ∷ items_of_files tail (file + 1) files
-
--- their packets in the order of exact time, up to the first refusal
-unfoldable pub run_of_files : Tail → List (List ℕ) → List Item
-run_of_files tail files = map (λ x. x.item) (run item_time is_refusal (map opened (items_of_files tail 1 files)))
+-- In every file, which is a list of bytes, the fields of the packets and of their interfaces fit in their widths.
+abbrev pub FieldsFit : Type 0
+FieldsFit = (tail : Tail) (file : ℕ) (bytes : List ℕ) → AreBytes bytes → AllByRecursion ItemFits (file_items tail file bytes)
 
 -- What is written of a merge of any files, where it is at most 2^40 bytes long, has the packets of their run,
 -- those before a refusal, in order: both have the same numbered packets, and a packet's instance is its number
 -- there.
 abbrev pub MergeLaw : Type 0
 MergeLaw =
-    (order : Order) (tail tail_again : Tail) (file_again : ℕ) (files : List (List ℕ))
-    → AllByRecursion (AllByRecursion ItemFits) (items_of_files tail 1 files)
+    (order : Order) (tail tail_again : Tail) (file_again : ℕ) (files : List (List ℕ)) → AllByRecursion AreBytes files
     → (let items = run_of_files tail files in
     let text = merged_text order items in
     let again = file_items tail_again file_again text in

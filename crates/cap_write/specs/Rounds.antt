@@ -9,6 +9,7 @@ use Rattle.cap_source.specs.declared.packets.Format.TheVariants.{Pcapng}
 use Rattle.cap_source.specs.declared.packets.Meta.{Meta}
 use Rattle.cap_merge.specs.Clock.{clock_cmp, greatest}
 use Rattle.cap_write.specs.Numbering.{Numbered, numbered, refusal_in}
+use Rattle.cap_write.specs.Runs.{run_of_lists}
 use Rattle.cap_merge.specs.Run.{Clocked, opened, run}
 use Rattle.cap_merge.specs.Parts.{item_time, is_refusal}
 
@@ -36,7 +37,7 @@ numbered_files file (items ∷ files) = map (in_file file) items ∷ numbered_fi
 
 -- the items of the run of some files, which are numbered from 1 by their places
 unfoldable pub run_of : List (List Item) → List Item
-run_of files = map (λ x. x.item) (run item_time is_refusal (map opened (numbered_files 1 files)))
+run_of files = run_of_lists (numbered_files 1 files)
 
 -- the packets that a merge of some files writes, and the rule that refuses the one behind them, if one does
 abbrev pub merged_packets : List (List Item) → List Numbered

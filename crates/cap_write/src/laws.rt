@@ -1,5 +1,5 @@
 //! Laws of written files, each the contract of a function that does nothing.
-ghost use Rattle.cap_write.specs.Laws.{MergeLaw, MergedAgain, OneInterface, RoundTrip, SameBytes};
+ghost use Rattle.cap_write.specs.Laws.{FieldsFit, MergeLaw, MergedAgain, OneInterface, RoundTrip, SameBytes};
 ghost use Rattle.cap_write.specs.Rounds.{ClockLaw, FileRoundsLaw, RoundsLaw};
 
 /// An accepted pcap file, written as pcapng and then as pcap again, comes back: the pcapng file has its
@@ -11,10 +11,11 @@ pub fn round_trip()
     ensures bytes { SameBytes }
 {}
 
-/// What `write_merged` writes of the run of any files, whose fields fit in their widths, where it is at
-/// most 2^40 bytes long, has the packets of the run, those before a refusal, in order: with the same
-/// numbers of interfaces, which are the instances there, and the same interfaces, times, lengths and
-/// bytes. The same holds of every list in which the packets of one instance have one interface.
+/// What `write_merged` writes of the run of any files, whatever bytes they hold, where it is at most 2^40
+/// bytes long, has the packets of the run, those before a refusal, in order: with the same numbers of
+/// interfaces, which are the instances there, and the same interfaces, times, lengths and bytes. The same
+/// holds of every list whose fields fit in their widths and in which the packets of one instance have one
+/// interface.
 pub fn merged_again()
     ensures files { MergeLaw }
     ensures packets { MergedAgain }
@@ -23,6 +24,13 @@ pub fn merged_again()
 /// In every file, of either format, the packets of one instance have one interface.
 pub fn one_interface()
     ensures law { OneInterface }
+{}
+
+/// In every file, of either format, the fields of a packet and of its interface fit in their widths: the
+/// link type in two bytes, the snaplen and the original length in four, the units and the offset (with its
+/// sign) in eight. At most 262,144 bytes are captured.
+pub fn fields_fit()
+    ensures law { FieldsFit }
 {}
 
 /// In the run of some files, the greatest time among the packets up to and with one equals that packet's

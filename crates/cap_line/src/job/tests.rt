@@ -137,7 +137,7 @@ static WRITING: [(&[&str], Writing); 22] = [
     ),
 ];
 
-static LINES: [(&[&str], Answer); 25] = [
+static LINES: [(&[&str], Answer); 31] = [
     (&["capt", "list", "a"], Ok((Task::List, "a", 1, false))),
     (
         &["capt", "list", "--allow-cut", "a"],
@@ -154,6 +154,15 @@ static LINES: [(&[&str], Answer); 25] = [
         Ok((Task::Blocks, "-", 1, true)),
     ),
     (&["capt", "blocks"], Err(LineFault::Line)),
+    (&["capt", "info", "a", "b"], Ok((Task::Info, "a", 2, false))),
+    (
+        &["capt", "info", "--allow-cut", "-"],
+        Ok((Task::Info, "-", 1, true)),
+    ),
+    (&["capt", "info"], Err(LineFault::Line)),
+    (&["capt", "info", "-o", "c", "a"], Err(LineFault::Line)),
+    (&["capt", "info", "-", "a", "-"], Err(LineFault::Input)),
+    (&["capt", "info", "--help"], Err(LineFault::Help)),
     (&["capt", "blocks", "a", "b"], Err(LineFault::Line)),
     (&["capt", "blocks", "-h"], Err(LineFault::Help)),
     (

@@ -1,0 +1,15 @@
+-- What a call that writes a whole text, or nothing, leaves.
+use Rattle.std.specs.Prelude.{◌≡◌, ℕ, List, ◌++◌, Option, Some, None, Result, Ok, Err}
+use Rattle.cap_bytes.specs.Printing.{PrintsFront}
+use Rattle.cap_bytes.specs.declared.faults.Fault.{Fault}
+use Rattle.cap_bytes.specs.declared.faults.Fault.TheVariants.{Refused, Read, Write, Memory}
+use Rattle.cap_bytes.specs.declared.faults.Refusal.{Refusal}
+
+-- The text is written where nothing is refused. A refusal is answered, and nothing is written then, nor where a read
+-- failed or a growth was refused. Where the writer failed, a front of the text is written.
+abbrev pub Tells : List ℕ → Option Refusal → List ℕ → Result Unit Fault → List ℕ → Type 0
+Tells text refusal old (Ok _) new = (refusal ≡ None) × (new ≡ old ++ text)
+Tells text refusal old (Err (Refused r)) new = (refusal ≡ Some r) × (new ≡ old)
+Tells text refusal old (Err (Read file offset)) new = new ≡ old
+Tells text refusal old (Err Write) new = (refusal ≡ None) × PrintsFront text old new
+Tells text refusal old (Err Memory) new = new ≡ old

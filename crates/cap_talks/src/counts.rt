@@ -1,0 +1,101 @@
+//! Running counts of the packets of one file.
+ghost use Rattle.std.specs.Prelude.{◌≡◌, ◌≤◌, ◌<◌, ◌*◌, ◌^◌, []};
+ghost use Rattle.cap_talks.specs.Counting.{counted, with_packet, earlier, later, time_of};
+
+use cap_source::{Format, Meta};
+use cap_time::Stamp;
+
+/// What is counted of the packets of one file, as far as they were taken.
+#[derive(Clone, Copy)]
+pub struct Counts {
+    /// The file's format, once a packet was taken.
+    pub format: Option<Format>,
+    /// How many packets there are.
+    pub packets: u64,
+    /// The sum of their original lengths, in bytes.
+    pub bytes: u128,
+    /// Of how many of them fewer bytes were captured than they had.
+    pub truncated: u64,
+    /// How many blocks of the file were skipped before the last of them.
+    pub skipped: u64,
+    /// Their least time, of equal ones the first; `None` where no packet has a time.
+    pub first: Option<Stamp>,
+    /// Their greatest time, of equal ones the first.
+    pub last: Option<Stamp>,
+}
+
+impl Counts {
+    /// Nothing was taken yet.
+    pub fn new() -> Counts
+        ensures { result ≡ counted [] }
+    {
+        Counts {
+            format: None,
+            packets: 0,
+            bytes: 0,
+            truncated: 0,
+            skipped: 0,
+            first: None,
+            last: None,
+        }
+    }
+
+    /// Takes one more packet.
+    pub fn take(&mut self, meta: &Meta)
+        requires packets { self.old.packets < 2 ^ 40 }
+        requires bytes { self.old.bytes ≤ 2 ^ 40 * 2 ^ 32 }
+        requires truncated { self.old.truncated < 2 ^ 40 }
+        ensures { self.new ≡ with_packet self.old meta.now }
+    {
+        let time = time_of(meta);
+        let Counts {
+            packets,
+            bytes,
+            truncated,
+            first,
+            last,
+            ..
+        } = *self;
+        *self = Counts {
+            format: Some(meta.format),
+            packets: packets + 1,
+            bytes: bytes + u128::from(meta.original),
+            truncated: truncated + u64::from(meta.captured < meta.original),
+            skipped: meta.skipped,
+            first: earlier(first, time),
+            last: later(last, time),
+        };
+    }
+}
+
+// The time of a packet, where it has one.
+fn time_of(meta: &Meta) -> Option<Stamp>
+    ensures { result ≡ time_of meta.now }
+{
+    match meta.units {
+        Some(units) => Some(Stamp::new(units, &meta.interface)),
+        None => None,
+    }
+}
+
+// The earlier of two times, of equal ones the first, or the only one.
+fn earlier(a: Option<Stamp>, b: Option<Stamp>) -> Option<Stamp>
+    ensures { result ≡ earlier a b }
+{
+    match (a, b) {
+        (None, b) => b,
+        (Some(a), None) => Some(a),
+        (Some(a), Some(b)) => Some(if b < a { b } else { a }),
+    }
+}
+
+// The later of two times, of equal ones the first, or the only one.
+fn later(a: Option<Stamp>, b: Option<Stamp>) -> Option<Stamp>
+    ensures { result ≡ later a b }
+{
+    match (a, b) {
+        (None, b) => b,
+        (Some(a), None) => Some(a),
+        (Some(a), Some(b)) => Some(if a < b { b } else { a }),
+    }
+}

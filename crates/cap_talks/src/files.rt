@@ -1,0 +1,125 @@
+//! The lines of the files, each read by itself.
+ghost use Rattle.std.specs.Prelude.{◌≡◌, ◌≤◌, ◌||◌, ◌^◌, ◌++◌, false, IsTrue, IfOk, IsOkUnless, None, Some, length, map, vec_len};
+ghost use Rattle.std.specs.List.{list_all, list_any};
+ghost use Rattle.cap_bytes.specs.Printing.{Prints, IsRead, is_write};
+ghost use Rattle.cap_talks.specs.FileText.{files_text, info_text, first_refusal};
+ghost use Rattle.cap_talks.specs.Reading.{CountsAll, CountsFile, CountsFiles, counted_texts};
+ghost use Rattle.cap_talks.specs.Telling.{Tells};
+
+use crate::counts::Counts;
+use crate::lines::{file_line, files_line};
+use cap_bytes::{Fault, Sink, Source, Tail, put_all};
+use cap_source::{Capture, Ending, Head, PacketFeed, next_packet};
+use std::alloc::Global;
+
+// What is counted of a file, and how it ended.
+#[derive(Clone, Copy)]
+pub struct Counted {
+    pub counts: Counts,
+    pub ending: Ending,
+}
+
+// Takes all packets that a feed still gives.
+fn count_packets<F: PacketFeed>(feed: &mut F) -> Result<Counts, Fault>
+    requires { (F.feed feed.old).left ≤ 2 ^ 40 }
+    ensures counts { IsTrue (F.feed feed.old).told → CountsAll (F.feed feed.old) result (F.feed feed.new) }
+    ensures known { IfOk result (λ _. (F.feed feed.new).known ≡ Some Head.End) }
+    ensures files { (F.feed feed.new).files ≡ (F.feed feed.old).files }
+    ensures read { IsRead result → IsTrue (F.feed feed.old).can_fail }
+    ensures write { is_write result ≡ false }
+{
+    let mut counts = Counts::new();
+    while let Some(meta) = next_packet(feed)? {
+        counts.take(&meta);
+        feed.pass();
+    }
+    Ok(counts)
+}
+
+// Reads the file of that number whole.
+fn count_file<R: Source>(alloc: Global, source: R, file: u32, tail: Tail) -> Result<Counted, Fault>
+    ensures counts { IsTrue (R.tells_coming source) → CountsFile tail file (R.coming source) result }
+    ensures read { IsRead result → IsTrue (R.can_fail source) }
+    ensures write { is_write result ≡ false }
+{
+    let mut capture = Capture::new(alloc, source, file, tail);
+    let counts = count_packets(&mut capture)?;
+    let ending = capture.ending(file);
+    Ok(Counted { counts, ending })
+}
+
+// Reads files whole, one after another, which have the numbers from 1 on.
+fn count_files<R: Source>(alloc: Global, sources: Vec<R>, tail: Tail) -> Result<Vec<Counted>, Fault>
+    requires most { vec_len sources ≤ 32 }
+    ensures counts { IsTrue (list_all R.tells_coming sources.items) → CountsFiles tail (map R.coming sources.items) result }
+    ensures len { IfOk result (λ counted. length counted.items ≡ length sources.items) }
+    ensures read { IsRead result → IsTrue (list_any R.can_fail sources.items) }
+    ensures write { is_write result ≡ false }
+{
+    let mut counted = Vec::new(alloc);
+    let mut file = 1u32;
+    for source in sources {
+        let each = count_file(alloc, source, file, tail)?;
+        if counted.push(each).is_err() {
+            return Err(Fault::Memory);
+        }
+        file += 1;
+    }
+    Ok(counted)
+}
+
+// Writes the lines of files that have the numbers from 1 on.
+fn put_each<W: Sink>(writer: &mut W, counted: &[Counted]) -> Result<(), Fault>
+    requires most { length counted.now ≤ 32 }
+    ensures text { IsTrue (W.tells_held writer.old)
+        → Prints (counted_texts 1 counted.now) None (W.held writer.old) result (W.held writer.new) }
+    ensures told { IsTrue (W.tells_held writer.old) → IsTrue (W.tells_held writer.new) }
+    ensures failed { W.has_failed writer.new ≡ (W.has_failed writer.old || is_write result) }
+    ensures write { IsTrue (is_write result) → IsTrue (W.can_fail writer.old) }
+    ensures fault { IsOkUnless result Fault.Write }
+{
+    for (place, each) in counted.iter().enumerate() {
+        let line = file_line(place as u32 + 1, &each.counts, Some(each.ending));
+        put_all(writer, line.as_slice())?;
+    }
+    Ok(())
+}
+
+// The same behind the line that says how many they are.
+fn put_lines<W: Sink>(writer: &mut W, counted: &[Counted]) -> Result<(), Fault>
+    requires most { length counted.now ≤ 32 }
+    ensures text { IsTrue (W.tells_held writer.old)
+        → Prints (files_text (length counted.now) ++ counted_texts 1 counted.now) None (W.held writer.old) result (W.held writer.new) }
+    ensures told { IsTrue (W.tells_held writer.old) → IsTrue (W.tells_held writer.new) }
+    ensures failed { W.has_failed writer.new ≡ (W.has_failed writer.old || is_write result) }
+    ensures write { IsTrue (is_write result) → IsTrue (W.can_fail writer.old) }
+    ensures fault { IsOkUnless result Fault.Write }
+{
+    let line = files_line(counted.len() as u32);
+    put_all(writer, line.as_slice())?;
+    put_each(writer, counted)
+}
+
+/// Writes a line that says how many files there are, and a line for each of 1 to 32 capture files, each of either
+/// format: `file I FORMAT packets P bytes B truncated Q skipped S first T last T`. Each file is read by itself, in
+/// order. The first that is refused is answered, and then nothing is written, nor where a read fails or a growth is
+/// refused; after `Write` a front of the lines is written.
+pub fn file_lines<R: Source, W: Sink>(
+    alloc: Global,
+    sources: Vec<R>,
+    tail: Tail,
+    writer: &mut W,
+) -> Result<(), Fault>
+    requires some { 1 ≤ vec_len sources }
+    requires most { vec_len sources ≤ 32 }
+    ensures text { IsTrue (list_all R.tells_coming sources.items) → IsTrue (W.tells_held writer.old)
+        → Tells (info_text tail (map R.coming sources.items)) (first_refusal tail 1 (map R.coming sources.items))
+        (W.held writer.old) result (W.held writer.new) }
+    ensures told { IsTrue (W.tells_held writer.old) → IsTrue (W.tells_held writer.new) }
+    ensures failed { W.has_failed writer.new ≡ (W.has_failed writer.old || is_write result) }
+    ensures read { IsRead result → IsTrue (list_any R.can_fail sources.items) }
+    ensures write { IsTrue (is_write result) → IsTrue (W.can_fail writer.old) }
+{
+    let counted = count_files(alloc, sources, tail)?;
+    put_lines(writer, counted.as_slice())
+}

@@ -1,0 +1,231 @@
+-- The fields of every file's packets fit in their widths.
+use Rattle.std.proofs.Common.{◌≡◌, ◌==◌, ◌*◌, ℕ, zero, suc, ◌+◌, ◌-◌, ◌^◌, ◌≤◌, ◌<◌, nat_le, List, [], ◌∷◌, ◌++◌, length, drop, slice_get, Bool, true, false, Option, Some, None, Result, Ok, Err, IfOk, IfSome, unwrap_or, refl, ◌∙◌, subst, sym, arith, if◌then◌else◌}
+use Rattle.std.proofs.lemmas.Int.{ints}
+use Rattle.std.proofs.lemmas.List.{length-take}
+use Rattle.std.specs.Int.{w64, cast_signed}
+use Rattle.std.specs.List.{AllByRecursion}
+use Rattle.std.specs.Prelude.{FitsSigned, pos}
+use Rattle.cap_blocks.specs.OptionList.{options_of}
+use Rattle.cap_blocks.specs.Split as blocks
+use Rattle.cap_blocks.specs.Split.{AreBytes}
+use Rattle.cap_blocks.specs.declared.blocks.Block.{Block}
+use Rattle.cap_blocks.specs.declared.blocks.Stop.{Stop as BlockStop}
+use Rattle.cap_blocks.specs.declared.blocks.Stop.TheVariants as block_stops
+use Rattle.cap_bytes.proofs.Spelling.{number-lt}
+use Rattle.cap_bytes.specs.Number.{number}
+use Rattle.cap_bytes.specs.declared.faults.Rule.{Rule}
+use Rattle.cap_bytes.specs.declared.faults.Rule.TheVariants.{InterfaceLimit, OptionLength}
+use Rattle.cap_bytes.specs.declared.faults.Tail.{Tail}
+use Rattle.cap_bytes.specs.declared.numbers.Order.{Order}
+use Rattle.cap_pcap.proofs.Splitting.{every_split-law, split_items-law}
+use Rattle.cap_pcap.specs.Grammar.{Packet as Record, packet_size}
+use Rattle.cap_pcap.specs.Split as records
+use Rattle.cap_pcap.specs.declared.records.Stop.{Stop as RecordStop}
+use Rattle.cap_pcap.specs.declared.records.Stop.TheVariants as record_stops
+use Rattle.cap_source.specs.Clocks.{interface_in, interface_or, interface_at, options_fault, offset_in, given_or, read_or, value_of}
+use Rattle.cap_source.specs.Contents.{content_in}
+use Rattle.cap_source.specs.Feed.{Item}
+use Rattle.cap_source.specs.Items.{Progress, fresh, behind, items_at, items_in, items_of_stop, items_from, is_pcapng, pcap_items, interface_of}
+use Rattle.cap_source.specs.declared.contents.Content.{Content}
+use Rattle.cap_source.specs.declared.contents.Content.TheVariants as contents
+use Rattle.cap_source.specs.declared.contents.Packet.{Packet}
+use Rattle.cap_time.specs.declared.resolutions.Interface.{Interface}
+use Rattle.cap_write.proofs.Contents.{OfContent, content-holds}
+use Rattle.cap_write.proofs.Held.{AllHeld, AreBytes-drop, AreBytes-take, held-splits}
+use Rattle.cap_write.proofs.RoundTrip.{below_header, read_header}
+use Rattle.cap_write.specs.Laws.{ItemFits, FieldsFit}
+
+-- ---- interfaces
+
+-- An interface's fields fit.
+record FitsInterface (i : Interface) : Type 0 where
+  link : i.link < 2 ^ 16
+  snaplen : i.snaplen < 2 ^ 32
+  offset : FitsSigned w64 i.offset
+
+-- a number of four bytes
+of_bytes : (order : Order) (n : ℕ) (body : List ℕ) → AreBytes body → number order 4 (drop n body) < 2 ^ 32
+of_bytes order n body are = omega (arith, number-lt order 4 (drop n body) (AreBytes-drop n body are))
+
+-- an offset is a number of eight bytes with a sign
+offset-fits : (order : Order) (value : Option (List ℕ)) → FitsSigned w64 (given_or (pos 0) (offset_in order) value)
+unfolding offset_in
+offset-fits order None = grind (arith, ints)
+offset-fits order (Some value) = by (length value == 8)
+  where
+    by : (eight : Bool) → FitsSigned w64 (read_or (pos 0) (if eight then Ok (cast_signed w64 (number order 8 value)) else Err OptionLength))
+    by true = grind (arith, ints)
+    by false = grind (arith, ints)
+
+-- and so do those of an interface block
+interface-fits : (before : ℕ) (order : Order) (body : List ℕ) → AreBytes body → IfOk (interface_in before order body) FitsInterface
+unfolding interface_in
+interface-fits before order body are =
+    by (nat_le 1024 before) (options_fault order false false (options_of order (drop 8 body)))
+  where
+    by : (many : Bool) (fault : Option Rule)
+        → IfOk (if many then Err InterfaceLimit else interface_or fault (interface_at order body (options_of order (drop 8 body)))) FitsInterface
+    by true fault = tt
+    by false (Some rule) = tt
+    by false None = record {
+      link = omega (arith, number-lt order 2 body are);
+      snaplen = of_bytes order 4 body are;
+      offset = offset-fits order (value_of 14 (options_of order (drop 8 body)));
+    }
+
+-- so do those of each interface of a section
+interface_of-number : (interfaces : List Interface) (k : ℕ) (i : Interface) → AllByRecursion FitsInterface interfaces → slice_get interfaces k ≡ Some i
+    → FitsInterface i
+interface_of-number interfaces k i fit is = subst (λ found. IfSome found FitsInterface) is (each interfaces k fit)
+  where
+    each : (interfaces : List Interface) (k : ℕ) → AllByRecursion FitsInterface interfaces → IfSome (slice_get interfaces k) FitsInterface
+    each [] k fit = tt
+    each (i ∷ interfaces) zero fit = fit.0
+    each (i ∷ interfaces) (suc k) fit = each interfaces k fit.1
+
+one_more : (interfaces : List Interface) (i : Interface) → AllByRecursion FitsInterface interfaces → FitsInterface i
+    → AllByRecursion FitsInterface (interfaces ++ i ∷ [])
+one_more [] i fit is = (is, tt)
+one_more (j ∷ interfaces) i fit is = (fit.0, one_more interfaces i fit.1 is)
+
+-- ---- packets of blocks
+
+-- The fields of a block's packet and of its interface fit.
+record FitsPacket (p : Packet) : Type 0 where
+  interface : FitsInterface p.interface
+  units : unwrap_or p.units 0 < 2 ^ 64
+  original : p.original < 2 ^ 32
+  captured : p.captured ≤ 262144
+
+-- units are two numbers of four bytes
+two_words : (high low : ℕ) → high < 2 ^ 32 → low < 2 ^ 32 → high * 2 ^ 32 + low < 2 ^ 64
+two_words high low h l = omega arith
+
+-- What a block says fits, where the section's interfaces do.
+content-fits : (interfaces : List Interface) (kind : ℕ) (order : Order) (body : List ℕ) → AllByRecursion FitsInterface interfaces → AreBytes body
+    → IfOk (content_in interfaces kind order body) (OfContent FitsInterface FitsPacket)
+content-fits interfaces kind order body fit are =
+    content-holds FitsInterface FitsPacket interfaces kind order body (interface-fits (length interfaces) order body are)
+    (λ k i is few. record {
+      interface = interface_of-number interfaces k i fit is;
+      units = two_words (number order 4 (drop 4 body)) (number order 4 (drop 8 body)) (of_bytes order 4 body are) (of_bytes order 8 body are);
+      original = of_bytes order 16 body are;
+      captured = few;
+    })
+    (λ i is few. record {
+      interface = interface_of-number interfaces 0 i fit is;
+      units = omega arith;
+      original = omega (arith, number-lt order 4 body are);
+      captured = few;
+    })
+
+-- ---- blocks
+
+-- The bodies of a file's blocks are bytes.
+abbrev IsOfBytes : blocks.Item → Type 0
+IsOfBytes (blocks.given block body) = AreBytes body
+IsOfBytes (blocks.stopped stop) = Unit {0}
+
+of_item : (stop : Option BlockStop) (block : Block) (body : List ℕ) (rest : List blocks.Item) → AreBytes body → AllByRecursion IsOfBytes rest
+    → AllByRecursion IsOfBytes (blocks.item_or stop (blocks.given block body) rest)
+of_item (Some stop) block body rest are later = (tt, tt)
+of_item None block body rest are later = (are, later)
+
+blocks-bytes : (fuel : ℕ) (section : Option Order) (tail : Tail) (file offset : ℕ) (bytes : List ℕ) → AreBytes bytes
+    → AllByRecursion IsOfBytes (blocks.items_by fuel section tail file offset bytes)
+unfolding blocks.items_by
+blocks-bytes zero section tail file offset bytes are = tt
+blocks-bytes (suc fuel) section tail file offset bytes are =
+    let order = blocks.order_at section bytes in
+    let total = blocks.total_at order bytes in
+    of_item (blocks.stop_at section tail file offset bytes) (blocks.block_at section offset bytes) (blocks.body_at section bytes)
+    (blocks.items_by fuel (Some order) tail file (offset + total) (drop total bytes))
+    (AreBytes-take (total - 12) (drop 8 bytes) (AreBytes-drop 8 bytes are))
+    (blocks-bytes fuel (Some order) tail file (offset + total) (drop total bytes) (AreBytes-drop total bytes are))
+
+block-fits : (file : ℕ) (progress : Progress) (block : Block) (body : List ℕ) (content : Result Content Rule) (items : List Item)
+    → IfOk content (OfContent FitsInterface FitsPacket) → AllByRecursion FitsInterface progress.interfaces
+    → (AllByRecursion FitsInterface (behind progress content).interfaces → AllByRecursion ItemFits items)
+    → AllByRecursion ItemFits (items_at file progress block body content items)
+block-fits file progress block body (Ok contents.Section) items fits all rest = rest tt
+block-fits file progress block body (Ok (contents.Interface i)) items fits all rest = rest (one_more progress.interfaces i all fits)
+block-fits file progress block body (Ok (contents.Packet p)) items fits all rest = (
+  record {
+    link = fits.interface.link;
+    snaplen = fits.interface.snaplen;
+    offset = fits.interface.offset;
+    units = fits.units;
+    original = fits.original;
+    captured = omega (arith, fits.captured, length-take p.captured (drop p.place body));
+  },
+  rest all,
+)
+block-fits file progress block body (Ok contents.Other) items fits all rest = rest all
+block-fits file progress block body (Err rule) items fits all rest = (tt, tt)
+
+stop-fits : (stop : BlockStop) → AllByRecursion ItemFits (items_of_stop stop)
+stop-fits block_stops.End = tt
+stop-fits block_stops.Cut = tt
+stop-fits (block_stops.Refused refusal) = (tt, tt)
+
+blocks-fit : (file : ℕ) (progress : Progress) (items : List blocks.Item) → AllByRecursion FitsInterface progress.interfaces
+    → AllByRecursion IsOfBytes items → AllByRecursion ItemFits (items_in file progress items)
+unfolding items_in
+blocks-fit file progress [] fit are = tt
+blocks-fit file progress (blocks.stopped stop ∷ rest) fit are = stop-fits stop
+blocks-fit file progress (blocks.given block body ∷ rest) fit are =
+    let content = content_in progress.interfaces block.kind block.order body in
+    block-fits file progress block body content (items_in file (behind progress content) rest)
+    (content-fits progress.interfaces block.kind block.order body fit are.0) fit
+    (λ all. blocks-fit file (behind progress content) rest all are.1)
+
+-- ---- records
+
+-- the packets of records have the one interface of the header
+records-fit : (file : ℕ) (i : Interface) (offset : ℕ) (packets : List Record) (stop : RecordStop) → FitsInterface i → AllHeld packets
+    → AllByRecursion ItemFits (pcap_items file i (records.items_with offset packets stop))
+unfolding pcap_items
+records-fit file i offset [] record_stops.End fits held = tt
+records-fit file i offset [] record_stops.Cut fits held = tt
+records-fit file i offset [] (record_stops.Refused refusal) fits held = (tt, tt)
+records-fit file i offset (p ∷ ps) stop fits held = (
+  record {
+    link = fits.link;
+    snaplen = fits.snaplen;
+    offset = fits.offset;
+    units = held.0;
+    original = held.1;
+    captured = held.2;
+  },
+  records-fit file i (offset + packet_size p) ps stop fits held.3,
+)
+
+header-fits : (bytes : List ℕ) → AreBytes bytes → FitsInterface (interface_of (records.header_at bytes))
+header-fits bytes are = record { link = (below_header bytes are).1; snaplen = (below_header bytes are).0; offset = grind (arith, ints) }
+
+pcap-fits : (tail : Tail) (file : ℕ) (bytes : List ℕ) → AreBytes bytes
+    → AllByRecursion ItemFits (pcap_items file (interface_of (records.header_at bytes)) (records.file_items tail file 0 bytes))
+unfolding records.file_items pcap_items
+pcap-fits tail file bytes are = by (records.header_fault 0 bytes) refl
+  where
+    by : (fault : Option Rule) → records.header_fault 0 bytes ≡ fault
+        → AllByRecursion ItemFits (pcap_items file (interface_of (records.header_at bytes)) (records.file_items tail file 0 bytes))
+    by (Some rule) is = rw is ((tt, tt))
+    by None is =
+        let header = records.header_at bytes in
+        let split = every_split-law header.order header.unit 24 (drop 24 bytes) in
+        let whole = split_items-law header tail file 24 (drop 24 bytes) split.0 split.1 split.2 in
+        subst (λ items. AllByRecursion ItemFits (pcap_items file (interface_of header) items))
+        (sym (read_header tail file bytes is ∙ whole.2))
+        (records-fit file (interface_of header) 24 split.0 whole.0 (header-fits bytes are)
+        (held-splits header.order header.unit 24 (drop 24 bytes) split.0 split.1 (AreBytes-drop 24 bytes are) split.2))
+
+pub fields_fit-law : FieldsFit
+unfolding items_from blocks.items_from
+fields_fit-law tail file bytes are = by (is_pcapng bytes)
+  where
+    by : (pcapng : Bool)
+        → AllByRecursion ItemFits (if pcapng then items_in file fresh (blocks.items_from None tail file 0 bytes)
+        else pcap_items file (interface_of (records.header_at bytes)) (records.file_items tail file 0 bytes))
+    by true = blocks-fit file fresh (blocks.items_from None tail file 0 bytes) tt (blocks-bytes (suc (length bytes)) None tail file 0 bytes are)
+    by false = pcap-fits tail file bytes are
