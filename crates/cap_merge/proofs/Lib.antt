@@ -4,6 +4,8 @@ pub mod Moving
 pub mod Heads
 pub mod Passing
 pub mod Placing
+pub mod Finding
+pub mod Others
 pub mod Calls
 pub mod Firsts
 pub mod RunLaws

@@ -1,6 +1,7 @@
 pub mod Clock
 pub mod Run
 pub mod Parts
+pub mod First
 pub mod Merge
 pub mod PartsProps
 pub mod MergedLaws

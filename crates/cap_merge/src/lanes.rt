@@ -1,9 +1,10 @@
 //! What is known of each feed, and which of them comes first.
-ghost use Rattle.std.specs.Prelude.{◌≡◌, ◌<◌, ◌≤◌, List, replicate, length, true, IsTrue, is_some, Some, map};
+ghost use Rattle.std.specs.Prelude.{◌≡◌, ◌<◌, ◌≤◌, List, replicate, length, true, IsTrue, is_some, Some, IfSome, map};
 ghost use Rattle.std.specs.List.{list_all};
 ghost use Rattle.cap_merge.specs.Clock.{later};
 ghost use Rattle.cap_source.specs.Feed.{Feed, IsPacket, Passes, Keeps};
-ghost use Rattle.cap_merge.specs.Parts.{parts, head_time, has_next, known_of, IsFirstLane, sooner_lane, passed_lane, new_lane, both_held};
+ghost use Rattle.cap_merge.specs.Parts.{parts, head_time, has_next, known_of, IsFirstLane, passed_lane, new_lane, both_held};
+ghost use Rattle.cap_merge.specs.First.{comes_before, sooner_place, first_place, known_but, IsFound, OthersKnown};
 ghost use Rattle.cap_merge.specs.Merge.{learned, Asks, AsksAll, IsPacketAt, PassesAt};
 
 use arrayvec::ArrayVec;
@@ -92,19 +93,47 @@ fn ask_each<F: PacketFeed>(lanes: &mut [Lane], feeds: &mut [F]) -> Result<(), Fa
     Ok(())
 }
 
+// Asks the feed at a place what comes next, unless that is known. That of each other feed is known.
+fn ask_at<F: PacketFeed>(lanes: &mut [Lane], feeds: &mut [F], place: usize) -> Result<(), Fault>
+    requires alike { length lanes.old ≡ length feeds.old }
+    requires place { place < length lanes.old }
+    requires others { known_but (parts lanes.old (map F.feed feeds.old)) place ≡ true }
+    ensures { AsksAll (parts lanes.old (map F.feed feeds.old)) result (parts lanes.new (map F.feed feeds.new)) }
+{
+    ask(&mut lanes[place], &mut feeds[place])
+}
+
+// Asks each feed that isn't known in turn, which is that of the passed packet alone, if there is one.
+fn ask_unknown<F: PacketFeed>(
+    lanes: &mut [Lane],
+    feeds: &mut [F],
+    passed: Option<usize>,
+) -> Result<(), Fault>
+    requires alike { length lanes.old ≡ length feeds.old }
+    requires others { OthersKnown (parts lanes.old (map F.feed feeds.old)) passed }
+    ensures { AsksAll (parts lanes.old (map F.feed feeds.old)) result (parts lanes.new (map F.feed feeds.new)) }
+{
+    match passed {
+        Some(place) => ask_at(lanes, feeds, place),
+        None => ask_each(lanes, feeds),
+    }
+}
+
 /// Asks each feed in turn what comes next, unless that is known, and stops at the first that can't tell:
-/// the heads that were learned before it are kept.
+/// the heads that were learned before it are kept. Behind a passed packet only its feed isn't known.
 pub(crate) fn ask_all<F: PacketFeed>(
     lanes: &mut ArrayVec<Lane, 32>,
     feeds: &mut Vec<F>,
+    passed: Option<usize>,
 ) -> Result<(), Fault>
-    requires { length lanes.old.items ≡ length feeds.old.items }
+    requires alike { length lanes.old.items ≡ length feeds.old.items }
+    requires others { OthersKnown (parts lanes.old.items (map F.feed feeds.old.items)) passed }
     ensures asks { AsksAll (parts lanes.old.items (map F.feed feeds.old.items)) result
         (parts lanes.new.items (map F.feed feeds.new.items)) }
     ensures lanes { length lanes.new.items ≡ length lanes.old.items }
     ensures feeds { length feeds.new.items ≡ length feeds.old.items }
 {
-    ask_each(lanes.as_mut_slice(), feeds.as_mut_slice())
+    ask_unknown(lanes.as_mut_slice(), feeds.as_mut_slice(), passed)
 }
 
 /// Where an item comes first, and its clock.
@@ -126,19 +155,30 @@ fn has_next(lane: &Lane) -> bool
     }
 }
 
-// The first of those so far and of one more lane: of equal clocks the one before stays.
-fn sooner(first: Option<First>, place: usize, lane: &Lane) -> Option<First>
-    ensures { result ≡ sooner_lane first place lane.now }
+// Whether a lane's item comes before that of an earlier lane.
+fn comes_before(lane: &Lane, first: &Lane) -> bool
+    ensures { result ≡ comes_before lane.now first.now }
 {
-    let here = First {
-        place,
-        clock: lane.clock,
-    };
+    has_next(lane) && lane.clock < first.clock
+}
+
+// The place of the first of those so far and of one more lane: of equal clocks the one before stays.
+fn sooner(lanes: &[Lane], first: Option<usize>, place: usize) -> Option<usize>
+    requires first { IfSome first (λ n. n < length lanes.now) }
+    requires place { place < length lanes.now }
+    ensures { result ≡ sooner_place lanes.now first place }
+{
     match first {
-        None => { if has_next(lane) { Some(here) } else { None } }
+        None => {
+            if has_next(&lanes[place]) {
+                Some(place)
+            } else {
+                None
+            }
+        }
         Some(first) => {
-            if has_next(lane) && lane.clock < first.clock {
-                Some(here)
+            if comes_before(&lanes[place], &lanes[first]) {
+                Some(place)
             } else {
                 Some(first)
             }
@@ -146,24 +186,53 @@ fn sooner(first: Option<First>, place: usize, lane: &Lane) -> Option<First>
     }
 }
 
-/// Which lane's item comes first: that of the least clock, of equal ones the first.
-pub(crate) fn first_lane(lanes: &[Lane]) -> Option<First>
-    ensures { IsFirstLane lanes.now result }
+/// The place of the lane whose item comes first: that of the least clock, of equal ones the first.
+pub(crate) fn first_lane(lanes: &[Lane]) -> Option<usize>
+    ensures place { result ≡ first_place lanes.now }
+    ensures within { IfSome result (λ n. n < length lanes.now) }
 {
     let mut first = None;
-    for (place, lane) in lanes.iter().enumerate() {
-        first = sooner(first, place, lane);
+    for place in 0..lanes.len() {
+        first = sooner(lanes, first, place);
     }
     first
 }
 
-/// What comes next of all, where that of each is known.
-pub(crate) fn head_of(lanes: &[Lane]) -> Head
-    requires { list_all (λ l. is_some l.head) lanes.now ≡ true }
+// The place of the lane whose item comes first, where that isn't known yet.
+fn found(lanes: &[Lane], known: Option<usize>) -> Option<usize>
+    requires { IsFound lanes.now known }
+    ensures place { result ≡ first_place lanes.now }
+    ensures within { IfSome result (λ n. n < length lanes.now) }
+{
+    match known {
+        Some(place) => Some(place),
+        None => first_lane(lanes),
+    }
+}
+
+/// Which lane's item comes first, and its clock; its place may be known.
+pub(crate) fn first_of(lanes: &[Lane], known: Option<usize>) -> Option<First>
+    requires { IsFound lanes.now known }
+    ensures { IsFirstLane lanes.now result }
+{
+    match found(lanes, known) {
+        Some(place) => Some(First {
+            place,
+            clock: lanes[place].clock,
+        }),
+        None => None,
+    }
+}
+
+/// What comes next of all, where that of each is known, and the place of the lane whose item comes first.
+pub(crate) fn head_of(lanes: &[Lane], first: Option<usize>) -> Head
+    requires known { list_all (λ l. is_some l.head) lanes.now ≡ true }
+    requires place { first ≡ first_place lanes.now }
+    requires within { IfSome first (λ n. n < length lanes.now) }
     ensures { (feeds : List Feed) → length feeds ≡ length lanes.now → known_of (parts lanes.now feeds) ≡ Some result }
 {
-    match first_lane(lanes) {
-        Some(first) => match lanes[first.place].head {
+    match first {
+        Some(first) => match lanes[first].head {
             Some(head) => head,
             None => Head::End,
         },

@@ -6,10 +6,11 @@ ghost use Rattle.cap_merge.specs.Clock.{clock_cmp};
 ghost use Rattle.cap_source.specs.Feed.{GivesHead, Keeps, KeepsItems, Passes, IsPacket, HasFile, IsFeed};
 ghost use Rattle.cap_merge.specs.Run.{opened, run};
 ghost use Rattle.cap_merge.specs.Parts.{item_time, is_refusal, parts, IsNumbered, Agrees, HasReached, feed_of, new_parts, clock_of, run_of, has_next, ClocksFrom, MovesClocks, KeepsRun, BeginsAt};
+ghost use Rattle.cap_merge.specs.First.{IsFound, IsFound-prop, OthersKnown, OthersKnown-prop};
 ghost use Rattle.cap_merge.specs.Merge.{AsksAll};
 ghost use Rattle.cap_merge.specs.PartsProps.{IsNumbered-prop, Agrees-prop, HasReached-prop};
 
-use crate::lanes::{Lane, ask_all, first_lane, greater, head_of, new_lanes, pass_first};
+use crate::lanes::{Lane, ask_all, first_lane, first_of, greater, head_of, new_lanes, pass_first};
 use arrayvec::ArrayVec;
 use cap_bytes::Fault;
 use cap_source::{Ending, FeedHeld, Head, PacketFeed};
@@ -21,12 +22,18 @@ use cap_time::Stamp;
 pub struct Merged<F: PacketFeed> {
     feeds: Vec<F>,
     lanes: ArrayVec<Lane, 32>,
+    // the place of the lane whose item comes first, once it was looked for
+    first: Option<usize>,
+    // the place where a packet was passed, until the next is asked for: only there what comes next isn't known
+    passed: Option<usize>,
     ghost alike: { length lanes.items ≡ length feeds.items },
     ghost some: { 1 ≤ length feeds.items },
     ghost most: { length feeds.items ≤ 32 },
     ghost numbered: { IsNumbered (map F.feed feeds.items) } by { IsNumbered-prop (map F.feed feeds.items) },
     ghost agrees: { Agrees (parts lanes.items (map F.feed feeds.items)) } by { Agrees-prop (parts lanes.items (map F.feed feeds.items)) },
     ghost reached: { HasReached (parts lanes.items (map F.feed feeds.items)) } by { HasReached-prop (parts lanes.items (map F.feed feeds.items)) },
+    ghost found: { IsFound lanes.items first } by { IsFound-prop lanes.items first },
+    ghost others: { OthersKnown (parts lanes.items (map F.feed feeds.items)) passed } by { OthersKnown-prop (parts lanes.items (map F.feed feeds.items)) passed },
 }
 
 impl<F: PacketFeed> Merged<F> {
@@ -42,7 +49,12 @@ impl<F: PacketFeed> Merged<F> {
             ≡ run item_time is_refusal (map (λ f. opened f.items) (map F.feed feeds.items)) }
     {
         let lanes = new_lanes(feeds.len());
-        Merged { feeds, lanes }
+        Merged {
+            feeds,
+            lanes,
+            first: None,
+            passed: None,
+        }
     }
 
     /// How many feeds there are, each of one file.
@@ -63,7 +75,7 @@ impl<F: PacketFeed> Merged<F> {
         ensures run { IsTrue (feed_of (parts_of self.now)).told
             → BeginsAt result (run_of (parts_of self.now)) }
     {
-        match first_lane(self.lanes.as_slice()) {
+        match first_of(self.lanes.as_slice(), self.first) {
             Some(first) => first.clock,
             None => None,
         }
@@ -91,12 +103,16 @@ impl<F: PacketFeed> PacketFeed for Merged<F> {
             → KeepsRun (parts_of self.old) result (parts_of self.new) }
         ensures clocks { MovesClocks (parts_of self.old) (parts_of self.new) }
     {
-        ask_all(&mut self.lanes, &mut self.feeds)?;
-        Ok(head_of(self.lanes.as_slice()))
+        let passed = self.passed;
+        self.first = None;
+        self.passed = None;
+        ask_all(&mut self.lanes, &mut self.feeds, passed)?;
+        self.first = first_lane(self.lanes.as_slice());
+        Ok(head_of(self.lanes.as_slice(), self.first))
     }
 
     fn frame(&self) -> &[u8] {
-        match first_lane(self.lanes.as_slice()) {
+        match first_of(self.lanes.as_slice(), self.first) {
             Some(first) => self.feeds[first.place].frame(),
             None => &[],
         }
@@ -112,8 +128,12 @@ impl<F: PacketFeed> PacketFeed for Merged<F> {
             → run_of (parts_of self.new) ≡ drop 1 (run_of (parts_of self.old)) }
         ensures clocks { ClocksFrom (clock_of (parts_of self.old)) (parts_of self.new) }
     {
-        match first_lane(self.lanes.as_slice()) {
-            Some(first) => pass_first(&mut self.lanes, &mut self.feeds, first.place),
+        match first_of(self.lanes.as_slice(), self.first) {
+            Some(first) => {
+                self.first = None;
+                self.passed = Some(first.place);
+                pass_first(&mut self.lanes, &mut self.feeds, first.place);
+            }
             None => {}
         }
     }

@@ -1,10 +1,24 @@
 //! The order of stamps, which is that of their times, and a hash that agrees with it.
-ghost use Rattle.std.specs.Prelude.{refl};
-ghost use Rattle.std.specs.Ordering.{as_partial_cmp};
+ghost use Rattle.std.specs.Prelude.{◌≡◌, ◌*◌, refl};
+ghost use Rattle.std.specs.Ordering.{as_partial_cmp, nat_cmp};
+ghost use Rattle.cap_time.specs.Stamp.{numerator_of, denominator_of};
 
 use crate::stamps::Stamp;
 use std::cmp::Ordering;
 use std::hash::{Hash, Hasher};
+
+// Fractions of one denominator compare as their numerators do, others by their cross products.
+fn fraction_cmp(a: &Stamp, b: &Stamp) -> Ordering
+    ensures { result ≡ nat_cmp (numerator_of a.now * denominator_of b.now) (numerator_of b.now * denominator_of a.now) }
+{
+    if a.denominator == b.denominator {
+        a.numerator.cmp(&b.numerator)
+    } else {
+        let own = u128::from(a.numerator) * u128::from(b.denominator);
+        let others = u128::from(b.numerator) * u128::from(a.denominator);
+        own.cmp(&others)
+    }
+}
 
 impl PartialEq for Stamp {
     ghost use Rattle.cap_time.specs.Stamp.{stamp_eq};
@@ -50,11 +64,13 @@ impl Ord for Stamp {
 
     ghost matches_eq = { λ a b. refl };
 
-    // The seconds decide, and of equal seconds the fractions, by their cross products.
+    // The seconds decide, and of equal seconds the fractions.
     fn cmp(&self, other: &Stamp) -> Ordering {
-        let own = u128::from(self.numerator) * u128::from(other.denominator);
-        let others = u128::from(other.numerator) * u128::from(self.denominator);
-        self.seconds.cmp(&other.seconds).then(own.cmp(&others))
+        if self.seconds == other.seconds {
+            fraction_cmp(self, other)
+        } else {
+            self.seconds.cmp(&other.seconds)
+        }
     }
 }
 

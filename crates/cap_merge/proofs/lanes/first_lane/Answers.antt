@@ -1,11 +1,15 @@
-use Rattle.std.proofs.Common.{sym, subst, suc, take, add-one}
-use Rattle.cap_merge.specs.declared.lanes.Lane.{Lane}
-use Rattle.cap_merge.specs.Parts.{IsFirstLane, sooner_lane}
-use Rattle.cap_merge.proofs.Placing.{first-taken}
+use Rattle.std.proofs.Common.{◌∙◌, arith, add-one}
+use Rattle.cap_merge.proofs.Finding.{among-none, among-more, so-far-within}
 use Rattle.cap_merge.proofs.lanes.first_lane.Goals as goal
 
+pub loop-place-init : goal.loop-place-init
+loop-place-init c = among-none c.args.lanes.now
+
+pub sooner-first-requires-clause-first : goal.sooner-first-requires-clause-first
+sooner-first-requires-clause-first c = so-far-within c.args.lanes.now c.loop-place.first c.loop-place.place (omega arith) c.loop-place.invariant
+
 pub loop-place-preserved : goal.loop-place-preserved
-loop-place-preserved c =
-    rw (add-one, c.sooner-first.ensures)
-    (subst (λ (w : Lane). IsFirstLane (take (suc c.loop-place.place) c.args.lanes.now) (sooner_lane c.loop-place.first c.loop-place.place w)) (sym c.index-lanes-place.is)
-    (first-taken c.args.lanes.now c.loop-place.place c.loop-place.first c.index-lanes-place.result c.loop-place-test.true c.loop-place.invariant))
+loop-place-preserved c = rw add-one (c.sooner-first.ensures ∙ among-more c.args.lanes.now c.loop-place.first c.loop-place.place c.loop-place.invariant)
+
+pub returns-clause-within : goal.returns-clause-within
+returns-clause-within c = so-far-within c.args.lanes.now c.loop-place.first c.loop-place.place (omega arith) c.loop-place.invariant

@@ -1,4 +1,4 @@
-use Rattle.std.proofs.Common.{◌≡◌, ap, ◌∙◌, length, map, arith}
+use Rattle.std.proofs.Common.{◌≡◌, refl, ap, ◌∙◌, length, map, arith}
 use Rattle.std.specs.Prelude.{replicate}
 use Rattle.cap_merge.specs.Parts.{new_lane, run_of}
 use Rattle.cap_merge.proofs.Placing.{new-alike, new-is, new-agrees, new-reached, run-new}
@@ -15,6 +15,8 @@ invariant_of-result g c =
       numbered = c.requires.numbered;
       agrees = new-agrees g.F.PacketFeed.feed c.new_lanes-lanes.result.items c.args.feeds.items made;
       reached = new-reached g.F.PacketFeed.feed c.new_lanes-lanes.result.items c.args.feeds.items made;
+      found = refl;
+      others = refl;
     }
 
 pub returns : goal.returns

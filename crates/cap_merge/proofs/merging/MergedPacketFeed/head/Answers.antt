@@ -1,4 +1,4 @@
-use Rattle.std.proofs.Common.{sym, ◌∙◌, map}
+use Rattle.std.proofs.Common.{refl, sym, ◌∙◌, map}
 use Rattle.std.proofs.lemmas.Result.{err_from_is_err_and}
 use Rattle.cap_merge.specs.Lists.{length-mapped}
 use Rattle.cap_merge.specs.Parts.{parts}
@@ -6,6 +6,7 @@ use Rattle.cap_merge.specs.Sound.{each-agrees, each-reached, lawful-each, number
 use Rattle.cap_merge.proofs.Heads.{asked-keeps, knows-asked, items-asked, gives-stopped, items-stopped, clocks-asked}
 use Rattle.cap_merge.proofs.Moving.{from-each}
 use Rattle.cap_merge.proofs.Calls.{asked-numbered, asked-sound-each, asked-keeps-all, asked-known, run-asked, run-stopped}
+use Rattle.cap_merge.proofs.Finding.{found-here}
 use Rattle.cap_merge.proofs.merging.MergedPacketFeed.head.Goals as goal
 
 pub invariant_of-self : goal.invariant_of-self
@@ -21,6 +22,25 @@ invariant_of-self g c =
       numbered = asked-numbered g.F.PacketFeed.feed law m.lanes.items c.ask_all.new.lanes.items m.feeds.items c.ask_all.new.feeds.items c.ask_all.result m.alike c.ask_all.ensures.lanes c.ask_all.ensures.feeds asks m.numbered;
       agrees = each-agrees (parts c.ask_all.new.lanes.items (map g.F.PacketFeed.feed c.ask_all.new.feeds.items)) sound;
       reached = each-reached (parts c.ask_all.new.lanes.items (map g.F.PacketFeed.feed c.ask_all.new.feeds.items)) sound;
+      found = refl;
+      others = refl;
+    }
+
+pub invariant_of-self-2 : goal.invariant_of-self-2
+invariant_of-self-2 g c =
+    let m = c.args.self.now in
+    let asks = c.ask_all.ensures.asks in
+    let law = g.met.F.PacketFeed.lawful in
+    let sound = asked-sound-each g.F.PacketFeed.feed law m.lanes.items c.ask_all.new.lanes.items m.feeds.items c.ask_all.new.feeds.items c.ask_all.result asks m.agrees m.reached in
+    record {
+      alike = c.ask_all.ensures.lanes ∙ m.alike ∙ sym c.ask_all.ensures.feeds;
+      some = rw c.ask_all.ensures.feeds m.some;
+      most = rw c.ask_all.ensures.feeds m.most;
+      numbered = asked-numbered g.F.PacketFeed.feed law m.lanes.items c.ask_all.new.lanes.items m.feeds.items c.ask_all.new.feeds.items c.ask_all.result m.alike c.ask_all.ensures.lanes c.ask_all.ensures.feeds asks m.numbered;
+      agrees = each-agrees (parts c.ask_all.new.lanes.items (map g.F.PacketFeed.feed c.ask_all.new.feeds.items)) sound;
+      reached = each-reached (parts c.ask_all.new.lanes.items (map g.F.PacketFeed.feed c.ask_all.new.feeds.items)) sound;
+      found = found-here c.ask_all.new.lanes.items c.first_lane-self.result (rw c.as_slice.ensures.value at c.first_lane-self.ensures.place);
+      others = refl;
     }
 
 pub returns-in_err-ask_all : goal.returns-in_err-ask_all
@@ -46,9 +66,13 @@ returns-in_err-ask_all g c =
 pub head_of-requires : goal.head_of-requires
 head_of-requires g c =
     let m = c.args.self.now in
-    rw c.as_slice.ensures.value
-    (asked-known g.F.PacketFeed.feed m.lanes.items c.ask_all.new.lanes.items m.feeds.items c.ask_all.new.feeds.items
-    (c.ask_all.ensures.lanes ∙ m.alike ∙ sym c.ask_all.ensures.feeds) c.in_ok-ask_all.ensures.asks)
+    let known = asked-known g.F.PacketFeed.feed m.lanes.items c.ask_all.new.lanes.items m.feeds.items c.ask_all.new.feeds.items
+    (c.ask_all.ensures.lanes ∙ m.alike ∙ sym c.ask_all.ensures.feeds) c.in_ok-ask_all.ensures.asks in
+    record {
+      known = rw c.as_slice-2.ensures.value known;
+      place = rw c.as_slice-2.ensures.value (rw c.as_slice.ensures.value at c.first_lane-self.ensures.place);
+      within = rw c.as_slice-2.ensures.value (rw c.as_slice.ensures.value at c.first_lane-self.ensures.within);
+    }
 
 pub returns : goal.returns
 returns g c =
@@ -57,7 +81,7 @@ returns g c =
     let qs = parts c.ask_all.new.lanes.items (map g.F.PacketFeed.feed c.ask_all.new.feeds.items) in
     let learns = c.in_ok-ask_all.ensures.asks in
     let lawful = lawful-each g.F.PacketFeed.feed g.met.F.PacketFeed.lawful c.ask_all.new.lanes.items c.ask_all.new.feeds.items in
-    let known = (rw c.as_slice.ensures.value at c.head_of.ensures) (map g.F.PacketFeed.feed c.ask_all.new.feeds.items)
+    let known = (rw c.as_slice-2.ensures.value at c.head_of.ensures) (map g.F.PacketFeed.feed c.ask_all.new.feeds.items)
     (length-mapped g.F.PacketFeed.feed c.ask_all.new.feeds.items ∙ c.ask_all.ensures.feeds ∙ sym m.alike ∙ sym c.ask_all.ensures.lanes) in
     record {
       answer = knows-asked ps qs c.head_of.result learns known lawful;

@@ -1,9 +1,10 @@
-use Rattle.std.proofs.Common.{◌≡◌, sym, ◌∙◌, map, false}
+use Rattle.std.proofs.Common.{◌≡◌, refl, sym, ◌∙◌, map, false}
 use Rattle.cap_merge.specs.Parts.{parts, has_next}
 use Rattle.cap_merge.specs.Sound.{each-agrees, each-reached}
 use Rattle.cap_merge.proofs.Placing.{parts-each, place-within}
 use Rattle.cap_merge.proofs.Calls.{numbered-kept}
 use Rattle.cap_merge.proofs.Firsts.{packet-at-first, passed-of, passes-each, no-packet}
+use Rattle.cap_merge.proofs.Others.{others-passed}
 use Rattle.cap_merge.proofs.merging.MergedPacketFeed.pass.Goals as goal
 
 pub pass_first-requires : goal.pass_first-requires
@@ -32,6 +33,8 @@ invariant_of-self g c =
           (passes-each c.in-Some.first.place ps qs c.pass_first.ensures.passes) m.numbered;
       agrees = each-agrees qs passed.sound;
       reached = each-reached qs passed.sound;
+      found = refl;
+      others = others-passed ps qs c.in-Some.first.place c.pass_first.ensures.passes c.requires.packet;
     }
 
 pub returns-in-Some : goal.returns-in-Some

@@ -1,0 +1,77 @@
+-- The feeds whose next is known, where one packet was passed.
+use Rattle.std.proofs.Common.{◌≡◌, ℕ, zero, suc, ◌<◌, Bool, true, refl, List, [], ◌∷◌, length, get_or, sym, ap, ◌∙◌, arith, inl, inr, Option, Some, None, Result, Ok, Err}
+use Rattle.std.specs.Prelude.{◌&&◌, map, is_some}
+use Rattle.std.proofs.Math.ListN.{set}
+use Rattle.std.proofs.lemmas.Bool.{true≢false}
+use Rattle.cap_bytes.specs.declared.faults.Fault.{Fault}
+use Rattle.cap_source.specs.declared.feeds.Head.{Head}
+use Rattle.cap_source.specs.Feed.{Feed, IsPacket}
+use Rattle.cap_merge.specs.Lists.{and-both}
+use Rattle.cap_merge.specs.declared.lanes.Lane.{Lane}
+use Rattle.cap_merge.specs.Parts.{Part, parts, is_known, feed_of}
+use Rattle.cap_merge.specs.First.{known_but, others_known, OthersKnown}
+use Rattle.cap_merge.specs.Merge.{LearnsBy, LearnsAll, Asks, AsksAll, PassesAt}
+use Rattle.cap_merge.proofs.Asking.{part}
+use Rattle.cap_merge.proofs.Firsts.{known-holds}
+
+both_true : (a b : Bool) → a ≡ true → b ≡ true → (a && b) ≡ true
+both_true a b e h = rw e h
+
+known_behind : (p : Part) (ps : List Part) → is_known (p ∷ ps) ≡ true → (is_some p.lane.head ≡ true) × (is_known ps ≡ true)
+known_behind p ps k = and-both (is_some p.lane.head) (is_known ps) k
+
+passed_known : (ps qs : List Part) (place : ℕ) → PassesAt ps place qs → is_known ps ≡ true → known_but qs place ≡ true
+passed_known [] qs place h k = absurd h
+passed_known (p ∷ ps) [] place h k = absurd h
+passed_known (p ∷ ps) (q ∷ qs) zero h k = ap is_known h.1 ∙ (known_behind p ps k).1
+passed_known (p ∷ ps) (q ∷ qs) (suc place) h k =
+    let known = known_behind p ps k in
+    both_true (is_some q.lane.head) (known_but qs place) (ap (λ x. is_some x.lane.head) h.0 ∙ known.0) (passed_known ps qs place h.1 known.1)
+
+-- behind a pass what comes next of the other feeds is known
+pub others-passed : (ps qs : List Part) (place : ℕ) → PassesAt ps place qs → IsPacket (feed_of ps).known → OthersKnown qs (Some place)
+others-passed ps qs place h p = passed_known ps qs place h (known-holds ps IsPacket (λ never. never) p).0
+
+learns_itself : (h : Option Head) (p : Part) → is_some h ≡ true → LearnsBy h p p
+learns_itself None p e = absurd (true≢false (sym e))
+learns_itself (Some head) p e = refl
+
+learns_all : (ps : List Part) → is_known ps ≡ true → LearnsAll ps ps
+learns_all [] k = tt
+learns_all (p ∷ ps) k =
+    let known = known_behind p ps k in
+    (learns_itself p.lane.head p known.0, learns_all ps known.1)
+
+asks_front : {T : Type 0} (p q : Part) (ps : List Part) (r : Result T Fault) → is_known ps ≡ true → Asks p r q → AsksAll (p ∷ ps) r (q ∷ ps)
+asks_front p q ps (Ok x) k h = (h, learns_all ps k)
+asks_front p q ps (Err fault) k h = inl (h, refl)
+
+asks_behind : {T : Type 0} (p : Part) (ps qs : List Part) (r : Result T Fault) → is_some p.lane.head ≡ true → AsksAll ps r qs → AsksAll (p ∷ ps) r (p ∷ qs)
+asks_behind p ps qs (Ok x) k h = (learns_itself p.lane.head p k, h)
+asks_behind p ps qs (Err fault) k h = inr (learns_itself p.lane.head p k, h)
+
+-- Where the others are known, one feed is asked as all are.
+pub asks-there : {F : Type 0} (f : F → Feed) (ls : List Lane) (fs : List F) (i : ℕ) (l m : Lane) (x y : F) {T : Type 0} (r : Result T Fault) → length ls ≡ length fs
+    → known_but (parts ls (map f fs)) i ≡ true → Asks (part (get_or ls i l) (f (get_or fs i x))) r (part m (f y))
+    → AsksAll (parts ls (map f fs)) r (parts (set ls i m) (map f (set fs i y)))
+asks-there f [] fs i l m x y r e k h = absurd (true≢false (sym k))
+asks-there f (a ∷ ls) [] i l m x y r e k h = absurd (omega arith)
+asks-there f (a ∷ ls) (b ∷ fs) zero l m x y r e k h = asks_front (part a (f b)) (part m (f y)) (parts ls (map f fs)) r k h
+asks-there f (a ∷ ls) (b ∷ fs) (suc i) l m x y r e k h =
+    let both : (is_some a.head ≡ true) × (known_but (parts ls (map f fs)) i ≡ true) = and-both (is_some a.head) (known_but (parts ls (map f fs)) i) k in
+    asks_behind (part a (f b)) (parts ls (map f fs)) (parts (set ls i m) (map f (set fs i y))) r both.0 (asks-there f ls fs i l m x y r (omega arith) both.1 h)
+
+-- the one that isn't known is one of them
+pub but-within : {F : Type 0} (f : F → Feed) (ls : List Lane) (fs : List F) (i : ℕ) → length ls ≡ length fs → known_but (parts ls (map f fs)) i ≡ true → i < length ls
+but-within f [] fs i e k = absurd (true≢false (sym k))
+but-within f (a ∷ ls) [] i e k = absurd (omega arith)
+but-within f (a ∷ ls) (b ∷ fs) zero e k = omega arith
+but-within f (a ∷ ls) (b ∷ fs) (suc i) e k =
+    let both : (is_some a.head ≡ true) × (known_but (parts ls (map f fs)) i ≡ true) = and-both (is_some a.head) (known_but (parts ls (map f fs)) i) k in
+    let below : i < length ls = but-within f ls fs i (omega arith) both.1 in
+    omega (arith, below)
+
+-- the same where the slices show equal lists
+pub others-shown : {F : Type 0} (f : F → Feed) (ls ks : List Lane) (fs gs : List F) (passed : Option ℕ) → ks ≡ ls → gs ≡ fs
+    → OthersKnown (parts ls (map f fs)) passed → OthersKnown (parts ks (map f gs)) passed
+others-shown f ls ks fs gs passed a b h = (λ i. others_known (parts (a i) (map f (b i))) passed) ∙ h
