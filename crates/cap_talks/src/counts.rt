@@ -1,5 +1,6 @@
 //! Running counts of the packets of one file.
-ghost use Rattle.std.specs.Prelude.{◌≡◌, ◌≤◌, ◌<◌, ◌*◌, ◌^◌, []};
+ghost use Rattle.std.specs.Prelude.{◌≡◌, ◌≤◌, ◌<◌, ◌*◌, ◌^◌, ◌++◌, List, [], ◌∷◌};
+ghost use Rattle.cap_source.specs.declared.packets.Meta.{Meta};
 ghost use Rattle.cap_talks.specs.Counting.{counted, with_packet, earlier, later, time_of};
 
 use cap_source::{Format, Meta};
@@ -40,31 +41,34 @@ impl Counts {
         }
     }
 
-    /// Takes one more packet.
+    /// Takes one more packet, behind those that were taken.
     pub fn take(&mut self, meta: &Meta)
         requires packets { self.old.packets < 2 ^ 40 }
         requires bytes { self.old.bytes ≤ 2 ^ 40 * 2 ^ 32 }
         requires truncated { self.old.truncated < 2 ^ 40 }
-        ensures { self.new ≡ with_packet self.old meta.now }
+        ensures counts { (metas : List Meta) → self.old ≡ counted metas → self.new ≡ counted (metas ++ meta.now ∷ []) }
+        ensures one_more { self.new ≡ with_packet self.old meta.now }
     {
-        let time = time_of(meta);
-        let Counts {
-            packets,
-            bytes,
-            truncated,
-            first,
-            last,
-            ..
-        } = *self;
-        *self = Counts {
-            format: Some(meta.format),
-            packets: packets + 1,
-            bytes: bytes + u128::from(meta.original),
-            truncated: truncated + u64::from(meta.captured < meta.original),
-            skipped: meta.skipped,
-            first: earlier(first, time),
-            last: later(last, time),
-        };
+        *self = with_packet(*self, meta);
+    }
+}
+
+// The counts with one packet more.
+fn with_packet(counts: Counts, meta: &Meta) -> Counts
+    requires packets { counts.packets < 2 ^ 40 }
+    requires bytes { counts.bytes ≤ 2 ^ 40 * 2 ^ 32 }
+    requires truncated { counts.truncated < 2 ^ 40 }
+    ensures { result ≡ with_packet counts meta.now }
+{
+    let time = time_of(meta);
+    Counts {
+        format: Some(meta.format),
+        packets: counts.packets + 1,
+        bytes: counts.bytes + u128::from(meta.original),
+        truncated: counts.truncated + u64::from(meta.captured < meta.original),
+        skipped: meta.skipped,
+        first: earlier(counts.first, time),
+        last: later(counts.last, time),
     }
 }
 

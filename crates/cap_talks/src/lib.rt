@@ -5,9 +5,7 @@ mod counts;
 mod files;
 mod lines;
 
-pub use crate::counts::Counts;
 pub use crate::files::file_lines;
-pub use crate::lines::{file_line, files_line};
 
 #[cfg(test)]
 mod tests;

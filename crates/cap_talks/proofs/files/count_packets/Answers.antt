@@ -18,7 +18,7 @@ loop-meta-preserved g c =
     counted-taken (g.F.PacketFeed.feed c.args.feed.now) (g.F.PacketFeed.feed c.loop-meta.feed) (g.F.PacketFeed.feed c.next_packet.new.feed) (g.F.PacketFeed.feed c.pass.new.self)
     c.loop-meta.counts c.take.new.self c.in-Some.meta c.loop-meta.invariant c.in_ok-meta.ensures.keeps (λ t. rw c.in-Some.is at (c.in_ok-meta.ensures.items t))
     c.pass.ensures.keeps c.pass.ensures.passes.left c.pass.ensures.passes.items c.pass.ensures.passes.endings
-    (search rules) c.take.ensures
+    (search rules) c.take.ensures.one_more
 
 pub returns-clause-counts : goal.returns-clause-counts
 returns-clause-counts g c = λ t.
