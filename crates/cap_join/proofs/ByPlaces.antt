@@ -1,0 +1,637 @@
+-- The groups by steps are the groups by places.
+use Rattle.std.proofs.Common.{◌≡◌, ℕ, ◌+◌, ◌≤◌, ◌<◌, Bool, true, false, List, [], ◌∷◌, ◌++◌, length, refl, sym, ◌∙◌, ap, subst, arith, cond, ◌&&◌, not, true≢false, Option, Some, None}
+use Rattle.std.specs.Prelude.{nat_lt, ◌==◌, if◌then◌else◌}
+use Rattle.std.proofs.lemmas.Bool.Decides.{nat_tests}
+use Rattle.cap_time.specs.declared.stamps.Stamp.{Stamp}
+use Rattle.cap_ip.specs.declared.headers.Key.{Key}
+use Rattle.cap_join.specs.Fragments.{Piece}
+use Rattle.cap_join.specs.ByteMap.{completes}
+use Rattle.cap_join.specs.Frames.{is_before, is_too_old}
+use Rattle.cap_join.specs.History.{Event, arrives, flushes, OpenGroup, State, same_key, key_of, opened, with_piece, live_at, group_at, without, extended, trimmed, pieces_with, opens_with, gives_up_with, state_of, step, joined_pieces}
+use Rattle.cap_join.specs.Places.{Mark, fragment, whole, unless_given, goes_on, group_by, first_at, going_on, open_before, lowest, given_up_at, mark_of, marks, one_if, times_given_up, latest_clock, next_place, AreInOrder, Agree}
+use Rattle.cap_join.proofs.Entries.{same_key-is, group_at-live}
+use Rattle.cap_join.proofs.Steps.{live_at-extended, group_at-extended}
+use Rattle.cap_join.proofs.OpenGroups.{before_later, same_key-sym, filter-push, filter-true, filter-false, filter-commute, live_at-later, found_step, group_at-filter-none, group_at-without-same, group_at-without-other, group_at-extended-other, group_at-extended-none, group_at-push-none, group_at-push-other, IsApart, Up, apart-filter, Up-wider, up-filter, apart-extended, up-extended, apart-push, up-push, up-found, group_at-live-old, gone, but_gone, but_none, trimmed-but, given_some}
+
+-- ---- what goes on
+
+abbrev pub live_option : Option Stamp → Option OpenGroup → Option OpenGroup
+live_option now None = None
+live_option now (Some g) = if is_too_old g.clock now then None else Some g
+
+goes_on-key : (key : Key) (ms : List Mark) (g : OpenGroup) → goes_on key ms ≡ Some g → key ≡ g.key
+goes_on-key key [] g h = absurd (clash h)
+  where
+    clash : None ≡ Some g → ⊥
+    clash e = cc
+goes_on-key key (whole k ∷ ms) g h = by (same_key key k) h (goes_on-key key ms g)
+  where
+    by : (b : Bool) → (if b then None else goes_on key ms) ≡ Some g → (goes_on key ms ≡ Some g → key ≡ g.key) → key ≡ g.key
+    by true n rest = absurd (clash n)
+      where
+        clash : None ≡ Some g → ⊥
+        clash e = cc
+    by false n rest = rest n
+goes_on-key key (fragment own q gave ∷ ms) g h = by (same_key key q.key) refl h (goes_on-key key ms g)
+  where
+    kept : (gave : Option ℕ) (o : Option OpenGroup) → unless_given gave o ≡ Some g → o ≡ Some g
+    kept None o e = e
+    kept (Some place) None e = e
+    kept (Some place) (Some x) e = test (x.place == place) e
+      where
+        test : (b : Bool) → (if b then None else Some x) ≡ Some g → Some x ≡ Some g
+        test true e = absurd (clash e)
+          where
+            clash : None ≡ Some g → ⊥
+            clash e = cc
+        test false e = e
+
+    by : (b : Bool) → same_key key q.key ≡ b → (if b then (if completes q.pieces then None else Some q) else unless_given gave (goes_on key ms)) ≡ Some g → (goes_on key ms ≡ Some g → key ≡ g.key) → key ≡ g.key
+    by true b n rest = inner (completes q.pieces) n
+      where
+        inner : (c : Bool) → (if c then None else Some q) ≡ Some g → key ≡ g.key
+        inner true e = absurd (clash e)
+          where
+            clash : None ≡ Some g → ⊥
+            clash e = cc
+        inner false e = let same : q ≡ g = cc in same_key-is key q.key b ∙ ap (λ (x : OpenGroup). x.key) same
+    by false b n rest = rest (kept gave (goes_on key ms) n)
+
+abbrev pub AreBelow : ℕ → List Mark → Type 0
+AreBelow n [] = Unit {0}
+AreBelow n (whole k ∷ ms) = AreBelow n ms
+AreBelow n (fragment own g gave ∷ ms) = (own < n) × AreBelow n ms
+
+AreBelow-wider : (n m : ℕ) (ms : List Mark) → n ≤ m → AreBelow n ms → AreBelow m ms
+AreBelow-wider n m [] le h = tt
+AreBelow-wider n m (whole k ∷ ms) le h = AreBelow-wider n m ms le h
+AreBelow-wider n m (fragment own g gave ∷ ms) le h = let a : own < n = h.0 in (omega arith, AreBelow-wider n m ms le h.1)
+
+-- what one more mark makes of the groups that go on, by what it makes of each key's
+module _ (change : List OpenGroup → List OpenGroup) (none : change [] ≡ []) (each : (a b : List OpenGroup) → change (a ++ b) ≡ change a ++ change b) (new old : List Mark) (n : ℕ)
+    (one : (own : ℕ) (key : Key) → own < n → first_at own (goes_on key new) ≡ change (first_at own (goes_on key old))) where
+  pub going_on-change : (ms : List Mark) → AreBelow n ms → going_on new ms ≡ change (going_on old ms)
+  going_on-change [] h = sym none
+  going_on-change (whole k ∷ ms) h = going_on-change ms h
+  going_on-change (fragment own g gave ∷ ms) h =
+      ap (λ (l : List OpenGroup). l ++ (if g.place == own then first_at own (goes_on g.key new) else [])) (going_on-change ms h.1)
+      ∙ ap (λ (l : List OpenGroup). change (going_on old ms) ++ l) (by (g.place == own))
+      ∙ sym (each (going_on old ms) (if g.place == own then first_at own (goes_on g.key old) else []))
+    where
+      by : (b : Bool) → (if b then first_at own (goes_on g.key new) else []) ≡ change (if b then first_at own (goes_on g.key old) else [])
+      by true = one own g.key h.0
+      by false = sym none
+
+-- ---- what a mark makes of a key's group
+
+one_flush : (own : ℕ) (key k : Key) (o : Option OpenGroup) → ((g : OpenGroup) → o ≡ Some g → key ≡ g.key) → first_at own (if same_key key k then None else o) ≡ without k (first_at own o)
+one_flush own key k None keyed = by (same_key key k)
+  where
+    by : (b : Bool) → first_at own (if b then None else None) ≡ []
+    by true = refl
+    by false = refl
+one_flush own key k (Some g) keyed = by (same_key key k) (same_key-sym k g.key ∙ ap (λ (x : Key). same_key x k) (sym (keyed g refl))) (g.place == own)
+  where
+    by : (b : Bool) → same_key k g.key ≡ b → (c : Bool) → first_at own (if b then None else Some g) ≡ without k (first_at own (Some g))
+    by true e c = sym (gone_now (g.place == own))
+      where
+        gone_now : (c : Bool) → without k (if c then g ∷ [] else []) ≡ []
+        gone_now true = filter-false (λ o. not (same_key k o.key)) g [] (ap not e)
+        gone_now false = refl
+    by false e c = sym (kept_now (g.place == own))
+      where
+        kept_now : (c : Bool) → without k (if c then g ∷ [] else []) ≡ (if c then g ∷ [] else [])
+        kept_now true = filter-true (λ o. not (same_key k o.key)) g [] (ap not e)
+        kept_now false = refl
+
+-- a key's group is without the groups of another key, and is none without its own
+first_without : (own : ℕ) (k : Key) (g : OpenGroup) (b : Bool) → same_key k g.key ≡ b → without k (first_at own (Some g)) ≡ (if b then [] else first_at own (Some g))
+first_without own k g true e = by (g.place == own)
+  where
+    by : (c : Bool) → without k (if c then g ∷ [] else []) ≡ []
+    by true = filter-false (λ o. not (same_key k o.key)) g [] (ap not e)
+    by false = refl
+first_without own k g false e = by (g.place == own)
+  where
+    by : (c : Bool) → without k (if c then g ∷ [] else []) ≡ (if c then g ∷ [] else [])
+    by true = filter-true (λ o. not (same_key k o.key)) g [] (ap not e)
+    by false = refl
+
+first_extended : (own : ℕ) (p : Piece) (g : OpenGroup) (b : Bool) → same_key (key_of p) g.key ≡ b → extended p (first_at own (Some g)) ≡ first_at own (Some (if b then with_piece p g else g))
+first_extended own p g true e = by (g.place == own)
+  where
+    by : (c : Bool) → extended p (if c then g ∷ [] else []) ≡ (if c then with_piece p g ∷ [] else [])
+    by true = ap (λ (b : Bool). (if b then with_piece p g else g) ∷ []) e
+    by false = refl
+first_extended own p g false e = by (g.place == own)
+  where
+    by : (c : Bool) → extended p (if c then g ∷ [] else []) ≡ (if c then g ∷ [] else [])
+    by true = ap (λ (b : Bool). (if b then with_piece p g else g) ∷ []) e
+    by false = refl
+
+other_key : (key k : Key) (b : Bool) (g : OpenGroup) → key ≡ g.key → same_key key k ≡ b → same_key k g.key ≡ b
+other_key key k b g e h = same_key-sym k g.key ∙ ap (λ (x : Key). same_key x k) (sym e) ∙ h
+
+-- a fragment that joins the group o
+module _ (p : Piece) (o : OpenGroup) (ms : List Mark) (mine : o.key ≡ key_of p) (on : goes_on (key_of p) ms ≡ Some o) (n : ℕ) where
+  here : (key : Key) → same_key key o.key ≡ true → goes_on key ms ≡ Some o
+  here key e = ap (λ (k : Key). goes_on k ms) (same_key-is key o.key e ∙ mine) ∙ on
+
+  self : same_key (key_of p) o.key ≡ true
+  self = group_self (goes_on-key (key_of p) ms o on)
+    where
+      reflexive : (k : Key) (b : Bool) → same_key k k ≡ b → same_key k k ≡ true
+      reflexive k true e = e
+      reflexive k false e = absurd (true≢false (sym (same k) ∙ e))
+        where
+          one : (x : ℕ) → (x == x) ≡ true
+          one x = grind (arith, nat_tests)
+
+          same : (k : Key) → same_key k k ≡ true
+          same k = λ i. one k.source i && (one k.destination i && (one k.protocol i && one k.identification i))
+
+      group_self : key_of p ≡ o.key → same_key (key_of p) o.key ≡ true
+      group_self e = ap (same_key (key_of p)) (sym e) ∙ reflexive (key_of p) (same_key (key_of p) (key_of p)) refl
+
+  one_more : completes (p ∷ o.pieces) ≡ false → (own : ℕ) (key : Key) → own < n → first_at own (goes_on key (fragment n (with_piece p o) None ∷ ms)) ≡ extended p (first_at own (goes_on key ms))
+  one_more done own key lt = by (same_key key o.key) refl
+    where
+      by : (b : Bool) → same_key key o.key ≡ b → first_at own (goes_on key (fragment n (with_piece p o) None ∷ ms)) ≡ extended p (first_at own (goes_on key ms))
+      by true e =
+          ap (λ (b : Bool). first_at own (if b then (if completes (p ∷ o.pieces) then None else Some (with_piece p o)) else unless_given None (goes_on key ms))) e
+          ∙ ap (λ (b : Bool). first_at own (if b then None else Some (with_piece p o))) done
+          ∙ sym (ap (λ (x : Option OpenGroup). extended p (first_at own x)) (here key e) ∙ first_extended own p o true self)
+      by false e =
+          ap (λ (b : Bool). first_at own (if b then (if completes (p ∷ o.pieces) then None else Some (with_piece p o)) else unless_given None (goes_on key ms))) e
+          ∙ other (goes_on key ms) refl
+        where
+          other : (x : Option OpenGroup) → goes_on key ms ≡ x → first_at own x ≡ extended p (first_at own x)
+          other None is = refl
+          other (Some g) is = sym (first_extended own p g false (other_key key (key_of p) false g (goes_on-key key ms g is) (ap (same_key key) (sym mine) ∙ e)))
+
+  one_done : completes (p ∷ o.pieces) ≡ true → (own : ℕ) (key : Key) → own < n → first_at own (goes_on key (fragment n (with_piece p o) None ∷ ms)) ≡ without (key_of p) (first_at own (goes_on key ms))
+  one_done done own key lt = by (same_key key o.key) refl
+    where
+      by : (b : Bool) → same_key key o.key ≡ b → first_at own (goes_on key (fragment n (with_piece p o) None ∷ ms)) ≡ without (key_of p) (first_at own (goes_on key ms))
+      by true e =
+          ap (λ (b : Bool). first_at own (if b then (if completes (p ∷ o.pieces) then None else Some (with_piece p o)) else unless_given None (goes_on key ms))) e
+          ∙ ap (λ (b : Bool). first_at own (if b then None else Some (with_piece p o))) done
+          ∙ sym (ap (λ (x : Option OpenGroup). without (key_of p) (first_at own x)) (here key e) ∙ first_without own (key_of p) o true self)
+      by false e =
+          ap (λ (b : Bool). first_at own (if b then (if completes (p ∷ o.pieces) then None else Some (with_piece p o)) else unless_given None (goes_on key ms))) e
+          ∙ other (goes_on key ms) refl
+        where
+          other : (x : Option OpenGroup) → goes_on key ms ≡ x → first_at own x ≡ without (key_of p) (first_at own x)
+          other None is = refl
+          other (Some g) is = sym (first_without own (key_of p) g false (other_key key (key_of p) false g (goes_on-key key ms g is) (ap (same_key key) (sym mine) ∙ e)))
+
+but_push : (gave : Option ℕ) (xs ys : List OpenGroup) → but_gone gave (xs ++ ys) ≡ but_gone gave xs ++ but_gone gave ys
+but_push gave xs ys = filter-push (λ o. not (gone gave o.place)) xs ys
+
+first_but : (own : ℕ) (gave : Option ℕ) (g : OpenGroup) → first_at own (unless_given gave (Some g)) ≡ but_gone gave (first_at own (Some g))
+first_but own None g = sym (but_none (first_at own (Some g)))
+first_but own (Some place) g = by (g.place == place) refl (g.place == own)
+  where
+    by : (b : Bool) → (g.place == place) ≡ b → (c : Bool) → first_at own (if b then None else Some g) ≡ but_gone (Some place) (first_at own (Some g))
+    by true e c = sym (out (g.place == own))
+      where
+        out : (c : Bool) → but_gone (Some place) (if c then g ∷ [] else []) ≡ []
+        out true = filter-false (λ o. not (gone (Some place) o.place)) g [] (ap not e)
+        out false = refl
+    by false e c = sym (stay (g.place == own))
+      where
+        stay : (c : Bool) → but_gone (Some place) (if c then g ∷ [] else []) ≡ (if c then g ∷ [] else [])
+        stay true = filter-true (λ o. not (gone (Some place) o.place)) g [] (ap not e)
+        stay false = refl
+
+-- a fragment that opens a group
+one_opened : (clock : Option Stamp) (p : Piece) (gave : Option ℕ) (ms : List Mark) → completes (p ∷ []) ≡ false → (own : ℕ) (key : Key) → own < p.stamped.place
+    → first_at own (goes_on key (fragment p.stamped.place (opened clock p) gave ∷ ms)) ≡ but_gone gave (without (key_of p) (first_at own (goes_on key ms)))
+one_opened clock p gave ms done own key lt = by (same_key key (key_of p)) refl
+  where
+    by : (b : Bool) → same_key key (key_of p) ≡ b → first_at own (goes_on key (fragment p.stamped.place (opened clock p) gave ∷ ms)) ≡ but_gone gave (without (key_of p) (first_at own (goes_on key ms)))
+    by true e =
+        ap (λ (b : Bool). first_at own (if b then (if completes (p ∷ []) then None else Some (opened clock p)) else unless_given gave (goes_on key ms))) e
+        ∙ ap (λ (b : Bool). first_at own (if b then None else Some (opened clock p))) done
+        ∙ nowhere ∙ sym (rest (goes_on key ms) refl)
+      where
+        apart : (p.stamped.place == own) ≡ false
+        apart = grind (arith, nat_tests)
+
+        nowhere : first_at own (Some (opened clock p)) ≡ []
+        nowhere = ap (λ (b : Bool). if b then opened clock p ∷ [] else []) apart
+
+        rest : (x : Option OpenGroup) → goes_on key ms ≡ x → but_gone gave (without (key_of p) (first_at own x)) ≡ []
+        rest None is = refl
+        rest (Some g) is = ap (but_gone gave) (first_without own (key_of p) g true (other_key key (key_of p) true g (goes_on-key key ms g is) e))
+    by false e =
+        ap (λ (b : Bool). first_at own (if b then (if completes (p ∷ []) then None else Some (opened clock p)) else unless_given gave (goes_on key ms))) e
+        ∙ rest (goes_on key ms) refl
+      where
+        empty : (gave : Option ℕ) → first_at own (unless_given gave None) ≡ []
+        empty None = refl
+        empty (Some place) = refl
+
+        rest : (x : Option OpenGroup) → goes_on key ms ≡ x → first_at own (unless_given gave x) ≡ but_gone gave (without (key_of p) (first_at own x))
+        rest None is = empty gave
+        rest (Some g) is = first_but own gave g ∙ sym (ap (but_gone gave) (first_without own (key_of p) g false (other_key key (key_of p) false g (goes_on-key key ms g is) e)))
+
+-- a group that was given up isn't found
+but_found : (key : Key) (gave : Option ℕ) (os : List OpenGroup) → IsApart os → group_at key (but_gone gave os) ≡ unless_given gave (group_at key os)
+but_found key None os a = ap (group_at key) (but_none os)
+but_found key (Some place) [] a = refl
+but_found key (Some place) (o ∷ os) a = by (same_key key o.key) refl (o.place == place) refl (but_found key (Some place) os a.1)
+  where
+    t : OpenGroup → Bool
+    t g = not (gone (Some place) g.place)
+
+    by : (b : Bool) → same_key key o.key ≡ b → (c : Bool) → (o.place == place) ≡ c → group_at key (but_gone (Some place) os) ≡ unless_given (Some place) (group_at key os)
+        → group_at key (but_gone (Some place) (o ∷ os)) ≡ unless_given (Some place) (group_at key (o ∷ os))
+    by true b true c rest =
+        ap (group_at key) (filter-false (λ g. not (gone (Some place) g.place)) o os (ap not c))
+        ∙ group_at-filter-none key (λ g. not (gone (Some place) g.place)) os (subst (λ (k : Key). group_at k os ≡ None) (sym (same_key-is key o.key b)) a.0)
+        ∙ sym (ap (unless_given (Some place)) (found_step key o os true b) ∙ ap (λ (x : Bool). if x then None else Some o) c)
+    by true b false c rest =
+        ap (group_at key) (filter-true (λ g. not (gone (Some place) g.place)) o os (ap not c)) ∙ found_step key o (but_gone (Some place) os) true b
+        ∙ sym (ap (unless_given (Some place)) (found_step key o os true b) ∙ ap (λ (x : Bool). if x then None else Some o) c)
+    by false b true c rest = ap (group_at key) (filter-false (λ g. not (gone (Some place) g.place)) o os (ap not c)) ∙ rest ∙ sym (ap (unless_given (Some place)) (found_step key o os false b))
+    by false b false c rest =
+        ap (group_at key) (filter-true (λ g. not (gone (Some place) g.place)) o os (ap not c)) ∙ found_step key o (but_gone (Some place) os) false b ∙ rest
+        ∙ sym (ap (unless_given (Some place)) (found_step key o os false b))
+
+unless_live : (gave : Option ℕ) (now : Option Stamp) (x : Option OpenGroup) → unless_given gave (live_option now x) ≡ live_option now (unless_given gave x)
+unless_live None now x = refl
+unless_live (Some place) now None = refl
+unless_live (Some place) now (Some g) = by (is_too_old g.clock now) refl (g.place == place) refl
+  where
+    by : (b : Bool) → is_too_old g.clock now ≡ b → (c : Bool) → (g.place == place) ≡ c → unless_given (Some place) (if b then None else Some g) ≡ live_option now (if c then None else Some g)
+    by true b true c = refl
+    by true b false c = sym (ap (λ (x : Bool). if x then None else Some g) b)
+    by false b true c = ap (λ (x : Bool). if x then None else Some g) c
+    by false b false c = ap (λ (x : Bool). if x then None else Some g) c ∙ sym (ap (λ (x : Bool). if x then None else Some g) b)
+
+without_absent : (key : Key) (os : List OpenGroup) → group_at key os ≡ None → without key os ≡ os
+without_absent key [] h = refl
+without_absent key (o ∷ os) h = by (same_key key o.key) refl h (without_absent key os)
+  where
+    by : (b : Bool) → same_key key o.key ≡ b → cond b (Some o) (group_at key os) ≡ None → (group_at key os ≡ None → without key os ≡ os) → without key (o ∷ os) ≡ o ∷ os
+    by true b n rest = absurd (clash n)
+      where
+        clash : Some o ≡ None → ⊥
+        clash e = cc
+    by false b n rest = filter-true (λ o. not (same_key key o.key)) o os (ap not b) ∙ ap (λ (l : List OpenGroup). o ∷ l) (rest n)
+
+append_none : (os : List OpenGroup) → os ++ [] ≡ os
+append_none [] = refl
+append_none (o ∷ os) = ap (λ (l : List OpenGroup). o ∷ l) (append_none os)
+
+pub extended_push : (p : Piece) (xs ys : List OpenGroup) → extended p (xs ++ ys) ≡ extended p xs ++ extended p ys
+extended_push p [] ys = refl
+extended_push p (o ∷ xs) ys = ap (λ (l : List OpenGroup). (if same_key (key_of p) o.key then with_piece p o else o) ∷ l) (extended_push p xs ys)
+
+-- ---- the induction
+
+abbrev pub as_number : Bool → ℕ
+as_number b = if b then 1 else 0
+
+-- What holds of the open groups after some events, and of what is known by places: what is found at a clock from the latest one on is
+-- what goes on and isn't too old.
+pub record Holds (s : State) (ms : List Mark) (c : Option Stamp) (n : ℕ) : Type 0 where
+  pub apart : IsApart s.opens
+  pub up : Up 0 n s.opens
+  pub below : AreBelow n ms
+  pub goes : (key : Key) (now : Option Stamp) → is_before now c ≡ false → group_at key (live_at now s.opens) ≡ live_option now (goes_on key ms)
+  pub among : (now : Option Stamp) → is_before now c ≡ false → live_at now s.opens ≡ live_at now (going_on ms ms)
+  pub given_up : s.given_up ≡ times_given_up ms
+
+not_before : (c b a : Option Stamp) → is_before b c ≡ false → is_before a b ≡ false → is_before a c ≡ false
+not_before c b a h k = by (is_before a c) refl
+  where
+    by : (x : Bool) → is_before a c ≡ x → is_before a c ≡ false
+    by true e = absurd (true≢false (sym (before_later a c b e h) ∙ k))
+    by false e = e
+
+pub Holds-none : Holds (record { opens = []; given_up = 0 }) [] None 0
+Holds-none = record { apart = tt; up = tt; below = tt; goes = λ key now h. refl; among = λ now h. refl; given_up = refl }
+
+module _ (s : State) (ms : List Mark) (c : Option Stamp) (n : ℕ) (h : Holds s ms c n) where
+  Holds-flush : (k : Key) → Holds (record { opens = without k s.opens; given_up = s.given_up }) (whole k ∷ ms) c n
+  Holds-flush k = record {
+    apart = apart-filter (λ o. not (same_key k o.key)) s.opens h.apart;
+    up = up-filter (λ o. not (same_key k o.key)) 0 n s.opens h.up;
+    below = h.below;
+    goes = λ key now late. ap (group_at key) (commute now s.opens) ∙ found key now late (same_key key k) refl;
+    among = λ now late.
+        commute now s.opens ∙ ap (without k) (h.among now late) ∙ sym (commute now (going_on ms ms))
+        ∙ ap (live_at now) (sym (going_on-change (without k) refl (filter-push (λ o. not (same_key k o.key))) (whole k ∷ ms) ms n
+        (λ own key lt. one_flush own key k (goes_on key ms) (goes_on-key key ms)) ms h.below));
+    given_up = h.given_up;
+  }
+    where
+      commute : (now : Option Stamp) (os : List OpenGroup) → live_at now (without k os) ≡ without k (live_at now os)
+      commute now os = filter-commute (λ o. not (is_too_old o.clock now)) (λ o. not (same_key k o.key)) os
+
+      found : (key : Key) (now : Option Stamp) → is_before now c ≡ false → (b : Bool) → same_key key k ≡ b
+          → group_at key (without k (live_at now s.opens)) ≡ live_option now (if same_key key k then None else goes_on key ms)
+      found key now late true e = group_at-without-same key k (live_at now s.opens) e ∙ sym (ap (λ (b : Bool). live_option now (if b then None else goes_on key ms)) e)
+      found key now late false e = group_at-without-other key k (live_at now s.opens) e ∙ h.goes key now late ∙ sym (ap (λ (b : Bool). live_option now (if b then None else goes_on key ms)) e)
+
+  -- a fragment at a clock that isn't below the latest
+  module _ (clock : Option Stamp) (p : Piece) (later : is_before clock c ≡ false) (place : n ≤ p.stamped.place) where
+    os0 : List OpenGroup
+    os0 = live_at clock s.opens
+
+    after : (now : Option Stamp) → is_before now clock ≡ false → is_before now c ≡ false
+    after now late = not_before c clock now later late
+
+    live_now : (now : Option Stamp) → is_before now clock ≡ false → live_at now (live_at clock s.opens) ≡ live_at now s.opens
+    live_now now late = live_at-later clock now late s.opens
+
+    apart0 : IsApart (live_at clock s.opens)
+    apart0 = apart-filter (λ o. not (is_too_old o.clock clock)) s.opens h.apart
+
+    up0 : Up 0 n (live_at clock s.opens)
+    up0 = up-filter (λ o. not (is_too_old o.clock clock)) 0 n s.opens h.up
+
+    -- it opens a group, and one may be given up for it
+    Holds-opened : (gave : Option ℕ) → completes (p ∷ []) ≡ false → group_at (key_of p) (live_at clock s.opens) ≡ None
+        → Holds (record { opens = but_gone gave (live_at clock s.opens) ++ opened clock p ∷ []; given_up = s.given_up + one_if gave })
+        (fragment p.stamped.place (opened clock p) gave ∷ ms) clock (p.stamped.place + 1)
+    Holds-opened gave alone none = record {
+      apart = apart-push (opened clock p) (but_gone gave (live_at clock s.opens)) absent (apart-filter (λ o. not (gone gave o.place)) (live_at clock s.opens) apart0);
+      up = up-push 0 n (opened clock p) (but_gone gave (live_at clock s.opens)) (omega arith) place (up-filter (λ o. not (gone gave o.place)) 0 n (live_at clock s.opens) up0);
+      below = (omega arith, AreBelow-wider n (p.stamped.place + 1) ms (omega arith) h.below);
+      goes = λ key now late.
+          ap (group_at key) (filter-push (λ o. not (is_too_old o.clock now)) (but_gone gave (live_at clock s.opens)) (opened clock p ∷ []) ∙ ap (λ (l : List OpenGroup). l ++ live_at now (opened clock p ∷ [])) (staying now late))
+          ∙ found key now late (same_key key (key_of p)) refl (is_too_old clock now) refl;
+      among = λ now late.
+          filter-push (λ o. not (is_too_old o.clock now)) (but_gone gave (live_at clock s.opens)) (opened clock p ∷ [])
+          ∙ ap (λ (l : List OpenGroup). l ++ live_at now (opened clock p ∷ [])) (rest_among now late)
+          ∙ sym (filter-push (λ o. not (is_too_old o.clock now)) (but_gone gave (without (key_of p) (going_on ms ms))) (opened clock p ∷ []))
+          ∙ sym (ap (live_at now) (λ i. changed i ++ newest i));
+      given_up = ap (λ (x : ℕ). x + one_if gave) h.given_up;
+    }
+      where
+        absent : group_at (key_of p) (but_gone gave (live_at clock s.opens)) ≡ None
+        absent = group_at-filter-none (key_of p) (λ o. not (gone gave o.place)) (live_at clock s.opens) none
+
+        -- what stays of the groups before
+        staying : (now : Option Stamp) → is_before now clock ≡ false → live_at now (but_gone gave (live_at clock s.opens)) ≡ but_gone gave (live_at now s.opens)
+        staying now late = filter-commute (λ o. not (is_too_old o.clock now)) (λ o. not (gone gave o.place)) (live_at clock s.opens) ∙ ap (but_gone gave) (live_now now late)
+
+        absent_now : (now : Option Stamp) → is_before now clock ≡ false → group_at (key_of p) (but_gone gave (live_at now s.opens)) ≡ None
+        absent_now now late = ap (group_at (key_of p)) (sym (staying now late)) ∙ group_at-filter-none (key_of p) (λ o. not (is_too_old o.clock now)) (but_gone gave (live_at clock s.opens)) absent
+
+        found : (key : Key) (now : Option Stamp) → is_before now clock ≡ false → (b : Bool) → same_key key (key_of p) ≡ b → (t : Bool) → is_too_old clock now ≡ t
+            → group_at key (but_gone gave (live_at now s.opens) ++ live_at now (opened clock p ∷ [])) ≡ live_option now (goes_on key (fragment p.stamped.place (opened clock p) gave ∷ ms))
+        found key now late true e t old =
+            ap (λ (l : List OpenGroup). group_at key (but_gone gave (live_at now s.opens) ++ l)) (ap (λ (b : Bool). cond (not b) (opened clock p ∷ []) []) old)
+            ∙ both t
+            ∙ sym (ap (λ (b : Bool). live_option now (if b then (if completes (p ∷ []) then None else Some (opened clock p)) else unless_given gave (goes_on key ms))) e
+            ∙ ap (λ (b : Bool). live_option now (if b then None else Some (opened clock p))) alone ∙ ap (λ (b : Bool). if b then None else Some (opened clock p)) old)
+          where
+            gone_before : group_at key (but_gone gave (live_at now s.opens)) ≡ None
+            gone_before = subst (λ (k : Key). group_at k (but_gone gave (live_at now s.opens)) ≡ None) (sym (same_key-is key (key_of p) e)) (absent_now now late)
+
+            both : (t : Bool) → group_at key (but_gone gave (live_at now s.opens) ++ cond (not t) (opened clock p ∷ []) []) ≡ (if t then None else Some (opened clock p))
+            both true = ap (group_at key) (append_none (but_gone gave (live_at now s.opens))) ∙ gone_before
+            both false = group_at-push-none key (opened clock p) (but_gone gave (live_at now s.opens)) gone_before ∙ found_step key (opened clock p) [] true e
+        found key now late false e t old =
+            ap (λ (l : List OpenGroup). group_at key (but_gone gave (live_at now s.opens) ++ l)) (ap (λ (b : Bool). cond (not b) (opened clock p ∷ []) []) old)
+            ∙ both t
+            ∙ but_found key gave (live_at now s.opens) (apart-filter (λ o. not (is_too_old o.clock now)) s.opens h.apart)
+            ∙ ap (unless_given gave) (h.goes key now (after now late)) ∙ unless_live gave now (goes_on key ms)
+            ∙ sym (ap (λ (b : Bool). live_option now (if b then (if completes (p ∷ []) then None else Some (opened clock p)) else unless_given gave (goes_on key ms))) e)
+          where
+            both : (t : Bool) → group_at key (but_gone gave (live_at now s.opens) ++ cond (not t) (opened clock p ∷ []) []) ≡ group_at key (but_gone gave (live_at now s.opens))
+            both true = ap (group_at key) (append_none (but_gone gave (live_at now s.opens)))
+            both false = group_at-push-other key (opened clock p) (but_gone gave (live_at now s.opens)) e
+
+        -- by places: the groups before, and this one
+        changed : going_on (fragment p.stamped.place (opened clock p) gave ∷ ms) ms ≡ but_gone gave (without (key_of p) (going_on ms ms))
+        changed = going_on-change (λ l. but_gone gave (without (key_of p) l)) refl
+            (λ a b. ap (but_gone gave) (filter-push (λ o. not (same_key (key_of p) o.key)) a b) ∙ but_push gave (without (key_of p) a) (without (key_of p) b))
+            (fragment p.stamped.place (opened clock p) gave ∷ ms) ms n
+            (λ own key lt. one_opened clock p gave ms alone own key (omega arith)) ms h.below
+
+        own_key : same_key (key_of p) (key_of p) ≡ true
+        own_key = (let one : (x : ℕ) → (x == x) ≡ true = itself in λ i. one (key_of p).source i && (one (key_of p).destination i && (one (key_of p).protocol i && one (key_of p).identification i)))
+          where
+            itself : (x : ℕ) → (x == x) ≡ true
+            itself x = grind (arith, nat_tests)
+
+        newest : (if p.stamped.place == p.stamped.place then first_at p.stamped.place (goes_on (key_of p) (fragment p.stamped.place (opened clock p) gave ∷ ms)) else []) ≡ opened clock p ∷ []
+        newest =
+            ap (λ (b : Bool). if b then first_at p.stamped.place (goes_on (key_of p) (fragment p.stamped.place (opened clock p) gave ∷ ms)) else []) place_itself
+            ∙ ap (λ (b : Bool). first_at p.stamped.place (if b then (if completes (p ∷ []) then None else Some (opened clock p)) else unless_given gave (goes_on (key_of p) ms))) own_key
+            ∙ ap (λ (b : Bool). first_at p.stamped.place (if b then None else Some (opened clock p))) alone
+            ∙ ap (λ (b : Bool). if b then opened clock p ∷ [] else []) place_itself
+          where
+            place_itself : (p.stamped.place == p.stamped.place) ≡ true
+            place_itself = grind (arith, nat_tests)
+
+        rest_among : (now : Option Stamp) → is_before now clock ≡ false → live_at now (but_gone gave (live_at clock s.opens)) ≡ live_at now (but_gone gave (without (key_of p) (going_on ms ms)))
+        rest_among now late =
+            staying now late
+            ∙ ap (but_gone gave) (sym (without_absent (key_of p) (live_at now s.opens) (ap (group_at (key_of p)) (sym (live_now now late)) ∙ group_at-filter-none (key_of p) (λ o. not (is_too_old o.clock now)) (live_at clock s.opens) none))
+            ∙ ap (without (key_of p)) (h.among now (after now late))
+            ∙ filter-commute (λ o. not (same_key (key_of p) o.key)) (λ o. not (is_too_old o.clock now)) (going_on ms ms))
+            ∙ filter-commute (λ o. not (gone gave o.place)) (λ o. not (is_too_old o.clock now)) (without (key_of p) (going_on ms ms))
+
+    -- it joins the group o
+    module _ (o : OpenGroup) (on : goes_on (key_of p) ms ≡ Some o) (found : group_at (key_of p) (live_at clock s.opens) ≡ Some o) where
+      mine : o.key ≡ key_of p
+      mine = sym (goes_on-key (key_of p) ms o on)
+
+      not_first : (o.place == p.stamped.place) ≡ false
+      not_first = (let low : (0 ≤ o.place) × (o.place < n) = up-found (key_of p) 0 n o (live_at clock s.opens) up0 found in grind (arith, nat_tests))
+
+      below_more : AreBelow (p.stamped.place + 1) (fragment p.stamped.place (with_piece p o) None ∷ ms)
+      below_more = (omega arith, AreBelow-wider n (p.stamped.place + 1) ms (omega arith) h.below)
+
+      wider : AreBelow p.stamped.place ms
+      wider = AreBelow-wider n p.stamped.place ms place h.below
+
+      no_newest : (l : List OpenGroup) → l ++ (if (with_piece p o).place == p.stamped.place then first_at p.stamped.place (goes_on o.key (fragment p.stamped.place (with_piece p o) None ∷ ms)) else []) ≡ l
+      no_newest l = ap (λ (b : Bool). l ++ (if b then first_at p.stamped.place (goes_on o.key (fragment p.stamped.place (with_piece p o) None ∷ ms)) else [])) not_first ∙ append_none l
+
+      -- and completes it
+      Holds-done : completes (p ∷ o.pieces) ≡ true → Holds (record { opens = without (key_of p) (live_at clock s.opens); given_up = s.given_up + 0 }) (fragment p.stamped.place (with_piece p o) None ∷ ms) clock (p.stamped.place + 1)
+      Holds-done done = record {
+        apart = apart-filter (λ o. not (same_key (key_of p) o.key)) (live_at clock s.opens) apart0;
+        up = Up-wider 0 n 0 (p.stamped.place + 1) (without (key_of p) (live_at clock s.opens)) (omega arith) (omega arith) (up-filter (λ o. not (same_key (key_of p) o.key)) 0 n (live_at clock s.opens) up0);
+        below = below_more;
+        goes = λ key now late. ap (group_at key) (commute now late) ∙ by key now late (same_key key o.key) refl;
+        among = λ now late.
+            commute now late ∙ ap (without (key_of p)) (h.among now (after now late))
+            ∙ filter-commute (λ o. not (same_key (key_of p) o.key)) (λ o. not (is_too_old o.clock now)) (going_on ms ms)
+            ∙ ap (live_at now) (sym (no_newest (going_on (fragment p.stamped.place (with_piece p o) None ∷ ms) ms)
+            ∙ going_on-change (without (key_of p)) refl (filter-push (λ o. not (same_key (key_of p) o.key))) (fragment p.stamped.place (with_piece p o) None ∷ ms) ms p.stamped.place
+            (one_done p o ms mine on p.stamped.place done) ms wider));
+        given_up = ap (λ (x : ℕ). x + 0) h.given_up;
+      }
+        where
+          commute : (now : Option Stamp) → is_before now clock ≡ false → live_at now (without (key_of p) (live_at clock s.opens)) ≡ without (key_of p) (live_at now s.opens)
+          commute now late = filter-commute (λ o. not (is_too_old o.clock now)) (λ o. not (same_key (key_of p) o.key)) (live_at clock s.opens) ∙ ap (without (key_of p)) (live_now now late)
+
+          by : (key : Key) (now : Option Stamp) → is_before now clock ≡ false → (b : Bool) → same_key key o.key ≡ b
+              → group_at key (without (key_of p) (live_at now s.opens)) ≡ live_option now (goes_on key (fragment p.stamped.place (with_piece p o) None ∷ ms))
+          by key now late true e =
+              group_at-without-same key (key_of p) (live_at now s.opens) (ap (same_key key) (sym mine) ∙ e)
+              ∙ sym (ap (λ (b : Bool). live_option now (if b then (if completes (p ∷ o.pieces) then None else Some (with_piece p o)) else unless_given None (goes_on key ms))) e
+              ∙ ap (λ (b : Bool). live_option now (if b then None else Some (with_piece p o))) done)
+          by key now late false e =
+              group_at-without-other key (key_of p) (live_at now s.opens) (ap (same_key key) (sym mine) ∙ e) ∙ h.goes key now (after now late)
+              ∙ sym (ap (λ (b : Bool). live_option now (if b then (if completes (p ∷ o.pieces) then None else Some (with_piece p o)) else unless_given None (goes_on key ms))) e)
+
+      -- and doesn't complete it
+      Holds-more : completes (p ∷ o.pieces) ≡ false → Holds (record { opens = extended p (live_at clock s.opens); given_up = s.given_up + 0 }) (fragment p.stamped.place (with_piece p o) None ∷ ms) clock (p.stamped.place + 1)
+      Holds-more done = record {
+        apart = apart-extended p (live_at clock s.opens) apart0;
+        up = Up-wider 0 n 0 (p.stamped.place + 1) (extended p (live_at clock s.opens)) (omega arith) (omega arith) (up-extended p 0 n (live_at clock s.opens) up0);
+        below = below_more;
+        goes = λ key now late. ap (group_at key) (live_at-extended now p (live_at clock s.opens)) ∙ by key now late (same_key key o.key) refl;
+        among = λ now late.
+            live_at-extended now p (live_at clock s.opens) ∙ ap (extended p) (live_now now late ∙ h.among now (after now late))
+            ∙ sym (live_at-extended now p (going_on ms ms))
+            ∙ ap (live_at now) (sym (no_newest (going_on (fragment p.stamped.place (with_piece p o) None ∷ ms) ms)
+            ∙ going_on-change (extended p) refl (extended_push p) (fragment p.stamped.place (with_piece p o) None ∷ ms) ms p.stamped.place
+            (one_more p o ms mine on p.stamped.place done) ms wider));
+        given_up = ap (λ (x : ℕ). x + 0) h.given_up;
+      }
+        where
+          by : (key : Key) (now : Option Stamp) → is_before now clock ≡ false → (b : Bool) → same_key key o.key ≡ b
+              → group_at key (extended p (live_at now (live_at clock s.opens))) ≡ live_option now (goes_on key (fragment p.stamped.place (with_piece p o) None ∷ ms))
+          by key now late true e =
+              ap (λ (k : Key). group_at k (extended p (live_at now (live_at clock s.opens)))) (same_key-is key o.key e ∙ mine)
+              ∙ old (is_too_old o.clock now) refl
+              ∙ sym (ap (λ (b : Bool). live_option now (if b then (if completes (p ∷ o.pieces) then None else Some (with_piece p o)) else unless_given None (goes_on key ms))) e
+              ∙ ap (λ (b : Bool). live_option now (if b then None else Some (with_piece p o))) done)
+            where
+              old : (t : Bool) → is_too_old o.clock now ≡ t → group_at (key_of p) (extended p (live_at now (live_at clock s.opens))) ≡ live_option now (Some (with_piece p o))
+              old true t =
+                  group_at-extended-none (key_of p) p (live_at now (live_at clock s.opens)) (group_at-live-old (key_of p) now o (live_at clock s.opens) apart0 found t)
+                  ∙ sym (ap (λ (b : Bool). if b then None else Some (with_piece p o)) t)
+              old false t =
+                  group_at-extended p o (live_at now (live_at clock s.opens)) (group_at-live (key_of p) now o (live_at clock s.opens) found (ap not t))
+                  ∙ sym (ap (λ (b : Bool). if b then None else Some (with_piece p o)) t)
+          by key now late false e =
+              group_at-extended-other key p (live_at now (live_at clock s.opens)) (ap (same_key key) (sym mine) ∙ e)
+              ∙ ap (group_at key) (live_now now late) ∙ h.goes key now (after now late)
+              ∙ sym (ap (λ (b : Bool). live_option now (if b then (if completes (p ∷ o.pieces) then None else Some (with_piece p o)) else unless_given None (goes_on key ms))) e)
+
+    itself : (p.stamped.place == p.stamped.place) ≡ true
+    itself = grind (arith, nat_tests)
+
+    -- what a fragment makes of the state and of what is known by places: it opens a group
+    arrives_new : (limit : ℕ) → 0 < limit → completes (p ∷ []) ≡ false → group_at (key_of p) (live_at clock s.opens) ≡ None → group_by clock p (goes_on (key_of p) ms) ≡ opened clock p
+        → Holds (record {
+          opens = opens_with limit clock p (group_at (key_of p) (live_at clock s.opens)) (live_at clock s.opens);
+          given_up = s.given_up + (if gives_up_with limit p (group_at (key_of p) (live_at clock s.opens)) (live_at clock s.opens) then 1 else 0);
+        }) (mark_of limit clock p ms ∷ ms) clock (p.stamped.place + 1)
+    arrives_new limit some alone none group =
+        let gave : Option ℕ = if not (nat_lt (length (live_at clock s.opens)) limit) then lowest (live_at clock s.opens) else None in
+        let opens_is : but_gone gave (live_at clock s.opens) ++ opened clock p ∷ [] ≡ opens_with limit clock p (group_at (key_of p) (live_at clock s.opens)) (live_at clock s.opens) =
+        sym (ap (λ (x : Option OpenGroup). opens_with limit clock p x (live_at clock s.opens)) none
+        ∙ ap (λ (b : Bool). if b then live_at clock s.opens else trimmed limit (live_at clock s.opens) ++ opened clock p ∷ []) alone
+        ∙ ap (λ (l : List OpenGroup). l ++ opened clock p ∷ []) (trimmed-but limit 0 n (live_at clock s.opens) some up0)) in
+        let count_is : one_if gave ≡ (if gives_up_with limit p (group_at (key_of p) (live_at clock s.opens)) (live_at clock s.opens) then 1 else 0) =
+        sym (ap (λ (x : Option OpenGroup). as_number (gives_up_with limit p x (live_at clock s.opens))) none
+        ∙ ap (λ (b : Bool). as_number (not b && not (nat_lt (length (live_at clock s.opens)) limit))) alone
+        ∙ given_some limit 0 n (live_at clock s.opens) some up0) in
+        let mark_is : fragment p.stamped.place (opened clock p) gave ≡ mark_of limit clock p ms =
+        sym (ap (λ (l : List OpenGroup). fragment p.stamped.place (group_by clock p (goes_on (key_of p) ms)) (given_up_at limit p.stamped.place (group_by clock p (goes_on (key_of p) ms)) l)) (sym (h.among clock later))
+        ∙ ap (λ (g : OpenGroup). fragment p.stamped.place g (given_up_at limit p.stamped.place g (live_at clock s.opens))) group
+        ∙ ap (λ (b : Bool). fragment p.stamped.place (opened clock p) (if b && not (nat_lt (length (live_at clock s.opens)) limit) then lowest (live_at clock s.opens) else None)) itself) in
+        subst (λ (m : Mark). Holds (record {
+          opens = opens_with limit clock p (group_at (key_of p) (live_at clock s.opens)) (live_at clock s.opens);
+          given_up = s.given_up + (if gives_up_with limit p (group_at (key_of p) (live_at clock s.opens)) (live_at clock s.opens) then 1 else 0);
+        }) (m ∷ ms) clock (p.stamped.place + 1)) mark_is
+        (subst (λ (x : ℕ). Holds (record { opens = opens_with limit clock p (group_at (key_of p) (live_at clock s.opens)) (live_at clock s.opens); given_up = s.given_up + x })
+        (fragment p.stamped.place (opened clock p) gave ∷ ms) clock (p.stamped.place + 1)) count_is
+        (subst (λ (l : List OpenGroup). Holds (record { opens = l; given_up = s.given_up + one_if gave }) (fragment p.stamped.place (opened clock p) gave ∷ ms) clock (p.stamped.place + 1)) opens_is
+        (Holds-opened gave alone none)))
+
+    -- or it joins one
+    arrives_more : (limit : ℕ) (o : OpenGroup) → goes_on (key_of p) ms ≡ Some o → group_at (key_of p) (live_at clock s.opens) ≡ Some o → is_too_old o.clock clock ≡ false
+        → Holds (record {
+          opens = opens_with limit clock p (group_at (key_of p) (live_at clock s.opens)) (live_at clock s.opens);
+          given_up = s.given_up + (if gives_up_with limit p (group_at (key_of p) (live_at clock s.opens)) (live_at clock s.opens) then 1 else 0);
+        }) (mark_of limit clock p ms ∷ ms) clock (p.stamped.place + 1)
+    arrives_more limit o on found fresh =
+        let group : group_by clock p (goes_on (key_of p) ms) ≡ with_piece p o =
+        ap (group_by clock p) on ∙ ap (λ (b : Bool). if b then opened clock p else with_piece p o) fresh in
+        let mark_is : fragment p.stamped.place (with_piece p o) None ≡ mark_of limit clock p ms =
+        sym (ap (λ (g : OpenGroup). fragment p.stamped.place g (given_up_at limit p.stamped.place g (open_before clock ms))) group
+        ∙ ap (λ (b : Bool). fragment p.stamped.place (with_piece p o) (if b && not (nat_lt (length (open_before clock ms)) limit) then lowest (open_before clock ms) else None)) (not_first o on found)) in
+        let count_is : 0 ≡ as_number (gives_up_with limit p (group_at (key_of p) (live_at clock s.opens)) (live_at clock s.opens)) =
+        sym (ap (λ (x : Option OpenGroup). as_number (gives_up_with limit p x (live_at clock s.opens))) found) in
+        let opens_is : (if completes (p ∷ o.pieces) then without (key_of p) (live_at clock s.opens) else extended p (live_at clock s.opens)) ≡ opens_with limit clock p (group_at (key_of p) (live_at clock s.opens)) (live_at clock s.opens) =
+        sym (ap (λ (x : Option OpenGroup). opens_with limit clock p x (live_at clock s.opens)) found) in
+        subst (λ (m : Mark). Holds (record {
+          opens = opens_with limit clock p (group_at (key_of p) (live_at clock s.opens)) (live_at clock s.opens);
+          given_up = s.given_up + as_number (gives_up_with limit p (group_at (key_of p) (live_at clock s.opens)) (live_at clock s.opens));
+        }) (m ∷ ms) clock (p.stamped.place + 1)) mark_is
+        (subst (λ (x : ℕ). Holds (record { opens = opens_with limit clock p (group_at (key_of p) (live_at clock s.opens)) (live_at clock s.opens); given_up = s.given_up + x })
+        (fragment p.stamped.place (with_piece p o) None ∷ ms) clock (p.stamped.place + 1)) count_is
+        (subst (λ (l : List OpenGroup). Holds (record { opens = l; given_up = s.given_up + 0 }) (fragment p.stamped.place (with_piece p o) None ∷ ms) clock (p.stamped.place + 1)) opens_is
+        (by (completes (p ∷ o.pieces)) refl)))
+      where
+        by : (b : Bool) → completes (p ∷ o.pieces) ≡ b
+            → Holds (record { opens = if completes (p ∷ o.pieces) then without (key_of p) (live_at clock s.opens) else extended p (live_at clock s.opens); given_up = s.given_up + 0 })
+            (fragment p.stamped.place (with_piece p o) None ∷ ms) clock (p.stamped.place + 1)
+        by true e = subst (λ (b : Bool). Holds (record { opens = if b then without (key_of p) (live_at clock s.opens) else extended p (live_at clock s.opens); given_up = s.given_up + 0 })
+            (fragment p.stamped.place (with_piece p o) None ∷ ms) clock (p.stamped.place + 1)) (sym e) (Holds-done o on found e)
+        by false e = subst (λ (b : Bool). Holds (record { opens = if b then without (key_of p) (live_at clock s.opens) else extended p (live_at clock s.opens); given_up = s.given_up + 0 })
+            (fragment p.stamped.place (with_piece p o) None ∷ ms) clock (p.stamped.place + 1)) (sym e) (Holds-more o on found e)
+
+    Holds-arrives : (limit : ℕ) → 0 < limit → completes (p ∷ []) ≡ false
+        → Holds (record {
+          opens = opens_with limit clock p (group_at (key_of p) (live_at clock s.opens)) (live_at clock s.opens);
+          given_up = s.given_up + (if gives_up_with limit p (group_at (key_of p) (live_at clock s.opens)) (live_at clock s.opens) then 1 else 0);
+        }) (mark_of limit clock p ms ∷ ms) clock (p.stamped.place + 1)
+    Holds-arrives limit some alone = by (goes_on (key_of p) ms) refl
+      where
+        by : (x : Option OpenGroup) → goes_on (key_of p) ms ≡ x
+            → Holds (record {
+              opens = opens_with limit clock p (group_at (key_of p) (live_at clock s.opens)) (live_at clock s.opens);
+              given_up = s.given_up + (if gives_up_with limit p (group_at (key_of p) (live_at clock s.opens)) (live_at clock s.opens) then 1 else 0);
+            }) (mark_of limit clock p ms ∷ ms) clock (p.stamped.place + 1)
+        by None on = arrives_new limit some alone (h.goes (key_of p) clock later ∙ ap (live_option clock) on) (ap (group_by clock p) on)
+        by (Some o) on = aged (is_too_old o.clock clock) refl
+          where
+            aged : (t : Bool) → is_too_old o.clock clock ≡ t
+                → Holds (record {
+                  opens = opens_with limit clock p (group_at (key_of p) (live_at clock s.opens)) (live_at clock s.opens);
+                  given_up = s.given_up + (if gives_up_with limit p (group_at (key_of p) (live_at clock s.opens)) (live_at clock s.opens) then 1 else 0);
+                }) (mark_of limit clock p ms ∷ ms) clock (p.stamped.place + 1)
+            aged true t =
+                arrives_new limit some alone (h.goes (key_of p) clock later ∙ ap (live_option clock) on ∙ ap (λ (b : Bool). if b then None else Some o) t)
+                (ap (group_by clock p) on ∙ ap (λ (b : Bool). if b then opened clock p else with_piece p o) t)
+            aged false t = arrives_more limit o on (h.goes (key_of p) clock later ∙ ap (live_option clock) on ∙ ap (λ (b : Bool). if b then None else Some o) t) t
+
+-- after any events in order
+pub holds : (limit : ℕ) (es : List Event) → 0 < limit → AreInOrder es → Holds (state_of limit es) (marks limit es) (latest_clock es) (next_place es)
+unfolding state_of step
+holds limit [] some order = Holds-none
+holds limit (arrives clock p ∷ es) some order =
+    Holds-arrives (state_of limit es) (marks limit es) (latest_clock es) (next_place es) (holds limit es some order.3) clock p order.0 order.1 limit some order.2
+holds limit (flushes key ∷ es) some order =
+    Holds-flush (state_of limit es) (marks limit es) (latest_clock es) (next_place es) (holds limit es some order) key
+
+same_pieces : (clock : Option Stamp) (p : Piece) (x : Option OpenGroup) → pieces_with p (live_option clock x) ≡ (group_by clock p x).pieces
+same_pieces clock p None = refl
+same_pieces clock p (Some o) = by (is_too_old o.clock clock)
+  where
+    by : (t : Bool) → pieces_with p (if t then None else Some o) ≡ (if t then opened clock p else with_piece p o).pieces
+    by true = refl
+    by false = refl
+
+pub agree : (limit : ℕ) (es : List Event) → 0 < limit → AreInOrder es → Agree limit es
+unfolding joined_pieces
+agree limit es some order =
+    let h = holds limit es some order in
+    record {
+      groups = λ clock p later. ap (pieces_with p) (h.goes (key_of p) clock later) ∙ same_pieces clock p (goes_on (key_of p) (marks limit es));
+      given_up = h.given_up;
+    }

@@ -1,0 +1,186 @@
+-- Entries of the table and the open groups that they are, one by one, under what a step does to the table.
+use Rattle.std.proofs.Common.{◌≡◌, suc, Bool, true, false, List, [], ◌∷◌, length, refl, sym, ◌∙◌, ap, subst, cond, ◌&&◌, not, true≢false, Option, Some, None, Result, Ok, Err}
+use Rattle.std.specs.Prelude.{◌==◌, OnErr}
+use Rattle.std.specs.List.{AllByRecursion, IsDistinct}
+use Rattle.std.specs.Map.{keys_of, lookup, set_value}
+use Rattle.std.specs.Option.{option_map_or}
+use borrow.Author.Tests.{eqb-true}
+use Rattle.std.proofs.lemmas.Map.Keys.{IsDistinct-head, IsDistinct-tail}
+use Rattle.cap_ip.specs.declared.headers.Key.{Key}
+use Rattle.cap_time.specs.declared.stamps.Stamp.{Stamp}
+use Rattle.cap_join.specs.Frames.{is_too_old}
+use Rattle.cap_join.specs.Groups.{GroupState, IsGroupOf}
+use Rattle.cap_join.specs.History.{OpenGroup, same_key, live_at, group_at}
+use Rattle.cap_join.specs.Joiners.{Entry, IsEntryOf, AreEntriesOf}
+use Rattle.cap_join.specs.Tables.{entry_at, live_entries, has_live}
+
+pub OnErr-always : {T E : Type 0} (r : Result T E) (P : Type 0) → P → OnErr r P
+OnErr-always (Ok x) P p = tt
+OnErr-always (Err e) P p = p
+
+-- a value that is written again
+pub set_value-same : {K X : Type 0} (test : K → Bool) (es : List (K × X)) (w : X) → lookup test es ≡ Some w → set_value test es w ≡ es
+set_value-same test [] w h = refl
+set_value-same {K} {X} test (e ∷ es) w h = by (test e.0) h (set_value-same test es w)
+  where
+    by : (b : Bool) → cond b (Some e.1) (lookup test es) ≡ Some w → (lookup test es ≡ Some w → set_value test es w ≡ es)
+        → cond b ((e.0, w) ∷ es) (e ∷ set_value test es w) ≡ e ∷ es
+    by true is rest = let same : e.1 ≡ w = cc in λ i. (e.0, sym same i) ∷ es
+    by false is rest = ap (λ l. e ∷ l) (rest is)
+
+and_left : (x y : Bool) → (x && y) ≡ true → x ≡ true
+and_left true y h = refl
+and_left false y h = h
+
+and_right : (x y : Bool) → (x && y) ≡ true → y ≡ true
+and_right true y h = h
+and_right false y h = absurd (true≢false (sym h))
+
+-- keys that name the same datagram are one
+pub same_key-is : (a b : Key) → same_key a b ≡ true → a ≡ b
+same_key-is a b h =
+    let s = eqb-true a.source b.source (and_left (a.source == b.source) ((a.destination == b.destination) && ((a.protocol == b.protocol) && (a.identification == b.identification))) h) in
+    let h1 = and_right (a.source == b.source) ((a.destination == b.destination) && ((a.protocol == b.protocol) && (a.identification == b.identification))) h in
+    let d = eqb-true a.destination b.destination (and_left (a.destination == b.destination) ((a.protocol == b.protocol) && (a.identification == b.identification)) h1) in
+    let h2 = and_right (a.destination == b.destination) ((a.protocol == b.protocol) && (a.identification == b.identification)) h1 in
+    let p = eqb-true a.protocol b.protocol (and_left (a.protocol == b.protocol) (a.identification == b.identification) h2) in
+    let n = eqb-true a.identification b.identification (and_right (a.protocol == b.protocol) (a.identification == b.identification) h2) in
+    λ i. record { source = s i; destination = d i; protocol = p i; identification = n i }
+
+none_later : (k : Key) (es : List Entry) → AllByRecursion (λ y. same_key k y ≡ false) (keys_of es) → entry_at k es ≡ None
+none_later k [] h = refl
+none_later k (e ∷ es) h = ap (λ (b : Bool). cond b (Some e.1) (entry_at k es)) h.0 ∙ none_later k es h.1
+
+-- behind an entry of a key there is no other
+pub alone : (key : Key) (e : Entry) (es : List Entry) → IsDistinct same_key (keys_of (e ∷ es)) → same_key key e.0 ≡ true → entry_at key es ≡ None
+alone key e es apart h =
+    subst (λ (k : Key). entry_at k es ≡ None) (sym (same_key-is key e.0 h)) (none_later e.0 es (IsDistinct-head same_key e.0 (keys_of es) apart))
+
+-- a test of keys reads the same of an entry and of its group
+pub key_test : (key : Key) (e : Entry) (o : OpenGroup) → IsEntryOf e o → same_key key o.key ≡ same_key key e.0
+key_test key e o h = ap (same_key key) (sym h.key)
+
+pub lengths : (es : List Entry) (os : List OpenGroup) → AreEntriesOf es os → length es ≡ length os
+lengths [] [] h = refl
+lengths [] (o ∷ os) h = absurd h
+lengths (e ∷ es) [] h = absurd h
+lengths (e ∷ es) (o ∷ os) h = ap suc (lengths es os h.1)
+
+-- no entry of a key: no group either
+pub group_at-none : (key : Key) (es : List Entry) (os : List OpenGroup) → AreEntriesOf es os → entry_at key es ≡ None → group_at key os ≡ None
+group_at-none key [] [] h none = refl
+group_at-none key [] (o ∷ os) h none = absurd h
+group_at-none key (e ∷ es) [] h none = absurd h
+group_at-none key (e ∷ es) (o ∷ os) h none = by (same_key key e.0) (key_test key e o h.0) none (group_at-none key es os h.1)
+  where
+    by : (b : Bool) → same_key key o.key ≡ b → cond b (Some e.1) (entry_at key es) ≡ None → (entry_at key es ≡ None → group_at key os ≡ None) → group_at key (o ∷ os) ≡ None
+    by true is n rest = cc
+    by false is n rest = ap (λ (b : Bool). cond b (Some o) (group_at key os)) is ∙ rest n
+
+-- A key's group, which an entry's is.
+pub record Found (key : Key) (s : GroupState) (os : List OpenGroup) : Type 0 where
+  pub open_group : OpenGroup
+  pub found : group_at key os ≡ Some open_group
+  pub clock : s.clock ≡ open_group.clock
+  pub group : IsGroupOf s open_group.pieces
+
+pub group_at-some : (key : Key) (s : GroupState) (es : List Entry) (os : List OpenGroup) → AreEntriesOf es os → entry_at key es ≡ Some s → Found key s os
+group_at-some key s [] os h some = absurd (clash some)
+  where
+    clash : None ≡ Some s → ⊥
+    clash e = cc
+group_at-some key s (e ∷ es) [] h some = absurd h
+group_at-some key s (e ∷ es) (o ∷ os) h some = by (same_key key e.0) (key_test key e o h.0) some (group_at-some key s es os h.1)
+  where
+    by : (b : Bool) → same_key key o.key ≡ b → cond b (Some e.1) (entry_at key es) ≡ Some s → (entry_at key es ≡ Some s → Found key s os) → Found key s (o ∷ os)
+    by true is n rest =
+        let same : e.1 ≡ s = cc in
+        record {
+          open_group = o;
+          found = ap (λ (b : Bool). cond b (Some o) (group_at key os)) is;
+          clock = ap (λ (x : GroupState). x.clock) (sym same) ∙ h.0.clock;
+          group = subst (λ (x : GroupState). IsGroupOf x o.pieces) same h.0.group;
+        }
+    by false is n rest =
+        let f = rest n in
+        record { open_group = f.open_group; found = ap (λ (b : Bool). cond b (Some o) (group_at key os)) is ∙ f.found; clock = f.clock; group = f.group }
+
+-- the entries that aren't too old are the groups that aren't
+pub AreEntriesOf-live : (now : Option Stamp) (es : List Entry) (os : List OpenGroup) → AreEntriesOf es os → AreEntriesOf (live_entries now es) (live_at now os)
+AreEntriesOf-live now [] [] h = h
+AreEntriesOf-live now [] (o ∷ os) h = absurd h
+AreEntriesOf-live now (e ∷ es) [] h = absurd h
+AreEntriesOf-live now (e ∷ es) (o ∷ os) h =
+    by (not (is_too_old e.1.clock now)) (ap (λ (c : Option Stamp). not (is_too_old c now)) (sym h.0.clock)) (AreEntriesOf-live now es os h.1)
+  where
+    by : (b : Bool) → not (is_too_old o.clock now) ≡ b → AreEntriesOf (live_entries now es) (live_at now os)
+        → AreEntriesOf (cond b (e ∷ live_entries now es) (live_entries now es)) (live_at now (o ∷ os))
+    by true is rest = subst (λ (b : Bool). AreEntriesOf (e ∷ live_entries now es) (cond b (o ∷ live_at now os) (live_at now os))) (sym is) (h.0, rest)
+    by false is rest = subst (λ (b : Bool). AreEntriesOf (live_entries now es) (cond b (o ∷ live_at now os) (live_at now os))) (sym is) rest
+
+-- a key's group is found among those that aren't too old, where it isn't
+pub group_at-live : (key : Key) (now : Option Stamp) (o : OpenGroup) (os : List OpenGroup) → group_at key os ≡ Some o → not (is_too_old o.clock now) ≡ true
+    → group_at key (live_at now os) ≡ Some o
+group_at-live key now o [] h live = h
+group_at-live key now o (q ∷ os) h live = by (same_key key q.key) refl h (not (is_too_old q.clock now)) refl (group_at-live key now o os)
+  where
+    step : (b : Bool) → not (is_too_old q.clock now) ≡ b → live_at now (q ∷ os) ≡ cond b (q ∷ live_at now os) (live_at now os)
+    step b is = ap (λ (c : Bool). cond c (q ∷ live_at now os) (live_at now os)) is
+
+    by : (t : Bool) → same_key key q.key ≡ t → cond t (Some q) (group_at key os) ≡ Some o → (b : Bool) → not (is_too_old q.clock now) ≡ b
+        → (group_at key os ≡ Some o → not (is_too_old o.clock now) ≡ true → group_at key (live_at now os) ≡ Some o) → group_at key (live_at now (q ∷ os)) ≡ Some o
+    by true t n true b rest = ap (group_at key) (step true b) ∙ ap (λ (c : Bool). cond c (Some q) (group_at key (live_at now os))) t ∙ n
+    by true t n false b rest =
+        let same : q ≡ o = cc in
+        absurd (true≢false (sym live ∙ ap (λ (g : OpenGroup). not (is_too_old g.clock now)) (sym same) ∙ b))
+    by false t n true b rest = ap (group_at key) (step true b) ∙ ap (λ (c : Bool). cond c (Some q) (group_at key (live_at now os))) t ∙ rest n live
+    by false t n false b rest = ap (group_at key) (step false b) ∙ rest n live
+
+-- and none is found where none was
+pub group_at-live-none : (key : Key) (now : Option Stamp) (os : List OpenGroup) → group_at key os ≡ None → group_at key (live_at now os) ≡ None
+group_at-live-none key now [] h = h
+group_at-live-none key now (q ∷ os) h = by (same_key key q.key) refl h (not (is_too_old q.clock now)) refl (group_at-live-none key now os)
+  where
+    step : (b : Bool) → not (is_too_old q.clock now) ≡ b → live_at now (q ∷ os) ≡ cond b (q ∷ live_at now os) (live_at now os)
+    step b is = ap (λ (c : Bool). cond c (q ∷ live_at now os) (live_at now os)) is
+
+    by : (t : Bool) → same_key key q.key ≡ t → cond t (Some q) (group_at key os) ≡ None → (b : Bool) → not (is_too_old q.clock now) ≡ b
+        → (group_at key os ≡ None → group_at key (live_at now os) ≡ None) → group_at key (live_at now (q ∷ os)) ≡ None
+    by true t n b is rest = cc
+    by false t n true b rest = ap (group_at key) (step true b) ∙ ap (λ (c : Bool). cond c (Some q) (group_at key (live_at now os))) t ∙ rest n
+    by false t n false b rest = ap (group_at key) (step false b) ∙ rest n
+
+-- a key without a live entry has no live group
+pub no_live : (key : Key) (now : Option Stamp) (es : List Entry) (os : List OpenGroup) → AreEntriesOf es os → IsDistinct same_key (keys_of es) → has_live key now es ≡ false
+    → group_at key (live_at now os) ≡ None
+no_live key now [] [] h apart none = refl
+no_live key now [] (o ∷ os) h apart none = absurd h
+no_live key now (e ∷ es) [] h apart none = absurd h
+no_live key now (e ∷ es) (o ∷ os) h apart none =
+    by (same_key key e.0) (key_test key e o h.0) (alone key e es apart) none (not (is_too_old e.1.clock now)) (ap (λ (c : Option Stamp). not (is_too_old c now)) (sym h.0.clock)) refl
+    (no_live key now es os h.1 (IsDistinct-tail same_key e.0 (keys_of es) apart))
+  where
+    step : (b : Bool) → not (is_too_old o.clock now) ≡ b → live_at now (o ∷ os) ≡ cond b (o ∷ live_at now os) (live_at now os)
+    step b is = ap (λ (c : Bool). cond c (o ∷ live_at now os) (live_at now os)) is
+
+    by : (t : Bool) → same_key key o.key ≡ t → (t ≡ true → entry_at key es ≡ None)
+        → option_map_or (λ s. not (is_too_old s.clock now)) (cond t (Some e.1) (entry_at key es)) false ≡ false
+        → (b : Bool) → not (is_too_old o.clock now) ≡ b → not (is_too_old e.1.clock now) ≡ b
+        → (has_live key now es ≡ false → group_at key (live_at now os) ≡ None) → group_at key (live_at now (o ∷ os)) ≡ None
+    by true t lone n true b c rest = absurd (true≢false (sym c ∙ n))
+    by true t lone n false b c rest = ap (group_at key) (step false b) ∙ group_at-live-none key now os (group_at-none key es os h.1 (lone refl))
+    by false t lone n true b c rest = ap (group_at key) (step true b) ∙ ap (λ (d : Bool). cond d (Some o) (group_at key (live_at now os))) t ∙ rest n
+    by false t lone n false b c rest = ap (group_at key) (step false b) ∙ rest n
+
+-- a live entry is a live group
+pub live_group : (key : Key) (now : Option Stamp) (s : GroupState) (es : List Entry) (os : List OpenGroup) → AreEntriesOf es os → entry_at key es ≡ Some s → has_live key now es ≡ true
+    → Found key s (live_at now os)
+live_group key now s es os h some live =
+    let f = group_at-some key s es os h some in
+    let fresh : not (is_too_old s.clock now) ≡ true = sym (ap (λ (o : Option GroupState). option_map_or (λ s. not (is_too_old s.clock now)) o false) some) ∙ live in
+    record {
+      open_group = f.open_group;
+      found = group_at-live key now f.open_group os f.found (ap (λ (c : Option Stamp). not (is_too_old c now)) (sym f.clock) ∙ fresh);
+      clock = f.clock;
+      group = f.group;
+    }

@@ -1,0 +1,12 @@
+pub mod Changes
+pub mod Chains
+pub mod Punching
+pub mod Growing
+pub mod Mapping
+pub mod Grouping
+pub mod Entries
+pub mod Steps
+pub mod Putting
+pub mod Most
+pub mod OpenGroups
+pub mod ByPlaces

@@ -1,0 +1,7 @@
+use Rattle.std.proofs.Common.{arith}
+use Rattle.cap_join.proofs.Grouping.{Maps-short}
+use Rattle.cap_join.proofs.groups.Group.held_bytes.Goals as goal
+
+pub returns-clause-bound : goal.returns-clause-bound
+returns-clause-bound c =
+    omega (arith, c.len.ensures, c.self.inside.buffer.ok.0, Maps-short c.self.inside.buffer.items c.self.inside.hole c.self.invariant.pieces c.self.invariant.group.maps)

@@ -1,0 +1,34 @@
+use Rattle.std.proofs.Common.{ℕ, ◌+◌, ◌∷◌, sym, ◌∙◌, subst, ap, refl, arith}
+use Rattle.cap_join.specs.Fragments.{piece_of}
+use Rattle.cap_join.specs.Frames.{earlier, later}
+use Rattle.cap_join.specs.Groups.{GroupState, IsGroupOf}
+use Rattle.cap_join.specs.GroupView.{group_view}
+use Rattle.cap_join.proofs.Grouping.{Maps-short, IsGroupOf-put}
+use Rattle.cap_join.proofs.groups.Group.put.Goals as goal
+
+pub put_data-requires-clause-bounded : goal.put_data-requires-clause-bounded
+put_data-requires-clause-bounded c =
+    omega (arith, c.self.inside.buffer.ok.0, Maps-short c.self.inside.buffer.items c.self.inside.hole c.self.invariant.pieces c.self.invariant.group.maps)
+
+pub invariant_of-self-2 : goal.invariant_of-self-2
+invariant_of-self-2 c = record {
+  pieces = piece_of c.args.header.now c.args.piece.now c.args.stamped ∷ c.self.invariant.pieces;
+  group = IsGroupOf-put (group_view c.self.inside) _ c.args.header.now c.args.piece.now c.args.stamped c.args.fragment c.requires.fragment c.requires.shape
+      c.in_ok-self-inside.ensures.ok c.total_after-self-inside.ensures c.header_after-self-inside.ensures refl
+      (ap (λ (n : ℕ). c.self.inside.bytes + n) c.from.ensures)
+      (c.earlier-self-inside.ensures ∙ ap (earlier c.self.inside.first) c.timed.ensures)
+      (c.later-self-inside.ensures ∙ ap (later c.self.inside.last) c.timed-2.ensures)
+      c.self.invariant.pieces c.self.invariant.group;
+  few = omega (arith, c.requires.few, ap (λ (s : GroupState). s.frames) c.self.view_is);
+  bounded = omega (arith, c.from.ensures, c.self.invariant.bounded);
+  clock = c.self.invariant.clock;
+}
+
+pub returns-clause-ok : goal.returns-clause-ok
+returns-clause-ok c = λ ps group.
+    IsGroupOf-put (group_view c.self.inside) _ c.args.header.now c.args.piece.now c.args.stamped c.args.fragment c.requires.fragment c.requires.shape
+    c.in_ok-self-inside.ensures.ok c.total_after-self-inside.ensures c.header_after-self-inside.ensures refl
+    (ap (λ (n : ℕ). c.self.inside.bytes + n) c.from.ensures)
+    (c.earlier-self-inside.ensures ∙ ap (earlier c.self.inside.first) c.timed.ensures)
+    (c.later-self-inside.ensures ∙ ap (later c.self.inside.last) c.timed-2.ensures)
+    ps (subst (λ (s : GroupState). IsGroupOf s ps) (sym c.self.view_is) group)

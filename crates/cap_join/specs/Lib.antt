@@ -1,0 +1,14 @@
+pub mod Holes
+pub mod Fragments
+pub mod ByteMap
+pub mod Buffers
+pub mod Frames
+pub mod Groups
+pub mod GroupView
+pub mod History
+pub mod Joiners
+pub mod Tables
+pub mod JoinerView
+pub mod Places
+pub mod Rows
+pub mod Arrivals

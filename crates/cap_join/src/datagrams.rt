@@ -1,0 +1,52 @@
+//! What goes into a joiner and what comes out of it.
+use cap_ip::Header;
+use cap_time::Stamp;
+
+/// What is told of a fragment's frame: its own time, its place in the list of packets, and its original
+/// length in bytes.
+#[derive(Clone, Copy, Debug)]
+pub struct Stamped {
+    /// The frame's own time; `None` where it has none.
+    pub time: Option<Stamp>,
+    /// The frame's place in the list of packets, counted from 0.
+    pub place: u64,
+    /// How many bytes the frame had on the wire.
+    pub original: u32,
+}
+
+/// A datagram that was joined from fragments.
+#[derive(Drop, Debug)]
+pub struct Datagram {
+    /// The header of the latest fragment that began at 0.
+    pub header: Header,
+    /// The datagram's data.
+    pub payload: Vec<u8>,
+    /// How many fragments were put into it.
+    pub frames: u64,
+    /// The sum of their frames' original lengths.
+    pub bytes: u128,
+    /// The frame of the least time, of equal times that of the lowest place; `None` where no frame has
+    /// a time.
+    pub first: Option<Stamped>,
+    /// The frame of the greatest time, of equal times that of the lowest place; `None` where no frame
+    /// has a time.
+    pub last: Option<Stamped>,
+}
+
+/// What a fragment did that was put into a joiner.
+#[derive(Drop, Debug)]
+pub enum Put {
+    /// It is kept until its datagram is complete.
+    Kept,
+    /// It completed its datagram.
+    Joined(Datagram),
+}
+
+/// Why a fragment wasn't put.
+#[derive(Clone, Copy, Debug, PartialEq, Eq)]
+pub enum JoinFault {
+    /// Too many datagrams are incomplete. This is never answered: the oldest is given up instead.
+    OpenLimit,
+    /// No memory was found. The joiner is as it was.
+    Memory,
+}

@@ -1,0 +1,222 @@
+//! A group of fragments that aren't a whole datagram yet.
+ghost use Rattle.std.specs.Prelude.{◌≡◌, ℕ, List, [], ◌∷◌, ◌+◌, ◌==◌, ◌≤◌, ◌<◌, ◌<ℤ◌, ◌^◌, pos, true, length, Some, IfSome, OnOk, OnErr, if◌then◌else◌};
+ghost use Rattle.cap_time.specs.Stamp.{seconds_of};
+ghost use Rattle.cap_ip.specs.Header.{IsPiece};
+ghost use Rattle.cap_join.specs.Fragments.{Piece, piece_of};
+ghost use Rattle.cap_join.specs.ByteMap.{completes};
+ghost use Rattle.cap_join.specs.Frames.{timed, earlier, later, is_too_old};
+ghost use Rattle.cap_join.specs.Groups.{IsGroupOf, IsDatagramOf};
+
+use crate::buffers::put_data;
+use crate::datagrams::{Datagram, Stamped};
+use crate::holes::NO_HOLE;
+use cap_ip::{Fragment, Header};
+use cap_time::Stamp;
+use std::alloc::{AllocError, Global};
+use std::marker::Model;
+
+/// How many seconds a group waits for its fragments.
+const WAIT: u32 = 30;
+
+/// The fragments of one datagram, as one buffer. What no fragment has filled is a hole, and is described
+/// in the hole itself.
+#[derive(Drop)]
+pub(crate) struct Group {
+    buffer: Vec<u8>,
+    hole: u32,
+    total: Option<u32>,
+    header: Header,
+    frames: u64,
+    bytes: u128,
+    first: Option<Stamped>,
+    last: Option<Stamped>,
+    clock: Option<Stamp>,
+    place: u64,
+}
+
+impl Model for Group {
+    ghost use Rattle.cap_join.specs.Groups.{GroupState};
+
+    ghost Value = { GroupState };
+
+    ghost use Rattle.cap_join.specs.GroupView.{group_view, IsSoundGroup};
+
+    ghost view = { group_view };
+
+    ghost invariant = { IsSoundGroup };
+}
+
+// The frame, where it has a time.
+fn timed(frame: Stamped) -> Option<Stamped>
+    ensures { result ≡ timed frame frame.time }
+{
+    match frame.time {
+        None => None,
+        Some(_) => Some(frame),
+    }
+}
+
+// The one of the lesser time, of equal times the first.
+fn earlier(first: Option<Stamped>, frame: Option<Stamped>) -> Option<Stamped>
+    ensures { result ≡ earlier first frame }
+{
+    match frame {
+        None => first,
+        Some(frame) => match first {
+            None => Some(frame),
+            Some(first) => {
+                if frame.time < first.time {
+                    Some(frame)
+                } else {
+                    Some(first)
+                }
+            }
+        },
+    }
+}
+
+// The one of the greater time, of equal times the first.
+fn later(last: Option<Stamped>, frame: Option<Stamped>) -> Option<Stamped>
+    ensures { result ≡ later last frame }
+{
+    match frame {
+        None => last,
+        Some(frame) => match last {
+            None => Some(frame),
+            Some(last) => {
+                if last.time < frame.time {
+                    Some(frame)
+                } else {
+                    Some(last)
+                }
+            }
+        },
+    }
+}
+
+// The datagram's length: the end of a fragment behind which none follows, else as it was.
+fn total_after(total: Option<u32>, fragment: Fragment) -> Option<u32>
+    requires { fragment.start + fragment.length < 2 ^ 32 }
+    ensures { result ≡ (if fragment.more then total else Some (fragment.start + fragment.length)) }
+{
+    if fragment.more {
+        total
+    } else {
+        Some(fragment.start + fragment.length)
+    }
+}
+
+// The datagram's header: that of a fragment that begins at 0, else as it was.
+fn header_after(header: Header, start: u32, new: &Header) -> Header
+    ensures { result ≡ (if start == 0 then new.now else header) }
+{
+    if start == 0 { *new } else { header }
+}
+
+impl Group {
+    /// A group without a fragment, whose first one comes at a clock and a place, under a header.
+    pub(crate) fn new(alloc: Global, header: &Header, clock: Option<Stamp>, place: u64) -> Group
+        requires { IfSome clock (λ c. seconds_of c <ℤ pos (2 ^ 65)) }
+        ensures group { IsGroupOf result [] }
+        ensures clock { result.clock ≡ clock }
+        ensures place { result.place ≡ place }
+    {
+        Group {
+            buffer: Vec::new(alloc),
+            hole: NO_HOLE,
+            total: None,
+            header: *header,
+            frames: 0,
+            bytes: 0,
+            first: None,
+            last: None,
+            clock,
+            place,
+        }
+    }
+
+    /// Puts a fragment with its data into the group. An `Err` leaves the group as it was.
+    pub(crate) fn put(
+        &mut self,
+        header: &Header,
+        fragment: Fragment,
+        piece: &[u8],
+        stamped: Stamped,
+    ) -> Result<(), AllocError>
+        requires fragment { header.now.fragment ≡ Some fragment }
+        requires shape { IsPiece (length piece.now) fragment }
+        requires few { self.old.frames < 2 ^ 63 }
+        ensures ok { OnOk result ((ps : List Piece) → IsGroupOf self.old ps →
+            IsGroupOf self.new (piece_of header.now piece.now stamped ∷ ps)) }
+        ensures frames { OnOk result (self.new.frames ≡ self.old.frames + 1) }
+        ensures clock { self.new.clock ≡ self.old.clock }
+        ensures place { self.new.place ≡ self.old.place }
+        ensures err { OnErr result (self.new ≡ self.old) }
+    {
+        self.hole = put_data(&mut self.buffer, self.hole, fragment.start, piece)?;
+        self.total = total_after(self.total, fragment);
+        self.header = header_after(self.header, fragment.start, header);
+        self.frames += 1;
+        self.bytes += u128::from(stamped.original);
+        self.first = earlier(self.first, timed(stamped));
+        self.last = later(self.last, timed(stamped));
+        Ok(())
+    }
+
+    /// Whether no hole begins below the datagram's length: its fragments are a whole datagram.
+    pub(crate) fn is_complete(&self) -> bool
+        ensures { (ps : List Piece) → IsGroupOf self.now ps → result ≡ completes ps }
+    {
+        match self.total {
+            None => false,
+            Some(total) => self.hole >= total,
+        }
+    }
+
+    /// Whether the clock of the first fragment and 30 seconds are before a clock.
+    pub(crate) fn is_too_old(&self, now: Option<Stamp>) -> bool
+        ensures { result ≡ is_too_old self.now.clock now }
+    {
+        match self.clock {
+            None => false,
+            Some(clock) => Some(clock.plus_seconds(WAIT)) < now,
+        }
+    }
+
+    /// The length of the buffer.
+    pub(crate) fn held_bytes(&self) -> usize
+        ensures value { result ≡ length self.now.buffer }
+        ensures bound { result ≤ 65520 }
+    {
+        self.buffer.len()
+    }
+
+    /// The datagram that the fragments are.
+    pub(crate) fn into_datagram(self) -> Datagram
+        ensures { (ps : List Piece) → IsGroupOf self ps → completes ps ≡ true → IsDatagramOf result ps }
+    {
+        let Group {
+            mut buffer,
+            hole: _hole,
+            total,
+            header,
+            frames,
+            bytes,
+            first,
+            last,
+            clock: _clock,
+            place: _place,
+        } = self;
+        if let Some(total) = total {
+            buffer.truncate(total as usize);
+        }
+        Datagram {
+            header,
+            payload: buffer,
+            frames,
+            bytes,
+            first,
+            last,
+        }
+    }
+}

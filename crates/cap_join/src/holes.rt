@@ -1,0 +1,125 @@
+//! The holes of a group's buffer, written into the holes themselves (RFC 815, 3 and 4).
+//!
+//! A hole is some blocks of 8 bytes that no fragment has filled, and its first 8 bytes describe it: the
+//! place after its last byte and where the next hole begins. RFC 815 links the holes both ways, in any
+//! order, and has a last hole without an end. Here they rise, none links back, and what lies past the
+//! buffer's end is no hole. A fragment is put in these steps:
+//!
+//! 1. where it ends behind the buffer, this grows, and what is added becomes the last hole;
+//! 2. each hole that begins before its end loses the blocks that it covers, which become 0, and what is
+//!    left on either side is described anew;
+//! 3. its data is copied, also over bytes of earlier fragments.
+ghost use Rattle.std.specs.Prelude.{◌≡◌, ℕ, List, ◌+◌, ◌-◌, ◌<◌, ◌≤◌, ◌%◌, ◌^◌, length, slice_index};
+ghost use Rattle.cap_join.specs.Holes.{Span, word_at, IsChain, HasHoles, ChangesWithin, kept, Punched, Appended};
+
+/// What names no hole.
+pub(crate) const NO_HOLE: u32 = 4_294_967_295;
+
+// The little-endian number of 32 bits at a place.
+#[tactic(auto, unfolding(crate::specs::Holes::word_at))]
+fn word_at(bytes: &[u8], at: usize) -> u32
+    requires { at + 4 ≤ length bytes.now }
+    ensures { result ≡ word_at bytes.now at }
+{
+    u32::from(bytes[at])
+        + 256 * u32::from(bytes[at + 1])
+        + 65_536 * u32::from(bytes[at + 2])
+        + 16_777_216 * u32::from(bytes[at + 3])
+}
+
+// Writes a number of 32 bits at a place, little-endian.
+#[tactic(auto, unfolding(crate::specs::Holes::word_at))]
+fn put_word(bytes: &mut [u8], at: usize, value: u32)
+    requires { at + 4 ≤ length bytes.old }
+    ensures word { word_at bytes.new at ≡ value }
+    ensures within { ChangesWithin at (at + 4) bytes.old bytes.new }
+{
+    bytes[at] = (value % 256) as u8;
+    bytes[at + 1] = (value / 256 % 256) as u8;
+    bytes[at + 2] = (value / 65_536 % 256) as u8;
+    bytes[at + 3] = (value / 16_777_216) as u8;
+}
+
+// Describes the part of a hole from a place up to another, where there is one, with the next hole after
+// it, and answers where the holes begin now.
+fn keep(bytes: &mut [u8], from: u32, to: u32, next: u32) -> u32
+    requires within { to ≤ length bytes.old }
+    requires begins { from % 8 ≡ 0 }
+    requires ends { to % 8 ≡ 0 }
+    ensures within { ChangesWithin from to bytes.old bytes.new }
+    ensures chain { (low middle high : ℕ) (ss : List Span) → low ≤ from → low ≤ middle → to ≤ middle → to ≤ high →
+        IsChain bytes.old middle high next ss → IsChain bytes.new low high result (kept from to ss) }
+{
+    if from < to {
+        let at = from as usize;
+        put_word(bytes, at, to);
+        put_word(bytes, at + 4, next);
+        from
+    } else {
+        next
+    }
+}
+
+// Sets the bytes from a place up to another to 0.
+fn clear(bytes: &mut [u8], from: usize, to: usize)
+    requires { to ≤ length bytes.old }
+    ensures within { ChangesWithin from to bytes.old bytes.new }
+    ensures zeros { (i : ℕ) → from ≤ i → i < to → slice_index bytes.new i ≡ 0 }
+{
+    for i in from..to {
+        bytes[i] = 0;
+    }
+}
+
+// Copies data to a place.
+pub(crate) fn copy(bytes: &mut [u8], at: usize, piece: &[u8])
+    requires { at + length piece.now ≤ length bytes.old }
+    ensures within { ChangesWithin at (at + length piece.now) bytes.old bytes.new }
+    ensures copied { (i : ℕ) → at ≤ i → i < at + length piece.now → slice_index bytes.new i ≡ slice_index piece.now (i - at) }
+{
+    for i in 0..piece.len() {
+        bytes[at + i] = piece[i];
+    }
+}
+
+/// Fills a range of whole blocks: each hole loses what lies in it, which becomes 0. Answers where the
+/// holes begin now.
+pub(crate) fn punch(bytes: &mut [u8], at: u32, from: u32, to: u32) -> u32
+    requires holes { HasHoles bytes.old (length bytes.old) at }
+    requires begins { from % 8 ≡ 0 }
+    requires ends { to % 8 ≡ 0 }
+    requires some { from < to }
+    requires within { to ≤ length bytes.old }
+    requires short { length bytes.old < 2 ^ 17 }
+    ensures { (low : ℕ) (ss : List Span) → IsChain bytes.old low (length bytes.old) at ss →
+        Punched from to bytes.old ss low (length bytes.old) result bytes.new }
+{
+    if at >= to {
+        return at;
+    }
+    let end = word_at(bytes, at as usize);
+    let next = word_at(bytes, at as usize + 4);
+    let rest = punch(bytes, next, from, to);
+    clear(bytes, at.max(from) as usize, end.min(to) as usize);
+    let right = keep(bytes, to, end, rest);
+    keep(bytes, at, end.min(from), right)
+}
+
+/// Describes the bytes from a place on as the last hole, and answers where the holes begin now.
+pub(crate) fn append_hole(bytes: &mut [u8], at: u32, from: u32) -> u32
+    requires holes { HasHoles bytes.old from at }
+    requires begins { from % 8 ≡ 0 }
+    requires ends { length bytes.old % 8 ≡ 0 }
+    requires some { from < length bytes.old }
+    requires short { length bytes.old < 2 ^ 17 }
+    ensures { (low : ℕ) (ss : List Span) → low ≤ from → IsChain bytes.old low from at ss →
+        Appended bytes.old ss low from result bytes.new }
+{
+    if at >= from {
+        return keep(bytes, from, bytes.len() as u32, NO_HOLE);
+    }
+    let end = word_at(bytes, at as usize);
+    let next = word_at(bytes, at as usize + 4);
+    let rest = append_hole(bytes, next, from);
+    keep(bytes, at, end, rest)
+}

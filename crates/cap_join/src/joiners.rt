@@ -1,0 +1,145 @@
+//! The joiner of fragments.
+ghost use Rattle.std.specs.Prelude.{◌≡◌, ℕ, List, [], ◌∷◌, ◌+◌, ◌≤◌, ◌<◌, ◌<ℤ◌, ◌^◌, pos, length, IsSome, IfSome, IfOk, IfErr, OnOk, OnErr};
+ghost use Rattle.cap_time.specs.Stamp.{seconds_of};
+ghost use Rattle.cap_ip.specs.Header.{IsPiece};
+ghost use Rattle.cap_join.specs.Fragments.{piece_of};
+ghost use Rattle.cap_join.specs.History.{Event, arrives, flushes, state_of, joined_pieces};
+ghost use Rattle.cap_join.specs.Joiners.{StandsFor, IsAnswer, most_bytes, held_of, open_limit};
+ghost use Rattle.cap_join.specs.declared.datagrams.JoinFault.TheVariants.{Memory};
+
+use crate::datagrams::{JoinFault, Put, Stamped};
+use crate::groups::Group;
+use crate::tables::{most_bytes, put_fragment};
+use cap_ip::{Header, Key};
+use cap_time::Stamp;
+use indexmap::IndexMap;
+use std::alloc::Global;
+use std::marker::Model;
+
+/// Joins IPv4 fragments into datagrams (RFC 791, 3.2).
+///
+/// A fragment joins the open group of its key, unless the clock of the group's first fragment and 30
+/// seconds are before the fragment's clock; then it opens a new group. A first fragment without a clock
+/// never grows old. Of a byte that several fragments have the latest counts. A group is complete, and
+/// is one no more, where a fragment behind which none follows has told its length, and each block of 8
+/// bytes below that is covered. At most 1,024 groups are open: a fragment that would open one more gives
+/// up the one whose first fragment has the lowest place.
+///
+/// What a joiner holds is told by the events that it stands for: the fragments that were put and the
+/// keys that were flushed, the latest first.
+#[derive(Drop)]
+pub struct Joiner {
+    groups: IndexMap<Key, Group>,
+    next: u64,
+    given_up: u64,
+    alloc: Global,
+}
+
+impl Model for Joiner {
+    ghost use Rattle.cap_join.specs.Joiners.{JoinerState};
+
+    ghost Value = { JoinerState };
+
+    ghost use Rattle.cap_join.specs.JoinerView.{joiner_view, IsSoundInside};
+
+    ghost view = { joiner_view };
+
+    ghost invariant = { IsSoundInside };
+}
+
+impl Joiner {
+    /// A joiner that was given nothing.
+    pub fn new(alloc: Global) -> Joiner
+        ensures stands { StandsFor result [] }
+        ensures next { result.next ≡ 0 }
+    {
+        Joiner {
+            groups: IndexMap::new(alloc),
+            next: 0,
+            given_up: 0,
+            alloc,
+        }
+    }
+
+    /// Puts a fragment at a clock: its header, all of its data, and what is told of its frame. Its place
+    /// is above those of all fragments that were put before. Groups that are too old are dropped.
+    ///
+    /// The answer is the datagram where the fragment's group is complete with it. `Memory` comes where
+    /// a growth was refused, and leaves the joiner as it was; no other fault is answered.
+    pub fn put(
+        &mut self,
+        clock: Option<Stamp>,
+        header: &Header,
+        bytes: &[u8],
+        stamped: Stamped,
+    ) -> Result<Put, JoinFault>
+        requires fragment { IsSome header.now.fragment }
+        requires whole { length bytes.now ≡ header.now.data_length }
+        requires clock { IfSome clock (λ c. seconds_of c <ℤ pos (2 ^ 65)) }
+        requires place { self.old.next ≤ stamped.place }
+        requires last { stamped.place < 2 ^ 63 }
+        ensures answer { IfOk result (λ put. (events : List Event) → StandsFor self.old events →
+            IsAnswer put (joined_pieces clock (piece_of header.now bytes.now stamped) (state_of open_limit events))) }
+        ensures stands { OnOk result ((events : List Event) → StandsFor self.old events →
+            StandsFor self.new (arrives clock (piece_of header.now bytes.now stamped) ∷ events)) }
+        ensures next { OnOk result (self.new.next ≡ stamped.place + 1) }
+        ensures fault { IfErr result (λ e. e ≡ Memory) }
+        ensures err { OnErr result (self.new ≡ self.old) }
+    {
+        let Some(fragment) = header.fragment() else {
+            unreachable!();
+        };
+        match put_fragment(
+            &mut self.groups,
+            self.alloc,
+            clock,
+            header,
+            fragment,
+            bytes,
+            stamped,
+        ) {
+            Err(_) => Err(JoinFault::Memory),
+            Ok((put, gave_up)) => {
+                self.next = stamped.place + 1;
+                self.given_up += u64::from(gave_up);
+                Ok(put)
+            }
+        }
+    }
+
+    /// Drops the group of a key, as a whole datagram of that key does.
+    pub fn flush(&mut self, key: Key)
+        ensures stands { (events : List Event) → StandsFor self.old events → StandsFor self.new (flushes key ∷ events) }
+        ensures next { self.new.next ≡ self.old.next }
+    {
+        self.groups.shift_remove(&key);
+    }
+
+    /// How many groups are open: at most 1,024. A group that is too old counts until the next fragment is
+    /// put.
+    pub fn open_count(&self) -> usize
+        ensures value { result ≡ length self.now.groups }
+        ensures stands { (events : List Event) → StandsFor self.now events → result ≡ length (state_of open_limit events).opens }
+        ensures bound { result ≤ 1024 }
+    {
+        self.groups.len()
+    }
+
+    /// The greatest length of an open group's buffer, in bytes: the greatest end of the group's fragments,
+    /// rounded up to whole blocks of 8. At most 65,520; 0 where none is open.
+    pub fn held_bytes(&self) -> usize
+        ensures value { result ≡ most_bytes self.now.groups }
+        ensures stands { (events : List Event) → StandsFor self.now events → result ≡ held_of (state_of open_limit events).opens }
+        ensures bound { result ≤ 65520 }
+    {
+        most_bytes(&self.groups)
+    }
+
+    /// How many groups were given up.
+    pub fn given_up(&self) -> u64
+        ensures value { result ≡ self.now.given_up }
+        ensures stands { (events : List Event) → StandsFor self.now events → result ≡ (state_of open_limit events).given_up }
+    {
+        self.given_up
+    }
+}

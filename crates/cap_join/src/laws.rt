@@ -1,0 +1,17 @@
+//! Laws of the definitions.
+ghost use Rattle.cap_join.specs.Places.{PlacesLaw};
+ghost use Rattle.cap_join.specs.Rows.{OpenLimit, OverlapMap, ThirtySeconds};
+
+/// The two definitions of groups agree: the one by places, which asks of the fragment before with the
+/// key, and the one by steps, in which each fragment drops all groups that are too old. This holds
+/// where clocks never fall, places rise, and no fragment is a whole datagram by itself.
+pub fn places_law()
+    ensures { PlacesLaw }
+{}
+
+/// The definitions on small groups: overlapped fragments, the open limit, and 30 seconds.
+pub fn worked_rows()
+    ensures overlap_map { OverlapMap }
+    ensures open_limit { OpenLimit }
+    ensures thirty_seconds { ThirtySeconds }
+{}

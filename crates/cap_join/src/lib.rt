@@ -1,0 +1,19 @@
+//! IPv4 fragments, joined into datagrams.
+#![tactic(auto)]
+
+mod arrivals;
+mod buffers;
+mod datagrams;
+mod groups;
+mod holes;
+mod joiners;
+mod laws;
+mod tables;
+
+pub use crate::arrivals::Arrived;
+pub use crate::datagrams::{Datagram, JoinFault, Put, Stamped};
+pub use crate::joiners::Joiner;
+pub use crate::laws::{places_law, worked_rows};
+
+#[cfg(test)]
+mod tests;

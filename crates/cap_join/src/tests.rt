@@ -1,0 +1,395 @@
+//! Fragments of one datagram and of many, made by hand from the fields of their headers.
+ghost use Rattle.std.specs.Prelude.{◌≤◌, ◌<ℤ◌, ◌^◌, pos, IfSome};
+ghost use Rattle.cap_time.specs.Stamp.{seconds_of};
+
+use crate::{Datagram, JoinFault, Joiner, Put, Stamped, places_law, worked_rows};
+use cap_ip::{Header, HeaderOr, Key};
+use cap_time::{Interface, Resolution, Stamp};
+use std::alloc::Global;
+use std::process::Abort;
+use std::test::Fail;
+
+/// The time of a number of microseconds.
+fn at(rt: &impl Abort, microseconds: u64) -> Stamp
+    ensures { seconds_of result <ℤ pos (2 ^ 65) }
+{
+    let Some(resolution) = Resolution::from_code(6) else {
+        panic!(rt; "no resolution");
+    };
+    let interface = Interface {
+        link: 101,
+        snaplen: 0,
+        resolution,
+        offset: 0,
+    };
+    Stamp::new(microseconds, &interface)
+}
+
+/// The time of a number of microseconds, where there is one.
+fn time_at(rt: &impl Abort, clock: Option<u64>) -> Option<Stamp>
+    ensures { IfSome result (λ c. seconds_of c <ℤ pos (2 ^ 65)) }
+{
+    match clock {
+        Some(microseconds) => Some(at(rt, microseconds)),
+        None => None,
+    }
+}
+
+/// A fragment's packet: its identification, in blocks of 8 bytes where its data begins, whether more
+/// follow, and its data.
+fn packet(
+    alloc: Global,
+    identification: u16,
+    block: u16,
+    more: bool,
+    piece: &[u8],
+) -> Result<Vec<u8>, Fail> {
+    let flags = block % 0x2000 + u16::from(more) * 0x2000;
+    let total = 20 + u16::try_from(piece.len().min(60_000))?;
+    let mut packet = Vec::new(alloc);
+    packet.extend_from_slice(&[0x45, 0])?;
+    packet.extend_from_slice(&total.to_be_bytes())?;
+    packet.extend_from_slice(&identification.to_be_bytes())?;
+    packet.extend_from_slice(&flags.to_be_bytes())?;
+    packet.extend_from_slice(&[0x40, 0x11, 0, 0, 10, 0, 0, 1, 10, 0, 0, 2])?;
+    packet.extend_from_slice(piece)?;
+    Ok(packet)
+}
+
+/// The key of those packets.
+fn key(identification: u16) -> Key {
+    Key {
+        source: 0x0a00_0001,
+        destination: 0x0a00_0002,
+        protocol: 17,
+        identification,
+    }
+}
+
+/// A joiner, and the place of the next packet.
+#[derive(Drop)]
+struct Run {
+    joiner: Joiner,
+    place: u64,
+    ghost ordered: { joiner.next ≤ place },
+}
+
+impl Run {
+    fn new(alloc: Global) -> Run {
+        Run {
+            joiner: Joiner::new(alloc),
+            place: 0,
+        }
+    }
+
+    /// Puts a packet at a clock of so many microseconds, which is its frame's own time too.
+    fn put(
+        &mut self,
+        rt: &impl Abort,
+        clock: Option<u64>,
+        packet: &[u8],
+    ) -> Result<Put, JoinFault> {
+        let HeaderOr::Header(header, held) = Header::read(packet, true) else {
+            panic!(rt; "no header");
+        };
+        let Some(_) = header.fragment() else {
+            panic!(rt; "no fragment");
+        };
+        assert!(rt; self.place < 1_000_000);
+        assert!(rt; packet.len() < 100_000);
+        let time = time_at(rt, clock);
+        let stamped = Stamped {
+            time,
+            place: self.place,
+            original: packet.len() as u32,
+        };
+        let put = self.joiner.put(time, &header, held, stamped)?;
+        self.place += 1;
+        Ok(put)
+    }
+}
+
+/// The datagram of an answer.
+fn joined(rt: &impl Abort, answer: Result<Put, JoinFault>) -> Datagram {
+    match answer {
+        Ok(Put::Joined(datagram)) => datagram,
+        Ok(Put::Kept) => panic!(rt; "kept"),
+        Err(fault) => panic!(rt; "{fault:?}"),
+    }
+}
+
+/// Whether an answer is that the fragment is kept.
+fn is_kept(answer: Result<Put, JoinFault>) -> bool {
+    matches!(&answer, Ok(Put::Kept))
+}
+
+const SECOND: u64 = 1_000_000;
+
+#[test]
+fn overlap_map(rt: HostRuntime) -> Result<(), Fail> {
+    let mut run = Run::new(rt.alloc());
+    let front = packet(
+        rt.alloc(),
+        7,
+        0,
+        true,
+        &[0x03, 0xe8, 0x07, 0xd0, 0, 0x20, 0, 0],
+    )?;
+    let middle = packet(
+        rt.alloc(),
+        7,
+        1,
+        true,
+        &[0xa0, 0xa1, 0xa2, 0xa3, 0xa4, 0xa5, 0xa6, 0xa7],
+    )?;
+    let short = packet(rt.alloc(), 7, 2, false, &[0xc0, 0xc1, 0xc2])?;
+    let last = packet(
+        rt.alloc(),
+        7,
+        3,
+        false,
+        &[0xd0, 0xd1, 0xd2, 0xd3, 0xd4, 0xd5, 0xd6, 0xd7],
+    )?;
+    assert!(rt; is_kept(run.put(&rt, None, &middle)));
+    assert_eq!(rt; run.joiner.held_bytes(), 16);
+    assert!(rt; is_kept(run.put(&rt, None, &short)));
+    assert_eq!(rt; run.joiner.held_bytes(), 24);
+    assert!(rt; is_kept(run.put(&rt, None, &last)));
+    assert_eq!(rt; run.joiner.held_bytes(), 32);
+    assert_eq!(rt; run.joiner.open_count(), 1);
+    let datagram = joined(&rt, run.put(&rt, None, &front));
+    let expected = [
+        0x03, 0xe8, 0x07, 0xd0, 0, 0x20, 0, 0, 0xa0, 0xa1, 0xa2, 0xa3, 0xa4, 0xa5, 0xa6, 0xa7,
+        0xc0, 0xc1, 0xc2, 0, 0, 0, 0, 0, 0xd0, 0xd1, 0xd2, 0xd3, 0xd4, 0xd5, 0xd6, 0xd7,
+    ];
+    assert!(rt; datagram.payload.as_slice() == expected.as_slice());
+    assert_eq!(rt; datagram.frames, 4);
+    assert_eq!(rt; datagram.bytes, 28 + 23 + 28 + 28);
+    assert!(rt; datagram.first.is_none());
+    assert!(rt; datagram.last.is_none());
+    assert_eq!(rt; run.joiner.open_count(), 0);
+    assert_eq!(rt; run.joiner.held_bytes(), 0);
+    Ok(())
+}
+
+#[test]
+fn overlapped_fragments(rt: HostRuntime) -> Result<(), Fail> {
+    let mut run = Run::new(rt.alloc());
+    let last = packet(
+        rt.alloc(),
+        7,
+        2,
+        false,
+        &[0xb0, 0xb1, 0xb2, 0xb3, 0xb4, 0xb5, 0xb6, 0xb7],
+    )?;
+    let front = packet(
+        rt.alloc(),
+        7,
+        0,
+        true,
+        &[0x03, 0xe8, 0x07, 0xd0, 0, 0x18, 0, 0],
+    )?;
+    let again = packet(
+        rt.alloc(),
+        7,
+        0,
+        true,
+        &[0x03, 0xe9, 0x07, 0xd1, 0, 0x18, 0, 0],
+    )?;
+    let middle = packet(
+        rt.alloc(),
+        7,
+        1,
+        true,
+        &[0xa0, 0xa1, 0xa2, 0xa3, 0xa4, 0xa5, 0xa6, 0xa7],
+    )?;
+    assert!(rt; is_kept(run.put(&rt, Some(SECOND), &last)));
+    assert!(rt; is_kept(run.put(&rt, Some(2 * SECOND), &front)));
+    assert!(rt; is_kept(run.put(&rt, Some(3 * SECOND), &again)));
+    let datagram = joined(&rt, run.put(&rt, Some(4 * SECOND), &middle));
+    let expected = [
+        0x03, 0xe9, 0x07, 0xd1, 0, 0x18, 0, 0, 0xa0, 0xa1, 0xa2, 0xa3, 0xa4, 0xa5, 0xa6, 0xa7,
+        0xb0, 0xb1, 0xb2, 0xb3, 0xb4, 0xb5, 0xb6, 0xb7,
+    ];
+    assert!(rt; datagram.payload.as_slice() == expected.as_slice());
+    assert_eq!(rt; datagram.header.key(), key(7));
+    assert_eq!(rt; datagram.frames, 4);
+    assert_eq!(rt; datagram.bytes, 112);
+    assert_eq!(rt; datagram.first.map(|frame| frame.place), Some(0));
+    assert_eq!(rt; datagram.last.map(|frame| frame.place), Some(3));
+    Ok(())
+}
+
+/// The two fragments of the row: one that ends a datagram of 16 bytes, and its front.
+fn two_fragments(alloc: Global) -> Result<(Vec<u8>, Vec<u8>), Fail> {
+    Ok((
+        packet(alloc, 9, 1, false, &[0, 1, 2, 3, 4, 5, 6, 7])?,
+        packet(alloc, 9, 0, true, &[0x03, 0xe8, 0x07, 0xd0, 0, 0x10, 0, 0])?,
+    ))
+}
+
+#[test]
+fn thirty_seconds(rt: HostRuntime) -> Result<(), Fail> {
+    let (last, front) = two_fragments(rt.alloc())?;
+    let mut run = Run::new(rt.alloc());
+    assert!(rt; is_kept(run.put(&rt, Some(SECOND), &last)));
+    let datagram = joined(&rt, run.put(&rt, Some(31 * SECOND), &front));
+    assert_eq!(rt; datagram.frames, 2);
+    assert_eq!(rt; datagram.payload.len(), 16);
+
+    let mut late = Run::new(rt.alloc());
+    assert!(rt; is_kept(late.put(&rt, Some(SECOND), &last)));
+    assert!(rt; is_kept(late.put(&rt, Some(31 * SECOND + 1), &front)));
+    assert_eq!(rt; late.joiner.open_count(), 1);
+    assert_eq!(rt; late.joiner.held_bytes(), 8);
+    assert_eq!(rt; late.joiner.given_up(), 0);
+    Ok(())
+}
+
+#[test]
+fn a_whole_datagram_flushes(rt: HostRuntime) -> Result<(), Fail> {
+    let (last, front) = two_fragments(rt.alloc())?;
+    let mut run = Run::new(rt.alloc());
+    assert!(rt; is_kept(run.put(&rt, Some(SECOND), &last)));
+    run.joiner.flush(key(9));
+    assert_eq!(rt; run.joiner.open_count(), 0);
+    assert!(rt; is_kept(run.put(&rt, Some(3 * SECOND), &front)));
+    run.joiner.flush(key(8));
+    assert_eq!(rt; run.joiner.open_count(), 1);
+    Ok(())
+}
+
+#[test]
+fn without_a_clock_a_group_never_grows_old(rt: HostRuntime) -> Result<(), Fail> {
+    let (last, front) = two_fragments(rt.alloc())?;
+    let mut run = Run::new(rt.alloc());
+    assert!(rt; is_kept(run.put(&rt, None, &last)));
+    assert_eq!(rt;
+        joined(&rt, run.put(&rt, Some(1_000 * SECOND), &front)).frames,
+        2
+    );
+    Ok(())
+}
+
+/// A run with groups of the identifications from 0 up to a number, all at 1 second.
+fn many_groups(rt: &impl Abort, alloc: Global, count: u16) -> Result<Run, Fail> {
+    let mut run = Run::new(alloc);
+    for identification in 0..count {
+        let front = packet(
+            alloc,
+            identification,
+            0,
+            true,
+            &[0x03, 0xe8, 0x07, 0xd0, 0, 0x10, 0, 0],
+        )?;
+        assert!(rt; is_kept(run.put(rt, Some(SECOND), &front)));
+    }
+    Ok(run)
+}
+
+#[test]
+fn open_limit(rt: HostRuntime) -> Result<(), Fail> {
+    let next = packet(
+        rt.alloc(),
+        1024,
+        0,
+        true,
+        &[0x03, 0xe8, 0x07, 0xd0, 0, 0x10, 0, 0],
+    )?;
+    let mut run = many_groups(&rt, rt.alloc(), 1024)?;
+    assert_eq!(rt; run.joiner.open_count(), 1024);
+    assert_eq!(rt; run.joiner.given_up(), 0);
+    assert!(rt; is_kept(run.put(&rt, Some(31 * SECOND), &next)));
+    assert_eq!(rt; run.joiner.given_up(), 1);
+    assert_eq!(rt; run.joiner.open_count(), 1024);
+
+    let mut late = many_groups(&rt, rt.alloc(), 1024)?;
+    assert!(rt; is_kept(late.put(&rt, Some(31 * SECOND + 1), &next)));
+    assert_eq!(rt; late.joiner.given_up(), 0);
+    assert_eq!(rt; late.joiner.open_count(), 1);
+    Ok(())
+}
+
+#[test]
+fn given_up_groups(rt: HostRuntime) -> Result<(), Fail> {
+    let mut run = many_groups(&rt, rt.alloc(), 1025)?;
+    assert_eq!(rt; run.joiner.given_up(), 1);
+    let second = packet(rt.alloc(), 1, 1, false, &[0, 1, 2, 3, 4, 5, 6, 7])?;
+    assert_eq!(rt; joined(&rt, run.put(&rt, Some(SECOND), &second)).frames, 2);
+    assert_eq!(rt; run.joiner.given_up(), 1);
+
+    let mut again = many_groups(&rt, rt.alloc(), 1025)?;
+    let first = packet(rt.alloc(), 0, 1, false, &[0, 1, 2, 3, 4, 5, 6, 7])?;
+    assert!(rt; is_kept(again.put(&rt, Some(SECOND), &first)));
+    assert_eq!(rt; again.joiner.given_up(), 2);
+    assert_eq!(rt; again.joiner.open_count(), 1024);
+    Ok(())
+}
+
+#[test]
+fn every_other_block(rt: HostRuntime) -> Result<(), Fail> {
+    let mut run = Run::new(rt.alloc());
+    for pair in 0..4_094 {
+        let odd = packet(rt.alloc(), 5, 2 * pair + 1, true, &[1, 1, 1, 1, 1, 1, 1, 1])?;
+        assert!(rt; is_kept(run.put(&rt, None, &odd)));
+    }
+    assert_eq!(rt; run.joiner.held_bytes(), 65_504);
+    for pair in 0..4_094 {
+        let even = packet(rt.alloc(), 5, 2 * pair, true, &[2, 2, 2, 2, 2, 2, 2, 2])?;
+        assert!(rt; is_kept(run.put(&rt, None, &even)));
+    }
+    assert_eq!(rt; run.joiner.held_bytes(), 65_504);
+    let last = packet(
+        rt.alloc(),
+        5,
+        8_188,
+        false,
+        &[3, 3, 3, 3, 3, 3, 3, 3, 3, 3, 3],
+    )?;
+    let datagram = joined(&rt, run.put(&rt, None, &last));
+    assert_eq!(rt; datagram.payload.len(), 65_515);
+    assert_eq!(rt; datagram.frames, 8_189);
+    assert_eq!(rt; datagram.payload[0], 2);
+    assert_eq!(rt; datagram.payload[8], 1);
+    assert_eq!(rt; datagram.payload[65_504], 3);
+    Ok(())
+}
+
+/// Puts a packet, and once more where memory was refused: the joiner is then as it was.
+fn put_again(rt: &impl Abort, run: &mut Run, clock: u64, packet: &[u8]) -> Result<Put, JoinFault> {
+    let open = run.joiner.open_count();
+    let held = run.joiner.held_bytes();
+    match run.put(rt, Some(clock), packet) {
+        Err(JoinFault::Memory) => {
+            assert_eq!(rt; run.joiner.open_count(), open);
+            assert_eq!(rt; run.joiner.held_bytes(), held);
+            run.put(rt, Some(clock), packet)
+        }
+        answer => answer,
+    }
+}
+
+#[test]
+fn a_refused_growth_leaves_the_joiner(rt: HostRuntime) -> Result<(), Fail> {
+    let last = [
+        0x45, 0, 0, 28, 0, 9, 0, 1, 0x40, 0x11, 0, 0, 10, 0, 0, 1, 10, 0, 0, 2, 0, 1, 2, 3, 4, 5,
+        6, 7,
+    ];
+    let front = [
+        0x45, 0, 0, 28, 0, 9, 0x20, 0, 0x40, 0x11, 0, 0, 10, 0, 0, 1, 10, 0, 0, 2, 0x03, 0xe8,
+        0x07, 0xd0, 0, 0x10, 0, 0,
+    ];
+    let mut run = Run::new(rt.alloc());
+    assert!(rt; is_kept(put_again(&rt, &mut run, SECOND, last.as_slice())));
+    assert_eq!(rt; run.joiner.open_count(), 1);
+    let datagram = joined(&rt, put_again(&rt, &mut run, 31 * SECOND, front.as_slice()));
+    assert_eq!(rt; datagram.frames, 2);
+    assert_eq!(rt; datagram.payload.len(), 16);
+    Ok(())
+}
+
+#[test]
+fn laws() {
+    places_law();
+    worked_rows();
+}
