@@ -45,34 +45,19 @@ for n in range(8):
 PY
 cat "$work"/*.pcap > /dev/null
 
-python3 - "$program" "$work" "$thousands" <<'PY'
-import os, shutil, subprocess, sys, time
+PYTHONPATH="$top/bench" PYTHONDONTWRITEBYTECODE=1 python3 - "$program" "$work" "$thousands" <<'PY'
+import shutil, sys
+from measure import measure
 
 program, work, thousands = sys.argv[1], sys.argv[2], int(sys.argv[3])
 
 def run(words):
     best = None
     for _ in range(3):
-        for name in ("out", "OUT"):
-            if os.path.exists(f"{work}/{name}"):
-                os.remove(f"{work}/{name}")
-        start = time.monotonic()
-        child = subprocess.Popen(words, stdout=subprocess.DEVNULL, stderr=subprocess.DEVNULL)
-        peak = 0
-        while True:
-            # the kernel's own count of a child begins with its parent's memory, so read the child's
-            try:
-                with open(f"/proc/{child.pid}/status") as status:
-                    peak = max([peak] + [int(line.split()[1]) for line in status if line.startswith("VmHWM")])
-            except OSError:
-                pass
-            done, status, used = os.wait4(child.pid, os.WNOHANG)
-            if done:
-                break
-            time.sleep(0.01)
-        if status != 0:
+        taken = measure(words, [f"{work}/out", f"{work}/OUT"])
+        if taken is None:
             return None
-        taken = (used.ru_utime + used.ru_stime, time.monotonic() - start, peak / 1024)
+        taken = (taken[0], taken[3], taken[4])
         best = taken if best is None else min(best, taken)
     return best
 

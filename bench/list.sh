@@ -46,8 +46,9 @@ C
     cc -O2 -o "$work/copy" "$work/copy.c"
 fi
 
-python3 - "$program" "$work" "$thousands" <<'PY'
-import os, resource, shutil, subprocess, sys, time
+PYTHONPATH="$top/bench" PYTHONDONTWRITEBYTECODE=1 python3 - "$program" "$work" "$thousands" <<'PY'
+import os, shutil, sys
+from measure import measure
 
 program, work, thousands = sys.argv[1], sys.argv[2], int(sys.argv[3])
 name = f"{work}/input.pcap"
@@ -55,25 +56,10 @@ name = f"{work}/input.pcap"
 def run(words):
     best = None
     for _ in range(3):
-        start = time.monotonic()
-        with open(os.devnull, "wb") as out:
-            child = subprocess.Popen(words, stdout=out, stderr=subprocess.DEVNULL)
-            peak = 0
-            while True:
-                # the kernel's own count of a child begins with its parent's memory, so read the child's
-                try:
-                    with open(f"/proc/{child.pid}/status") as status:
-                        peak = max([peak] + [int(line.split()[1]) for line in status if line.startswith("VmHWM")])
-                except OSError:
-                    pass
-                done, status, used = os.wait4(child.pid, os.WNOHANG)
-                if done:
-                    break
-                time.sleep(0.01)
-        if status != 0:
+        taken = measure(words)
+        if taken is None:
             return None
-        seconds = used.ru_utime + used.ru_stime
-        taken = (seconds, time.monotonic() - start, peak / 1024)
+        taken = (taken[0], taken[3], taken[4])
         best = taken if best is None else min(best, taken)
     return best
 

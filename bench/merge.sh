@@ -20,8 +20,9 @@ fi
 work=$(mktemp -d "${TMPDIR:-/tmp}/capt-merge.XXXXXX")
 trap 'rm -rf "$work"' EXIT
 
-python3 - "$program" "$work" "$thousands" "$runs" "${@:-2 4 8 16 32}" <<'PY'
-import os, shutil, struct, subprocess, sys, time
+PYTHONPATH="$top/bench" PYTHONDONTWRITEBYTECODE=1 python3 - "$program" "$work" "$thousands" "$runs" "${@:-2 4 8 16 32}" <<'PY'
+import os, shutil, struct, subprocess, sys
+from measure import measure
 
 program, work, packets, runs = sys.argv[1], sys.argv[2], int(sys.argv[3]) * 1000, int(sys.argv[4])
 numbers = [int(word) for words in sys.argv[5:] for word in words.split()]
@@ -45,22 +46,7 @@ def make(files):
     return names
 
 def run(words):
-    if os.path.exists(f"{work}/out"):
-        os.remove(f"{work}/out")
-    child = subprocess.Popen(words, stdout=subprocess.DEVNULL, stderr=subprocess.DEVNULL)
-    peak = 0
-    while True:
-        # the kernel's own count of a child begins with its parent's memory, so read the child's
-        try:
-            with open(f"/proc/{child.pid}/status") as status:
-                peak = max([peak] + [int(line.split()[1]) for line in status if line.startswith("VmHWM")])
-        except OSError:
-            pass
-        done, status, used = os.wait4(child.pid, os.WNOHANG)
-        if done:
-            break
-        time.sleep(0.005)
-    return None if status != 0 else (used.ru_utime + used.ru_stime, used.ru_utime, used.ru_stime, peak / 1024)
+    return measure(words, [f"{work}/out"])
 
 costs = {}
 for files in numbers:
@@ -77,7 +63,7 @@ for files in numbers:
             taken = run(words)
             if taken:
                 best[name] = min(taken, best.get(name, taken))
-    for name, (total, user, system, peak) in best.items():
+    for name, (total, user, system, _, peak) in best.items():
         print(f"{files:3} files  {name:11} {total:6.2f} processor s (user {user:.2f}, system {system:.2f})  {packets / total / 1e6:6.2f} M packets/s  {peak:6.1f} MiB", flush=True)
     for name in best:
         costs[name, files] = best[name][0]
