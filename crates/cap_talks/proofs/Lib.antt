@@ -2,3 +2,11 @@ pub mod Times
 pub mod Counting
 pub mod Printing
 pub mod FileByFile
+pub mod Chosen
+pub mod FrameOrder
+pub mod Talking
+pub mod RowSums
+pub mod KeyLaws
+pub mod FrameLaws
+pub mod SumLaws
+pub mod TalkPrinting

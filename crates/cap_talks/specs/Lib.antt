@@ -2,3 +2,10 @@ pub mod Counting
 pub mod FileText
 pub mod Reading
 pub mod Telling
+pub mod Units
+pub mod Talks
+pub mod Rows
+pub mod TalksView
+pub mod TalkText
+pub mod TalkLaws
+pub mod WorkedTalks

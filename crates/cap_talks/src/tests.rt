@@ -1,6 +1,8 @@
 //! The lines of files: worked files of both formats.
 ghost use Rattle.std.specs.Prelude.{◌≤◌};
 
+mod talks;
+
 use crate::file_lines;
 use cap_bytes::{Fault, Pieces, Refusal, Room, Rule, Sink, Tail, Tracked};
 use std::alloc::Global;

@@ -1,0 +1,8 @@
+use Rattle.std.proofs.Common.{◌≡◌, List, [], ◌∙◌}
+use Rattle.cap_talks.specs.Rows.{StandsFor}
+use Rattle.cap_talks.specs.Talks.{rows_of}
+use Rattle.cap_talks.proofs.talks.Talks.new.Goals as goal
+
+pub returns : goal.returns
+unfolding rows_of
+returns c = record { stands = record { rows = c.new.ensures.empty } }

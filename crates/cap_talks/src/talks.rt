@@ -1,0 +1,126 @@
+//! The table of conversations.
+ghost use Rattle.std.specs.Prelude.{◌≡◌, ◌+◌, ◌≤◌, ◌<◌, ◌^◌, ◌++◌, List, [], ◌∷◌, length, slice_get, OnOk, OnErr, IfOk};
+ghost use Rattle.std.specs.Map.{lookup};
+ghost use Rattle.indexmap.specs.IndexMap.{insert_entry};
+ghost use Rattle.cap_talks.specs.Talks.{key_of, row_of, same_talk};
+ghost use Rattle.cap_talks.specs.Rows.{StandsFor, is_refused, is_limit, talk_limit, frames_in, bytes_in, open_row, with_talk};
+ghost use Rattle.cap_talks.specs.declared.units.CountedUnit.{CountedUnit};
+
+use crate::rows::{TalkKey, TalkRow};
+use crate::units::CountedUnit;
+use indexmap::IndexMap;
+use std::alloc::Global;
+use std::marker::Model;
+
+/// How many conversations a table may have.
+const TALK_LIMIT: usize = 1_048_576;
+
+/// Why a unit wasn't counted. The table is as it was.
+#[derive(Clone, Copy, Debug, PartialEq, Eq)]
+pub enum TalksFault {
+    /// Its conversation is a new one, and 1,048,576 stand.
+    Limit,
+    /// No memory was found.
+    Memory,
+}
+
+/// The conversations of counted units: those of a protocol between two ends, whichever of them is the
+/// source. Each has a row, which counts its units; rows stand in the order of their first units.
+///
+/// What a table holds is told by the units that it stands for.
+#[derive(Drop)]
+pub struct Talks {
+    rows: IndexMap<TalkKey, TalkRow>,
+}
+
+impl Model for Talks {
+    ghost use Rattle.cap_talks.specs.Rows.{TalksState};
+
+    ghost Value = { TalksState };
+
+    ghost use Rattle.cap_talks.specs.TalksView.{talks_view, IsSoundInside};
+
+    ghost view = { talks_view };
+
+    ghost invariant = { IsSoundInside };
+}
+
+impl Talks {
+    /// The table of no unit.
+    pub fn new(alloc: Global) -> Talks
+        ensures stands { StandsFor result [] }
+    {
+        Talks {
+            rows: IndexMap::new(alloc),
+        }
+    }
+
+    /// Counts one unit more, behind those that the table stands for. All frames of its rows and the
+    /// unit's are fewer than 2^64, and their bytes fewer than 2^128.
+    ///
+    /// `Limit` comes exactly where the unit's conversation is a new one and 1,048,576 stand, `Memory`
+    /// where a growth was refused. Both leave the table as it was.
+    pub fn add(&mut self, unit: &CountedUnit) -> Result<(), TalksFault>
+        requires frames { frames_in self.old.rows + unit.now.frames < 2 ^ 64 }
+        requires bytes { bytes_in self.old.rows + unit.now.bytes < 2 ^ 128 }
+        ensures stands { OnOk result ((units : List CountedUnit) → StandsFor self.old units → StandsFor self.new (units ++ unit.now ∷ [])) }
+        ensures frames { OnOk result (frames_in self.new.rows ≡ frames_in self.old.rows + unit.now.frames) }
+        ensures bytes { OnOk result (bytes_in self.new.rows ≡ bytes_in self.old.rows + unit.now.bytes) }
+        ensures limit { is_limit result ≡ is_refused talk_limit self.old.rows (key_of unit.now) }
+        ensures err { OnErr result (self.new ≡ self.old) }
+    {
+        add_unit(&mut self.rows, unit)
+    }
+
+    /// How many conversations there are: at most 1,048,576.
+    pub fn len(&self) -> usize
+        ensures value { result ≡ length self.now.rows }
+        ensures bound { result ≤ 1048576 }
+    {
+        self.rows.len()
+    }
+
+    /// The conversation at a place in the order of their first units, counted from 0, and its row; `None`
+    /// past the last.
+    pub fn get(&self, place: usize) -> Option<(TalkKey, TalkRow)>
+        ensures { result ≡ slice_get self.now.rows place }
+    {
+        match self.rows.get_index(place) {
+            None => None,
+            Some((key, row)) => Some((*key, *row)),
+        }
+    }
+}
+
+// The row of a conversation, which counts no unit where that is a new one; `None` where it is, and as many
+// stand as may.
+fn open_row(rows: &IndexMap<TalkKey, TalkRow>, key: &TalkKey) -> Option<TalkRow>
+    ensures { result ≡ open_row talk_limit rows.now.entries key.now }
+{
+    match rows.get(key) {
+        Some(row) => Some(*row),
+        None => if rows.len() < TALK_LIMIT {
+            Some(TalkRow::new())
+        } else {
+            None
+        },
+    }
+}
+
+// Counts one unit more in the rows.
+fn add_unit(rows: &mut IndexMap<TalkKey, TalkRow>, unit: &CountedUnit) -> Result<(), TalksFault>
+    requires frames { frames_in rows.old.entries + unit.now.frames < 2 ^ 64 }
+    requires bytes { bytes_in rows.old.entries + unit.now.bytes < 2 ^ 128 }
+    ensures entries { OnOk result (rows.new.entries ≡ with_talk rows.old.entries unit.now) }
+    ensures limit { is_limit result ≡ is_refused talk_limit rows.old.entries (key_of unit.now) }
+    ensures err { OnErr result (rows.new.entries ≡ rows.old.entries) }
+{
+    let key = TalkKey::of(unit);
+    let Some(row) = open_row(rows, &key) else {
+        return Err(TalksFault::Limit);
+    };
+    match rows.insert(key, row.with_unit(unit)) {
+        Ok(_) => Ok(()),
+        Err(_) => Err(TalksFault::Memory),
+    }
+}
