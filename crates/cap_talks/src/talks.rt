@@ -49,6 +49,7 @@ impl Talks {
     /// The table of no unit.
     pub fn new(alloc: Global) -> Talks
         ensures stands { StandsFor result [] }
+        ensures empty { result.rows ≡ [] }
     {
         Talks {
             rows: IndexMap::new(alloc),

@@ -3,6 +3,6 @@ use Rattle.cap_talks.specs.Rows.{StandsFor}
 use Rattle.cap_talks.specs.Talks.{rows_of}
 use Rattle.cap_talks.proofs.talks.Talks.new.Goals as goal
 
-pub returns : goal.returns
+pub returns-clause-stands : goal.returns-clause-stands
 unfolding rows_of
-returns c = record { stands = record { rows = c.new.ensures.empty } }
+returns-clause-stands c = record { rows = c.new.ensures.empty }
