@@ -1,5 +1,5 @@
 #!/usr/bin/env bash
-# Each growth refused in turn (of cap_bytes, or of cap_source and cap_tasks): runs a crate's tests with the Nth allocation refused, for N from 1 up to
+# Each growth refused in turn (of cap_bytes, or of cap_source, cap_join and cap_tasks): runs a crate's tests with the Nth allocation refused, for N from 1 up to
 # a given number. The tests of windows and readers call again after `Fault::Memory`, and every answer
 # must be as with memory; those whose names don't match make data of their own and are left out.
 #
