@@ -7,7 +7,7 @@ use Rattle.clap.specs.declared.error.kind.ErrorKind.TheVariants as kind
 use Rattle.clap.specs.Words.{AddsSubcommand, shape_of, with_subcommand}
 use Rattle.clap.specs.declared.builder.command.Command.{Command}
 use Rattle.clap.specs.declared.builder.command.Command.TheViews.{out-Command}
-use Rattle.cap_line.specs.Command.{IsCapt, IsConvert, IsMerge, capt_app, convert_app, printing_app}
+use Rattle.cap_line.specs.Command.{IsCapt, IsConvert, IsJoin, IsMerge, capt_app, convert_app, merge_app, printing_app}
 use Rattle.cap_line.specs.CommandLine.{Parses, IsJobOf, fault_by}
 use Rattle.cap_line.specs.declared.job.Job.{Job}
 use Rattle.cap_line.specs.declared.faults.LineFault.{LineFault}
@@ -17,14 +17,16 @@ use Rattle.cap_line.specs.declared.faults.LineFault.TheVariants.{Help, Line, Fil
 pub IsCapt-simple_and_free : (app : App) → IsCapt app → is_simple_and_free app ≡ true
 unfolding clap_on_literals
 IsCapt-simple_and_free app is =
-    ap is_simple_and_free (is.app_is ∙ (ap (λ a. capt_app a is.merge) is.is_convert.app_is
-    ∙ ap (capt_app (convert_app is.is_convert.orders is.is_convert.formats)) is.is_merge.app_is))
+    ap is_simple_and_free (is.app_is ∙ (ap (λ a. capt_app a is.merge is.join) is.is_convert.app_is
+    ∙ (ap (λ a. capt_app (convert_app is.is_convert.orders is.is_convert.formats) a is.join) is.is_merge.app_is
+    ∙ ap (capt_app (convert_app is.is_convert.orders is.is_convert.formats) (merge_app is.is_merge.orders)) is.is_join.app_is)))
 
 pub IsCapt-simple : (app : App) → IsCapt app → is_simple app ≡ true
 unfolding clap_on_literals
 IsCapt-simple app is =
-    ap is_simple (is.app_is ∙ (ap (λ a. capt_app a is.merge) is.is_convert.app_is
-    ∙ ap (capt_app (convert_app is.is_convert.orders is.is_convert.formats)) is.is_merge.app_is))
+    ap is_simple (is.app_is ∙ (ap (λ a. capt_app a is.merge is.join) is.is_convert.app_is
+    ∙ (ap (λ a. capt_app (convert_app is.is_convert.orders is.is_convert.formats) a is.join) is.is_merge.app_is
+    ∙ ap (capt_app (convert_app is.is_convert.orders is.is_convert.formats) (merge_app is.is_merge.orders)) is.is_join.app_is)))
 
 -- an answer of the subcommand is the parse's
 pub Parses-answered : (words : List Text) (app : App) (r : Result Job LineFault) → IsCapt app → fault_of app words ≡ []
@@ -77,19 +79,24 @@ Parses-refused words app kind.Format is errs = refused_line words app kind.Forma
 pub IfOk-none : {A E : Type 0} (P : A → Type 0) (r : Result A E) (error : E) → r ≡ Err error → IfOk r P
 IfOk-none P r error is = subst (λ s. IfOk s P) (sym is) tt
 
--- capt is what prints, with `convert` and `merge` added
-pub IsCapt-added : (printing convert mid merge all : Command) → app_of printing ≡ printing_app
+-- capt is what prints, with `convert`, `merge` and `join` added
+pub IsCapt-added : (printing convert mid merge most join all : Command) → app_of printing ≡ printing_app
     → IsConvert (app_of convert) → (out-Command convert).has_globals ≡ false → AddsSubcommand printing convert mid
-    → IsMerge (app_of merge) → (out-Command merge).has_globals ≡ false → AddsSubcommand mid merge all
+    → IsMerge (app_of merge) → (out-Command merge).has_globals ≡ false → AddsSubcommand mid merge most
+    → IsJoin (app_of join) → (out-Command join).has_globals ≡ false → AddsSubcommand most join all
     → IsCapt (app_of all)
-IsCapt-added printing convert mid merge all is is_convert convert_local convert_added is_merge merge_local merge_added =
+IsCapt-added printing convert mid merge most join all is is_convert convert_local convert_added is_merge merge_local merge_added is_join join_local join_added =
     record {
       convert = app_of convert;
       merge = app_of merge;
+      join = app_of join;
       is_convert = is_convert;
       is_merge = is_merge;
+      is_join = is_join;
       app_is =
-          merge_added.shape merge_local
+          join_added.shape join_local
+          ∙ ap (λ a. with_subcommand a (shape_of join))
+          (merge_added.shape merge_local
           ∙ ap (λ a. with_subcommand a (shape_of merge))
-          (convert_added.shape convert_local ∙ ap (λ a. with_subcommand a (shape_of convert)) is);
+          (convert_added.shape convert_local ∙ ap (λ a. with_subcommand a (shape_of convert)) is));
     }

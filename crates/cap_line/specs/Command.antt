@@ -94,6 +94,15 @@ pub record IsMerge (app : App) : Type 0 where
   pub orders_are : AreNames orders (codes "big" ∷ codes "little" ∷ [])
   pub app_is : app ≡ merge_app orders
 
+-- `join [--allow-cut] [--order ORDER] -o OUT FILE..`
+abbrev pub join_app : Names → App
+join_app orders = with_rule (writing_app (codes "join") orders) files_rule
+
+pub record IsJoin (app : App) : Type 0 where
+  pub orders : Names
+  pub orders_are : AreNames orders (codes "big" ∷ codes "little" ∷ [])
+  pub app_is : app ≡ join_app orders
+
 -- `capt` without its subcommands: one is required, and `help` is none
 abbrev pub capt_alone : App
 capt_alone = on_top (λ s. record s { subcommand_required = true; disable_help_subcommand = true }) (new_app (codes "capt"))
@@ -102,13 +111,15 @@ capt_alone = on_top (λ s. record s { subcommand_required = true; disable_help_s
 abbrev pub printing_app : App
 printing_app = with_subcommand (with_subcommand (with_subcommand capt_alone list_app.top) blocks_app.top) info_app.top
 
-abbrev pub capt_app : App → App → App
-capt_app convert merge = with_subcommand (with_subcommand printing_app convert.top) merge.top
+abbrev pub capt_app : App → App → App → App
+capt_app convert merge join = with_subcommand (with_subcommand (with_subcommand printing_app convert.top) merge.top) join.top
 
 -- The application is capt's: `capt` and its subcommands.
 pub record IsCapt (app : App) : Type 0 where
   pub convert : App
   pub merge : App
+  pub join : App
   pub is_convert : IsConvert convert
   pub is_merge : IsMerge merge
-  pub app_is : app ≡ capt_app convert merge
+  pub is_join : IsJoin join
+  pub app_is : app ≡ capt_app convert merge join

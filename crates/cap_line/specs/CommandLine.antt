@@ -34,7 +34,8 @@ task_by name =
     if bytes_eq name (codes "blocks") then Some tasks.Blocks else
     if bytes_eq name (codes "info") then Some tasks.Info else
     if bytes_eq name (codes "convert") then Some tasks.Convert else
-    if bytes_eq name (codes "merge") then Some tasks.Merge else None
+    if bytes_eq name (codes "merge") then Some tasks.Merge else
+    if bytes_eq name (codes "join") then Some tasks.Join else None
 
 -- the order that is named: little where none is
 abbrev pub order_by : Option Text → Order

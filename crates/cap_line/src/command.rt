@@ -2,7 +2,7 @@
 ghost use Rattle.std.specs.Prelude.{◌≡◌, codes, false, IfOk};
 ghost use Rattle.clap.specs.Words.{app_of, rule_of};
 ghost use Rattle.clap.specs.declared.builder.command.Command.TheViews.{out-Command as fields_of};
-ghost use Rattle.cap_line.specs.Command.{IsCapt, IsConvert, IsMerge, IsOrderRule, IsToRule, IsWriting, allow_cut_rule, blocks_app, capt_alone, capture_app, file_rule, files_rule, info_app, list_app, out_rule, printing_app};
+ghost use Rattle.cap_line.specs.Command.{IsCapt, IsConvert, IsJoin, IsMerge, IsOrderRule, IsToRule, IsWriting, allow_cut_rule, blocks_app, capt_alone, capture_app, file_rule, files_rule, info_app, list_app, out_rule, printing_app};
 
 use clap::{Arg, ArgAction, Command};
 use std::alloc::{AllocError, Global};
@@ -18,6 +18,8 @@ const INFO_EXAMPLE: &str = "Example: capt info morning.pcap evening.pcapng";
 const CONVERT_EXAMPLE: &str = "Example: capt convert --to pcapng -o trace.pcapng trace.pcap";
 
 const MERGE_EXAMPLE: &str = "Example: capt merge -o day.pcapng morning.pcap evening.pcapng";
+
+const JOIN_EXAMPLE: &str = "Example: capt join -o whole.pcapng morning.pcap evening.pcapng";
 
 // The names of the orders, and of the formats.
 static ORDERS: [&str; 2] = ["big", "little"];
@@ -176,6 +178,19 @@ fn merge<'a>(alloc: Global) -> Result<Command<'a>, AllocError>
     )
 }
 
+// `join`
+fn join<'a>(alloc: Global) -> Result<Command<'a>, AllocError>
+    ensures app { IfOk result (λ c. IsJoin (app_of c)) }
+    ensures local { IfOk result (λ c. (fields_of c).has_globals ≡ false) }
+{
+    Ok(
+        writing_command(alloc, "join")?
+            .arg(files(alloc))?
+            .about("Writes the whole IPv4 datagrams of captures, joined of their fragments")
+            .after_help(JOIN_EXAMPLE),
+    )
+}
+
 // `capt` without its subcommands
 fn capt_itself<'a>(alloc: Global) -> Command<'a>
     ensures app { app_of result ≡ capt_alone }
@@ -205,5 +220,6 @@ pub fn capt<'a>(alloc: Global) -> Result<Command<'a>, AllocError>
 {
     printing(alloc)?
         .subcommand(convert(alloc)?)?
-        .subcommand(merge(alloc)?)
+        .subcommand(merge(alloc)?)?
+        .subcommand(join(alloc)?)
 }

@@ -27,6 +27,8 @@ pub enum Task {
     Convert,
     /// Write the packets of files as one pcapng file, in the order of time.
     Merge,
+    /// Write the whole IPv4 datagrams of files as one pcapng file, in the order of time.
+    Join,
 }
 
 /// A format of capture files.
@@ -103,6 +105,7 @@ fn task_of(name: &str) -> Option<Task>
         "info" => Some(Task::Info),
         "convert" => Some(Task::Convert),
         "merge" => Some(Task::Merge),
+        "join" => Some(Task::Join),
         _ => None,
     }
 }

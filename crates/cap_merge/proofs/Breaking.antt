@@ -1,10 +1,9 @@
 -- What a read that failed of one feed is to the feeds as one.
 use Rattle.std.proofs.Common.{◌≡◌, ◌≤◌, ℕ, suc, Bool, true, false, cond, List, [], ◌∷◌, ◌++◌, refl, sym, ap, ◌∙◌, subst, arith, inl, inr, Option, Some, None}
-use Rattle.std.specs.Prelude.{◌&&◌, IfSome, is_some}
+use Rattle.std.specs.Prelude.{IfSome, is_some}
 use Rattle.cap_bytes.specs.declared.faults.Fault.{Fault}
 use Rattle.cap_bytes.specs.declared.faults.Fault.TheVariants.{Read, Memory}
 use Rattle.cap_source.specs.declared.feeds.Head.{Head}
-use Rattle.cap_source.specs.declared.feeds.Head.TheVariants as heads
 use Rattle.cap_merge.specs.Lists.{and-both}
 use Rattle.cap_merge.specs.Parts.{Part, has_file, is_known, broken_of, places_of}
 use Rattle.cap_merge.specs.Merge.{LearnsBy, Stops, LearnsAll, StopsAt}

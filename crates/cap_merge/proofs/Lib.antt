@@ -1,4 +1,5 @@
 pub mod Asking
+pub mod Bounds
 pub mod Breaking
 pub mod Moving
 pub mod Heads

@@ -1,11 +1,11 @@
 -- What asking the feeds of a merge does to them.
-use Rattle.std.specs.Prelude.{◌≡◌, ⊤, ℕ, zero, suc, IsTrue, List, [], ◌∷◌, Option, Some, None, ◌⊎◌, Result, Ok, Err}
+use Rattle.std.specs.Prelude.{◌≡◌, true, ⊤, ℕ, zero, suc, IsTrue, List, [], ◌∷◌, Option, Some, None, ◌⊎◌, Result, Ok, Err}
 use Rattle.cap_bytes.specs.declared.faults.Fault.{Fault}
 use Rattle.cap_source.specs.declared.feeds.Head.{Head}
 use Rattle.cap_source.specs.Feed.{Keeps, SameItems, Knows, GivesHead, KeepsItems, Passes, IsPacket}
 use Rattle.cap_merge.specs.declared.lanes.Lane.{Lane}
 use Rattle.cap_merge.specs.Clock.{later}
-use Rattle.cap_merge.specs.Parts.{Part, head_time, passed_lane}
+use Rattle.cap_merge.specs.Parts.{Part, head_time, is_bounded, passed_lane}
 
 -- a lane that has learned what comes next
 abbrev pub learned : Lane → Head → Lane
@@ -14,6 +14,7 @@ learned lane head = record { clock = later lane.clock (head_time head); head = S
 -- What comes next of a feed is asked for, and is known then.
 pub record Learns (p : Part) (head : Head) (q : Part) : Type 0 where
   pub lane : q.lane ≡ learned p.lane head
+  pub bounded : is_bounded p.lane.clock ≡ true → is_bounded q.lane.clock ≡ true
   pub knows : Knows p.feed head q.feed
   pub keeps : Keeps p.feed q.feed
   pub items : IsTrue p.feed.told → SameItems p.feed q.feed

@@ -1,5 +1,5 @@
 -- The feeds of a merge at one moment, each with what is known of it.
-use Rattle.std.specs.Prelude.{◌≡◌, ⊤, ◌+◌, ℕ, Bool, true, false, ◌&&◌, ◌||◌, List, [], ◌∷◌, ◌++◌, length, map, max, not, Option, Some, None, is_some, Result, Ok, Err, if◌then◌else◌, ◌==◌}
+use Rattle.std.specs.Prelude.{◌≡◌, ⊤, ◌+◌, ◌^◌, pos, int_lt, ℕ, Bool, true, false, ◌&&◌, ◌||◌, List, [], ◌∷◌, ◌++◌, length, map, max, not, Option, Some, None, is_some, Result, Ok, Err, if◌then◌else◌, ◌==◌}
 use Rattle.std.specs.List.{AllByRecursion, list_all, list_any, flat_map, range_with_len}
 use Rattle.std.specs.Option.{option_map}
 use Rattle.std.specs.Ordering.{is_lt, is_gt}
@@ -7,7 +7,7 @@ use Rattle.std.specs.declared.cmp.Ordering.TheVariants.{Less}
 use Rattle.cap_bytes.specs.declared.faults.Fault.{Fault}
 use Rattle.cap_bytes.specs.declared.faults.Fault.TheVariants.{Refused, Read, Write, Memory}
 use Rattle.cap_time.specs.declared.stamps.Stamp.{Stamp}
-use Rattle.cap_time.specs.Stamp.{stamp_in}
+use Rattle.cap_time.specs.Stamp.{stamp_in, seconds_of}
 use Rattle.cap_source.specs.declared.feeds.Head.{Head}
 use Rattle.cap_source.specs.declared.feeds.Head.TheVariants as heads
 use Rattle.cap_source.specs.declared.feeds.Ending.{Ending}
@@ -64,6 +64,15 @@ known_time (Some head) = head_time head
 -- the time of what is known to come next isn't above the clock that was reached
 abbrev pub HasReached : List Part → Type 0
 HasReached ps = list_all (λ p. not (is_lt (clock_cmp p.lane.clock (known_time p.lane.head)))) ps ≡ true
+
+-- a clock's seconds are below 2^65, as those of every stamp of 64-bit units and a 64-bit offset
+abbrev pub is_bounded : Option Stamp → Bool
+is_bounded None = true
+is_bounded (Some clock) = int_lt (seconds_of clock) (pos (2 ^ 65))
+
+-- those of all clocks that were reached are
+abbrev pub AreBounded : List Part → Type 0
+AreBounded ps = list_all (λ p. is_bounded p.lane.clock) ps ≡ true
 
 -- an item is known to come next
 abbrev pub has_next : Option Head → Bool

@@ -4,7 +4,7 @@ use Rattle.std.specs.Coded.{Coded-set, coded_ℕ, coded_list, coded_option, code
 use Rattle.cap_time.specs.declared.stamps.Stamp.{Stamp}
 use Rattle.cap_source.specs.contracts.feeds.Head as head
 use Rattle.cap_source.specs.Feed.{Feed}
-use Rattle.cap_merge.specs.Parts.{Part, IsNumbered, Agrees, HasReached, ClocksFrom}
+use Rattle.cap_merge.specs.Parts.{Part, IsNumbered, Agrees, HasReached, AreBounded, ClocksFrom}
 
 pub IsNumbered-prop : (feeds : List Feed) → IsProp (IsNumbered feeds)
 IsNumbered-prop feeds = Coded-set (coded_list (coded_list coded_ℕ)) _ _
@@ -14,6 +14,9 @@ Agrees-prop ps = Coded-set (coded_list (coded_option (head.the_row).coded)) _ _
 
 pub HasReached-prop : (ps : List Part) → IsProp (HasReached ps)
 HasReached-prop ps = Coded-set coded_bool _ _
+
+pub AreBounded-prop : (ps : List Part) → IsProp (AreBounded ps)
+AreBounded-prop ps = Coded-set coded_bool _ _
 
 pub ClocksFrom-prop : (clock : Option Stamp) (ps : List Part) → IsProp (ClocksFrom clock ps)
 ClocksFrom-prop clock ps = Coded-set coded_bool _ _

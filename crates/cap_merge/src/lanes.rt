@@ -3,7 +3,7 @@ ghost use Rattle.std.specs.Prelude.{◌≡◌, ◌<◌, ◌≤◌, List, replica
 ghost use Rattle.std.specs.List.{list_all};
 ghost use Rattle.cap_merge.specs.Clock.{later};
 ghost use Rattle.cap_source.specs.Feed.{Feed, IsPacket, Passes, Keeps};
-ghost use Rattle.cap_merge.specs.Parts.{parts, head_time, has_next, known_of, IsFirstLane, passed_lane, new_lane, both_held};
+ghost use Rattle.cap_merge.specs.Parts.{parts, head_time, is_bounded, has_next, known_of, IsFirstLane, passed_lane, new_lane, both_held};
 ghost use Rattle.cap_merge.specs.First.{comes_before, sooner_place, first_place, known_but, IsFound, OthersKnown};
 ghost use Rattle.cap_merge.specs.Merge.{learned, Asks, AsksAll, IsPacketAt, PassesAt};
 
@@ -37,7 +37,8 @@ pub(crate) fn new_lanes(count: usize) -> ArrayVec<Lane, 32>
 
 // The time of what comes next: of a packet that has one.
 fn time_of(head: &Head) -> Option<Stamp>
-    ensures { result ≡ head_time head.now }
+    ensures time { result ≡ head_time head.now }
+    ensures bounded { is_bounded result ≡ true }
 {
     match head {
         Head::Packet(meta) => match meta.units {
@@ -51,14 +52,16 @@ fn time_of(head: &Head) -> Option<Stamp>
 
 // The later of two times, of equal ones the first.
 fn later(a: Option<Stamp>, b: Option<Stamp>) -> Option<Stamp>
-    ensures { result ≡ later a b }
+    ensures later { result ≡ later a b }
+    ensures bounded { is_bounded a ≡ true → is_bounded b ≡ true → is_bounded result ≡ true }
 {
     if a < b { b } else { a }
 }
 
 // Takes note of what comes next.
 fn learn(lane: &mut Lane, head: Head)
-    ensures { lane.new ≡ learned lane.old head }
+    ensures lane { lane.new ≡ learned lane.old head }
+    ensures bounded { is_bounded lane.old.clock ≡ true → is_bounded lane.new.clock ≡ true }
 {
     let clock = later(lane.clock, time_of(&head));
     *lane = Lane {

@@ -1,14 +1,15 @@
 //! Several feeds as one.
-ghost use Rattle.std.specs.Prelude.{◌≡◌, ◌≤◌, length, map, drop, vec_len, true, false, IsTrue, Some, Option};
+ghost use Rattle.std.specs.Prelude.{◌≡◌, ◌≤◌, ◌<ℤ◌, ◌^◌, pos, length, map, drop, vec_len, true, false, IsTrue, Some, Option, IfSome};
 ghost use Rattle.std.specs.Ordering.{is_gt};
 ghost use Rattle.cap_time.specs.declared.stamps.Stamp.{Stamp};
+ghost use Rattle.cap_time.specs.Stamp.{seconds_of};
 ghost use Rattle.cap_merge.specs.Clock.{clock_cmp};
 ghost use Rattle.cap_source.specs.Feed.{GivesHead, Keeps, KeepsItems, Passes, IsPacket, HasFile, IsFeed};
 ghost use Rattle.cap_merge.specs.Run.{opened, run};
-ghost use Rattle.cap_merge.specs.Parts.{item_time, is_refusal, parts, IsNumbered, Agrees, HasReached, feed_of, new_parts, clock_of, run_of, has_next, ClocksFrom, MovesClocks, KeepsRun, BeginsAt};
+ghost use Rattle.cap_merge.specs.Parts.{item_time, is_refusal, parts, IsNumbered, Agrees, HasReached, AreBounded, feed_of, new_parts, clock_of, run_of, has_next, ClocksFrom, MovesClocks, KeepsRun, BeginsAt};
 ghost use Rattle.cap_merge.specs.First.{IsFound, IsFound-prop, OthersKnown, OthersKnown-prop};
 ghost use Rattle.cap_merge.specs.Merge.{AsksAll};
-ghost use Rattle.cap_merge.specs.PartsProps.{IsNumbered-prop, Agrees-prop, HasReached-prop};
+ghost use Rattle.cap_merge.specs.PartsProps.{IsNumbered-prop, Agrees-prop, HasReached-prop, AreBounded-prop};
 
 use crate::lanes::{Lane, ask_all, first_lane, first_of, greater, head_of, new_lanes, pass_first};
 use arrayvec::ArrayVec;
@@ -32,6 +33,7 @@ pub struct Merged<F: PacketFeed> {
     ghost numbered: { IsNumbered (map F.feed feeds.items) } by { IsNumbered-prop (map F.feed feeds.items) },
     ghost agrees: { Agrees (parts lanes.items (map F.feed feeds.items)) } by { Agrees-prop (parts lanes.items (map F.feed feeds.items)) },
     ghost reached: { HasReached (parts lanes.items (map F.feed feeds.items)) } by { HasReached-prop (parts lanes.items (map F.feed feeds.items)) },
+    ghost bounded: { AreBounded (parts lanes.items (map F.feed feeds.items)) } by { AreBounded-prop (parts lanes.items (map F.feed feeds.items)) },
     ghost found: { IsFound lanes.items first } by { IsFound-prop lanes.items first },
     ghost others: { OthersKnown (parts lanes.items (map F.feed feeds.items)) passed } by { OthersKnown-prop (parts lanes.items (map F.feed feeds.items)) passed },
 }
@@ -57,18 +59,20 @@ impl<F: PacketFeed> Merged<F> {
         }
     }
 
-    /// How many feeds there are, each of one file.
+    /// How many feeds there are, each of one file: at most 32.
     pub fn files(&self) -> u32
-        ensures { result ≡ length (feed_of (parts_of self.now)).files }
+        ensures files { result ≡ length (feed_of (parts_of self.now)).files }
+        ensures most { result ≤ 32 }
     {
         self.feeds.len() as u32
     }
 
     /// The clock of what comes next: the greatest time of the packets of its file up to it, and none
-    /// where there is no such time.
+    /// where there is no such time. Its seconds are below 2^65.
     pub fn clock(&self) -> Option<Stamp>
         requires { has_next (feed_of (parts_of self.now)).known ≡ true }
         ensures clock { result ≡ clock_of (parts_of self.now) }
+        ensures bounded { IfSome result (λ clock. seconds_of clock <ℤ pos (2 ^ 65)) }
         ensures from { ClocksFrom result (parts_of self.now) }
         ensures not_below { (clock : Option Stamp) → ClocksFrom clock (parts_of self.now)
             → is_gt (clock_cmp clock result) ≡ false }

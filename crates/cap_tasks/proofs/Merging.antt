@@ -10,7 +10,9 @@ use Rattle.cap_merge.specs.Parts.{Part, new_parts, item_time, is_refusal, feed_o
 use Rattle.cap_merge.specs.Run.{opened, run}
 use Rattle.cap_source.specs.Feed.{Feed}
 use Rattle.cap_source.specs.Items.{file_items}
+use Rattle.cap_tasks.specs.JoinText.{clocked_run, join_text, join_refusal}
 use Rattle.cap_tasks.specs.MergeText.{Reader, IsUnread, AreUnread, merge_text, merge_refusal}
+use Rattle.cap_write.specs.Joined.{joined_text, joined_refusal}
 use Rattle.cap_write.specs.Runs.{items_of_files, run_of_files}
 use Rattle.cap_write.specs.Texts.{merged_text, merged_refusal}
 
@@ -116,6 +118,19 @@ Prints-merged reader tail order sources feeds ps held new result a is ran prints
     let told = ap (λ p. (feed_of p).told) is ∙ merged_told reader tail sources feeds a in
     let items = ap (λ p. (feed_of p).items) is ∙ merged_items reader tail sources feeds a (sym (ap run_of is) ∙ ran) in
     subst (λ l. Prints (merged_text order l) (merged_refusal l) held result new) items (prints (subst IsTrue (sym told) t))
+
+pub Prints-joined : {A : Type 0} (reader : A → Reader) (tail : Tail) (order : Order) (sources : List A) (feeds : List Feed) (ps : List Part)
+    (held new : List ℕ) (result : Result (Unit {0}) Fault) → AreUnread tail 1 (map reader sources) feeds
+    → ps ≡ new_parts feeds → run_of ps ≡ run item_time is_refusal (map (λ f. opened f.items) feeds)
+    → (IsTrue (feed_of ps).told → Prints (joined_text order (run_of ps)) (joined_refusal (run_of ps)) held result new)
+    → IsTrue (list_all (λ s. (reader s).told) sources)
+    → Prints (join_text order tail (map (λ s. (reader s).bytes) sources)) (join_refusal tail (map (λ s. (reader s).bytes) sources)) held result new
+Prints-joined reader tail order sources feeds ps held new result a is ran prints t =
+    let told = ap (λ p. (feed_of p).told) is ∙ merged_told reader tail sources feeds a in
+    let whole : run_of ps ≡ clocked_run tail (map (λ s. (reader s).bytes) sources) =
+    ran ∙ ap (run item_time is_refusal)
+    (tracks_are tail 1 (map reader sources) feeds a ∙ ap (λ files. map opened (items_of_files tail 1 files)) (map-map reader (λ r. r.bytes) sources)) in
+    subst (λ l. Prints (joined_text order l) (joined_refusal l) held result new) whole (prints (subst IsTrue (sym told) t))
 
 -- A reader of them can fail, if they can as one.
 pub can_fail-merged : {A : Type 0} (reader : A → Reader) (tail : Tail) (sources : List A) (feeds : List Feed) (ps : List Part)

@@ -2,5 +2,6 @@ pub mod BlockText
 pub mod Converted
 pub mod Lines
 pub mod ListText
+pub mod JoinText
 pub mod MergeText
 pub mod Outcomes

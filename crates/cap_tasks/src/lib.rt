@@ -3,6 +3,7 @@
 
 mod blocks;
 mod convert;
+mod join;
 mod lines;
 mod list;
 mod merge;
@@ -12,6 +13,7 @@ mod tests;
 
 pub use crate::blocks::blocks_to;
 pub use crate::convert::convert_to;
+pub use crate::join::join_to;
 pub use crate::lines::{block_line, packet_line};
 pub use crate::list::list_to;
 pub use crate::merge::merge_to;

@@ -10,8 +10,8 @@ use cap_source::{Capture, PacketFeed};
 use cap_write::write_merged;
 use std::alloc::Global;
 
-// The packets of files, which have the numbers from 1 on. Nothing is read yet.
-fn captures_of<R: Source>(
+/// The packets of files, which have the numbers from 1 on. Nothing is read yet.
+pub fn captures_of<R: Source>(
     alloc: Global,
     sources: Vec<R>,
     tail: Tail,

@@ -17,6 +17,7 @@ Usage: capt list [--allow-cut] FILE
        capt info [--allow-cut] FILE...
        capt convert [--allow-cut] [--order ORDER] --to FORMAT -o OUT FILE
        capt merge [--allow-cut] [--order ORDER] -o OUT FILE...
+       capt join [--allow-cut] [--order ORDER] -o OUT FILE...
 
 list prints one line for each packet:
   packet N offset O time T captured C original G link L data X
@@ -26,6 +27,7 @@ info prints how many captures there are, and one line for each:
   file I FORMAT packets P bytes B truncated Q skipped S first T last T
 convert writes the packets of a capture to OUT
 merge writes the packets of captures to OUT, in the order of time
+join writes the whole IPv4 datagrams of captures to OUT, joined of their fragments
 
   FILE            a capture; - is standard input
   --allow-cut     drops a last packet or block that the end of the capture cuts
@@ -39,6 +41,7 @@ Examples: capt list --allow-cut monday.pcap
           capt info monday.pcap tuesday.pcapng
           capt convert --to pcapng -o monday.pcapng monday.pcap
           capt merge -o week.pcapng monday.pcapng tuesday.pcap
+          capt join -o whole.pcapng monday.pcapng tuesday.pcap
 
 Status 0: done; 1: the capture is refused, or a read, a write, an open, a
 creation or memory failed; 2: the command line is faulty.

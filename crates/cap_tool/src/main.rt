@@ -1,4 +1,4 @@
-//! The program `capt`: packet captures, read, listed, counted, converted and merged by proved code.
+//! The program `capt`: packet captures, read, listed, counted, converted, merged and joined by proved code.
 #![tactic(auto)]
 
 ghost use Rattle.std.specs.Prelude.{◌≡◌, ◌≤◌, ◌⊎◌, IfErr, vec_len};
@@ -12,7 +12,9 @@ use cap_bytes::{Fault, Order, Sink, Source, Tail, Tracked};
 use cap_line::{Format as Named, Job, LineFault, Task, parse};
 use cap_source::Format;
 use cap_talks::file_lines;
-use cap_tasks::{Outcome, blocks_to, convert_to, end_of, list_to, merge_to, status_of, tell};
+use cap_tasks::{
+    Outcome, blocks_to, convert_to, end_of, join_to, list_to, merge_to, status_of, tell,
+};
 use std::alloc::Global;
 use std::env;
 use std::fs::File;
@@ -37,6 +39,7 @@ enum Work {
     Single(Single),
     Info,
     Merge,
+    Join,
 }
 
 // The words of the command line, the first of which is the program's name.
@@ -81,6 +84,10 @@ fn work_of(job: &Job) -> Option<Work> {
             Some(_) => Some(Work::Merge),
             None => None,
         },
+        Task::Join => match job.out {
+            Some(_) => Some(Work::Join),
+            None => None,
+        },
     }
 }
 
@@ -122,6 +129,7 @@ fn work_to<R: Source, W: Sink>(
     match work {
         Work::Info => file_lines(alloc, sources, ways.tail, writer),
         Work::Merge => merge_to(alloc, sources, ways.tail, ways.order, writer),
+        Work::Join => join_to(alloc, sources, ways.tail, ways.order, writer),
         Work::Single(single) => match sources.pop() {
             Some(source) => single_to(alloc, single, source, ways, writer),
             None => Ok(()),

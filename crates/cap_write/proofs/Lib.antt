@@ -1,6 +1,7 @@
 mod Again
 mod Alike
 mod Back
+mod Completed
 mod Contents
 mod Feeding
 mod Fields
@@ -9,6 +10,8 @@ mod Files
 mod Grouped
 mod Held
 mod Instances
+mod Joining
+mod Lengths
 mod MergedAgain
 mod MergedFiles
 mod Numbers

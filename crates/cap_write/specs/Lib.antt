@@ -1,3 +1,5 @@
+pub mod Datagrams
+pub mod Joined
 pub mod Laws
 pub mod Names
 pub mod Numbering

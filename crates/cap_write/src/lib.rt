@@ -1,6 +1,8 @@
 //! Written files: packets of one capture file or of several, exactly as they were read, or a refusal.
 #![tactic(auto)]
 
+mod datagrams;
+mod joined;
 pub mod laws;
 mod merged;
 mod names;
@@ -8,6 +10,7 @@ mod packets;
 mod pcap;
 mod pcapng;
 
+pub use crate::joined::write_joined;
 pub use crate::merged::write_merged;
 pub use crate::pcap::to_pcap;
 pub use crate::pcapng::to_pcapng;

@@ -59,8 +59,8 @@ fn put_numbered<W: Sink>(
     put_packet(writer, order, number, units, meta.original, frame)
 }
 
-// Writes a packet, or answers why it isn't written.
-fn put_one<W: Sink>(
+/// Writes a packet, or answers why it isn't written.
+pub fn put_one<W: Sink>(
     names: &mut Names,
     order: Order,
     meta: &Meta,

@@ -4,7 +4,7 @@
 ghost use Rattle.std.specs.Prelude.{◌≡◌, ◌∷◌, [], IfOk};
 ghost use Rattle.cap_source.specs.Captures.{feed_of};
 
-use crate::{to_pcap, to_pcapng, write_merged};
+use crate::{to_pcap, to_pcapng, write_joined, write_merged};
 use cap_bytes::{Fault, Order, Pieces, Refusal, Room, Rule, Tail};
 use cap_merge::Merged;
 use cap_source::Capture;
@@ -328,5 +328,136 @@ fn files_are_merged(rt: HostRuntime) -> Result<(), Fail> {
     let (answer, rounds) = merged(alloc, &once, &CARRY_PCAP)?;
     assert_eq!(rt; answer, Ok(()));
     assert_eq!(rt; rounds.len(), 28 + 3 * 32 + 4 * 32 + 36);
+    Ok(())
+}
+
+// Four frames of link 101, at 1 to 4 seconds: fragments of one datagram, of which the third replaces the
+// second.
+const FRAGMENTS: [u8; 200] = [
+    0xd4, 0xc3, 0xb2, 0xa1, 2, 0, 4, 0, 0, 0, 0, 0, 0, 0, 0, 0, 0, 0, 4, 0, 0x65, 0, 0, 0, //
+    1, 0, 0, 0, 0, 0, 0, 0, 0x1c, 0, 0, 0, 0x1c, 0, 0, 0, //
+    0x45, 0, 0, 0x1c, 0, 7, 0, 2, 0x40, 0x11, 0, 0, 0x0a, 0, 0, 1, 0x0a, 0, 0, 2, 0xb0, 0xb1, 0xb2,
+    0xb3, 0xb4, 0xb5, 0xb6, 0xb7, //
+    2, 0, 0, 0, 0, 0, 0, 0, 0x1c, 0, 0, 0, 0x1c, 0, 0, 0, //
+    0x45, 0, 0, 0x1c, 0, 7, 0x20, 0, 0x40, 0x11, 0, 0, 0x0a, 0, 0, 1, 0x0a, 0, 0, 2, 3, 0xe8, 7,
+    0xd0, 0, 0x18, 0, 0, //
+    3, 0, 0, 0, 0, 0, 0, 0, 0x1c, 0, 0, 0, 0x1c, 0, 0, 0, //
+    0x45, 0, 0, 0x1c, 0, 7, 0x20, 0, 0x40, 0x11, 0, 0, 0x0a, 0, 0, 1, 0x0a, 0, 0, 2, 3, 0xe9, 7,
+    0xd1, 0, 0x18, 0, 0, //
+    4, 0, 0, 0, 0, 0, 0, 0, 0x1c, 0, 0, 0, 0x1c, 0, 0, 0, //
+    0x45, 0, 0, 0x1c, 0, 7, 0x20, 1, 0x40, 0x11, 0, 0, 0x0a, 0, 0, 1, 0x0a, 0, 0, 2, 0xa0, 0xa1,
+    0xa2, 0xa3, 0xa4, 0xa5, 0xa6, 0xa7, //
+];
+
+// The datagram that they make, as a file.
+const JOINED: [u8; 136] = [
+    0x0a, 0x0d, 0x0d, 0x0a, 0x1c, 0, 0, 0, 0x4d, 0x3c, 0x2b, 0x1a, 1, 0, 0, 0, 0xff, 0xff, 0xff,
+    0xff, 0xff, 0xff, 0xff, 0xff, 0x1c, 0, 0, 0, //
+    1, 0, 0, 0, 0x20, 0, 0, 0, 0x65, 0, 0, 0, 0, 0, 0, 0, 9, 0, 1, 0, 6, 0, 0, 0, 0, 0, 0, 0, 0x20,
+    0, 0, 0, //
+    6, 0, 0, 0, 0x4c, 0, 0, 0, 0, 0, 0, 0, 0, 0, 0, 0, 0, 9, 0x3d, 0, 0x2c, 0, 0, 0, 0x2c, 0, 0, 0, //
+    0x45, 0, 0, 0x2c, 0, 7, 0, 0, 0x40, 0x11, 0x66, 0xb8, 0x0a, 0, 0, 1, 0x0a, 0, 0, 2, //
+    3, 0xe9, 7, 0xd1, 0, 0x18, 0, 0, 0xa0, 0xa1, 0xa2, 0xa3, 0xa4, 0xa5, 0xa6, 0xa7, 0xb0, 0xb1,
+    0xb2, 0xb3, 0xb4, 0xb5, 0xb6, 0xb7, //
+    0x4c, 0, 0, 0, //
+];
+
+// Three tagged Ethernet frames at 1 to 3 seconds, the UDP length of the third of which is too long.
+const TAGGED: [u8; 252] = [
+    0xd4, 0xc3, 0xb2, 0xa1, 2, 0, 4, 0, 0, 0, 0, 0, 0, 0, 0, 0, 0, 0, 4, 0, 1, 0, 0, 0, //
+    1, 0, 0, 0, 0, 0, 0, 0, 0x3c, 0, 0, 0, 0x3c, 0, 0, 0, //
+    2, 0, 0, 0, 0, 2, 2, 0, 0, 0, 0, 1, 0x88, 0xa8, 0, 0x64, 0x81, 0, 0, 0x0a, 8, 0, 0x45, 0, 0,
+    0x1e, 0, 1, 0, 0, 0x40, 0x11, 0, 0, 0x0a, 0, 0, 1, 0x0a, 0, 0, 2, 3, 0xe8, 7, 0xd0, 0, 0x0a, 0,
+    0, 0x68, 0x69, 0, 0, 0, 0, 0, 0, 0, 0, //
+    2, 0, 0, 0, 0, 0, 0, 0, 0x3c, 0, 0, 0, 0x3c, 0, 0, 0, //
+    2, 0, 0, 0, 0, 1, 2, 0, 0, 0, 0, 2, 0x88, 0xa8, 0, 0x64, 0x81, 0, 0, 0x0a, 8, 0, 0x45, 0, 0,
+    0x1e, 0, 2, 0, 0, 0x40, 0x11, 0, 0, 0x0a, 0, 0, 2, 0x0a, 0, 0, 1, 7, 0xd0, 3, 0xe8, 0, 0x0a, 0,
+    0, 0x68, 0x69, 0, 0, 0, 0, 0, 0, 0, 0, //
+    3, 0, 0, 0, 0, 0, 0, 0, 0x3c, 0, 0, 0, 0x3c, 0, 0, 0, //
+    2, 0, 0, 0, 0, 2, 2, 0, 0, 0, 0, 1, 0x88, 0xa8, 0, 0x64, 0x81, 0, 0, 0x0a, 8, 0, 0x45, 0, 0,
+    0x1e, 0, 3, 0, 0, 0x40, 0x11, 0, 0, 0x0a, 0, 0, 1, 0x0a, 0, 0, 2, 3, 0xe8, 7, 0xd0, 0, 0x0c, 0,
+    0, 0x68, 0x69, 0, 0, 0, 0, 0, 0, 0, 0, //
+];
+
+// The datagrams of the first two as a file.
+const TAGGED_JOINED: [u8; 188] = [
+    0x0a, 0x0d, 0x0d, 0x0a, 0x1c, 0, 0, 0, 0x4d, 0x3c, 0x2b, 0x1a, 1, 0, 0, 0, 0xff, 0xff, 0xff,
+    0xff, 0xff, 0xff, 0xff, 0xff, 0x1c, 0, 0, 0, //
+    1, 0, 0, 0, 0x20, 0, 0, 0, 0x65, 0, 0, 0, 0, 0, 0, 0, 9, 0, 1, 0, 6, 0, 0, 0, 0, 0, 0, 0, 0x20,
+    0, 0, 0, //
+    6, 0, 0, 0, 0x40, 0, 0, 0, 0, 0, 0, 0, 0, 0, 0, 0, 0x40, 0x42, 0x0f, 0, 0x1e, 0, 0, 0, 0x1e, 0,
+    0, 0, 0x45, 0, 0, 0x1e, 0, 1, 0, 0, 0x40, 0x11, 0x66, 0xcc, 0x0a, 0, 0, 1, 0x0a, 0, 0, 2, 3,
+    0xe8, 7, 0xd0, 0, 0x0a, 0, 0, 0x68, 0x69, 0, 0, 0x40, 0, 0, 0, //
+    6, 0, 0, 0, 0x40, 0, 0, 0, 0, 0, 0, 0, 0, 0, 0, 0, 0x80, 0x84, 0x1e, 0, 0x1e, 0, 0, 0, 0x1e, 0,
+    0, 0, 0x45, 0, 0, 0x1e, 0, 2, 0, 0, 0x40, 0x11, 0x66, 0xcb, 0x0a, 0, 0, 2, 0x0a, 0, 0, 1, 7,
+    0xd0, 3, 0xe8, 0, 0x0a, 0, 0, 0x68, 0x69, 0, 0, 0x40, 0, 0, 0, //
+];
+
+// An Ethernet frame of 1,514 bytes, of which 54 were captured: the TCP header with no data behind it.
+const CUT_SHORT: [u8; 94] = [
+    0xd4, 0xc3, 0xb2, 0xa1, 2, 0, 4, 0, 0, 0, 0, 0, 0, 0, 0, 0, 0, 0, 4, 0, 1, 0, 0, 0, //
+    1, 0, 0, 0, 0, 0, 0, 0, 0x36, 0, 0, 0, 0xea, 5, 0, 0, //
+    2, 0, 0, 0, 0, 2, 2, 0, 0, 0, 0, 1, 8, 0, 0x45, 0, 5, 0xdc, 0, 1, 0, 0, 0x40, 6, 0, 0, 0x0a, 0,
+    0, 1, 0x0a, 0, 0, 2, 0, 0x50, 0xc3, 0x50, 0, 0, 0, 1, 0, 0, 0, 2, 0x50, 0x10, 0xff, 0xff, 0, 0,
+    0, 0, //
+];
+
+// What is joined of a file that is read one byte at a time, where so many bytes are taken.
+fn joined_file(
+    alloc: Global,
+    file: &[u8],
+    room: usize,
+) -> Result<(Result<(), Fault>, Vec<u8>), AllocError> {
+    let mut merged = one_file(alloc, capture(alloc, 1, file)?)?;
+    let mut writer = Room::new(Vec::with_capacity(alloc, room)?);
+    let answer = write_joined(alloc, &mut merged, Order::Little, &mut writer);
+    Ok((answer, writer.bytes().to_vec(alloc)?))
+}
+
+// One file as a run.
+fn one_file(alloc: Global, first: Capture<Pieces>) -> Result<Merged<Capture<Pieces>>, AllocError>
+    requires first { (feed_of first).files ≡ 1 ∷ [] }
+{
+    let mut captures = Vec::new(alloc);
+    captures.push(first)?;
+    Ok(Merged::new(captures))
+}
+
+#[test]
+fn datagrams_are_joined(rt: HostRuntime) -> Result<(), Fail> {
+    let (section, _) = CARRY_PCAPNG.split_at(28);
+    let files: [(&[u8], &[u8]); 4] = [
+        (&FRAGMENTS, &JOINED),
+        (&TAGGED, &TAGGED_JOINED),
+        (&CUT_SHORT, section),
+        (&CARRY_PCAP, section),
+    ];
+    for (input, output) in files {
+        let (answer, bytes) = joined_file(rt.alloc(), input, 512)?;
+        assert_eq!(rt; answer, Ok(()));
+        assert_eq!(rt; bytes.as_slice(), output);
+    }
+    Ok(())
+}
+
+#[test]
+fn joining_stops(rt: HostRuntime) -> Result<(), Fail> {
+    let alloc = rt.alloc();
+    let (section, _) = CARRY_PCAPNG.split_at(28);
+    let simple = joined(alloc, &[section, &SNAPLEN_4, &SIMPLE])?;
+    let (answer, bytes) = joined_file(alloc, &simple, 512)?;
+    assert_eq!(rt; answer, refused(48, Rule::NoTime));
+    assert_eq!(rt; bytes.as_slice(), section);
+
+    let (cut, _) = FRAGMENTS.split_at(199);
+    let (answer, bytes) = joined_file(alloc, cut, 512)?;
+    assert_eq!(rt; answer, refused(156, Rule::Cut));
+    assert_eq!(rt; bytes.as_slice(), section);
+
+    for taken in 0..JOINED.len() {
+        let (answer, bytes) = joined_file(alloc, &FRAGMENTS, taken)?;
+        assert_eq!(rt; answer, Err(Fault::Write));
+        assert_eq!(rt; bytes.as_slice(), JOINED.split_at(taken).0);
+    }
     Ok(())
 }

@@ -21,7 +21,7 @@ fn writing(alloc: Global, words: &'static [&'static str]) -> Writing {
     Ok((job.task, job.files.len(), job.order, job.to, job.out))
 }
 
-static WRITING: [(&[&str], Writing); 22] = [
+static WRITING: [(&[&str], Writing); 24] = [
     (
         &["capt", "convert", "--to", "pcap", "-o", "c", "a"],
         Ok((
@@ -106,6 +106,11 @@ static WRITING: [(&[&str], Writing); 22] = [
         Ok((Task::Merge, 1, Order::Big, None, Some("-"))),
     ),
     (&["capt", "merge", "a", "b"], Err(LineFault::Line)),
+    (
+        &["capt", "join", "-o", "c", "--order=big", "a", "b"],
+        Ok((Task::Join, 2, Order::Big, None, Some("c"))),
+    ),
+    (&["capt", "join", "a"], Err(LineFault::Line)),
     (&["capt", "merge", "-o", "c"], Err(LineFault::Line)),
     (
         &["capt", "merge", "--to", "pcap", "-o", "c", "a"],

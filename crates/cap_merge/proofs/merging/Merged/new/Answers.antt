@@ -1,6 +1,7 @@
 use Rattle.std.proofs.Common.{◌≡◌, refl, ap, ◌∙◌, length, map, arith}
 use Rattle.std.specs.Prelude.{replicate}
 use Rattle.cap_merge.specs.Parts.{new_lane, run_of}
+use Rattle.cap_merge.proofs.Bounds.{new-bounded}
 use Rattle.cap_merge.proofs.Placing.{new-alike, new-is, new-agrees, new-reached, run-new}
 use Rattle.cap_merge.proofs.merging.Merged.new.Goals as goal
 
@@ -15,6 +16,7 @@ invariant_of-result g c =
       numbered = c.requires.numbered;
       agrees = new-agrees g.F.PacketFeed.feed c.new_lanes-lanes.result.items c.args.feeds.items made;
       reached = new-reached g.F.PacketFeed.feed c.new_lanes-lanes.result.items c.args.feeds.items made;
+      bounded = new-bounded c.new_lanes-lanes.result.items (length c.args.feeds.items) (map g.F.PacketFeed.feed c.args.feeds.items) made;
       found = refl;
       others = refl;
     }

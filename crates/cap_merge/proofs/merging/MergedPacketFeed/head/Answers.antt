@@ -3,6 +3,7 @@ use Rattle.std.proofs.lemmas.Result.{err_from_is_err_and}
 use Rattle.cap_merge.specs.Lists.{length-mapped}
 use Rattle.cap_merge.specs.Parts.{parts}
 use Rattle.cap_merge.specs.Sound.{each-agrees, each-reached, lawful-each, numbered-from}
+use Rattle.cap_merge.proofs.Bounds.{asked-bounded}
 use Rattle.cap_merge.proofs.Heads.{asked-keeps, knows-asked, items-asked, gives-stopped, items-stopped, clocks-asked}
 use Rattle.cap_merge.proofs.Moving.{from-each}
 use Rattle.cap_merge.proofs.Calls.{asked-numbered, asked-sound-each, asked-keeps-all, asked-known, run-asked, run-stopped}
@@ -22,6 +23,7 @@ invariant_of-self g c =
       numbered = asked-numbered g.F.PacketFeed.feed law m.lanes.items c.ask_all.new.lanes.items m.feeds.items c.ask_all.new.feeds.items c.ask_all.result m.alike c.ask_all.ensures.lanes c.ask_all.ensures.feeds asks m.numbered;
       agrees = each-agrees (parts c.ask_all.new.lanes.items (map g.F.PacketFeed.feed c.ask_all.new.feeds.items)) sound;
       reached = each-reached (parts c.ask_all.new.lanes.items (map g.F.PacketFeed.feed c.ask_all.new.feeds.items)) sound;
+      bounded = asked-bounded (parts m.lanes.items (map g.F.PacketFeed.feed m.feeds.items)) (parts c.ask_all.new.lanes.items (map g.F.PacketFeed.feed c.ask_all.new.feeds.items)) c.ask_all.result asks m.bounded;
       found = refl;
       others = refl;
     }
@@ -39,6 +41,7 @@ invariant_of-self-2 g c =
       numbered = asked-numbered g.F.PacketFeed.feed law m.lanes.items c.ask_all.new.lanes.items m.feeds.items c.ask_all.new.feeds.items c.ask_all.result m.alike c.ask_all.ensures.lanes c.ask_all.ensures.feeds asks m.numbered;
       agrees = each-agrees (parts c.ask_all.new.lanes.items (map g.F.PacketFeed.feed c.ask_all.new.feeds.items)) sound;
       reached = each-reached (parts c.ask_all.new.lanes.items (map g.F.PacketFeed.feed c.ask_all.new.feeds.items)) sound;
+      bounded = asked-bounded (parts m.lanes.items (map g.F.PacketFeed.feed m.feeds.items)) (parts c.ask_all.new.lanes.items (map g.F.PacketFeed.feed c.ask_all.new.feeds.items)) c.ask_all.result asks m.bounded;
       found = found-here c.ask_all.new.lanes.items c.first_lane-self.result (rw c.as_slice.ensures.value at c.first_lane-self.ensures.place);
       others = refl;
     }

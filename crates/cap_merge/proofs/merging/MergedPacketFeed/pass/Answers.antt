@@ -2,6 +2,7 @@ use Rattle.std.proofs.Common.{◌≡◌, refl, sym, ◌∙◌, map, false}
 use Rattle.cap_merge.specs.Parts.{parts, has_next}
 use Rattle.cap_merge.specs.Sound.{each-agrees, each-reached}
 use Rattle.cap_merge.proofs.Placing.{parts-each, place-within}
+use Rattle.cap_merge.proofs.Bounds.{passed-bounded}
 use Rattle.cap_merge.proofs.Calls.{numbered-kept}
 use Rattle.cap_merge.proofs.Firsts.{packet-at-first, passed-of, passes-each, no-packet}
 use Rattle.cap_merge.proofs.Others.{others-passed}
@@ -33,6 +34,7 @@ invariant_of-self g c =
           (passes-each c.in-Some.first.place ps qs c.pass_first.ensures.passes) m.numbered;
       agrees = each-agrees qs passed.sound;
       reached = each-reached qs passed.sound;
+      bounded = passed-bounded ps qs c.in-Some.first.place c.pass_first.ensures.passes m.bounded;
       found = refl;
       others = others-passed ps qs c.in-Some.first.place c.pass_first.ensures.passes c.requires.packet;
     }

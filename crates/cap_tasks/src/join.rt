@@ -1,0 +1,42 @@
+//! `capt join`: the whole datagrams of several files, written as one pcapng file.
+ghost use Rattle.std.specs.Prelude.{◌≡◌, ◌≤◌, ◌||◌, IsTrue, map, vec_len};
+ghost use Rattle.std.specs.List.{list_all, list_any};
+ghost use Rattle.cap_tasks.specs.JoinText.{join_text, join_refusal};
+ghost use Rattle.cap_bytes.specs.Printing.{Prints, IsRead, is_write};
+
+use crate::merge::captures_of;
+use cap_bytes::{Fault, Order, Sink, Source, Tail};
+use cap_merge::Merged;
+use cap_write::write_joined;
+use std::alloc::Global;
+
+/// Writes the whole IPv4 datagrams of 1 to 32 capture files, each of either format, as a pcapng file of
+/// one section in that order: the packets are taken in the order of exact time, as of `merge_to`, their
+/// fragments are joined (RFC 791, 3.2), and each datagram is one packet without a link header, as of
+/// `write_joined`. It ends at the first refusal, which it answers: one of a file that is read, or of a
+/// packet or a datagram that can't be written (rules 13 and 17, as of `write_joined`). After any other
+/// fault a front of that text is written.
+pub fn join_to<R: Source, W: Sink>(
+    alloc: Global,
+    sources: Vec<R>,
+    tail: Tail,
+    order: Order,
+    writer: &mut W,
+) -> Result<(), Fault>
+    requires some { 1 ≤ vec_len sources }
+    requires most { vec_len sources ≤ 32 }
+    ensures text { IsTrue (list_all R.tells_coming sources.items) → IsTrue (W.tells_held writer.old)
+        → Prints (join_text order tail (map R.coming sources.items)) (join_refusal tail (map R.coming sources.items))
+        (W.held writer.old) result (W.held writer.new) }
+    ensures told { IsTrue (W.tells_held writer.old) → IsTrue (W.tells_held writer.new) }
+    ensures failed { W.has_failed writer.new ≡ (W.has_failed writer.old || is_write result) }
+    ensures read { IsRead result → IsTrue (list_any R.can_fail sources.items) }
+    ensures write { IsTrue (is_write result) → IsTrue (W.can_fail writer.old) }
+{
+    let captures = captures_of(alloc, sources, tail)?;
+    let mut merged = Merged::new(captures);
+    write_joined(alloc, &mut merged, order, writer)
+}
+
+#[cfg(test)]
+mod tests;

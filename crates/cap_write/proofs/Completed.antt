@@ -1,0 +1,196 @@
+-- The datagram that a packet completes is the one that the joiner answers.
+use Rattle.std.proofs.Common.{◌≡◌, ℕ, Bool, true, false, List, [], ◌∷◌, ◌++◌, length, Option, Some, None, is_some, option_and_then, if◌then◌else◌, refl, sym, ap, ◌∙◌, subst, append-nil}
+use Rattle.std.specs.Prelude.{OnOk, IfOk, Result, Ok, Err}
+use Rattle.cap_bytes.specs.Printing.{Prints}
+use Rattle.cap_bytes.specs.declared.faults.Fault.{Fault}
+use Rattle.cap_bytes.specs.declared.faults.Fault.TheVariants.{Refused, Read, Write, Memory}
+use Rattle.cap_bytes.specs.declared.faults.Rule.{Rule}
+use Rattle.cap_bytes.specs.declared.numbers.Order.{Order}
+use Rattle.cap_ip.specs.Header.{HeaderFields}
+use Rattle.cap_ip.specs.Read.{Reading, found, bad, cut}
+use Rattle.cap_ip.specs.declared.headers.Fragment.{Fragment}
+use Rattle.cap_join.specs.Arrivals.{IsArrived, IsDatagram, IsFragmentOf, IsWhole}
+use Rattle.cap_join.specs.ByteMap.{header_of, data_of}
+use Rattle.cap_join.specs.Fragments.{Piece, piece_of}
+use Rattle.cap_join.specs.History.{Event, joined_pieces, state_of}
+use Rattle.cap_join.specs.Joiners.{open_limit}
+use Rattle.cap_join.specs.declared.arrivals.Arrived.{Arrived}
+use Rattle.cap_join.specs.declared.arrivals.Arrived.TheVariants as as_
+use Rattle.cap_join.specs.declared.datagrams.Stamped.{Stamped}
+use Rattle.cap_source.specs.Feed.{Item, packet}
+use Rattle.cap_source.specs.declared.packets.Meta.{Meta}
+use Rattle.cap_time.specs.declared.stamps.Stamp.{Stamp}
+use Rattle.cap_write.proofs.Feeding.{plan_of-is, plan_of-next, plan_of-refused}
+use Rattle.cap_write.proofs.Written.{Prints-untimed}
+use Rattle.cap_write.specs.Names.{HasUnits}
+use Rattle.cap_write.specs.Datagrams.{IsFilled, answered, names_behind}
+use Rattle.cap_write.specs.Joined.{Complete, complete_of, joined_of, completed_by, completed_in, completed, datagram_meta, datagram_items, items_of_packet}
+use Rattle.cap_write.specs.Numbering.{Name, with_name, write_fault, refusal_by, refusal_in, refusal_or, numbered_of}
+use Rattle.cap_write.specs.Texts.{text_behind, one_text, text_or, numbered_text}
+
+answered-pieces : (ps : List Piece) (arrived : Arrived) → IsFragmentOf ps arrived → answered arrived ≡ joined_of ps
+unfolding joined_of
+answered-pieces ps as_.Bad h = absurd h
+answered-pieces ps as_.Cut h = absurd h
+answered-pieces ps (as_.Whole header bytes) h = absurd h
+answered-pieces ps as_.Kept h =
+    sym (ap (λ b. if b then option_and_then (λ x. complete_of x (data_of ps) (length (data_of ps))) (header_of ps) else None) h)
+answered-pieces ps (as_.Joined d) h =
+    ap (λ l. complete_of d.header l (length l)) h.1.payload
+    ∙ sym (ap (λ b. if b then option_and_then (λ x. complete_of x (data_of ps) (length (data_of ps))) (header_of ps) else None) h.0
+    ∙ ap (option_and_then (λ x. complete_of x (data_of ps) (length (data_of ps)))) h.1.header)
+
+answered-whole : (header : HeaderFields) (captured : List ℕ) (arrived : Arrived) → IsWhole header captured arrived → answered arrived ≡ complete_of header captured header.data_length
+answered-whole header captured as_.Bad h = absurd h
+answered-whole header captured as_.Cut h = absurd h
+answered-whole header captured (as_.Whole head bytes) h = λ i. complete_of (h.0 i) (h.1 i) (h.0 i).data_length
+answered-whole header captured as_.Kept h = absurd h
+answered-whole header captured (as_.Joined d) h = absurd h
+
+answered-datagram : (o : Option Fragment) (header : HeaderFields) (captured : List ℕ) (clock : Option Stamp) (stamped : Stamped) (events : List Event) (arrived : Arrived)
+    → IsDatagram o header captured clock stamped events arrived → answered arrived ≡ completed_by o header captured clock stamped events
+answered-datagram None header captured clock stamped events arrived h = answered-whole header captured arrived h
+answered-datagram (Some f) header captured clock stamped events arrived h =
+    answered-pieces (joined_pieces clock (piece_of header captured stamped) (state_of open_limit events)) arrived h
+
+pub answered-is : (r : Reading) (arrived : Arrived) (clock : Option Stamp) (stamped : Stamped) (events : List Event)
+    → IsArrived r clock stamped events arrived → answered arrived ≡ completed_in r clock stamped events
+answered-is (found header captured) arrived clock stamped events h = answered-datagram header.fragment header captured clock stamped events arrived h
+answered-is bad as_.Bad clock stamped events h = refl
+answered-is bad as_.Cut clock stamped events h = absurd h
+answered-is bad (as_.Whole head bytes) clock stamped events h = absurd h
+answered-is bad as_.Kept clock stamped events h = absurd h
+answered-is bad (as_.Joined d) clock stamped events h = absurd h
+answered-is cut as_.Bad clock stamped events h = absurd h
+answered-is cut as_.Cut clock stamped events h = refl
+answered-is cut (as_.Whole head bytes) clock stamped events h = absurd h
+answered-is cut as_.Kept clock stamped events h = absurd h
+answered-is cut (as_.Joined d) clock stamped events h = absurd h
+
+-- one packet is written as in a list of its own
+pub text-one : (order : Order) (names : List Name) (meta : Meta) (frame : List ℕ)
+    → text_behind order names (packet meta frame ∷ []) ≡ one_text order names meta frame
+text-one order names meta frame = by (write_fault names meta) refl
+  where
+    by : (fault : Option Rule) → write_fault names meta ≡ fault → text_behind order names (packet meta frame ∷ []) ≡ one_text order names meta frame
+    by (Some rule) is = (plan_of-refused order names meta frame rule is).text [] ∙ sym (ap (λ f. text_or f (numbered_text order (length names) (numbered_of names meta frame))) is)
+    by None is =
+        (plan_of-next order names meta frame is).text []
+        ∙ (ap (λ l. one_text order names meta frame ++ l) (plan_of-is order (with_name names meta)).text_none ∙ append-nil (one_text order names meta frame))
+
+pub refusal-one : (names : List Name) (meta : Meta) (frame : List ℕ) → refusal_in names (packet meta frame ∷ []) ≡ refusal_by meta (write_fault names meta)
+unfolding refusal_in
+refusal-one names meta frame = by (write_fault names meta)
+  where
+    by : (fault : Option Rule) → refusal_or fault meta None ≡ refusal_by meta fault
+    by (Some rule) = refl
+    by None = refl
+
+-- what is to be written of a packet, by what the buffer has
+filled_by : (meta : Meta) (d : Option Complete) (some : Bool) (bytes : List ℕ) → IsFilled d some bytes
+    → datagram_items meta d ≡ (if some then packet (datagram_meta meta (length bytes)) bytes ∷ [] else [])
+filled_by meta None some bytes h = sym (ap (λ b. if b then packet (datagram_meta meta (length bytes)) bytes ∷ [] else []) h)
+filled_by meta (Some d) some bytes h =
+    ap (λ l. packet (datagram_meta meta (length l)) l ∷ []) (sym h.1)
+    ∙ sym (ap (λ b. if b then packet (datagram_meta meta (length bytes)) bytes ∷ [] else []) h.0)
+
+pub items-timed : (place : ℕ) (events : List Event) (clock : Option Stamp) (meta : Meta) (frame : List ℕ) (units : ℕ) (some : Bool) (bytes : List ℕ)
+    → meta.units ≡ Some units → IsFilled (completed place events clock meta frame) some bytes
+    → items_of_packet place events clock meta frame ≡ (if some then packet (datagram_meta meta (length bytes)) bytes ∷ [] else [])
+unfolding items_of_packet
+items-timed place events clock meta frame units some bytes is h =
+    ap (λ u. if is_some u then datagram_items meta (completed place events clock meta frame) else packet meta frame ∷ []) is
+    ∙ filled_by meta (completed place events clock meta frame) some bytes h
+
+pub items-untimed : (place : ℕ) (events : List Event) (clock : Option Stamp) (meta : Meta) (frame : List ℕ) → meta.units ≡ None
+    → items_of_packet place events clock meta frame ≡ packet meta frame ∷ []
+unfolding items_of_packet
+items-untimed place events clock meta frame is =
+    ap (λ u. if is_some u then datagram_items meta (completed place events clock meta frame) else packet meta frame ∷ []) is
+
+-- what an answer says of every list of events
+pub filled-all : {E : Type 0} (result : Result Bool E) (d : Option Complete) (of : List Event → Option Complete) (P : List Event → Type 0) (bytes : List ℕ)
+    → ((events : List Event) → P events → d ≡ of events) → IfOk result (λ some. IsFilled d some bytes)
+    → IfOk result (λ some. (events : List Event) → P events → IsFilled (of events) some bytes)
+filled-all (Ok some) d of P bytes same h = λ events s. subst (λ x. IsFilled x some bytes) (same events s) h
+filled-all (Err e) d of P bytes same h = tt
+
+pub OnOk-map : {E A : Type 0} (result : Result A E) (P Q : Type 0) → (P → Q) → OnOk result P → OnOk result Q
+OnOk-map (Ok x) P Q f h = f h
+OnOk-map (Err e) P Q f h = tt
+
+-- the items of a packet that isn't timed
+abbrev PrintsItems : Order → List Name → List Item → List ℕ → Result (Unit {0}) Fault → List ℕ → Type 0
+PrintsItems order names items held result new = Prints {A = Unit {0}} (text_behind order names items) (refusal_in names items) held result new
+
+Prints-packet : (order : Order) (names : List Name) (meta : Meta) (frame held new : List ℕ) (result : Result (Unit {0}) Fault)
+    → Prints {A = Unit {0}} (one_text order names meta frame) (refusal_by meta (write_fault names meta)) held result new
+    → PrintsItems order names (packet meta frame ∷ []) held result new
+Prints-packet order names meta frame held new result h =
+    subst (λ t. Prints {A = Unit {0}} t (refusal_in names (packet meta frame ∷ [])) held result new) (sym (text-one order names meta frame))
+    (subst (λ r. Prints {A = Unit {0}} (one_text order names meta frame) r held result new) (sym (refusal-one names meta frame)) h)
+
+-- a packet without a time is refused
+no-time : (meta : Meta) (fault : Fault) → HasUnits meta (Err fault) → meta.units ≡ None
+no-time meta (Refused r) h = h.0
+no-time meta (Read file offset) h = absurd h
+no-time meta Write h = absurd h
+no-time meta Memory h = absurd h
+
+pub Prints-no-time : (order : Order) (names : List Name) (place : ℕ) (events : List Event) (clock : Option Stamp) (meta : Meta) (frame held : List ℕ) (fault : Fault)
+    → HasUnits meta (Err fault) → PrintsItems order names (items_of_packet place events clock meta frame) held (Err fault) held
+Prints-no-time order names place events clock meta frame held fault h =
+    subst (λ items. PrintsItems order names items held (Err fault) held) (sym (items-untimed place events clock meta frame (no-time meta fault h)))
+    (Prints-packet order names meta frame held held (Err fault) (Prints-untimed order names meta frame held fault h))
+
+-- a packet that completes a datagram
+pub items-filled : (place : ℕ) (events : List Event) (clock : Option Stamp) (meta : Meta) (frame : List ℕ) (units : ℕ) (some : Bool) (bytes lent : List ℕ) (size : ℕ) (written : Meta)
+    → HasUnits meta (Ok units) → some ≡ true → IsFilled (completed place events clock meta frame) some bytes
+    → written ≡ datagram_meta meta size → size ≡ length bytes → lent ≡ bytes
+    → items_of_packet place events clock meta frame ≡ packet written lent ∷ []
+items-filled place events clock meta frame units some bytes lent size written timed filled h is counted same =
+    items-timed place events clock meta frame units some bytes timed h
+    ∙ (ap (λ b. if b then packet (datagram_meta meta (length bytes)) bytes ∷ [] else []) filled
+    ∙ sym (λ i. packet ((is ∙ ap (datagram_meta meta) counted) i) (same i) ∷ []))
+
+pub Prints-datagram : (order : Order) (names : List Name) (items : List Item) (written : Meta) (lent held new : List ℕ) (result : Result (Unit {0}) Fault)
+    → items ≡ packet written lent ∷ []
+    → Prints {A = Unit {0}} (one_text order names written lent) (refusal_by written (write_fault names written)) held result new
+    → PrintsItems order names items held result new
+Prints-datagram order names items written lent held new result is h =
+    subst (λ l. PrintsItems order names l held result new) (sym is) (Prints-packet order names written lent held new result h)
+
+names-one : (names : List Name) (written : Meta) (lent : List ℕ) → names_behind names (packet written lent ∷ []) ≡ with_name names written
+unfolding names_behind
+names-one names written lent = refl
+
+pub named-datagram : (names names_new : List Name) (items : List Item) (written : Meta) (lent : List ℕ) → items ≡ packet written lent ∷ []
+    → (names_new ≡ with_name names written) × (write_fault names written ≡ None)
+    → (names_new ≡ names_behind names items) × (refusal_in names items ≡ None)
+named-datagram names names_new items written lent is h = (
+  h.0 ∙ (sym (names-one names written lent) ∙ ap (names_behind names) (sym is)),
+  ap (refusal_in names) is ∙ (refusal-one names written lent ∙ ap (refusal_by written) h.1),
+)
+
+-- a packet that completes none
+pub items-none : (place : ℕ) (events : List Event) (clock : Option Stamp) (meta : Meta) (frame : List ℕ) (units : ℕ) (some : Bool) (bytes : List ℕ)
+    → HasUnits meta (Ok units) → some ≡ false → IsFilled (completed place events clock meta frame) some bytes
+    → items_of_packet place events clock meta frame ≡ []
+items-none place events clock meta frame units some bytes timed unfilled h =
+    items-timed place events clock meta frame units some bytes timed h
+    ∙ ap (λ b. if b then packet (datagram_meta meta (length bytes)) bytes ∷ [] else []) unfilled
+
+pub Prints-none : (order : Order) (names : List Name) (items : List Item) (held : List ℕ) → items ≡ []
+    → (refusal_in names items ≡ None) × (held ≡ held ++ text_behind order names items)
+Prints-none order names items held is = (
+  ap (refusal_in names) is ∙ (plan_of-is order names).refusal_none,
+  sym (append-nil held) ∙ ap (λ l. held ++ l) (sym (ap (text_behind order names) is ∙ (plan_of-is order names).text_none)),
+)
+
+names-nothing : (names : List Name) → names_behind names [] ≡ names
+unfolding names_behind
+names-nothing names = refl
+
+pub named-none : (order : Order) (names : List Name) (items : List Item) → items ≡ [] → (names ≡ names_behind names items) × (refusal_in names items ≡ None)
+named-none order names items is =
+    (sym (ap (names_behind names) is ∙ names-nothing names), ap (refusal_in names) is ∙ (plan_of-is order names).refusal_none)

@@ -1,0 +1,338 @@
+-- The datagrams of a run of packets, written one by one.
+use Rattle.std.proofs.Common.{◌≡◌, ℕ, ◌+◌, ◌*◌, ◌^◌, ◌≤◌, ◌<◌, List, [], ◌∷◌, ◌++◌, length, take, drop, map, Bool, IsTrue, Option, Some, None, Ok, Err, refl, sym, ap, ◌∙◌, subst, arith, append_assoc, append-nil, length-append, take-append-drop, take_at, drop_at}
+use Rattle.cap_bytes.proofs.Putting.{Writer, Putting, Putting-more, Putting-front}
+use Rattle.cap_bytes.specs.Printing.{Prints}
+use Rattle.cap_bytes.specs.declared.faults.Fault.{Fault}
+use Rattle.cap_bytes.specs.declared.faults.Fault.TheVariants.{Refused, Read, Write, Memory}
+use Rattle.cap_bytes.specs.declared.faults.Refusal.{Refusal}
+use Rattle.cap_bytes.specs.declared.faults.Rule.{Rule}
+use Rattle.cap_bytes.specs.declared.numbers.Order.{Order}
+use Rattle.cap_join.specs.History.{Event}
+use Rattle.cap_join.specs.Joiners.{JoinerState, StandsFor}
+use Rattle.cap_merge.specs.Parts.{Part, feed_of, run_of, BeginsAt}
+use Rattle.cap_merge.specs.Run.{Clocked}
+use Rattle.cap_source.proofs.Walking.{Prints-fault, Prints-end, Prints-front}
+use Rattle.cap_source.specs.Feed.{Feed, Item, packet, refused, Keeps, SameItems, IsFeed, Leads}
+use Rattle.cap_source.specs.Walk.{ShowsItem}
+use Rattle.cap_source.specs.declared.feeds.Head.{Head}
+use Rattle.cap_source.specs.declared.feeds.Head.TheVariants as heads
+use Rattle.cap_source.specs.declared.packets.Meta.{Meta}
+use Rattle.cap_time.specs.declared.stamps.Stamp.{Stamp}
+use Rattle.cap_write.proofs.Feeding.{plan_of, plan_of-is, plan_of-next, plan_of-refused}
+use Rattle.cap_write.specs.Datagrams.{names_behind}
+use Rattle.cap_write.specs.Joined.{items_of_packet, events_after, items_here, events_here, joined_items}
+use Rattle.cap_write.specs.Numbering.{Name, with_name, write_fault, refusal_at, refusal_in, numbered}
+use Rattle.cap_write.specs.Texts.{text_behind, packets_text, one_text}
+
+-- what comes next of a feed, by what is known of it
+shown_by : (feed : Feed) (head : Head) → IsFeed feed → IsTrue feed.told → feed.known ≡ Some head → Leads (Some head) feed.frame feed.items
+shown_by feed head law t known = subst (λ (k : Option Head). Leads k feed.frame feed.items) known (law.leads t)
+
+pub shows-packet : (old new : Feed) (meta : Meta) → IsFeed new → IsTrue new.told → new.known ≡ Some (heads.Packet meta) → SameItems old new
+    → ShowsItem old (Ok (Some meta)) new
+shows-packet old new meta law t known same =
+    let leads : new.items ≡ packet meta new.frame ∷ drop 1 new.items = shown_by new (heads.Packet meta) law t known in
+    (same, sym same.items ∙ (leads ∙ ap (λ l. packet meta new.frame ∷ drop 1 l) same.items))
+
+pub shows-refused : (old new : Feed) (r : Refusal) → IsFeed new → IsTrue new.told → new.known ≡ Some (heads.Refused r) → SameItems old new
+    → ShowsItem old (Err (Refused r)) new
+shows-refused old new r law t known same =
+    let leads : new.items ≡ refused r ∷ [] = shown_by new (heads.Refused r) law t known in
+    (same, sym same.items ∙ leads)
+
+pub shows-end : (old new : Feed) → IsFeed new → IsTrue new.told → new.known ≡ Some heads.End → SameItems old new → ShowsItem old (Ok None) new
+shows-end old new law t known same =
+    let leads : new.items ≡ [] = shown_by new heads.End law t known in
+    (same, sym same.items ∙ leads)
+
+none-some : (r : Refusal) → None ≡ Some r → ⊥
+none-some r e = cc
+
+refusal-first : (names : List Name) (r : Refusal) (items : List Item) → refusal_in names (refused r ∷ items) ≡ Some r
+unfolding refusal_in
+refusal-first names r items = refl
+
+-- what is written of some items and of others behind them, where none of the first is refused
+pub behind-text : (order : Order) (names : List Name) (items rest : List Item) → refusal_in names items ≡ None
+    → text_behind order names (items ++ rest) ≡ text_behind order names items ++ text_behind order (names_behind names items) rest
+unfolding names_behind
+behind-text order names [] rest none = ap (λ l. l ++ text_behind order names rest) (sym (plan_of-is order names).text_none)
+behind-text order names (packet meta frame ∷ items) rest none = by (write_fault names meta) refl (behind-text order (with_name names meta) items rest)
+  where
+    by : (fault : Option Rule) → write_fault names meta ≡ fault
+        → (refusal_in (with_name names meta) items ≡ None
+        → text_behind order (with_name names meta) (items ++ rest) ≡ text_behind order (with_name names meta) items ++ text_behind order (names_behind (with_name names meta) items) rest)
+        → text_behind order names (packet meta frame ∷ (items ++ rest)) ≡ text_behind order names (packet meta frame ∷ items) ++ text_behind order (names_behind (with_name names meta) items) rest
+    by (Some rule) is go = absurd (none-some (refusal_at meta rule) (sym none ∙ (plan_of-refused order names meta frame rule is).refusal items))
+    by None is go =
+        let next = plan_of-next order names meta frame is in
+        let line = one_text order names meta frame in
+        let behind = text_behind order (names_behind (with_name names meta) items) rest in
+        next.text (items ++ rest)
+        ∙ (ap (λ l. line ++ l) (go (sym (next.refusal items) ∙ none))
+        ∙ (sym (append_assoc line (text_behind order (with_name names meta) items) behind) ∙ ap (λ l. l ++ behind) (sym (next.text items))))
+behind-text order names (refused r ∷ items) rest none = absurd (none-some r (sym none ∙ refusal-first names r items))
+
+pub behind-refusal : (order : Order) (names : List Name) (items rest : List Item) → refusal_in names items ≡ None
+    → refusal_in names (items ++ rest) ≡ refusal_in (names_behind names items) rest
+unfolding names_behind
+behind-refusal order names [] rest none = refl
+behind-refusal order names (packet meta frame ∷ items) rest none = by (write_fault names meta) refl (behind-refusal order (with_name names meta) items rest)
+  where
+    by : (fault : Option Rule) → write_fault names meta ≡ fault
+        → (refusal_in (with_name names meta) items ≡ None
+        → refusal_in (with_name names meta) (items ++ rest) ≡ refusal_in (names_behind (with_name names meta) items) rest)
+        → refusal_in names (packet meta frame ∷ (items ++ rest)) ≡ refusal_in (names_behind (with_name names meta) items) rest
+    by (Some rule) is go = absurd (none-some (refusal_at meta rule) (sym none ∙ (plan_of-refused order names meta frame rule is).refusal items))
+    by None is go =
+        let next = plan_of-next order names meta frame is in
+        next.refusal (items ++ rest) ∙ go (sym (next.refusal items) ∙ none)
+behind-refusal order names (refused r ∷ items) rest none = absurd (none-some r (sym none ∙ refusal-first names r items))
+
+text-first : (order : Order) (names : List Name) (r : Refusal) (items : List Item) → text_behind order names (refused r ∷ items) ≡ []
+unfolding numbered packets_text
+text-first order names r items = refl
+
+-- and where one is: nothing more
+pub stopped-text : (order : Order) (names : List Name) (items rest : List Item) (r : Refusal) → refusal_in names items ≡ Some r
+    → (text_behind order names (items ++ rest) ≡ text_behind order names items) × (refusal_in names (items ++ rest) ≡ Some r)
+stopped-text order names [] rest r some = absurd (none-some r ((sym (plan_of-is order names).refusal_none) ∙ some))
+stopped-text order names (packet meta frame ∷ items) rest r some = by (write_fault names meta) refl (stopped-text order (with_name names meta) items rest r)
+  where
+    by : (fault : Option Rule) → write_fault names meta ≡ fault
+        → (refusal_in (with_name names meta) items ≡ Some r
+        → (text_behind order (with_name names meta) (items ++ rest) ≡ text_behind order (with_name names meta) items) × (refusal_in (with_name names meta) (items ++ rest) ≡ Some r))
+        → (text_behind order names (packet meta frame ∷ (items ++ rest)) ≡ text_behind order names (packet meta frame ∷ items))
+        × (refusal_in names (packet meta frame ∷ (items ++ rest)) ≡ Some r)
+    by (Some rule) is go =
+        let gives = plan_of-refused order names meta frame rule is in
+        (gives.text (items ++ rest) ∙ sym (gives.text items), gives.refusal (items ++ rest) ∙ (sym (gives.refusal items) ∙ some))
+    by None is go =
+        let next = plan_of-next order names meta frame is in
+        let both = go (sym (next.refusal items) ∙ some) in
+        (next.text (items ++ rest) ∙ (ap (λ l. one_text order names meta frame ++ l) both.0 ∙ sym (next.text items)), next.refusal (items ++ rest) ∙ both.1)
+stopped-text order names (refused q ∷ items) rest r some =
+    (text-first order names q (items ++ rest) ∙ sym (text-first order names q items), refusal-first names q (items ++ rest) ∙ (sym (refusal-first names q items) ∙ some))
+
+-- what is written where the last part of a text is, or a front of it
+Prints-whole : (fault : Fault) (text line : List ℕ) (refusal : Option Refusal) (r : Refusal) (from mid : Writer) (held : List ℕ)
+    → Putting from mid text line → IsTrue from.told → refusal ≡ Some r
+    → Prints {A = Unit {0}} line (Some r) mid.held (Err fault) held
+    → Prints {A = Unit {0}} text refusal from.held (Err fault) held
+Prints-whole (Refused s) text line refusal r from mid held p t is prints = (
+  is ∙ prints.0,
+  prints.1
+      ∙ (ap (λ l. l ++ line) (p.written t)
+      ∙ (append_assoc from.held (take p.at text) line
+      ∙ ap (λ l. from.held ++ l) (ap (λ l. take p.at text ++ l) p.left ∙ take-append-drop p.at text))),
+)
+Prints-whole (Read file offset) text line refusal r from mid held p t is prints =
+    Putting-front from mid held text line [] prints.0 (subst (Putting from mid text) (sym (append-nil line)) p) t prints.1
+Prints-whole Write text line refusal r from mid held p t is prints =
+    Putting-front from mid held text line [] prints.0 (subst (Putting from mid text) (sym (append-nil line)) p) t prints.1
+Prints-whole Memory text line refusal r from mid held p t is prints =
+    Putting-front from mid held text line [] prints.0 (subst (Putting from mid text) (sym (append-nil line)) p) t prints.1
+
+-- what is written where some of the items to come aren't written whole
+pub Prints-part : (order : Order) (fault : Fault) (text : List ℕ) (refusal : Option Refusal) (from mid : Writer) (held : List ℕ) (names : List Name) (all items rest : List Item)
+    → all ≡ items ++ rest
+    → Putting from mid text (text_behind order names all) → IsTrue from.told → refusal_in names all ≡ refusal
+    → Prints {A = Unit {0}} (text_behind order names items) (refusal_in names items) mid.held (Err fault) held
+    → Prints {A = Unit {0}} text refusal from.held (Err fault) held
+Prints-part order fault text refusal from mid held names all items rest split p t same prints = by (refusal_in names items) refl
+  where
+    by : (stops : Option Refusal) → refusal_in names items ≡ stops → Prints {A = Unit {0}} text refusal from.held (Err fault) held
+    by (Some r) is =
+        let both = stopped-text order names items rest r is in
+        Prints-whole fault text (text_behind order names items) refusal r from mid held
+        (subst (Putting from mid text) (ap (text_behind order names) split ∙ both.0) p) t
+        (sym same ∙ (ap (refusal_in names) split ∙ both.1))
+        (subst (λ s. Prints {A = Unit {0}} (text_behind order names items) s mid.held (Err fault) held) is prints)
+    by None is =
+        Prints-front fault text (text_behind order names items) (text_behind order (names_behind names items) rest) refusal from mid held
+        (subst (Putting from mid text) (ap (text_behind order names) split ∙ behind-text order names items rest is) p) t
+        (subst (λ s. Prints {A = Unit {0}} (text_behind order names items) s mid.held (Err fault) held) is prints)
+
+-- the run, by its items
+pub items-of-run : (ps : List Part) → (feed_of ps).items ≡ map (λ x. x.item) (run_of ps)
+unfolding feed_of
+items-of-run ps = refl
+
+first-of-run : (xs : List (Clocked Item)) (clock : Option Stamp) (i : Item) (rest : List Item) → BeginsAt clock xs → map (λ x. x.item) xs ≡ i ∷ rest
+    → xs ≡ record { clock = clock; item = i } ∷ drop 1 xs
+first-of-run [] clock i rest b e = absurd b
+first-of-run (x ∷ xs) clock i rest b e =
+    let same : x.item ≡ i = cc in
+    λ j. record { clock = b j; item = same j } ∷ xs
+
+run-first : (mid shown new : List Part) (meta : Meta) (frame : List ℕ) (clock : Option Stamp)
+    → (feed_of mid).items ≡ packet meta frame ∷ drop 1 (feed_of mid).items → run_of shown ≡ run_of mid → BeginsAt clock (run_of shown) → run_of new ≡ drop 1 (run_of shown)
+    → run_of mid ≡ record { clock = clock; item = packet meta frame } ∷ run_of new
+run-first mid shown new meta frame clock head same begins dropped =
+    first-of-run (run_of mid) clock (packet meta frame) (drop 1 (feed_of mid).items) (subst (BeginsAt clock) same begins) (sym (items-of-run mid) ∙ head)
+    ∙ ap (λ l. record { clock = clock; item = packet meta frame } ∷ l) (sym (dropped ∙ ap (drop 1) same))
+
+-- what is to be written of it
+pub joined-first : (mid shown new : List Part) (meta : Meta) (frame : List ℕ) (clock : Option Stamp) (place : ℕ) (events : List Event)
+    → (feed_of mid).items ≡ packet meta frame ∷ drop 1 (feed_of mid).items → run_of shown ≡ run_of mid → BeginsAt clock (run_of shown) → run_of new ≡ drop 1 (run_of shown)
+    → joined_items place events (run_of mid)
+    ≡ items_of_packet place events clock meta frame ++ joined_items (place + 1) (events_after place events clock meta frame) (run_of new)
+unfolding joined_items
+joined-first mid shown new meta frame clock place events head same begins dropped =
+    ap (joined_items place events) (run-first mid shown new meta frame clock head same begins dropped)
+
+pub joined-at-first : (mid shown : List Part) (meta : Meta) (frame : List ℕ) (clock : Option Stamp) (place : ℕ) (events : List Event)
+    → (feed_of mid).items ≡ packet meta frame ∷ drop 1 (feed_of mid).items → run_of shown ≡ run_of mid → BeginsAt clock (run_of shown)
+    → joined_items place events (run_of mid)
+    ≡ items_of_packet place events clock meta frame ++ joined_items (place + 1) (events_after place events clock meta frame) (drop 1 (run_of mid))
+unfolding joined_items
+joined-at-first mid shown meta frame clock place events head same begins =
+    ap (joined_items place events)
+    (first-of-run (run_of mid) clock (packet meta frame) (drop 1 (feed_of mid).items) (subst (BeginsAt clock) same begins) (sym (items-of-run mid) ∙ head))
+
+-- The datagrams so far of a run that was `old` are written by a writer that was `from`.
+pub record Joining (order : Order) (old new : List Part) (names_old names : List Name) (joiner : JoinerState) (place : ℕ) (failed_old failed_new : Bool) (from to : Writer) : Type 0 where
+  pub limit : length names ≤ 1024
+  pub events : List Event
+  pub stands : StandsFor joiner events
+  pub next : joiner.next ≤ place
+  pub places : place + (feed_of new).left ≤ (feed_of old).left
+  pub failed : failed_new ≡ failed_old
+  pub told : IsTrue (feed_of old).told → IsTrue (feed_of new).told
+  pub can_fail : IsTrue (feed_of new).can_fail → IsTrue (feed_of old).can_fail
+  pub writer_told : IsTrue from.told → IsTrue to.told
+  pub writer_cannot : IsTrue to.can_fail → IsTrue from.can_fail
+  pub text : IsTrue (feed_of old).told
+      → Putting from to (text_behind order names_old (joined_items 0 [] (run_of old))) (text_behind order names (joined_items place events (run_of new)))
+  pub refusal_same : IsTrue (feed_of old).told
+      → refusal_in names (joined_items place events (run_of new)) ≡ refusal_in names_old (joined_items 0 [] (run_of old))
+
+-- one more packet
+pub Joining-more : (order : Order) (old mid shown new : List Part) (names_old names names_new : List Name) (joiner joiner_new : JoinerState) (place : ℕ) (fo fm fn : Bool)
+    (from m to : Writer) (meta : Meta) (lent : List ℕ) (clock : Option Stamp)
+    → lent ≡ (feed_of shown).frame
+    → Joining order old mid names_old names joiner place fo fm from m
+    → Keeps (feed_of mid) (feed_of shown) → (IsTrue (feed_of mid).told → ShowsItem (feed_of mid) (Ok (Some meta)) (feed_of shown))
+    → (IsTrue (feed_of mid).told → run_of shown ≡ run_of mid)
+    → (IsTrue (feed_of shown).told → BeginsAt clock (run_of shown))
+    → Keeps (feed_of shown) (feed_of new) → (feed_of new).left < (feed_of shown).left
+    → (IsTrue (feed_of shown).told → run_of new ≡ drop 1 (run_of shown))
+    → length names_new ≤ 1024 → joiner_new.next ≤ place + 1
+    → ((events : List Event) → StandsFor joiner events → StandsFor joiner_new (events_after place events clock meta lent))
+    → ((events : List Event) → StandsFor joiner events
+    → (names_new ≡ names_behind names (items_of_packet place events clock meta lent))
+    × (refusal_in names (items_of_packet place events clock meta lent) ≡ None))
+    → (IsTrue m.told → (events : List Event) → StandsFor joiner events
+    → to.held ≡ m.held ++ text_behind order names (items_of_packet place events clock meta lent))
+    → (IsTrue m.told → IsTrue to.told) → (IsTrue to.can_fail → IsTrue m.can_fail) → fn ≡ fm
+    → Joining order old new names_old names_new joiner_new (place + 1) fo fn from to
+Joining-more order old mid shown new names_old names names_new joiner joiner_new place fo fm fn from m to meta frame clock lent p asked shows same begins passed fewer dropped limit next stands named wrote told cannot failed =
+    let events = p.events in
+    let after = events_after place events clock meta frame in
+    let items = items_of_packet place events clock meta frame in
+    let rest = joined_items (place + 1) after (run_of new) in
+    let split : IsTrue (feed_of old).told → joined_items place events (run_of mid) ≡ items ++ rest =
+    λ t. joined-first mid shown new meta frame clock place events ((shows (p.told t)).1 ∙ ap (λ f. packet meta f ∷ drop 1 (feed_of mid).items) (sym lent)) (same (p.told t)) (begins (asked.told (p.told t))) (dropped (asked.told (p.told t))) in
+    let none = (named events p.stands).1 in
+    let names_is = (named events p.stands).0 in
+    let line = text_behind order names items in
+    let behind = text_behind order names_new rest in
+    let whole : IsTrue (feed_of old).told → text_behind order names (joined_items place events (run_of mid)) ≡ line ++ behind =
+    λ t. ap (text_behind order names) (split t) ∙ (behind-text order names items rest none ∙ ap (λ n. line ++ text_behind order n rest) (sym names_is)) in
+    record {
+      limit = limit;
+      events = after;
+      stands = stands events p.stands;
+      next = next;
+      places = omega (arith, p.places, asked.left, fewer);
+      failed = failed ∙ p.failed;
+      told = λ t. passed.told (asked.told (p.told t));
+      can_fail = λ c. p.can_fail (asked.can_fail (passed.can_fail c));
+      writer_told = λ t. told (p.writer_told t);
+      writer_cannot = λ c. p.writer_cannot (cannot c);
+      text = λ t.
+          subst (Putting from to (text_behind order names_old (joined_items 0 [] (run_of old))))
+          (ap (drop (length line)) (whole t) ∙ drop_at line behind (length line) refl)
+          (Putting-more from m to (text_behind order names_old (joined_items 0 [] (run_of old))) (text_behind order names (joined_items place events (run_of mid))) (length line) (p.text t)
+          (omega (arith, ap length (whole t), length-append line behind))
+          (λ w. wrote w events p.stands ∙ ap (λ l. m.held ++ l) (sym (ap (take (length line)) (whole t) ∙ take_at line behind (length line) refl)))
+          told cannot);
+      refusal_same = λ t.
+          sym (ap (refusal_in names) (split t) ∙ (behind-refusal order names items rest none ∙ ap (λ n. refusal_in n rest) (sym names_is))) ∙ p.refusal_same t;
+    }
+
+joined-none : (xs : List (Clocked Item)) (place : ℕ) (events : List Event) → map (λ x. x.item) xs ≡ [] → joined_items place events xs ≡ []
+unfolding joined_items
+joined-none [] place events e = refl
+joined-none (x ∷ xs) place events e = absurd (clash e)
+  where
+    clash : x.item ∷ map (λ y. y.item) xs ≡ [] → ⊥
+    clash e = cc
+
+joined-refused : (xs : List (Clocked Item)) (place : ℕ) (events : List Event) (r : Refusal) → map (λ x. x.item) xs ≡ refused r ∷ []
+    → joined_items place events xs ≡ refused r ∷ []
+unfolding joined_items
+joined-refused [] place events r e = absurd (clash e)
+  where
+    clash : [] ≡ refused r ∷ [] → ⊥
+    clash e = cc
+joined-refused (x ∷ xs) place events r e =
+    let same : x.item ≡ refused r = cc in
+    let none : map (λ y. y.item) xs ≡ [] = cc in
+    joined-at x.clock x.item same ∙ ap (λ l. refused r ∷ l) (joined-none xs (place + 1) events none)
+  where
+    joined-at : (clock : Option Stamp) (i : Item) → i ≡ refused r
+        → items_here place events clock i ++ joined_items (place + 1) (events_here place events clock i) xs ≡ refused r ∷ joined_items (place + 1) events xs
+    joined-at clock i same = ap (λ w. items_here place events clock w ++ joined_items (place + 1) (events_here place events clock w) xs) same
+
+-- what is to be written of a run as of a feed
+abbrev feeding : List Part → ℕ → List Event → Feed
+feeding ps place events = record (feed_of ps) { items = joined_items place events (run_of ps) }
+
+shows-joined : (fault : Fault) (mid : List Part) (shown : Feed) (place : ℕ) (events : List Event) → ShowsItem (feed_of mid) (Err fault) shown
+    → ShowsItem (feeding mid place events) (Err fault) (feeding mid place events)
+shows-joined (Refused r) mid shown place events shows =
+    (record { items = refl; endings = λ file. refl }, joined-refused (run_of mid) place events r (sym (items-of-run mid) ∙ shows.1))
+shows-joined (Read file offset) mid shown place events shows = tt
+shows-joined Write mid shown place events shows = absurd shows
+shows-joined Memory mid shown place events shows = record { items = refl; endings = λ file. refl }
+
+-- what is written where a call for the next packet answers a fault
+pub Joining-fault : (order : Order) (fault : Fault) (old mid : List Part) (shown : Feed) (names_old names : List Name) (joiner : JoinerState) (place : ℕ) (fo fm : Bool) (from m : Writer)
+    → Joining order old mid names_old names joiner place fo fm from m → IsTrue (feed_of old).told → IsTrue from.told
+    → ShowsItem (feed_of mid) (Err fault) shown
+    → Prints {A = Unit {0}} (text_behind order names_old (joined_items 0 [] (run_of old))) (refusal_in names_old (joined_items 0 [] (run_of old))) from.held (Err fault) m.held
+Joining-fault order fault old mid shown names_old names joiner place fo fm from m p t w shows =
+    Prints-fault (plan_of order names) fault (text_behind order names_old (joined_items 0 [] (run_of old))) (refusal_in names_old (joined_items 0 [] (run_of old))) from m
+    (feeding mid place p.events) (feeding mid place p.events) (plan_of-is order names) (p.text t) w (p.refusal_same t) (shows-joined fault mid shown place p.events shows)
+
+-- what is written where it answers that there is none
+pub Joining-end : (order : Order) (old mid : List Part) (shown : Feed) (names_old names : List Name) (joiner : JoinerState) (place : ℕ) (fo fm : Bool) (from m : Writer)
+    → Joining order old mid names_old names joiner place fo fm from m → IsTrue (feed_of old).told → IsTrue from.told
+    → ShowsItem (feed_of mid) (Ok None) shown
+    → (refusal_in names_old (joined_items 0 [] (run_of old)) ≡ None) × (m.held ≡ from.held ++ text_behind order names_old (joined_items 0 [] (run_of old)))
+Joining-end order old mid shown names_old names joiner place fo fm from m p t w shows =
+    Prints-end (plan_of order names) (text_behind order names_old (joined_items 0 [] (run_of old))) (refusal_in names_old (joined_items 0 [] (run_of old))) from m
+    (feeding mid place p.events) (feeding mid place p.events) (plan_of-is order names) (p.text t) w (p.refusal_same t)
+    (record { items = refl; endings = λ file. refl }, joined-none (run_of mid) place p.events (sym (items-of-run mid) ∙ shows.1))
+
+-- what is written where a packet's datagram isn't written whole, or is refused
+pub Joining-part : (order : Order) (fault : Fault) (old mid shown : List Part) (names_old names : List Name) (joiner : JoinerState) (place : ℕ) (fo fm : Bool) (from m : Writer) (held : List ℕ)
+    (meta : Meta) (lent : List ℕ) (clock : Option Stamp)
+    → lent ≡ (feed_of shown).frame
+    → Joining order old mid names_old names joiner place fo fm from m → IsTrue (feed_of old).told → IsTrue from.told
+    → (feed_of mid).items ≡ packet meta (feed_of shown).frame ∷ drop 1 (feed_of mid).items → run_of shown ≡ run_of mid → BeginsAt clock (run_of shown)
+    → ((events : List Event) → StandsFor joiner events
+    → Prints {A = Unit {0}} (text_behind order names (items_of_packet place events clock meta lent))
+    (refusal_in names (items_of_packet place events clock meta lent)) m.held (Err fault) held)
+    → Prints {A = Unit {0}} (text_behind order names_old (joined_items 0 [] (run_of old))) (refusal_in names_old (joined_items 0 [] (run_of old))) from.held (Err fault) held
+Joining-part order fault old mid shown names_old names joiner place fo fm from m held meta frame clock lent p t w head same begins prints =
+    Prints-part order fault (text_behind order names_old (joined_items 0 [] (run_of old))) (refusal_in names_old (joined_items 0 [] (run_of old))) from m held names
+    (joined_items place p.events (run_of mid)) (items_of_packet place p.events clock meta frame)
+    (joined_items (place + 1) (events_after place p.events clock meta frame) (drop 1 (run_of mid)))
+    (joined-at-first mid shown meta frame clock place p.events (head ∙ ap (λ f. packet meta f ∷ drop 1 (feed_of mid).items) (sym lent)) same begins)
+    (p.text t) w (p.refusal_same t) (prints p.events p.stands)
+
+-- a place is small, where a run of few files has at most so many packets
+pub place-small : (place left all count : ℕ) → place + left ≤ all → all ≤ count * 2 ^ 40 → count ≤ 32 → place < 2 ^ 63
+place-small place left all count p most few = omega (arith, p, most, few)

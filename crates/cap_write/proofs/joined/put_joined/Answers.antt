@@ -1,0 +1,67 @@
+use Rattle.std.proofs.Common.{◌<◌, ◌^◌, Some, None, Ok, arith, rules}
+use Rattle.std.proofs.lemmas.Result.{err_from_is_err_and}
+use Rattle.cap_merge.specs.MergedLaws.{merged-is-feed}
+use Rattle.cap_merge.specs.Parts.{feed_of}
+use Rattle.cap_merge.specs.View.{parts_of}
+use Rattle.cap_source.specs.Walk.{ShowsItem}
+use Rattle.cap_write.proofs.Joining.{Joining-more, Joining-fault, Joining-end, Joining-part, place-small}
+use Rattle.cap_write.proofs.joined.put_joined.Goals as goal
+
+pub returns-in_err-meta-clause-text : goal.returns-in_err-meta-clause-text
+returns-in_err-meta-clause-text g c = λ t w.
+    let p = err_from_is_err_and c.from_residual.result c.from_residual.ensures.1 in
+    let i = c.loop-packet.invariant in
+    rw (p.1, p.2)
+    (Joining-fault c.args.order c.in_err-meta.field-0.0 (parts_of c.args.merged.now) (parts_of c.loop-packet.merged) (feed_of (parts_of c.next_of.new.merged))
+    c.args.names.now.keys c.loop-packet.names.keys c.loop-packet.joiner c.loop-packet.place _ _ _ _ i t w (c.in_err-meta.ensures.items (i.told t)))
+
+pub put_completed-requires-clause-last : goal.put_completed-requires-clause-last
+put_completed-requires-clause-last g c =
+    let m = c.args.merged.now in
+    let law = merged-is-feed g.F.PacketFeed.feed g.met.F.PacketFeed.lawful m.lanes.items m.feeds.items m.alike m.numbered m.agrees m.reached in
+    place-small c.loop-packet.place (feed_of (parts_of c.loop-packet.merged)).left (feed_of (parts_of m)).left _ c.loop-packet.invariant.places law.most
+    (omega (arith, c.files.ensures.files, c.files.ensures.most))
+
+pub returns-in_err-put_completed-clause-text : goal.returns-in_err-put_completed-clause-text
+returns-in_err-put_completed-clause-text g c = λ t w.
+    let p = err_from_is_err_and c.from_residual-in_err-put_completed.result c.from_residual-in_err-put_completed.ensures.1 in
+    let i = c.loop-packet.invariant in
+    let mid = parts_of c.loop-packet.merged in
+    let shown = parts_of c.next_of.new.merged in
+    let shows : ShowsItem (feed_of mid) (Ok (Some c.in-Some.meta)) (feed_of shown) = rw c.in-Some.is at (c.in_ok-meta.ensures.items (i.told t)) in
+    rw (p.1, p.2)
+    (Joining-part c.args.order c.in_err-put_completed.field-0.0 (parts_of c.args.merged.now) mid shown
+    c.args.names.now.keys c.loop-packet.names.keys c.loop-packet.joiner c.loop-packet.place _ _ _ _ (g.W.Sink.held c.put_completed.new.writer)
+    c.in-Some.meta c.frame.result.now c.clock.result c.frame.ensures.frame i t w
+    shows.1 (c.in_ok-meta.ensures.run (i.told t)) (c.clock.ensures.run (c.next_of.ensures.keeps.told (i.told t)))
+    (λ events stands. c.in_err-put_completed.ensures.text (i.writer_told w) events stands))
+
+pub overflow_add-place : goal.overflow_add-place
+overflow_add-place g c =
+    let m = c.args.merged.now in
+    let law = merged-is-feed g.F.PacketFeed.feed g.met.F.PacketFeed.lawful m.lanes.items m.feeds.items m.alike m.numbered m.agrees m.reached in
+    let small : c.loop-packet.place < 2 ^ 63 = place-small c.loop-packet.place (feed_of (parts_of c.loop-packet.merged)).left (feed_of (parts_of m)).left _ c.loop-packet.invariant.places law.most
+    (omega (arith, c.files.ensures.files, c.files.ensures.most)) in
+    omega (arith, small)
+
+pub loop-packet-preserved : goal.loop-packet-preserved
+loop-packet-preserved g c =
+    let i = c.loop-packet.invariant in
+    let mid = parts_of c.loop-packet.merged in
+    let shown = parts_of c.next_of.new.merged in
+    let e = c.in_ok-put_completed.ensures in
+    Joining-more c.args.order (parts_of c.args.merged.now) mid shown (parts_of c.pass.new.self)
+    c.args.names.now.keys c.loop-packet.names.keys c.put_completed.new.names.keys c.loop-packet.joiner c.put_completed.new.joiner c.loop-packet.place _ _ _ _ _ _
+    c.in-Some.meta c.frame.result.now c.clock.result c.frame.ensures.frame i
+    c.in_ok-meta.ensures.keeps (λ t. rw c.in-Some.is at (c.in_ok-meta.ensures.items t)) (λ t. c.in_ok-meta.ensures.run t)
+    (λ t. c.clock.ensures.run t) c.pass.ensures.keeps c.pass.ensures.passes.left (λ t. c.pass.ensures.run t)
+    e.limit e.next e.stands e.names
+    (λ w events stands. (e.text w events stands).1) e.told e.cannot (search rules)
+
+pub returns-clause-text : goal.returns-clause-text
+returns-clause-text g c = λ t w.
+    let i = c.loop-packet.invariant in
+    let mid = parts_of c.loop-packet.merged in
+    let shown = parts_of c.next_of.new.merged in
+    let shows : ShowsItem (feed_of mid) (Ok None) (feed_of shown) = rw c.in_default.is at (c.in_ok-meta.ensures.items (i.told t)) in
+    Joining-end c.args.order (parts_of c.args.merged.now) mid (feed_of shown) c.args.names.now.keys c.loop-packet.names.keys c.loop-packet.joiner c.loop-packet.place _ _ _ _ i t w shows

@@ -1,0 +1,51 @@
+-- What the calls of `write_joined` answer.
+use Rattle.std.specs.Prelude.{◌≡◌, ◌≤◌, ⊤, ℕ, Bool, true, false, List, [], ◌∷◌, length, Option, Some, None, Result, Ok, Err}
+use Rattle.cap_bytes.specs.declared.faults.Fault.{Fault}
+use Rattle.cap_bytes.specs.declared.faults.Fault.TheVariants.{Refused, Read, Write, Memory}
+use Rattle.cap_join.specs.History.{Event}
+use Rattle.cap_join.specs.Joiners.{JoinerState, StandsFor}
+use Rattle.cap_join.specs.declared.arrivals.Arrived.{Arrived}
+use Rattle.cap_join.specs.declared.arrivals.Arrived.TheVariants as as_
+use Rattle.cap_merge.specs.Parts.{Part, run_of}
+use Rattle.cap_source.specs.Feed.{Item, packet, refused}
+use Rattle.cap_write.specs.Joined.{Complete, complete_of, datagram_text}
+use Rattle.cap_write.specs.Numbering.{Name, with_name}
+
+-- A buffer has the bytes of the datagram, where there is one.
+abbrev pub IsFilled : Option Complete → Bool → List ℕ → Type 0
+IsFilled None some bytes = some ≡ false
+IsFilled (Some d) some bytes = (some ≡ true) × (bytes ≡ datagram_text d)
+
+-- the datagram that a joiner answered, where it is complete
+abbrev pub answered : Arrived → Option Complete
+answered as_.Bad = None
+answered as_.Cut = None
+answered (as_.Whole header bytes) = complete_of header bytes.now header.data_length
+answered as_.Kept = None
+answered (as_.Joined d) = complete_of d.header d.payload.items (length d.payload.items)
+
+-- The data of a joined datagram isn't longer than that of the longest.
+abbrev pub IsShort : Arrived → Type 0
+IsShort as_.Bad = ⊤
+IsShort as_.Cut = ⊤
+IsShort (as_.Whole header bytes) = ⊤
+IsShort as_.Kept = ⊤
+IsShort (as_.Joined d) = length d.payload.items ≤ 65515
+
+-- A joiner stands for some events.
+abbrev pub Stands : JoinerState → Type 0
+Stands joiner = (events : List Event) × StandsFor joiner events
+
+-- the interfaces that are described behind some items, where those were before
+unfoldable pub names_behind : List Name → List Item → List Name
+names_behind names [] = names
+names_behind names (packet meta frame ∷ items) = names_behind (with_name names meta) items
+names_behind names (refused refusal ∷ items) = names
+
+-- A call for the next packet keeps the run, unless a read failed.
+abbrev pub KeepsRun : {A : Type 0} → List Part → Result A Fault → List Part → Type 0
+KeepsRun old (Ok _) new = run_of new ≡ run_of old
+KeepsRun old (Err (Refused refusal)) new = run_of new ≡ run_of old
+KeepsRun old (Err (Read file offset)) new = ⊤
+KeepsRun old (Err Write) new = ⊥
+KeepsRun old (Err Memory) new = run_of new ≡ run_of old

@@ -1,0 +1,160 @@
+-- The datagrams of a run of packets, each written as one packet that begins with its header (RFC 791, 3.1 and 3.2).
+use Rattle.std.specs.Prelude.{ℕ, ◌+◌, ◌==◌, ◌&&◌, List, [], ◌∷◌, ◌++◌, length, Bool, true, false, Option, Some, None, is_some, option_and_then, if◌then◌else◌}
+use Rattle.cap_bytes.specs.Number.{bytes_of}
+use Rattle.cap_bytes.specs.declared.faults.Refusal.{Refusal}
+use Rattle.cap_bytes.specs.declared.numbers.Order.{Order}
+use Rattle.cap_bytes.specs.declared.numbers.Order.TheVariants.{Big}
+use Rattle.cap_ip.specs.Checksum.{checked, checksum_of}
+use Rattle.cap_ip.specs.Header.{HeaderFields}
+use Rattle.cap_ip.specs.Read.{Reading, found, bad, cut, read_of}
+use Rattle.cap_ip.specs.Transport.{transport_of}
+use Rattle.cap_ip.specs.declared.headers.Fragment.{Fragment}
+use Rattle.cap_ip.specs.declared.transports.Transport.{Transport}
+use Rattle.cap_ip.specs.declared.transports.Transport.TheVariants as transports
+use Rattle.cap_join.specs.Arrivals.{events_with}
+use Rattle.cap_join.specs.ByteMap.{completes, header_of, data_of}
+use Rattle.cap_join.specs.Fragments.{Piece, piece_of}
+use Rattle.cap_join.specs.History.{Event, joined_pieces, state_of}
+use Rattle.cap_join.specs.Joiners.{open_limit}
+use Rattle.cap_join.specs.declared.datagrams.Stamped.{Stamped}
+use Rattle.cap_link.specs.Links.{network_of, is_whole}
+use Rattle.cap_link.specs.Seen.{Carried, ipv4, other_link, not_ipv4, short, cut as ends}
+use Rattle.cap_merge.specs.Parts.{meta_time}
+use Rattle.cap_merge.specs.Run.{Clocked}
+use Rattle.cap_source.specs.Feed.{Item, packet, refused}
+use Rattle.cap_source.specs.declared.packets.Meta.{Meta}
+use Rattle.cap_time.specs.declared.resolutions.Interface.{Interface}
+use Rattle.cap_time.specs.declared.stamps.Stamp.{Stamp}
+use Rattle.cap_write.specs.Texts.{merged_text, merged_refusal}
+
+-- A datagram with all of its data.
+pub record Complete : Type 0 where
+  pub header : HeaderFields
+  pub bytes : List ℕ
+
+-- What stands in a header in front of its checksum, of a datagram with so many bytes of data: version 4 and five words, type
+-- of service, total length, identification, no flags and no offset, time to live, protocol.
+abbrev pub front_of : HeaderFields → ℕ → List ℕ
+front_of header size =
+    0x45 ∷ header.service ∷ (bytes_of Big 2 (20 + size)
+    ++ (bytes_of Big 2 header.key.identification ++ (0 ∷ 0 ∷ header.time_to_live ∷ header.key.protocol ∷ [])))
+
+-- and what stands behind it: both addresses
+abbrev pub back_of : HeaderFields → List ℕ
+back_of header = bytes_of Big 4 header.key.source ++ bytes_of Big 4 header.key.destination
+
+-- a header with that word in its checksum's place
+unfoldable pub header_with : HeaderFields → ℕ → ℕ → List ℕ
+header_with header size checksum = checked (front_of header size) checksum (back_of header)
+
+-- the header of a datagram of so many bytes of data, without options, with its checksum
+unfoldable pub header_text : HeaderFields → ℕ → List ℕ
+header_text header size = header_with header size (checksum_of (header_with header size 0))
+
+-- a datagram as one packet
+abbrev pub datagram_text : Complete → List ℕ
+datagram_text d = header_text d.header (length d.bytes) ++ d.bytes
+
+-- its data has the form of its protocol, as far as its ports
+abbrev pub has_form : Transport → Bool
+has_form (transports.Ports source destination) = true
+has_form transports.NoPorts = true
+has_form transports.Bad = false
+has_form transports.Cut = false
+
+-- A datagram of which so many bytes of data were captured from its front, where they are all of a length and have the form of
+-- its protocol.
+unfoldable pub complete_of : HeaderFields → List ℕ → ℕ → Option Complete
+complete_of header captured size =
+    if (length captured == size) && has_form (transport_of header.key.protocol captured size)
+    then Some (record { header = header; bytes = captured }) else None
+
+-- the datagram that some fragments make, once they complete it: the header is that of the latest that begins at 0
+unfoldable pub joined_of : List Piece → Option Complete
+joined_of pieces =
+    if completes pieces then option_and_then (λ h. complete_of h (data_of pieces) (length (data_of pieces))) (header_of pieces) else None
+
+-- The datagram that a packet completes, of which that was read at a clock, after some events at a joiner: the packet is a whole
+-- datagram, or the last fragment that was missing.
+abbrev pub completed_by : Option Fragment → HeaderFields → List ℕ → Option Stamp → Stamped → List Event → Option Complete
+completed_by None header captured clock stamped events = complete_of header captured header.data_length
+completed_by (Some fragment) header captured clock stamped events =
+    joined_of (joined_pieces clock (piece_of header captured stamped) (state_of open_limit events))
+
+abbrev pub completed_in : Reading → Option Stamp → Stamped → List Event → Option Complete
+completed_in (found header captured) clock stamped events = completed_by header.fragment header captured clock stamped events
+completed_in bad clock stamped events = None
+completed_in cut clock stamped events = None
+
+-- the same of what a frame carries, of which all was captured or not
+abbrev pub completed_at : Carried → Bool → Option Stamp → Stamped → List Event → Option Complete
+completed_at (ipv4 bytes) whole clock stamped events = completed_in (read_of bytes whole) clock stamped events
+completed_at other_link whole clock stamped events = None
+completed_at not_ipv4 whole clock stamped events = None
+completed_at short whole clock stamped events = None
+completed_at ends whole clock stamped events = None
+
+-- and the events after it, the latest first
+abbrev pub events_at : Carried → Bool → Option Stamp → Stamped → List Event → List Event
+events_at (ipv4 bytes) whole clock stamped events = events_with (read_of bytes whole) clock stamped events
+events_at other_link whole clock stamped events = events
+events_at not_ipv4 whole clock stamped events = events
+events_at short whole clock stamped events = events
+events_at ends whole clock stamped events = events
+
+-- what is told of a packet's frame, that has a place in the run
+abbrev pub stamped_of : ℕ → Meta → Stamped
+stamped_of place meta = record { time = meta_time meta; place = place; original = meta.original }
+
+-- the datagram that a packet completes, which has that place in the run and that clock
+unfoldable pub completed : ℕ → List Event → Option Stamp → Meta → List ℕ → Option Complete
+completed place events clock meta frame =
+    completed_at (network_of meta.interface.link frame meta.original) (is_whole frame meta.original) clock (stamped_of place meta) events
+
+unfoldable pub events_after : ℕ → List Event → Option Stamp → Meta → List ℕ → List Event
+events_after place events clock meta frame =
+    events_at (network_of meta.interface.link frame meta.original) (is_whole frame meta.original) clock (stamped_of place meta) events
+
+-- the interface of a written datagram: no link header (LINKTYPE_RAW, 101) and no limit; times as at the packet's own
+abbrev pub raw_interface : Interface → Interface
+raw_interface interface = record { link = 101; snaplen = 0; resolution = interface.resolution; offset = interface.offset }
+
+-- what is told of a datagram as one packet of so many bytes: it has the place, the time and the interface's number of the packet
+-- that completed it
+abbrev pub datagram_meta : Meta → ℕ → Meta
+datagram_meta meta size = record meta { interface = raw_interface meta.interface; captured = size; original = size }
+
+abbrev pub datagram_item : Meta → Complete → Item
+datagram_item meta d = packet (datagram_meta meta (length (datagram_text d))) (datagram_text d)
+
+abbrev pub datagram_items : Meta → Option Complete → List Item
+datagram_items meta None = []
+datagram_items meta (Some d) = datagram_item meta d ∷ []
+
+-- What is to be written of a packet: the datagram that it completes, if it does. A packet without a time stands for itself, so
+-- that its writing is refused.
+unfoldable pub items_of_packet : ℕ → List Event → Option Stamp → Meta → List ℕ → List Item
+items_of_packet place events clock meta frame =
+    if is_some meta.units then datagram_items meta (completed place events clock meta frame) else packet meta frame ∷ []
+
+-- what is to be written of an item of that clock, and the events after it
+abbrev pub items_here : ℕ → List Event → Option Stamp → Item → List Item
+items_here place events clock (packet meta frame) = items_of_packet place events clock meta frame
+items_here place events clock (refused refusal) = refused refusal ∷ []
+
+abbrev pub events_here : ℕ → List Event → Option Stamp → Item → List Event
+events_here place events clock (packet meta frame) = events_after place events clock meta frame
+events_here place events clock (refused refusal) = events
+
+-- What is to be written of a run, whose first packet has that place in it and comes after those events.
+unfoldable pub joined_items : ℕ → List Event → List (Clocked Item) → List Item
+joined_items place events [] = []
+joined_items place events (x ∷ xs) =
+    items_here place events x.clock x.item ++ joined_items (place + 1) (events_here place events x.clock x.item) xs
+
+-- What is written for a run: as for a merged list, over its datagrams.
+abbrev pub joined_text : Order → List (Clocked Item) → List ℕ
+joined_text order run = merged_text order (joined_items 0 [] run)
+
+abbrev pub joined_refusal : List (Clocked Item) → Option Refusal
+joined_refusal run = merged_refusal (joined_items 0 [] run)

@@ -1,0 +1,230 @@
+//! IPv4 datagrams as packets: whole ones, and those that are joined of fragments.
+ghost use Rattle.std.specs.Prelude.{◌≡◌, ◌+◌, ◌≤◌, ◌<◌, ◌<ℤ◌, ◌^◌, ◌++◌, ◌==◌, ◌&&◌, pos, length, List, [], IsTrue, IsOkUnless, IfOk, IfSome, OnOk};
+ghost use Rattle.cap_ip.specs.Read.{read_of};
+ghost use Rattle.cap_ip.specs.Transport.{transport_of};
+ghost use Rattle.cap_join.specs.Arrivals.{events_with};
+ghost use Rattle.cap_join.specs.History.{Event};
+ghost use Rattle.cap_join.specs.Joiners.{StandsFor};
+ghost use Rattle.cap_merge.specs.Parts.{meta_time};
+ghost use Rattle.cap_time.specs.Stamp.{seconds_of};
+ghost use Rattle.cap_write.specs.Datagrams.{IsFilled, IsShort, Stands, answered};
+ghost use Rattle.cap_write.specs.Joined.{header_with, header_text, has_form, complete_of, completed_in, completed, events_after, stamped_of};
+
+use cap_bytes::Fault;
+use cap_ip::{Header, Transport, header_checksum, transport};
+use cap_join::{Arrived, Joiner, Stamped};
+use cap_link::{Network, network};
+use cap_source::Meta;
+use cap_time::Stamp;
+
+/// Version 4, and a header of five words of four bytes.
+const VERSION_AND_LENGTH: u8 = 0x45;
+
+/// The length of a header without options, in bytes.
+const HEADER: u16 = 20;
+
+// A header without options, of a datagram of so many bytes of data, with that word in its checksum's
+// place (RFC 791, 3.1).
+#[tactic(auto, unfolding(crate::specs::Joined::header_with))]
+fn header_with(header: &Header, size: u16, checksum: u16) -> [u8; 20]
+    requires { size ≤ 65515 }
+    ensures { result ≡ header_with header.now size checksum }
+{
+    let key = header.key();
+    let total = (HEADER + size).to_be_bytes();
+    let identification = key.identification.to_be_bytes();
+    let source = key.source.to_be_bytes();
+    let destination = key.destination.to_be_bytes();
+    [
+        VERSION_AND_LENGTH,
+        header.service(),
+        total[0],
+        total[1],
+        identification[0],
+        identification[1],
+        0,
+        0,
+        header.time_to_live(),
+        key.protocol,
+        (checksum / 256) as u8,
+        (checksum % 256) as u8,
+        source[0],
+        source[1],
+        source[2],
+        source[3],
+        destination[0],
+        destination[1],
+        destination[2],
+        destination[3],
+    ]
+}
+
+// The header of a datagram of so many bytes of data, with its checksum.
+#[tactic(auto, unfolding(crate::specs::Joined::header_text))]
+fn header_of(header: &Header, size: u16) -> [u8; 20]
+    requires { size ≤ 65515 }
+    ensures { result ≡ header_text header.now size }
+{
+    let checksum = header_checksum(&header_with(header, size, 0));
+    header_with(header, size, checksum)
+}
+
+// Appends bytes.
+fn append(packet: &mut Vec<u8>, bytes: &[u8]) -> Result<(), Fault>
+    ensures items { OnOk result (packet.new.items ≡ packet.old.items ++ bytes.now) }
+    ensures fault { IsOkUnless result Fault.Memory }
+{
+    match packet.extend_from_slice(bytes) {
+        Ok(()) => Ok(()),
+        Err(_) => Err(Fault::Memory),
+    }
+}
+
+// Puts a datagram into an empty packet.
+fn fill(packet: &mut Vec<u8>, header: &Header, bytes: &[u8]) -> Result<(), Fault>
+    requires short { length bytes.now ≤ 65515 }
+    ensures items { OnOk result (packet.new.items ≡ header_text header.now (length bytes.now) ++ bytes.now) }
+    ensures short { OnOk result (length packet.new.items ≤ 65535) }
+    ensures fault { IsOkUnless result Fault.Memory }
+{
+    packet.clear();
+    append(packet, &header_of(header, bytes.len() as u16))?;
+    append(packet, bytes)
+}
+
+// Whether data has the form of its protocol, as far as its ports.
+fn has_form(transport: Transport) -> bool
+    ensures { result ≡ has_form transport }
+{
+    match transport {
+        Transport::Ports(_, _) => true,
+        Transport::NoPorts => true,
+        Transport::Bad => false,
+        Transport::Cut => false,
+    }
+}
+
+// Whether all of a datagram's data was captured, and has the form of its protocol.
+fn is_complete(header: &Header, captured: &[u8], size: u32) -> bool
+    ensures { result ≡ ((length captured.now == size) && has_form (transport_of header.now.key.protocol captured.now size)) }
+{
+    captured.len() == size as usize && has_form(transport(header.key().protocol, captured, size))
+}
+
+// Puts a datagram into the packet, where it is complete.
+#[tactic(auto, unfolding(crate::specs::Joined::complete_of))]
+fn fill_complete(
+    packet: &mut Vec<u8>,
+    header: &Header,
+    captured: &[u8],
+    size: u32,
+) -> Result<bool, Fault>
+    requires short { size ≤ 65515 }
+    ensures filled { IfOk result (λ some. IsFilled (complete_of header.now captured.now size) some packet.new.items) }
+    ensures short { IfOk result (λ some. IsTrue some → length packet.new.items ≤ 65535) }
+    ensures fault { IsOkUnless result Fault.Memory }
+{
+    if !is_complete(header, captured, size) {
+        return Ok(false);
+    }
+    fill(packet, header, captured)?;
+    Ok(true)
+}
+
+// Puts the datagram that a joiner answered into the packet, where it is complete.
+fn fill_answered(packet: &mut Vec<u8>, arrived: Arrived<'_>) -> Result<bool, Fault>
+    requires short { IsShort arrived }
+    ensures filled { IfOk result (λ some. IsFilled (answered arrived.entry) some packet.new.items) }
+    ensures short { IfOk result (λ some. IsTrue some → length packet.new.items ≤ 65535) }
+    ensures fault { IsOkUnless result Fault.Memory }
+{
+    match arrived {
+        Arrived::Bad => Ok(false),
+        Arrived::Cut => Ok(false),
+        Arrived::Whole(header, captured) => {
+            fill_complete(packet, &header, captured, header.data_length())
+        }
+        Arrived::Kept => Ok(false),
+        Arrived::Joined(datagram) => {
+            let bytes = datagram.payload.as_slice();
+            fill_complete(packet, &datagram.header, bytes, bytes.len() as u32)
+        }
+    }
+}
+
+// Takes an IPv4 packet, and puts the datagram that it completes into the packet, where it does.
+fn take_ipv4(
+    joiner: &mut Joiner,
+    clock: Option<Stamp>,
+    bytes: &[u8],
+    whole: bool,
+    stamped: Stamped,
+    packet: &mut Vec<u8>,
+) -> Result<bool, Fault>
+    requires stands { Stands joiner.old }
+    requires clock { IfSome clock (λ c. seconds_of c <ℤ pos (2 ^ 65)) }
+    requires place { joiner.old.next ≤ stamped.place }
+    requires last { stamped.place < 2 ^ 63 }
+    ensures filled { IfOk result (λ some. (events : List Event) → StandsFor joiner.old events →
+        IsFilled (completed_in (read_of bytes.now whole) clock stamped events) some packet.new.items) }
+    ensures stands { OnOk result ((events : List Event) → StandsFor joiner.old events →
+        StandsFor joiner.new (events_with (read_of bytes.now whole) clock stamped events)) }
+    ensures next { OnOk result (joiner.new.next ≤ stamped.place + 1) }
+    ensures short { IfOk result (λ some. IsTrue some → length packet.new.items ≤ 65535) }
+    ensures fault { IsOkUnless result Fault.Memory }
+{
+    match joiner.take(clock, bytes, whole, stamped) {
+        Ok(arrived) => fill_answered(packet, arrived),
+        Err(_) => Err(Fault::Memory),
+    }
+}
+
+// The time of a packet, where it has one.
+fn time_of(meta: &Meta) -> Option<Stamp>
+    ensures { result ≡ meta_time meta.now }
+{
+    match meta.units {
+        Some(units) => Some(Stamp::new(units, &meta.interface)),
+        None => None,
+    }
+}
+
+/// Takes a packet, which has that place in its run and that clock, and puts the bytes of the datagram that
+/// it completes into `packet`. Answers whether there is one: a whole datagram, or one whose last missing
+/// fragment this is, of which all data was captured and has the form of its protocol. `Memory` comes where
+/// a growth was refused.
+#[tactic(auto, unfolding(crate::specs::Joined::completed, crate::specs::Joined::events_after))]
+pub fn take_packet(
+    joiner: &mut Joiner,
+    clock: Option<Stamp>,
+    place: u64,
+    meta: &Meta,
+    frame: &[u8],
+    packet: &mut Vec<u8>,
+) -> Result<bool, Fault>
+    requires stands { Stands joiner.old }
+    requires clock { IfSome clock (λ c. seconds_of c <ℤ pos (2 ^ 65)) }
+    requires place { joiner.old.next ≤ place }
+    requires last { place < 2 ^ 63 }
+    ensures filled { IfOk result (λ some. (events : List Event) → StandsFor joiner.old events →
+        IsFilled (completed place events clock meta.now frame.now) some packet.new.items) }
+    ensures stands { OnOk result ((events : List Event) → StandsFor joiner.old events →
+        StandsFor joiner.new (events_after place events clock meta.now frame.now)) }
+    ensures next { OnOk result (joiner.new.next ≤ place + 1) }
+    ensures short { IfOk result (λ some. IsTrue some → length packet.new.items ≤ 65535) }
+    ensures fault { IsOkUnless result Fault.Memory }
+{
+    let stamped = Stamped {
+        time: time_of(meta),
+        place,
+        original: meta.original,
+    };
+    let whole = frame.len() >= meta.original as usize;
+    match network(meta.interface.link, frame, meta.original) {
+        Network::Ipv4(bytes) => take_ipv4(joiner, clock, bytes, whole, stamped, packet),
+        Network::OtherLink => Ok(false),
+        Network::NotIpv4 => Ok(false),
+        Network::Short => Ok(false),
+        Network::Cut => Ok(false),
+    }
+}

@@ -1,0 +1,184 @@
+//! Files of whole datagrams.
+ghost use Rattle.std.specs.Prelude.{◌≡◌, ◌+◌, ◌≤◌, ◌<◌, ◌<ℤ◌, ◌^◌, ◌||◌, pos, length, List, [], IsTrue, IfSome, OnOk};
+ghost use Rattle.cap_bytes.specs.Printing.{Prints, IsRead, is_write};
+ghost use Rattle.cap_join.specs.History.{Event};
+ghost use Rattle.cap_join.specs.Joiners.{StandsFor};
+ghost use Rattle.cap_merge.specs.Parts.{feed_of, run_of};
+ghost use Rattle.cap_merge.specs.View.{parts_of};
+ghost use Rattle.cap_source.specs.Feed.{Keeps};
+ghost use Rattle.cap_source.specs.Walk.{GivesPacket, ShowsItem};
+ghost use Rattle.cap_time.specs.Stamp.{seconds_of};
+ghost use Rattle.cap_write.specs.Datagrams.{KeepsRun, Stands, names_behind};
+ghost use Rattle.cap_write.specs.Joined.{datagram_meta, items_of_packet, events_after, joined_items, joined_text, joined_refusal};
+ghost use Rattle.cap_write.specs.Numbering.{refusal_in};
+ghost use Rattle.cap_write.specs.Texts.{text_behind};
+
+use crate::datagrams::take_packet;
+use crate::names::{Names, units_of};
+use crate::packets::put_one;
+use cap_blocks::put_section;
+use cap_bytes::{Fault, Order, Sink};
+use cap_join::Joiner;
+use cap_merge::Merged;
+use cap_source::{Head, Meta, PacketFeed};
+use cap_time::{Interface, Stamp};
+use std::alloc::Global;
+
+/// LINKTYPE_RAW: no link header, an IPv4 or IPv6 packet.
+const RAW: u16 = 101;
+
+// What is told of a datagram of so many bytes as one packet, which that packet completed.
+fn datagram_meta(meta: &Meta, size: u32) -> Meta
+    ensures { result ≡ datagram_meta meta.now size }
+{
+    Meta {
+        file: meta.file,
+        offset: meta.offset,
+        format: meta.format,
+        skipped: meta.skipped,
+        instance: meta.instance,
+        interface: Interface {
+            link: RAW,
+            snaplen: 0,
+            resolution: meta.interface.resolution,
+            offset: meta.interface.offset,
+        },
+        units: meta.units,
+        captured: size,
+        original: size,
+    }
+}
+
+// Writes the datagram that a packet completes, if it does. The packet has that place in its run and that
+// clock; `packet` is room for the datagram.
+fn put_completed<W: Sink>(
+    names: &mut Names,
+    joiner: &mut Joiner,
+    order: Order,
+    clock: Option<Stamp>,
+    place: u64,
+    meta: &Meta,
+    frame: &[u8],
+    packet: &mut Vec<u8>,
+    writer: &mut W,
+) -> Result<(), Fault>
+    requires limit { length names.old.keys ≤ 1024 }
+    requires stands { Stands joiner.old }
+    requires clock { IfSome clock (λ c. seconds_of c <ℤ pos (2 ^ 65)) }
+    requires place { joiner.old.next ≤ place }
+    requires last { place < 2 ^ 63 }
+    ensures text { IsTrue (W.tells_held writer.old) → (events : List Event) → StandsFor joiner.old events
+        → Prints (text_behind order names.old.keys (items_of_packet place events clock meta.now frame.now))
+        (refusal_in names.old.keys (items_of_packet place events clock meta.now frame.now))
+        (W.held writer.old) result (W.held writer.new) }
+    ensures names { OnOk result ((events : List Event) → StandsFor joiner.old events
+        → (names.new.keys ≡ names_behind names.old.keys (items_of_packet place events clock meta.now frame.now))
+        × (refusal_in names.old.keys (items_of_packet place events clock meta.now frame.now) ≡ None)) }
+    ensures stands { OnOk result ((events : List Event) → StandsFor joiner.old events
+        → StandsFor joiner.new (events_after place events clock meta.now frame.now)) }
+    ensures next { OnOk result (joiner.new.next ≤ place + 1) }
+    ensures limit { length names.new.keys ≤ 1024 }
+    ensures told { IsTrue (W.tells_held writer.old) → IsTrue (W.tells_held writer.new) }
+    ensures failed { W.has_failed writer.new ≡ (W.has_failed writer.old || is_write result) }
+    ensures read { IsRead result → ⊥ }
+    ensures write { IsTrue (is_write result) → IsTrue (W.can_fail writer.old) }
+    ensures cannot { IsTrue (W.can_fail writer.new) → IsTrue (W.can_fail writer.old) }
+{
+    units_of(meta)?;
+    if take_packet(joiner, clock, place, meta, frame, packet)? {
+        let meta = datagram_meta(meta, packet.len() as u32);
+        put_one(names, order, &meta, packet.as_slice(), writer)
+    } else {
+        Ok(())
+    }
+}
+
+// What comes next of a run: a packet, which stays until it is passed, or none at the end. A refusal is
+// answered as a fault.
+fn next_of<F: PacketFeed>(merged: &mut Merged<F>) -> Result<Option<Meta>, Fault>
+    ensures answer { GivesPacket (feed_of (parts_of merged.old)) result
+        (feed_of (parts_of merged.new)) }
+    ensures keeps { Keeps (feed_of (parts_of merged.old)) (feed_of (parts_of merged.new)) }
+    ensures items { IsTrue (feed_of (parts_of merged.old)).told
+        → ShowsItem (feed_of (parts_of merged.old)) result (feed_of (parts_of merged.new)) }
+    ensures run { IsTrue (feed_of (parts_of merged.old)).told
+        → KeepsRun (parts_of merged.old) result (parts_of merged.new) }
+{
+    match merged.head()? {
+        Head::Packet(meta) => Ok(Some(meta)),
+        Head::Refused(refusal) => Err(Fault::Refused(refusal)),
+        Head::End => Ok(None),
+    }
+}
+
+// Writes the datagrams of a run, where the interfaces of `names` were described before.
+fn put_joined<F: PacketFeed, W: Sink>(
+    alloc: Global,
+    merged: &mut Merged<F>,
+    order: Order,
+    names: &mut Names,
+    writer: &mut W,
+) -> Result<(), Fault>
+    requires limit { length names.old.keys ≤ 1024 }
+    ensures text { IsTrue (feed_of (parts_of merged.old)).told → IsTrue (W.tells_held writer.old)
+        → Prints (text_behind order names.old.keys (joined_items 0 [] (run_of (parts_of merged.old))))
+        (refusal_in names.old.keys (joined_items 0 [] (run_of (parts_of merged.old))))
+        (W.held writer.old) result (W.held writer.new) }
+    ensures told { IsTrue (W.tells_held writer.old) → IsTrue (W.tells_held writer.new) }
+    ensures failed { W.has_failed writer.new ≡ (W.has_failed writer.old || is_write result) }
+    ensures read { IsRead result → IsTrue (feed_of (parts_of merged.old)).can_fail }
+    ensures write { IsTrue (is_write result) → IsTrue (W.can_fail writer.old) }
+    ensures cannot { IsTrue (W.can_fail writer.new) → IsTrue (W.can_fail writer.old) }
+{
+    let mut joiner = Joiner::new(alloc);
+    let mut packet = Vec::new(alloc);
+    let mut place: u64 = 0;
+    let _ = merged.files();
+    while let Some(meta) = next_of(merged)? {
+        put_completed(
+            names,
+            &mut joiner,
+            order,
+            merged.clock(),
+            place,
+            &meta,
+            merged.frame(),
+            &mut packet,
+            writer,
+        )?;
+        merged.pass();
+        place += 1;
+    }
+    Ok(())
+}
+
+/// Writes the datagrams of a run of packets as a pcapng file of one section in that order: each whole
+/// IPv4 datagram, and each that is joined of fragments (RFC 791, 3.2), as one packet without a link
+/// header, of the datagram's header without options and all of its data. It has the place, the time and
+/// the interface's number of the packet that completed it; the interface has link 101 and no snaplen.
+/// A datagram isn't written where some of its data wasn't captured, or doesn't have the form of UDP
+/// or TCP; nor is a frame that isn't IPv4. Interfaces are numbered by first use.
+///
+/// `Refused` comes at a packet that has no time (rule 17, no-time), whatever it holds, at one that
+/// completes a datagram whose interface would be the 1,025th (rule 13, interface-limit), and where the run
+/// ends in a refusal: what is written is the text of the datagrams before it. After `Read`, `Write` or
+/// `Memory` a front of the text is written. draft-ietf-opsawg-pcapng, 4.
+pub fn write_joined<F: PacketFeed, W: Sink>(
+    alloc: Global,
+    merged: &mut Merged<F>,
+    order: Order,
+    writer: &mut W,
+) -> Result<(), Fault>
+    ensures text { IsTrue (feed_of (parts_of merged.old)).told → IsTrue (W.tells_held writer.old)
+        → Prints (joined_text order (run_of (parts_of merged.old))) (joined_refusal (run_of (parts_of merged.old)))
+        (W.held writer.old) result (W.held writer.new) }
+    ensures told { IsTrue (W.tells_held writer.old) → IsTrue (W.tells_held writer.new) }
+    ensures failed { W.has_failed writer.new ≡ (W.has_failed writer.old || is_write result) }
+    ensures read { IsRead result → IsTrue (feed_of (parts_of merged.old)).can_fail }
+    ensures write { IsTrue (is_write result) → IsTrue (W.can_fail writer.old) }
+    ensures cannot { IsTrue (W.can_fail writer.new) → IsTrue (W.can_fail writer.old) }
+{
+    put_section(writer, order)?;
+    let mut names = Names::new(alloc);
+    put_joined(alloc, merged, order, &mut names, writer)
+}
