@@ -55,7 +55,9 @@ impl Joiner {
         match Header::read(bytes, captured_whole) {
             HeaderOr::Bad => Ok(Arrived::Bad),
             HeaderOr::Cut => Ok(Arrived::Cut),
-            HeaderOr::Header(header, data) => take_datagram(self, clock, header, data, stamped),
+            HeaderOr::Header(header, captured) => {
+                take_datagram(self, clock, header, captured, stamped)
+            }
         }
     }
 }
@@ -65,26 +67,26 @@ fn take_datagram<'a>(
     joiner: &mut Joiner,
     clock: Option<Stamp>,
     header: Header,
-    data: &'a [u8],
+    captured: &'a [u8],
     stamped: Stamped,
 ) -> Result<Arrived<'a>, JoinFault>
-    requires shaped { IsShaped header data.now }
+    requires shaped { IsShaped header captured.now }
     requires clock { IfSome clock (λ c. seconds_of c <ℤ pos (2 ^ 65)) }
     requires place { joiner.old.next ≤ stamped.place }
     requires last { stamped.place < 2 ^ 63 }
     ensures answer { IfOk result (λ arrived. (events : List Event) → StandsFor joiner.old events →
-        IsArrived (found header data.now) clock stamped events arrived) }
+        IsArrived (found header captured.now) clock stamped events arrived) }
     ensures stands { OnOk result ((events : List Event) → StandsFor joiner.old events →
-        StandsFor joiner.new (events_with (found header data.now) clock stamped events)) }
+        StandsFor joiner.new (events_with (found header captured.now) clock stamped events)) }
     ensures next { OnOk result (joiner.new.next ≤ stamped.place + 1) }
     ensures fault { IfErr result (λ e. e ≡ Memory) }
     ensures err { OnErr result (joiner.new ≡ joiner.old) }
 {
     if header.fragment().is_none() {
         joiner.flush(header.key());
-        return Ok(Arrived::Whole(header, data));
+        return Ok(Arrived::Whole(header, captured));
     }
-    match joiner.put(clock, &header, data, stamped)? {
+    match joiner.put(clock, &header, captured, stamped)? {
         Put::Kept => Ok(Arrived::Kept),
         Put::Joined(datagram) => Ok(Arrived::Joined(datagram)),
     }

@@ -133,6 +133,7 @@ fn put_joined<F: PacketFeed, W: Sink>(
     let mut joiner = Joiner::new(alloc);
     let mut packet = Vec::new(alloc);
     let mut place: u64 = 0;
+    // 32 files at most, of fewer than 2^40 packets each: so the place stays below 2^63
     let _ = merged.files();
     while let Some(meta) = next_of(merged)? {
         put_completed(
