@@ -56,8 +56,9 @@ impl Talks {
         }
     }
 
-    /// Counts one unit more, behind those that the table stands for. All frames of its rows and the
-    /// unit's are fewer than 2^64, and their bytes fewer than 2^128.
+    /// Counts one unit more, behind those that the table stands for: units come in the order of the frames
+    /// that completed them. All frames of its rows and the unit's are fewer than 2^64, and their bytes fewer
+    /// than 2^128.
     ///
     /// `Limit` comes exactly where the unit's conversation is a new one and 1,048,576 stand, `Memory`
     /// where a growth was refused. Both leave the table as it was.
