@@ -12,3 +12,4 @@ pub mod JoinerView
 pub mod Places
 pub mod Rows
 pub mod Arrivals
+pub mod Fitting

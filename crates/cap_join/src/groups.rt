@@ -2,6 +2,7 @@
 ghost use Rattle.std.specs.Prelude.{◌≡◌, ℕ, List, [], ◌∷◌, ◌+◌, ◌==◌, ◌≤◌, ◌<◌, ◌<ℤ◌, ◌^◌, pos, true, length, Some, IfSome, OnOk, OnErr, if◌then◌else◌};
 ghost use Rattle.cap_time.specs.Stamp.{seconds_of};
 ghost use Rattle.cap_ip.specs.Header.{IsPiece};
+ghost use Rattle.cap_join.specs.Fitting.{FitsDatagram};
 ghost use Rattle.cap_join.specs.Fragments.{Piece, piece_of};
 ghost use Rattle.cap_join.specs.ByteMap.{completes};
 ghost use Rattle.cap_join.specs.Frames.{timed, earlier, later, is_too_old};
@@ -193,7 +194,8 @@ impl Group {
 
     /// The datagram that the fragments are.
     pub(crate) fn into_datagram(self) -> Datagram
-        ensures { (ps : List Piece) → IsGroupOf self ps → completes ps ≡ true → IsDatagramOf result ps }
+        ensures datagram { (ps : List Piece) → IsGroupOf self ps → completes ps ≡ true → IsDatagramOf result ps }
+        ensures fits { FitsDatagram result }
     {
         let Group {
             mut buffer,

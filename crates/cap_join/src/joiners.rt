@@ -2,6 +2,7 @@
 ghost use Rattle.std.specs.Prelude.{◌≡◌, ℕ, List, [], ◌∷◌, ◌+◌, ◌≤◌, ◌<◌, ◌<ℤ◌, ◌^◌, pos, length, IsSome, IfSome, IfOk, IfErr, OnOk, OnErr};
 ghost use Rattle.cap_time.specs.Stamp.{seconds_of};
 ghost use Rattle.cap_ip.specs.Header.{IsPiece};
+ghost use Rattle.cap_join.specs.Fitting.{FitsPut};
 ghost use Rattle.cap_join.specs.Fragments.{piece_of};
 ghost use Rattle.cap_join.specs.History.{Event, arrives, flushes, state_of, joined_pieces};
 ghost use Rattle.cap_join.specs.Joiners.{StandsFor, IsAnswer, most_bytes, held_of, open_limit};
@@ -83,6 +84,7 @@ impl Joiner {
         ensures stands { OnOk result ((events : List Event) → StandsFor self.old events →
             StandsFor self.new (arrives clock (piece_of header.now bytes.now stamped) ∷ events)) }
         ensures next { OnOk result (self.new.next ≡ stamped.place + 1) }
+        ensures fits { IfOk result FitsPut }
         ensures fault { IfErr result (λ e. e ≡ Memory) }
         ensures err { OnErr result (self.new ≡ self.old) }
     {

@@ -3,6 +3,7 @@ ghost use Rattle.std.specs.Prelude.{◌≡◌, ℕ, List, [], ◌∷◌, ◌++�
 ghost use Rattle.cap_time.specs.Stamp.{seconds_of};
 ghost use Rattle.cap_ip.specs.Header.{IsPiece};
 ghost use Rattle.indexmap.specs.IndexMap.{spare, KeepsRoom};
+ghost use Rattle.cap_join.specs.Fitting.{FitsPut};
 ghost use Rattle.cap_join.specs.Fragments.{piece_of};
 ghost use Rattle.cap_join.specs.Frames.{is_too_old};
 ghost use Rattle.std.specs.List.{IsDistinct};
@@ -113,6 +114,7 @@ fn extend(
     requires last { stamped.place < 2 ^ 63 }
     ensures ok { IfOk result (λ put. (os : List OpenGroup) → AreEntriesOf groups.old.entries os →
         Puts clock (piece_of header.now piece.now stamped) os put false groups.new.entries) }
+    ensures fits { IfOk result FitsPut }
     ensures table { OnOk result (IsTable (stamped.place + 1) groups.new.entries) }
     ensures err { OnErr result (groups.new.entries ≡ groups.old.entries) }
 {
@@ -148,6 +150,7 @@ fn open(
     requires table { IsTable stamped.place groups.old.entries }
     ensures ok { IfOk result (λ put. (os : List OpenGroup) → AreEntriesOf groups.old.entries os →
         Puts clock (piece_of header.now piece.now stamped) os put.0 put.1 groups.new.entries) }
+    ensures fits { IfOk result (λ put. FitsPut put.0) }
     ensures table { OnOk result (IsTable (stamped.place + 1) groups.new.entries) }
     ensures err { OnErr result (groups.new.entries ≡ groups.old.entries) }
 {
@@ -183,6 +186,7 @@ pub(crate) fn put_fragment(
     requires last { stamped.place < 2 ^ 63 }
     ensures ok { IfOk result (λ put. (os : List OpenGroup) → AreEntriesOf groups.old.entries os →
         Puts clock (piece_of header.now piece.now stamped) os put.0 put.1 groups.new.entries) }
+    ensures fits { IfOk result (λ put. FitsPut put.0) }
     ensures table { OnOk result (IsTable (stamped.place + 1) groups.new.entries) }
     ensures err { OnErr result (groups.new.entries ≡ groups.old.entries) }
 {

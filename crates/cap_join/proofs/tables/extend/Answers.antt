@@ -50,7 +50,7 @@ returns-clause-ok c = λ os entries.
     c.drop_old.ensures.entries c.drop_old.ensures.unique
     (subst (λ (k : Key). Some c.in-Some.group ≡ entry_at k late) key c.in-Some.ensures.value)
     (subst (λ (k : Key). c.shift_remove.new.self.entries ≡ remove_entry (same_key k) late) key c.shift_remove.ensures.entries)
-    c.into_datagram.ensures
+    c.into_datagram.ensures.datagram
 
 pub returns-clause-table : goal.returns-clause-table
 returns-clause-table c =

@@ -20,7 +20,7 @@ returns-then-is_complete-clause-ok c = λ os entries.
     let done : completes (p ∷ []) ≡ true = sym (c.is_complete.ensures (p ∷ []) group) ∙ c.if-is_complete.true in
     Puts-alone c.args.clock p es c.requires.table.unique os entries c.drop_old.new.groups.entries c.into_datagram.result
     (subst (λ (k : Key). has_live k c.args.clock es ≡ false) key c.requires.live) done
-    (c.into_datagram.ensures (p ∷ []) group done) c.drop_old.ensures.entries
+    (c.into_datagram.ensures.datagram (p ∷ []) group done) c.drop_old.ensures.entries
 
 pub returns-then-is_complete-clause-table : goal.returns-then-is_complete-clause-table
 returns-then-is_complete-clause-table c =
