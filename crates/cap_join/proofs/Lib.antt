@@ -10,3 +10,4 @@ pub mod Putting
 pub mod Most
 pub mod OpenGroups
 pub mod ByPlaces
+pub mod Once

@@ -13,3 +13,4 @@ pub mod Places
 pub mod Rows
 pub mod Arrivals
 pub mod Fitting
+pub mod Completed

@@ -1,4 +1,5 @@
 //! Laws of the definitions.
+ghost use Rattle.cap_join.specs.Completed.{CompletedLaw, OnceLaw};
 ghost use Rattle.cap_join.specs.Places.{PlacesLaw};
 ghost use Rattle.cap_join.specs.Rows.{OpenLimit, OverlapMap, ThirtySeconds};
 
@@ -7,6 +8,13 @@ ghost use Rattle.cap_join.specs.Rows.{OpenLimit, OverlapMap, ThirtySeconds};
 /// where clocks never fall, places rise, and no fragment is a whole datagram by itself.
 pub fn places_law()
     ensures { PlacesLaw }
+{}
+
+/// The groups that were completed, by steps and by places, are the same where clocks never fall; and no
+/// fragment is in two groups, open or completed.
+pub fn completed_laws()
+    ensures completed { CompletedLaw }
+    ensures once { OnceLaw }
 {}
 
 /// The definitions on small groups: overlapped fragments, the open limit, and 30 seconds.
