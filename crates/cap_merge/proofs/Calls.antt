@@ -1,5 +1,5 @@
 -- What the calls of a merge keep, over the lists of its lanes and feeds.
-use Rattle.std.proofs.Common.{ℕ, ◌≡◌, true, List, [], ◌∷◌, length, refl, sym, ap, ◌∙◌, arith, Result, Err, suc, ◌++◌}
+use Rattle.std.proofs.Common.{ℕ, ◌≡◌, true, List, [], ◌∷◌, length, refl, sym, ap, ◌∙◌, arith, Result, Err, suc, ◌+◌, ◌++◌}
 use Rattle.std.specs.Prelude.{map, IsTrue, is_some}
 use Rattle.std.specs.List.{AllByRecursion, list_all, range_with_len, flat_map}
 use Rattle.cap_bytes.specs.declared.faults.Fault.{Fault}
@@ -79,6 +79,22 @@ count_files f n (l ∷ ls) (x ∷ xs) e a =
     ∙ ap suc (count_files f (suc n) ls xs (omega arith) a.1)
 
 -- there is a file for each feed
+number_files : {F : Type 0} (f : F → Feed) (n : ℕ) (ls : List Lane) (fs : List F) → length ls ≡ length fs → AreFrom n (parts ls (map f fs))
+    → flat_map (λ p. p.feed.files) (parts ls (map f fs)) ≡ range_with_len n (length fs)
+number_files f n [] [] e a = refl
+number_files f n [] (x ∷ xs) e a = absurd (omega arith)
+number_files f n (l ∷ ls) [] e a = absurd (omega arith)
+number_files f n (l ∷ ls) (x ∷ xs) e a =
+    let next : suc n ≡ n + 1 = omega arith in
+    ap (λ files. files ++ flat_map (λ p. p.feed.files) (parts ls (map f xs))) a.0
+    ∙ ap (λ files. n ∷ files) (number_files f (suc n) ls xs (omega arith) a.1 ∙ ap (λ k. range_with_len k (length xs)) next)
+
+-- the files are numbered from 1 on
+pub files-numbered : {F : Type 0} (f : F → Feed) (ls : List Lane) (fs : List F) → length ls ≡ length fs → IsNumbered (map f fs)
+    → (feed_of (parts ls (map f fs))).files ≡ range_with_len 1 (length fs)
+unfolding feed_of
+files-numbered f ls fs e n = number_files f 1 ls fs e (numbered-from f ls fs e n)
+
 pub files-counted : {F : Type 0} (f : F → Feed) (ls : List Lane) (fs : List F) → length ls ≡ length fs → IsNumbered (map f fs)
     → length fs ≡ length (feed_of (parts ls (map f fs))).files
 unfolding feed_of

@@ -12,3 +12,5 @@ pub mod Firsts
 pub mod RunLaws
 pub mod Rounds
 pub mod FromClock
+pub mod Unread
+pub mod Shown

@@ -15,3 +15,5 @@ pub mod Lawful
 pub mod View
 pub mod Listed
 pub mod Lists
+pub mod Files
+pub mod Readers

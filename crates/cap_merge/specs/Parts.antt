@@ -198,6 +198,14 @@ KeepsRun old (Err (Read file offset)) new = ⊤
 KeepsRun old (Err Write) new = ⊥
 KeepsRun old (Err Memory) new = run_of new ≡ run_of old
 
+-- The same of a call that answers a refusal as a fault.
+abbrev pub ShowsRun : {A : Type 0} → List Part → Result A Fault → List Part → Type 0
+ShowsRun old (Ok _) new = run_of new ≡ run_of old
+ShowsRun old (Err (Refused refusal)) new = run_of new ≡ run_of old
+ShowsRun old (Err (Read file offset)) new = ⊤
+ShowsRun old (Err Write) new = ⊥
+ShowsRun old (Err Memory) new = run_of new ≡ run_of old
+
 -- The run begins with an item of that clock.
 abbrev pub BeginsAt : Option Stamp → List (Clocked Item) → Type 0
 BeginsAt clock [] = ⊥

@@ -1,10 +1,14 @@
 //! Several files' packets in the order of exact time.
 #![tactic(auto)]
 
+mod files;
 mod lanes;
 mod merging;
+mod walks;
 
+pub use crate::files::merge_files;
 pub use crate::merging::Merged;
+pub use crate::walks::next_of;
 
 #[cfg(test)]
 mod tests;

@@ -1,5 +1,6 @@
 //! Several feeds as one.
 ghost use Rattle.std.specs.Prelude.{◌≡◌, ◌≤◌, ◌<ℤ◌, ◌^◌, pos, length, map, drop, vec_len, true, false, IsTrue, Some, Option, IfSome};
+ghost use Rattle.std.specs.List.{range_with_len};
 ghost use Rattle.std.specs.Ordering.{is_gt};
 ghost use Rattle.cap_time.specs.declared.stamps.Stamp.{Stamp};
 ghost use Rattle.cap_time.specs.Stamp.{seconds_of};
@@ -59,9 +60,10 @@ impl<F: PacketFeed> Merged<F> {
         }
     }
 
-    /// How many feeds there are, each of one file: at most 32.
+    /// How many feeds there are, each of one file: at most 32. The files are numbered from 1 on.
     pub fn files(&self) -> u32
         ensures files { result ≡ length (feed_of (parts_of self.now)).files }
+        ensures numbered { (feed_of (parts_of self.now)).files ≡ range_with_len 1 result }
         ensures most { result ≤ 32 }
     {
         self.feeds.len() as u32

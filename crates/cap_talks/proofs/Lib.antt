@@ -10,3 +10,13 @@ pub mod KeyLaws
 pub mod FrameLaws
 pub mod SumLaws
 pub mod TalkPrinting
+pub mod Recount
+pub mod Steps
+pub mod Frames
+pub mod WorkedRows
+pub mod Tallying
+pub mod Exits
+pub mod Stepping
+pub mod Reporting
+pub mod Lone
+pub mod Room

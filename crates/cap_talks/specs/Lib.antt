@@ -9,3 +9,15 @@ pub mod TalksView
 pub mod TalkText
 pub mod TalkLaws
 pub mod WorkedTalks
+pub mod Taken
+pub mod Classes
+pub mod CountedUnits
+pub mod ReportText
+pub mod WorkedReport
+pub mod Looking
+pub mod Tallies
+pub mod TallyView
+pub mod Adding
+pub mod Stepping
+pub mod Reporting
+pub mod InOrder

@@ -73,7 +73,7 @@ fn with_packet(counts: Counts, meta: &Meta) -> Counts
 }
 
 // The time of a packet, where it has one.
-fn time_of(meta: &Meta) -> Option<Stamp>
+pub(crate) fn time_of(meta: &Meta) -> Option<Stamp>
     ensures { result ≡ time_of meta.now }
 {
     match meta.units {

@@ -4,9 +4,8 @@ ghost use Rattle.std.specs.List.{list_all, list_any};
 ghost use Rattle.cap_tasks.specs.JoinText.{join_text, join_refusal};
 ghost use Rattle.cap_bytes.specs.Printing.{Prints, IsRead, is_write};
 
-use crate::merge::captures_of;
 use cap_bytes::{Fault, Order, Sink, Source, Tail};
-use cap_merge::Merged;
+use cap_merge::merge_files;
 use cap_write::write_joined;
 use std::alloc::Global;
 
@@ -33,8 +32,7 @@ pub fn join_to<R: Source, W: Sink>(
     ensures read { IsRead result → IsTrue (list_any R.can_fail sources.items) }
     ensures write { IsTrue (is_write result) → IsTrue (W.can_fail writer.old) }
 {
-    let captures = captures_of(alloc, sources, tail)?;
-    let mut merged = Merged::new(captures);
+    let mut merged = merge_files(alloc, sources, tail)?;
     write_joined(alloc, &mut merged, order, writer)
 }
 

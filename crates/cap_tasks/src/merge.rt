@@ -1,38 +1,13 @@
 //! `capt merge`: the packets of several files, written as one pcapng file.
-ghost use Rattle.std.specs.Prelude.{◌≡◌, ◌≤◌, ◌||◌, IsTrue, IfOk, IsOkUnless, map, vec_len};
+ghost use Rattle.std.specs.Prelude.{◌≡◌, ◌≤◌, ◌||◌, IsTrue, map, vec_len};
 ghost use Rattle.std.specs.List.{list_all, list_any};
-ghost use Rattle.cap_tasks.specs.MergeText.{AreUnread, reader_of, merge_text, merge_refusal};
+ghost use Rattle.cap_tasks.specs.MergeText.{merge_text, merge_refusal};
 ghost use Rattle.cap_bytes.specs.Printing.{Prints, IsRead, is_write};
 
 use cap_bytes::{Fault, Order, Sink, Source, Tail};
-use cap_merge::Merged;
-use cap_source::{Capture, PacketFeed};
+use cap_merge::merge_files;
 use cap_write::write_merged;
 use std::alloc::Global;
-
-/// The packets of files, which have the numbers from 1 on. Nothing is read yet.
-pub fn captures_of<R: Source>(
-    alloc: Global,
-    sources: Vec<R>,
-    tail: Tail,
-) -> Result<Vec<Capture<R>>, Fault>
-    requires most { vec_len sources ≤ 32 }
-    ensures unread { IfOk result (λ captures. AreUnread tail 1
-        (map (reader_of R.tells_coming R.can_fail R.coming) sources.items)
-        (map ⟦<Capture<R> as PacketFeed>⟧.feed captures.items)) }
-    ensures memory { IsOkUnless result Fault.Memory }
-{
-    let mut captures = Vec::new(alloc);
-    let mut file = 1u32;
-    for source in sources {
-        let capture = Capture::new(alloc, source, file, tail);
-        if captures.push(capture).is_err() {
-            return Err(Fault::Memory);
-        }
-        file += 1;
-    }
-    Ok(captures)
-}
 
 /// Writes the packets of 1 to 32 capture files, each of either format, as a pcapng file of one section in
 /// that order, in the order of exact time: by the greatest time so far in a packet's file, of equal ones
@@ -56,8 +31,7 @@ pub fn merge_to<R: Source, W: Sink>(
     ensures read { IsRead result → IsTrue (list_any R.can_fail sources.items) }
     ensures write { IsTrue (is_write result) → IsTrue (W.can_fail writer.old) }
 {
-    let captures = captures_of(alloc, sources, tail)?;
-    let mut merged = Merged::new(captures);
+    let mut merged = merge_files(alloc, sources, tail)?;
     write_merged(alloc, &mut merged, order, writer)
 }
 

@@ -24,27 +24,6 @@ use Rattle.cap_write.specs.Joined.{items_of_packet, events_after, items_here, ev
 use Rattle.cap_write.specs.Numbering.{Name, with_name, write_fault, refusal_at, refusal_in, numbered}
 use Rattle.cap_write.specs.Texts.{text_behind, packets_text, one_text}
 
--- what comes next of a feed, by what is known of it
-shown_by : (feed : Feed) (head : Head) → IsFeed feed → IsTrue feed.told → feed.known ≡ Some head → Leads (Some head) feed.frame feed.items
-shown_by feed head law t known = subst (λ (k : Option Head). Leads k feed.frame feed.items) known (law.leads t)
-
-pub shows-packet : (old new : Feed) (meta : Meta) → IsFeed new → IsTrue new.told → new.known ≡ Some (heads.Packet meta) → SameItems old new
-    → ShowsItem old (Ok (Some meta)) new
-shows-packet old new meta law t known same =
-    let leads : new.items ≡ packet meta new.frame ∷ drop 1 new.items = shown_by new (heads.Packet meta) law t known in
-    (same, sym same.items ∙ (leads ∙ ap (λ l. packet meta new.frame ∷ drop 1 l) same.items))
-
-pub shows-refused : (old new : Feed) (r : Refusal) → IsFeed new → IsTrue new.told → new.known ≡ Some (heads.Refused r) → SameItems old new
-    → ShowsItem old (Err (Refused r)) new
-shows-refused old new r law t known same =
-    let leads : new.items ≡ refused r ∷ [] = shown_by new (heads.Refused r) law t known in
-    (same, sym same.items ∙ leads)
-
-pub shows-end : (old new : Feed) → IsFeed new → IsTrue new.told → new.known ≡ Some heads.End → SameItems old new → ShowsItem old (Ok None) new
-shows-end old new law t known same =
-    let leads : new.items ≡ [] = shown_by new heads.End law t known in
-    (same, sym same.items ∙ leads)
-
 none-some : (r : Refusal) → None ≡ Some r → ⊥
 none-some r e = cc
 

@@ -15,7 +15,7 @@ use Rattle.cap_write.proofs.Instances.{one_interface-law}
 use Rattle.cap_write.proofs.Renumbered.{merged_again-law}
 use Rattle.cap_write.specs.Laws.{AllAlike, HasFields, AllHave, ItemFits, MergeLaw}
 use Rattle.cap_write.specs.Numbering.{Name, name_of}
-use Rattle.cap_write.specs.Runs.{items_of_files, run_of_files}
+use Rattle.cap_merge.specs.Files.{items_of_files, run_of_files}
 
 -- A packet has the interface of its name, its fields fit, and its file has at least that number.
 abbrev IsOfFile : ℕ → (Name → Interface) → Item → Type 0

@@ -1,12 +1,9 @@
 -- What the calls of `write_joined` answer.
-use Rattle.std.specs.Prelude.{◌≡◌, ◌≤◌, ⊤, ℕ, Bool, true, false, List, [], ◌∷◌, length, Option, Some, None, Result, Ok, Err}
-use Rattle.cap_bytes.specs.declared.faults.Fault.{Fault}
-use Rattle.cap_bytes.specs.declared.faults.Fault.TheVariants.{Refused, Read, Write, Memory}
+use Rattle.std.specs.Prelude.{◌≡◌, ◌≤◌, ⊤, ℕ, Bool, true, false, List, [], ◌∷◌, length, Option, Some, None}
 use Rattle.cap_join.specs.History.{Event}
 use Rattle.cap_join.specs.Joiners.{JoinerState, StandsFor}
 use Rattle.cap_join.specs.declared.arrivals.Arrived.{Arrived}
 use Rattle.cap_join.specs.declared.arrivals.Arrived.TheVariants as as_
-use Rattle.cap_merge.specs.Parts.{Part, run_of}
 use Rattle.cap_source.specs.Feed.{Item, packet, refused}
 use Rattle.cap_write.specs.Joined.{Complete, complete_of, datagram_text}
 use Rattle.cap_write.specs.Numbering.{Name, with_name}
@@ -41,11 +38,3 @@ unfoldable pub names_behind : List Name → List Item → List Name
 names_behind names [] = names
 names_behind names (packet meta frame ∷ items) = names_behind (with_name names meta) items
 names_behind names (refused refusal ∷ items) = names
-
--- A call for the next packet keeps the run, unless a read failed.
-abbrev pub KeepsRun : {A : Type 0} → List Part → Result A Fault → List Part → Type 0
-KeepsRun old (Ok _) new = run_of new ≡ run_of old
-KeepsRun old (Err (Refused refusal)) new = run_of new ≡ run_of old
-KeepsRun old (Err (Read file offset)) new = ⊤
-KeepsRun old (Err Write) new = ⊥
-KeepsRun old (Err Memory) new = run_of new ≡ run_of old

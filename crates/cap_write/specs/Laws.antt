@@ -19,7 +19,7 @@ use Rattle.cap_time.specs.Unit.{in_second}
 use Rattle.cap_time.specs.declared.stamps.Unit.{Unit as Fraction}
 use Rattle.cap_write.specs.Numbering.{Name, name_of, Numbered, numbered, refusal_in, refusal_at}
 use Rattle.cap_write.specs.Pcap.{pcap_text, pcap_refusal}
-use Rattle.cap_write.specs.Runs.{run_of_files}
+use Rattle.cap_merge.specs.Files.{run_of_files}
 use Rattle.cap_write.specs.Texts.{interface_part, packet_part, count_after, pcapng_text, pcapng_refusal, merged_text}
 
 -- The fields of a packet and of its interface fit in their widths, and so many bytes may be captured.

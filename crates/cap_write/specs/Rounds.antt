@@ -9,7 +9,7 @@ use Rattle.cap_source.specs.declared.packets.Format.TheVariants.{Pcapng}
 use Rattle.cap_source.specs.declared.packets.Meta.{Meta}
 use Rattle.cap_merge.specs.Clock.{clock_cmp, greatest}
 use Rattle.cap_write.specs.Numbering.{Numbered, numbered, refusal_in}
-use Rattle.cap_write.specs.Runs.{run_of_lists}
+use Rattle.cap_merge.specs.Files.{run_of_lists}
 use Rattle.cap_merge.specs.Run.{Clocked, opened, run}
 use Rattle.cap_merge.specs.Parts.{item_time, is_refusal}
 

@@ -5,10 +5,8 @@ ghost use Rattle.cap_join.specs.History.{Event};
 ghost use Rattle.cap_join.specs.Joiners.{StandsFor};
 ghost use Rattle.cap_merge.specs.Parts.{feed_of, run_of};
 ghost use Rattle.cap_merge.specs.View.{parts_of};
-ghost use Rattle.cap_source.specs.Feed.{Keeps};
-ghost use Rattle.cap_source.specs.Walk.{GivesPacket, ShowsItem};
 ghost use Rattle.cap_time.specs.Stamp.{seconds_of};
-ghost use Rattle.cap_write.specs.Datagrams.{KeepsRun, Stands, names_behind};
+ghost use Rattle.cap_write.specs.Datagrams.{Stands, names_behind};
 ghost use Rattle.cap_write.specs.Joined.{datagram_meta, items_of_packet, events_after, joined_items, joined_text, joined_refusal};
 ghost use Rattle.cap_write.specs.Numbering.{refusal_in};
 ghost use Rattle.cap_write.specs.Texts.{text_behind};
@@ -19,8 +17,8 @@ use crate::packets::put_one;
 use cap_blocks::put_section;
 use cap_bytes::{Fault, Order, Sink};
 use cap_join::Joiner;
-use cap_merge::Merged;
-use cap_source::{Head, Meta, PacketFeed};
+use cap_merge::{Merged, next_of};
+use cap_source::{Meta, PacketFeed};
 use cap_time::{Interface, Stamp};
 use std::alloc::Global;
 
@@ -90,24 +88,6 @@ fn put_completed<W: Sink>(
         put_one(names, order, &meta, packet.as_slice(), writer)
     } else {
         Ok(())
-    }
-}
-
-// What comes next of a run: a packet, which stays until it is passed, or none at the end. A refusal is
-// answered as a fault.
-fn next_of<F: PacketFeed>(merged: &mut Merged<F>) -> Result<Option<Meta>, Fault>
-    ensures answer { GivesPacket (feed_of (parts_of merged.old)) result
-        (feed_of (parts_of merged.new)) }
-    ensures keeps { Keeps (feed_of (parts_of merged.old)) (feed_of (parts_of merged.new)) }
-    ensures items { IsTrue (feed_of (parts_of merged.old)).told
-        → ShowsItem (feed_of (parts_of merged.old)) result (feed_of (parts_of merged.new)) }
-    ensures run { IsTrue (feed_of (parts_of merged.old)).told
-        → KeepsRun (parts_of merged.old) result (parts_of merged.new) }
-{
-    match merged.head()? {
-        Head::Packet(meta) => Ok(Some(meta)),
-        Head::Refused(refusal) => Err(Fault::Refused(refusal)),
-        Head::End => Ok(None),
     }
 }
 

@@ -1,8 +1,8 @@
 use Rattle.cap_merge.specs.MergedLaws.{merged-is-feed}
 use Rattle.cap_merge.specs.Parts.{feed_of}
 use Rattle.cap_merge.specs.View.{parts_of}
-use Rattle.cap_write.proofs.Joining.{shows-packet, shows-refused, shows-end}
-use Rattle.cap_write.proofs.joined.next_of.Goals as goal
+use Rattle.cap_merge.proofs.Shown.{shows-packet, shows-refused, shows-end}
+use Rattle.cap_merge.proofs.walks.next_of.Goals as goal
 
 pub returns-in-Packet-clause-items : goal.returns-in-Packet-clause-items
 returns-in-Packet-clause-items g c = λ t.

@@ -1,7 +1,7 @@
 use Rattle.std.proofs.Common.{◌≡◌, ◌+◌, length, map}
-use Rattle.cap_tasks.specs.MergeText.{AreUnread, reader_of}
+use Rattle.cap_merge.specs.Readers.{AreUnread, reader_of}
 use Rattle.cap_source.specs.Captures.{feed_of}
-use Rattle.cap_tasks.proofs.merge.captures_of.Given as goal
+use Rattle.cap_merge.proofs.files.captures_of.Given as goal
 
 -- the readers so far are captures
 abbrev pub invariant-loop-source : goal.invariant-loop-source

@@ -3,9 +3,9 @@ use Rattle.std.proofs.lemmas.List.{map-append, length-map}
 use Rattle.std.proofs.lemmas.Iterator.Adapters.{YieldsList-from_vec}
 use Rattle.std.proofs.lemmas.Iterator.Consumers.{YieldsList-end}
 use Rattle.cap_source.specs.Captures.{feed_of}
-use Rattle.cap_tasks.proofs.Merging.{AreUnread-more}
-use Rattle.cap_tasks.specs.MergeText.{IsUnread, AreUnread, reader_of}
-use Rattle.cap_tasks.proofs.merge.captures_of.Goals as goal
+use Rattle.cap_merge.proofs.Unread.{AreUnread-more}
+use Rattle.cap_merge.specs.Readers.{IsUnread, AreUnread, reader_of}
+use Rattle.cap_merge.proofs.files.captures_of.Goals as goal
 
 pub loop-source-preserved : goal.loop-source-preserved
 loop-source-preserved g c =
@@ -17,7 +17,7 @@ loop-source-preserved g c =
     let place : c.loop-source.file ≡ 1 + length (map reader seen) = omega (arith, i.number, length-map seen reader) in
     let is : IsUnread c.args.tail (1 + length (map reader seen)) (reader x) (feed_of c.new-capture.result) =
     subst (λ n. IsUnread c.args.tail n (reader x) (feed_of c.new-capture.result)) place
-    (record { files = e.files; told = e.told; items = e.items; can_fail = e.can_fail }) in
+    (record { files = e.files; told = e.told; items = e.items; endings = e.endings; broken = e.whole; can_fail = e.can_fail }) in
     let more = AreUnread-more c.args.tail 1 (map reader seen) (map feed_of c.loop-source.captures.items) (reader x) (feed_of c.new-capture.result) i.unread is in
     let pushed : c.push.new.self.items ≡ c.loop-source.captures.items ++ c.new-capture.result ∷ [] = search rules in
     record {

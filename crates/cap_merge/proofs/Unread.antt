@@ -1,0 +1,155 @@
+-- The feeds of a merge before anything is read.
+use Rattle.std.proofs.Common.{◌≡◌, ℕ, suc, ◌+◌, ◌==◌, ◌≤◌, List, [], ◌∷◌, ◌++◌, length, map, Bool, true, false, ◌&&◌, ◌||◌, IsTrue, Option, None, refl, sym, ap, ◌∙◌, subst, arith}
+use Rattle.std.specs.Prelude.{if◌then◌else◌}
+use Rattle.std.specs.List.{flat_map, list_all, list_any, range_with_len}
+use Rattle.cap_bytes.specs.declared.faults.Tail.{Tail}
+use Rattle.cap_merge.specs.Files.{items_of_files, run_of_files, clocked_run, endings_from, endings_of_files}
+use Rattle.cap_merge.specs.Parts.{Part, new_parts, item_time, is_refusal, is_known, head_by, first_of, feed_of, run_of, known_of, broken_of, endings_of, has_file, IsNumbered}
+use Rattle.cap_merge.specs.Readers.{Reader, IsUnread, AreUnread, IsUnreadRun}
+use Rattle.cap_merge.specs.Run.{opened, run}
+use Rattle.cap_source.specs.Feed.{Feed}
+use Rattle.cap_source.specs.Items.{file_items, file_ending}
+use Rattle.cap_source.specs.declared.feeds.Ending.{Ending}
+
+-- one more feed after some
+pub AreUnread-more : (tail : Tail) (file : ℕ) (readers : List Reader) (feeds : List Feed) (reader : Reader) (feed : Feed)
+    → AreUnread tail file readers feeds → IsUnread tail (file + length readers) reader feed
+    → AreUnread tail file (readers ++ reader ∷ []) (feeds ++ feed ∷ [])
+AreUnread-more tail file [] [] reader feed a is =
+    let e : file + 0 ≡ file = omega arith in
+    (subst (λ n. IsUnread tail n reader feed) e is, tt)
+AreUnread-more tail file [] (f ∷ fs) reader feed a is = absurd a
+AreUnread-more tail file (r ∷ rs) [] reader feed a is = absurd a
+AreUnread-more tail file (r ∷ rs) (f ∷ fs) reader feed a is =
+    let e : file + length (r ∷ rs) ≡ file + 1 + length rs = omega arith in
+    (a.0, AreUnread-more tail (file + 1) rs fs reader feed a.1 (subst (λ n. IsUnread tail n reader feed) e is))
+
+pub AreUnread-length : (tail : Tail) (file : ℕ) (readers : List Reader) (feeds : List Feed) → AreUnread tail file readers feeds
+    → length feeds ≡ length readers
+AreUnread-length tail file [] [] a = refl
+AreUnread-length tail file [] (f ∷ fs) a = absurd a
+AreUnread-length tail file (r ∷ rs) [] a = absurd a
+AreUnread-length tail file (r ∷ rs) (f ∷ fs) a = omega (arith, AreUnread-length tail (file + 1) rs fs a.1)
+
+numbered_from : (tail : Tail) (file : ℕ) (readers : List Reader) (feeds : List Feed) → AreUnread tail file readers feeds
+    → map (λ f. f.files) feeds ≡ map (λ n. n ∷ []) (range_with_len file (length feeds))
+numbered_from tail file [] [] a = refl
+numbered_from tail file [] (f ∷ fs) a = absurd a
+numbered_from tail file (r ∷ rs) [] a = absurd a
+numbered_from tail file (r ∷ rs) (f ∷ fs) a =
+    ap (λ l. l ∷ map (λ g. g.files) fs) a.0.files
+    ∙ ap (λ l. (file ∷ []) ∷ l) (numbered_from tail (file + 1) rs fs a.1)
+
+pub AreUnread-numbered : (tail : Tail) (readers : List Reader) (feeds : List Feed) → AreUnread tail 1 readers feeds → IsNumbered feeds
+AreUnread-numbered tail readers feeds a = numbered_from tail 1 readers feeds a
+
+tracks_are : (tail : Tail) (file : ℕ) (readers : List Reader) (feeds : List Feed) → AreUnread tail file readers feeds
+    → map (λ f. opened f.items) feeds ≡ map opened (items_of_files tail file (map (λ r. r.bytes) readers))
+tracks_are tail file [] [] a = refl
+tracks_are tail file [] (f ∷ fs) a = absurd a
+tracks_are tail file (r ∷ rs) [] a = absurd a
+tracks_are tail file (r ∷ rs) (f ∷ fs) a =
+    ap (λ items. opened items ∷ map (λ g. opened g.items) fs) a.0.items
+    ∙ ap (λ l. opened (file_items tail file r.bytes) ∷ l) (tracks_are tail (file + 1) rs fs a.1)
+
+told_same : (tail : Tail) (file : ℕ) (readers : List Reader) (feeds : List Feed) → AreUnread tail file readers feeds
+    → list_all (λ p. p.feed.told) (new_parts feeds) ≡ list_all (λ r. r.told) readers
+told_same tail file [] [] a = refl
+told_same tail file [] (f ∷ fs) a = absurd a
+told_same tail file (r ∷ rs) [] a = absurd a
+told_same tail file (r ∷ rs) (f ∷ fs) a =
+    ap (λ b. b && list_all (λ p. p.feed.told) (new_parts fs)) a.0.told
+    ∙ ap (λ b. r.told && b) (told_same tail (file + 1) rs fs a.1)
+
+can_fail_same : (tail : Tail) (file : ℕ) (readers : List Reader) (feeds : List Feed) → AreUnread tail file readers feeds
+    → list_any (λ p. p.feed.can_fail) (new_parts feeds) ≡ list_any (λ r. r.can_fail) readers
+can_fail_same tail file [] [] a = refl
+can_fail_same tail file [] (f ∷ fs) a = absurd a
+can_fail_same tail file (r ∷ rs) [] a = absurd a
+can_fail_same tail file (r ∷ rs) (f ∷ fs) a =
+    ap (λ b. b || list_any (λ p. p.feed.can_fail) (new_parts fs)) a.0.can_fail
+    ∙ ap (λ b. r.can_fail || b) (can_fail_same tail (file + 1) rs fs a.1)
+
+files_same : (tail : Tail) (file : ℕ) (readers : List Reader) (feeds : List Feed) → AreUnread tail file readers feeds
+    → flat_map (λ p. p.feed.files) (new_parts feeds) ≡ range_with_len file (length readers)
+files_same tail file [] [] a = refl
+files_same tail file [] (f ∷ fs) a = absurd a
+files_same tail file (r ∷ rs) [] a = absurd a
+files_same tail file (r ∷ rs) (f ∷ fs) a =
+    ap (λ files. files ++ flat_map (λ p. p.feed.files) (new_parts fs)) a.0.files
+    ∙ ap (λ files. file ∷ files) (files_same tail (file + 1) rs fs a.1)
+
+-- how a file ends: as its own feed says
+chosen : (b c : Bool) (e f g h : Ending) → b ≡ c → e ≡ f → g ≡ h → (if b then e else g) ≡ (if c then f else h)
+chosen b c e f g h is first rest = rw (is, first, rest) refl
+
+endings_same : (tail : Tail) (first : ℕ) (readers : List Reader) (feeds : List Feed) (file : ℕ) → AreUnread tail first readers feeds
+    → endings_of (new_parts feeds) file ≡ endings_from tail first (map (λ r. r.bytes) readers) file
+unfolding endings_of
+endings_same tail first [] [] file a = refl
+endings_same tail first [] (f ∷ fs) file a = absurd a
+endings_same tail first (r ∷ rs) [] file a = absurd a
+endings_same tail first (r ∷ rs) (f ∷ fs) file a =
+    chosen (has_file f.files file) (first == file) _ _ _ _ (ap (λ files. has_file files file) a.0.files ∙ or-false (first == file)) (a.0.endings file)
+    (endings_same tail (first + 1) rs fs file a.1)
+  where
+    or-false : (b : Bool) → (b || false) ≡ b
+    or-false true = refl
+    or-false false = refl
+
+unknown : (tail : Tail) (readers : List Reader) (feeds : List Feed) → 1 ≤ length readers → AreUnread tail 1 readers feeds
+    → known_of (new_parts feeds) ≡ None
+unfolding known_of
+unknown tail [] feeds some a = absurd (omega arith)
+unknown tail (r ∷ rs) [] some a = absurd a
+unknown tail (r ∷ rs) (f ∷ fs) some a = refl
+
+whole : (tail : Tail) (file : ℕ) (readers : List Reader) (feeds : List Feed) → AreUnread tail file readers feeds
+    → broken_of (new_parts feeds) ≡ None
+unfolding broken_of
+whole tail file [] [] a = refl
+whole tail file [] (f ∷ fs) a = absurd a
+whole tail file (r ∷ rs) [] a = absurd a
+whole tail file (r ∷ rs) (f ∷ fs) a = a.0.broken
+
+-- The files of readers as one feed, of which nothing was asked.
+pub IsUnreadRun-feeds : (tail : Tail) (readers : List Reader) (feeds : List Feed) (ps : List Part) → 1 ≤ length readers → AreUnread tail 1 readers feeds
+    → ps ≡ new_parts feeds → run_of ps ≡ run item_time is_refusal (map (λ f. opened f.items) feeds) → IsUnreadRun tail readers ps
+unfolding feed_of endings_of_files
+IsUnreadRun-feeds tail readers feeds ps some a is ran = record {
+  files = ap (λ p. (feed_of p).files) is ∙ files_same tail 1 readers feeds a;
+  told = ap (λ p. (feed_of p).told) is ∙ told_same tail 1 readers feeds a;
+  run = ran ∙ ap (run item_time is_refusal) (tracks_are tail 1 readers feeds a);
+  endings = λ file. ap (λ p. (feed_of p).endings file) is ∙ endings_same tail 1 readers feeds file a;
+  known = ap (λ p. (feed_of p).known) is ∙ unknown tail readers feeds some a;
+  broken = ap (λ p. (feed_of p).broken) is ∙ whole tail 1 readers feeds a;
+  can_fail = ap (λ p. (feed_of p).can_fail) is ∙ can_fail_same tail 1 readers feeds a;
+}
+
+-- ---- the same over any readers, as a caller has them
+
+list_all-map : {A B : Type 0} (f : A → B) (p : B → Bool) (xs : List A) → list_all p (map f xs) ≡ list_all (λ x. p (f x)) xs
+list_all-map f p [] = refl
+list_all-map f p (x ∷ xs) = ap (λ b. p (f x) && b) (list_all-map f p xs)
+
+list_any-map : {A B : Type 0} (f : A → B) (p : B → Bool) (xs : List A) → list_any p (map f xs) ≡ list_any (λ x. p (f x)) xs
+list_any-map f p [] = refl
+list_any-map f p (x ∷ xs) = ap (λ b. p (f x) || b) (list_any-map f p xs)
+
+pub bytes-readers : {A : Type 0} (reader : A → Reader) (sources : List A) → map (λ r. r.bytes) (map reader sources) ≡ map (λ s. (reader s).bytes) sources
+bytes-readers reader [] = refl
+bytes-readers reader (s ∷ ss) = ap (λ l. (reader s).bytes ∷ l) (bytes-readers reader ss)
+
+pub told-readers : {A : Type 0} (reader : A → Reader) (tail : Tail) (sources : List A) (ps : List Part) → IsUnreadRun tail (map reader sources) ps
+    → IsTrue (list_all (λ s. (reader s).told) sources) → IsTrue (feed_of ps).told
+told-readers reader tail sources ps u t = subst IsTrue (sym (u.told ∙ list_all-map reader (λ r. r.told) sources)) t
+
+pub can_fail-readers : {A : Type 0} (reader : A → Reader) (tail : Tail) (sources : List A) (ps : List Part) → IsUnreadRun tail (map reader sources) ps
+    → IsTrue (feed_of ps).can_fail → IsTrue (list_any (λ s. (reader s).can_fail) sources)
+can_fail-readers reader tail sources ps u can = subst IsTrue (u.can_fail ∙ list_any-map reader (λ r. r.can_fail) sources) can
+
+-- the items to come of the feed
+pub run-items : {A : Type 0} (reader : A → Reader) (tail : Tail) (sources : List A) (ps : List Part) → IsUnreadRun tail (map reader sources) ps
+    → (feed_of ps).items ≡ run_of_files tail (map (λ s. (reader s).bytes) sources)
+unfolding feed_of run_of_files
+run-items reader tail sources ps u = ap (map (λ x. x.item)) (u.run ∙ ap (clocked_run tail) (bytes-readers reader sources))

@@ -1,0 +1,44 @@
+-- A merge of files of which nothing was read yet.
+use Rattle.std.specs.Prelude.{◌≡◌, ℕ, ◌+◌, Bool, List, [], ◌∷◌, length, map, Option, None, ⊤}
+use Rattle.std.specs.List.{list_all, list_any, range_with_len}
+use Rattle.cap_bytes.specs.declared.faults.Tail.{Tail}
+use Rattle.cap_merge.specs.Files.{clocked_run, endings_of_files}
+use Rattle.cap_merge.specs.Parts.{Part, feed_of, run_of}
+use Rattle.cap_source.specs.Feed.{Feed}
+use Rattle.cap_source.specs.Items.{file_items, file_ending}
+
+-- A reader: whether it tells its bytes, whether it can fail, and the bytes.
+pub record Reader : Type 0 where
+  pub told : Bool
+  pub can_fail : Bool
+  pub bytes : List ℕ
+
+abbrev pub reader_of : {R : Type 0} → (R → Bool) → (R → Bool) → (R → List ℕ) → R → Reader
+reader_of tells can_fail coming source = record { told = tells source; can_fail = can_fail source; bytes = coming source }
+
+-- Nothing was asked of a feed: it is of the file of that number with those bytes.
+pub record IsUnread (tail : Tail) (file : ℕ) (reader : Reader) (feed : Feed) : Type 0 where
+  pub files : feed.files ≡ file ∷ []
+  pub told : feed.told ≡ reader.told
+  pub items : feed.items ≡ file_items tail file reader.bytes
+  pub endings : (n : ℕ) → feed.endings n ≡ file_ending tail file reader.bytes
+  pub broken : feed.broken ≡ None
+  pub can_fail : feed.can_fail ≡ reader.can_fail
+
+-- the same of each of some feeds, from that number on
+abbrev pub AreUnread : Tail → ℕ → List Reader → List Feed → Type 0
+AreUnread tail file [] [] = ⊤
+AreUnread tail file [] (feed ∷ feeds) = ⊥
+AreUnread tail file (reader ∷ readers) [] = ⊥
+AreUnread tail file (reader ∷ readers) (feed ∷ feeds) = IsUnread tail file reader feed × AreUnread tail (file + 1) readers feeds
+
+-- The files of some readers as one feed, of which nothing was asked: its run and how its files end are those of
+-- the readers' bytes.
+pub record IsUnreadRun (tail : Tail) (readers : List Reader) (ps : List Part) : Type 0 where
+  pub files : (feed_of ps).files ≡ range_with_len 1 (length readers)
+  pub told : (feed_of ps).told ≡ list_all (λ r. r.told) readers
+  pub run : run_of ps ≡ clocked_run tail (map (λ r. r.bytes) readers)
+  pub endings : (file : ℕ) → (feed_of ps).endings file ≡ endings_of_files tail (map (λ r. r.bytes) readers) file
+  pub known : (feed_of ps).known ≡ None
+  pub broken : (feed_of ps).broken ≡ None
+  pub can_fail : (feed_of ps).can_fail ≡ list_any (λ r. r.can_fail) readers

@@ -1,0 +1,50 @@
+//! The packets of several capture files as one feed.
+ghost use Rattle.std.specs.Prelude.{◌≡◌, ◌≤◌, IfOk, IsOkUnless, map, vec_len};
+ghost use Rattle.cap_merge.specs.Readers.{AreUnread, IsUnreadRun, reader_of};
+ghost use Rattle.cap_merge.specs.View.{parts_of};
+
+use crate::merging::Merged;
+use cap_bytes::{Fault, Source, Tail};
+use cap_source::{Capture, PacketFeed};
+use std::alloc::Global;
+
+// The packets of files, which have the numbers from 1 on. Nothing is read yet.
+fn captures_of<R: Source>(
+    alloc: Global,
+    sources: Vec<R>,
+    tail: Tail,
+) -> Result<Vec<Capture<R>>, Fault>
+    requires most { vec_len sources ≤ 32 }
+    ensures unread { IfOk result (λ captures. AreUnread tail 1
+        (map (reader_of R.tells_coming R.can_fail R.coming) sources.items)
+        (map ⟦<Capture<R> as PacketFeed>⟧.feed captures.items)) }
+    ensures memory { IsOkUnless result Fault.Memory }
+{
+    let mut captures = Vec::new(alloc);
+    let mut file = 1u32;
+    for source in sources {
+        let capture = Capture::new(alloc, source, file, tail);
+        if captures.push(capture).is_err() {
+            return Err(Fault::Memory);
+        }
+        file += 1;
+    }
+    Ok(captures)
+}
+
+/// The packets of 1 to 32 capture files, each of either format, in the order of exact time. The readers are
+/// the files, numbered from 1 by their places. Nothing is read yet, so a faulty file header is a refusal
+/// that comes in its turn. `Memory` is answered if no room for the list of files was found.
+pub fn merge_files<R: Source>(
+    alloc: Global,
+    sources: Vec<R>,
+    tail: Tail,
+) -> Result<Merged<Capture<R>>, Fault>
+    requires some { 1 ≤ vec_len sources }
+    requires most { vec_len sources ≤ 32 }
+    ensures unread { IfOk result (λ merged. IsUnreadRun tail
+        (map (reader_of R.tells_coming R.can_fail R.coming) sources.items) (parts_of merged)) }
+    ensures memory { IsOkUnless result Fault.Memory }
+{
+    Ok(Merged::new(captures_of(alloc, sources, tail)?))
+}

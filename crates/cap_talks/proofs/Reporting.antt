@@ -1,0 +1,96 @@
+-- Taking all packets of a run, one by one.
+use Rattle.std.proofs.Common.{◌≡◌, ℕ, ◌+◌, ◌≤◌, ◌<◌, Bool, true, false, List, [], ◌∷◌, refl, sym, ◌∙◌, ap, subst, arith, true≢false, Option, Some, None, Result, Ok, Err, IsTrue, inl, inr}
+use Rattle.std.specs.Prelude.{if◌then◌else◌, ◌⊎◌}
+use Rattle.cap_bytes.specs.declared.faults.Fault.{Fault}
+use Rattle.cap_bytes.specs.declared.faults.Fault.TheVariants.{Refused, Read, Write, Memory}
+use Rattle.cap_bytes.specs.declared.faults.Refusal.{Refusal}
+use Rattle.cap_merge.specs.Parts.{feed_of, run_of}
+use Rattle.cap_merge.specs.Run.{Clocked}
+use Rattle.cap_source.specs.Feed.{Item, packet, refused}
+use Rattle.cap_talks.specs.FileText.{or_else}
+use Rattle.cap_time.specs.declared.stamps.Stamp.{Stamp}
+use Rattle.cap_talks.specs.ReportText.{refusal_at, taken_behind, refusal_behind}
+use Rattle.cap_talks.specs.Reporting.{TookAll, TakesAll}
+use Rattle.cap_talks.specs.Stepping.{clocked, TableState, TableStands, StepKeeps, Takes, Ends, RefusedNext, RefusedHere, Fails, WaitsAgain, Steps, IsMore}
+use Rattle.cap_talks.specs.Taken.{Taken}
+use Rattle.cap_talks.specs.CountedUnits.{is_limit_at}
+use Rattle.cap_talks.specs.declared.tables.Step.{Step}
+use Rattle.cap_talks.specs.declared.tables.Step.TheVariants as steps
+
+-- Some packets were taken, and others are to come.
+pub record Reporting (old new : TableState) : Type 0 where
+  pub taken : List Taken
+  pub told : IsTrue (feed_of old.parts).told → IsTrue (feed_of new.parts).told
+  pub can_fail : IsTrue (feed_of new.parts).can_fail → IsTrue (feed_of old.parts).can_fail
+  pub stands : TableStands old [] → TableStands new taken
+  pub text : IsTrue (feed_of old.parts).told → taken_behind [] (run_of old.parts) ≡ taken_behind taken (run_of new.parts)
+  pub refusal : IsTrue (feed_of old.parts).told → TableStands old [] → refusal_behind [] (run_of old.parts) ≡ refusal_behind taken (run_of new.parts)
+
+pub Reporting-begin : (t : TableState) → Reporting t t
+Reporting-begin t = record { taken = []; told = λ h. h; can_fail = λ h. h; stands = λ h. h; text = λ h. refl; refusal = λ h s. refl }
+
+-- the refusal of a run that begins with a packet
+refusal-packet : (xs : List Taken) (x : Taken) (run : List (Clocked Item)) (b : Bool) → is_limit_at xs x ≡ b
+    → refusal_behind xs (clocked x ∷ run) ≡ (if b then Some (refusal_at x.meta) else refusal_behind (x ∷ xs) run)
+unfolding refusal_behind
+refusal-packet xs x run true is = ap (λ (c : Bool). or_else (if c then Some (refusal_at x.meta) else None) (refusal_behind (x ∷ xs) run)) is
+refusal-packet xs x run false is = ap (λ (c : Bool). or_else (if c then Some (refusal_at x.meta) else None) (refusal_behind (x ∷ xs) run)) is
+
+taken-packet : (xs : List Taken) (x : Taken) (run : List (Clocked Item)) → taken_behind xs (clocked x ∷ run) ≡ taken_behind (x ∷ xs) run
+unfolding taken_behind
+taken-packet xs x run = refl
+
+taken-none : (xs : List Taken) → taken_behind xs [] ≡ xs
+unfolding taken_behind
+taken-none xs = refl
+
+refusal-none : (xs : List Taken) → refusal_behind xs [] ≡ None
+unfolding refusal_behind
+refusal-none xs = refl
+
+refusal-refused : (xs : List Taken) (clock : Option Stamp) (r : Refusal) → refusal_behind xs (record { clock = clock; item = refused r } ∷ []) ≡ Some r
+unfolding refusal_behind
+refusal-refused xs clock r = refl
+
+more : (old mid new : TableState) → Reporting old mid → StepKeeps mid new → Takes mid new → Reporting old new
+more old mid new p k t = record {
+  taken = t.item ∷ p.taken;
+  told = λ h. k.keeps.told (p.told h);
+  can_fail = λ h. p.can_fail (k.keeps.can_fail h);
+  stands = λ s. (t.stands p.taken (p.stands s)).1;
+  text = λ h. p.text h ∙ ap (taken_behind p.taken) (t.run (p.told h)) ∙ taken-packet p.taken t.item (run_of new.parts);
+  refusal = λ h s.
+      p.refusal h s ∙ ap (refusal_behind p.taken) (t.run (p.told h))
+      ∙ refusal-packet p.taken t.item (run_of new.parts) false (t.stands p.taken (p.stands s)).0;
+}
+
+clash : true ≡ false → ⊥
+clash e = true≢false e
+
+pub Reporting-more : (old mid new : TableState) (step : Step) (b : Bool) → Reporting old mid → StepKeeps mid new → Steps mid (Ok step) new → IsMore step b → b ≡ true → Reporting old new
+Reporting-more old mid new steps.Took b p k t m is = more old mid new p k t
+Reporting-more old mid new steps.Done b p k t m is = absurd (clash (sym is ∙ m))
+
+pub left-more : (mid new : TableState) (step : Step) (b : Bool) → Steps mid (Ok step) new → IsMore step b → b ≡ true → (feed_of new.parts).left < (feed_of mid.parts).left
+left-more mid new steps.Took b t m is = t.left
+left-more mid new steps.Done b t m is = absurd (clash (sym is ∙ m))
+
+pub TakesAll-end : (old mid new : TableState) (step : Step) (b : Bool) → Reporting old mid → Steps mid (Ok step) new → IsMore step b → b ≡ false → TookAll old new
+TakesAll-end old mid new steps.Took b p t m is = absurd (clash (sym m ∙ is))
+TakesAll-end old mid new steps.Done b p t m is = record {
+  known = t.known;
+  free = λ h s. p.refusal h s ∙ ap (refusal_behind p.taken) (t.run (p.told h)).0 ∙ refusal-none p.taken;
+  stands = λ h s.
+      subst (TableStands new) (sym (p.text h ∙ ap (taken_behind p.taken) (t.run (p.told h)).0 ∙ taken-none p.taken)) (t.stands p.taken (p.stands s));
+}
+
+pub TakesAll-fault : (old mid new : TableState) (fault : Fault) → Reporting old mid → Steps mid (Err fault) new → TakesAll old (Err fault) new
+TakesAll-fault old mid new (Refused r) p (inl t) = λ h s.
+    let one = t.run (p.told h) in
+    p.refusal h s ∙ ap (refusal_behind p.taken) one.1 ∙ refusal-refused p.taken one.0 r
+TakesAll-fault old mid new (Refused r) p (inr t) = λ h s.
+    p.refusal h s ∙ ap (refusal_behind p.taken) (t.run (p.told h))
+    ∙ refusal-packet p.taken t.item _ true (t.stands p.taken (p.stands s)).0 ∙ ap Some (sym t.is)
+TakesAll-fault old mid new (Read file offset) p t = p.can_fail t.breaks.can_fail
+TakesAll-fault old mid new Write p t = absurd t
+TakesAll-fault old mid new Memory p t = tt

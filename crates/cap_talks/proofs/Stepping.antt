@@ -1,0 +1,123 @@
+-- One step of a table.
+use Rattle.std.proofs.Common.{◌≡◌, ℕ, ◌+◌, ◌≤◌, ◌<◌, Bool, true, false, List, [], ◌∷◌, length, drop, map, refl, sym, ◌∙◌, ap, subst, arith, cond, ◌&&◌, true≢false, Option, Some, None, Result, Ok, Err, IsTrue}
+use Rattle.std.specs.Prelude.{is_some, if◌then◌else◌}
+use Rattle.cap_bytes.specs.declared.faults.Fault.{Fault}
+use Rattle.cap_bytes.specs.declared.faults.Refusal.{Refusal}
+use Rattle.cap_join.specs.declared.datagrams.Datagram.{Datagram}
+use Rattle.cap_join.specs.Joiners.{JoinerState}
+use Rattle.cap_merge.specs.Merge.{LearnsBy, LearnsAll, AsksAll}
+use Rattle.cap_merge.specs.Parts.{Part, feed_of, run_of, clock_of, known_of, is_known, head_by, first_of, BeginsAt}
+use Rattle.cap_merge.specs.Run.{Clocked}
+use Rattle.cap_source.specs.Feed.{Feed, Item, packet, refused, Keeps, Leads, IsFeed, SameItems}
+use Rattle.cap_source.specs.declared.feeds.Head.{Head}
+use Rattle.cap_source.specs.declared.feeds.Head.TheVariants as heads
+use Rattle.cap_source.specs.declared.packets.Meta.{Meta}
+use Rattle.cap_time.specs.declared.stamps.Stamp.{Stamp}
+use Rattle.cap_talks.specs.Stepping.{next_by, next_of, clocked, TableState, TableStands}
+use Rattle.cap_talks.specs.Taken.{Taken}
+use Rattle.cap_talks.specs.Tallies.{TallyState, WaitsFor, Joins, Stands}
+
+-- ---- what was known stays
+
+all_known : (ps qs : List Part) → LearnsAll ps qs → is_known ps ≡ true → qs ≡ ps
+all_known [] [] h k = refl
+all_known [] (q ∷ qs) h k = absurd h
+all_known (p ∷ ps) [] h k = absurd h
+all_known (p ∷ ps) (q ∷ qs) h k = by p.lane.head h.0 k (all_known ps qs h.1)
+  where
+    by : (o : Option Head) → LearnsBy o p q → (is_some o && is_known ps) ≡ true → (is_known ps ≡ true → qs ≡ ps) → q ∷ qs ≡ p ∷ ps
+    by None l k rest = absurd (true≢false (sym k))
+    by (Some head) l k rest = λ i. l i ∷ rest k i
+
+known-some : (ps : List Part) (head : Head) → (feed_of ps).known ≡ Some head → is_known ps ≡ true
+unfolding feed_of known_of
+known-some ps head h = by (is_known ps) h
+  where
+    by : (b : Bool) → (if b then head_by (first_of ps) else None) ≡ Some head → b ≡ true
+    by true e = refl
+    by false e = absurd (clash e)
+      where
+        clash : None ≡ Some head → ⊥
+        clash e = cc
+
+-- nothing waits where nothing is known to come next
+no-wait : (w : Option Datagram) (j : JoinerState) (xs : List Taken) (next : Option Taken) → Joins w j xs None → Joins w j xs next
+no-wait None j xs next h = h
+no-wait (Some d) j xs next h = absurd (clash h.is_next)
+  where
+    clash : None ≡ Some h.packet → ⊥
+    clash e = cc
+
+pub stands-unknown : (t : TallyState) (ps : List Part) (xs : List Taken) (next : Option Taken) → (feed_of ps).known ≡ None → Stands t xs (next_of ps) → Stands t xs next
+stands-unknown t ps xs next unknown h = record {
+  place = h.place;
+  classes = h.classes;
+  joined = h.joined;
+  talks = h.talks;
+  joins = no-wait t.waiting t.joiner xs next (subst (λ (k : Option Head). Joins t.waiting t.joiner xs (next_by k (clock_of ps) (feed_of ps).frame)) unknown h.joins);
+}
+
+pub stands-asked : (t : TallyState) (ps qs : List Part) (xs : List Taken) → LearnsAll ps qs → Stands t xs (next_of ps) → Stands t xs (next_of qs)
+stands-asked t ps qs xs asks h = by (feed_of ps).known refl
+  where
+    by : (known : Option Head) → (feed_of ps).known ≡ known → Stands t xs (next_of qs)
+    by None is = stands-unknown t ps xs (next_of qs) is h
+    by (Some head) is = subst (λ (rs : List Part). Stands t xs (next_of rs)) (sym (all_known ps qs asks (known-some ps head is))) h
+
+pub next-is : (qs : List Part) (meta : Meta) (clock : Option Stamp) (frame : List ℕ) → (feed_of qs).known ≡ Some (heads.Packet meta) → clock ≡ clock_of qs → frame ≡ (feed_of qs).frame
+    → next_of qs ≡ Some (record { clock = clock; meta = meta; frame = frame })
+next-is qs meta clock frame known c f = λ i. next_by (known i) (sym c i) (sym f i)
+
+-- ---- the run
+
+items-of-run : (ps : List Part) → (feed_of ps).items ≡ map (λ x. x.item) (run_of ps)
+unfolding feed_of
+items-of-run ps = refl
+
+leads_by : (feed : Feed) (head : Head) → IsFeed feed → IsTrue feed.told → feed.known ≡ Some head → Leads (Some head) feed.frame feed.items
+leads_by feed head law t known = subst (λ (k : Option Head). Leads k feed.frame feed.items) known (law.leads t)
+
+first-of-run : (xs : List (Clocked Item)) (clock : Option Stamp) (i : Item) (rest : List Item) → BeginsAt clock xs → map (λ x. x.item) xs ≡ i ∷ rest
+    → xs ≡ record { clock = clock; item = i } ∷ drop 1 xs
+first-of-run [] clock i rest b e = absurd b
+first-of-run (x ∷ xs) clock i rest b e =
+    let same : x.item ≡ i = cc in
+    λ j. record { clock = b j; item = same j } ∷ xs
+
+-- the run begins with the packet that is known to come next
+pub run-packet : (ps qs : List Part) (meta : Meta) (clock : Option Stamp) (frame : List ℕ) → IsFeed (feed_of qs) → IsTrue (feed_of qs).told
+    → (feed_of qs).known ≡ Some (heads.Packet meta) → frame ≡ (feed_of qs).frame → BeginsAt clock (run_of qs) → run_of qs ≡ run_of ps
+    → run_of ps ≡ record { clock = clock; item = packet meta frame } ∷ drop 1 (run_of ps)
+run-packet ps qs meta clock frame law t known f begins same =
+    let leads : (feed_of qs).items ≡ packet meta (feed_of qs).frame ∷ drop 1 (feed_of qs).items = leads_by (feed_of qs) (heads.Packet meta) law t known in
+    sym same
+    ∙ (first-of-run (run_of qs) clock (packet meta frame) (drop 1 (feed_of qs).items) begins
+    (sym (items-of-run qs) ∙ leads ∙ ap (λ (g : List ℕ). packet meta g ∷ drop 1 (feed_of qs).items) (sym f))
+    ∙ ap (λ l. record { clock = clock; item = packet meta frame } ∷ drop 1 l) same)
+
+none-left : (xs : List (Clocked Item)) → map (λ x. x.item) xs ≡ [] → xs ≡ []
+none-left [] e = refl
+none-left (x ∷ xs) e = absurd (clash e)
+  where
+    clash : x.item ∷ map (λ x. x.item) xs ≡ [] → ⊥
+    clash e = cc
+
+pub run-end : (qs : List Part) → IsFeed (feed_of qs) → IsTrue (feed_of qs).told → (feed_of qs).known ≡ Some heads.End → run_of qs ≡ []
+run-end qs law t known = none-left (run_of qs) (sym (items-of-run qs) ∙ leads_by (feed_of qs) heads.End law t known)
+
+one-left : (xs : List (Clocked Item)) (i : Item) → map (λ x. x.item) xs ≡ i ∷ [] → (clock : Option Stamp) × (xs ≡ record { clock = clock; item = i } ∷ [])
+one-left [] i e = absurd (clash e)
+  where
+    clash : [] ≡ i ∷ [] → ⊥
+    clash e = cc
+one-left (x ∷ []) i e =
+    let same : x.item ≡ i = cc in
+    (x.clock, λ j. record { clock = x.clock; item = same j } ∷ [])
+one-left (x ∷ y ∷ xs) i e = absurd (clash e)
+  where
+    clash : x.item ∷ y.item ∷ map (λ x. x.item) xs ≡ i ∷ [] → ⊥
+    clash e = cc
+
+pub run-refused : (qs : List Part) (r : Refusal) → IsFeed (feed_of qs) → IsTrue (feed_of qs).told → (feed_of qs).known ≡ Some (heads.Refused r)
+    → (clock : Option Stamp) × (run_of qs ≡ record { clock = clock; item = refused r } ∷ [])
+run-refused qs r law t known = one-left (run_of qs) (refused r) (sym (items-of-run qs) ∙ leads_by (feed_of qs) (heads.Refused r) law t known)

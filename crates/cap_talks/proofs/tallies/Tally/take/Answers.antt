@@ -1,0 +1,25 @@
+use Rattle.std.proofs.Common.{rules, ◌≡◌, false, true, ℕ, ◌+◌, ◌≤◌, ◌∷◌, List, Some, Err, sym, ap, ◌∙◌, subst, arith}
+use Rattle.std.specs.Prelude.{OnOk, Result, Ok, Option}
+use Rattle.cap_talks.specs.Looking.{taken}
+use Rattle.cap_talks.specs.Taken.{Taken}
+use Rattle.cap_talks.specs.Tallies.{TallyState, Stands, Looks}
+use Rattle.cap_talks.specs.CountedUnits.{is_limit_at}
+use Rattle.cap_talks.specs.declared.tallies.TallyFault.{TallyFault}
+use Rattle.cap_talks.proofs.tallies.Tally.take.Goals as goal
+
+-- a datagram that waited, of the packet
+taken_on : (old mid new : TallyState) (x : Taken) (result : Result (Unit {0}) TallyFault) → ((xs : List Taken) → Stands old xs (Some x) → Stands mid xs (Some x))
+    → OnOk result ((xs : List Taken) (y : Taken) → Stands mid xs (Some y) → (is_limit_at xs y ≡ false) × ((next : Option Taken) → Stands new (y ∷ xs) next))
+    → OnOk result (Looks old x false new)
+taken_on old mid new x (Ok u) f h = λ xs s. h xs x (f xs s)
+taken_on old mid new x (Err e) f h = tt
+
+pub returns-then-is_waiting-clause-stands : goal.returns-then-is_waiting-clause-stands
+returns-then-is_waiting-clause-stands c =
+    taken_on c.args.self.now c.args.self.now c.take_waiting.new.self (taken c.args.clock c.args.meta.now c.args.frame.now) c.take_waiting.result (λ xs s. s) c.take_waiting.ensures.stands
+
+pub returns-then-branch-clause-stands : goal.returns-then-branch-clause-stands
+returns-then-branch-clause-stands c =
+    let x = taken c.args.clock c.args.meta.now c.args.frame.now in
+    taken_on c.args.self.now c.look_at.new.self c.take_waiting-then-branch.new.self x c.take_waiting-then-branch.result
+    (subst (λ b. Looks c.args.self.now x b c.look_at.new.self) c.if-branch.true c.in_ok-look_at.ensures.looks) c.take_waiting-then-branch.ensures.stands

@@ -1,0 +1,105 @@
+use Rattle.std.specs.Prelude.{if◌then◌else◌}
+use Rattle.std.proofs.Common.{rules, ◌≡◌, true, false, ℕ, ◌+◌, ◌≤◌, ◌*◌, ◌^◌, ◌++◌, Some, Err, sym, ap, ◌∙◌, subst, arith}
+use Rattle.std.proofs.lemmas.Result.{err_from_is_err_and}
+use Rattle.cap_join.specs.declared.datagrams.Datagram.{Datagram}
+use Rattle.cap_talks.specs.Rows.{StandsFor, frames_in}
+use Rattle.cap_talks.specs.Talks.{frames_of, bytes_of}
+use Rattle.cap_talks.proofs.SumLaws.{sum_law}
+use Rattle.cap_talks.specs.Adding.{datagram_unit, datagram_class, is_over}
+use Rattle.cap_talks.specs.Tallies.{TallyState, Fits, counted_one, with_group}
+use Rattle.cap_talks.specs.TallyView.{tally_view}
+use Rattle.cap_talks.specs.CountedUnits.{listed}
+use Rattle.cap_talks.proofs.Exits.{sum-taken, frames-taken, joined-taken, numbers-joined, enough-for, stands-joined, sound-joined, limit-waiting, limit-by}
+use Rattle.cap_talks.proofs.tallies.Tally.take_waiting.Goals as goal
+
+pub add_unit-requires-clause-frames : goal.add_unit-requires-clause-frames
+add_unit-requires-clause-frames c =
+    let t = tally_view c.self.inside in
+    let s = c.self.invariant in
+    let d = c.in-Some.datagram in
+    let fits = subst (λ w. Fits w t.place) c.in-Some.is s.fits in
+    omega (
+      arith,
+      (numbers-joined d fits.bytes).0,
+      ap (λ u. frames_of (listed u)) c.joined_unit.ensures,
+      frames-taken t s.taken s.next (λ us. (sum_law us).frames) s.stands,
+      enough-for t d s.taken s.next c.in-Some.is s.stands,
+      sum-taken t s.taken s.next s.stands,
+      s.few,
+    )
+
+pub add_unit-requires-clause-bytes : goal.add_unit-requires-clause-bytes
+add_unit-requires-clause-bytes c =
+    let t = tally_view c.self.inside in
+    let s = c.self.invariant in
+    let d = c.in-Some.datagram in
+    let fits = subst (λ w. Fits w t.place) c.in-Some.is s.fits in
+    let both = numbers-joined d fits.bytes in
+    omega (
+      arith,
+      both.0,
+      both.1,
+      s.bytes,
+      ap (λ u. bytes_of (listed u)) c.joined_unit.ensures,
+      frames-taken t s.taken s.next (λ us. (sum_law us).frames) s.stands,
+      enough-for t d s.taken s.next c.in-Some.is s.stands,
+      sum-taken t s.taken s.next s.stands,
+      s.few,
+    )
+
+pub returns-in_err-add_unit-clause-limit : goal.returns-in_err-add_unit-clause-limit
+returns-in_err-add_unit-clause-limit c =
+    let p = err_from_is_err_and c.from_residual.result c.from_residual.ensures.1 in
+    let t = tally_view c.self.inside in
+    rw (p.1, p.2, ← c.self.view_is) (λ xs x h.
+    limit-by c.in_err-add_unit.field-0.0 _ _ (ap (is_over t.talks.rows) c.joined_unit.ensures ∙ limit-waiting t c.in-Some.datagram xs x c.in-Some.is h) c.in_err-add_unit.ensures.limit)
+
+pub with_group-self-inside-requires-clause-unjoined : goal.with_group-self-inside-requires-clause-unjoined
+with_group-self-inside-requires-clause-unjoined c =
+    let s = c.self.invariant in
+    enough-for (tally_view c.self.inside) c.in-Some.datagram s.taken s.next c.in-Some.is s.stands
+
+pub with_group-self-inside-requires-clause-few : goal.with_group-self-inside-requires-clause-few
+with_group-self-inside-requires-clause-few c =
+    let t = tally_view c.self.inside in
+    let s = c.self.invariant in
+    omega (arith, sum-taken t s.taken s.next s.stands, s.few)
+
+one_most : (c : _) → counted_one c ≤ 1
+one_most c = by _
+  where
+    by : (b : _) → (if b then 1 else 0) ≤ 1
+    by true = omega arith
+    by false = omega arith
+
+pub overflow_add-self : goal.overflow_add-self
+overflow_add-self c =
+    let t = tally_view c.self.inside in
+    let s = c.self.invariant in
+    omega (arith, joined-taken t s.taken s.next s.stands, s.few, c.is_counted.ensures, one_most c.joined_class-class.result)
+
+pub invariant_of-self-2 : goal.invariant_of-self-2
+invariant_of-self-2 c =
+    let t = tally_view c.self.inside in
+    let s = c.self.invariant in
+    let d = c.in-Some.datagram in
+    let e = c.in_ok-add_unit.ensures in
+    let fits = subst (λ w. Fits w t.place) c.in-Some.is s.fits in
+    let both = numbers-joined d fits.bytes in
+    let counted = c.is_counted.ensures ∙ ap counted_one c.joined_class-class.ensures in
+    rw counted
+    (sound-joined t d c.in-Some.is c.add_unit.new.talks (λ us stands. subst (λ u. StandsFor c.add_unit.new.talks (us ++ listed u)) c.joined_unit.ensures (e.stands us stands))
+    c.with_group-self-inside.result (c.with_group-self-inside.ensures ∙ ap (λ k. with_group k d.frames t.classes) c.joined_class-class.ensures)
+    s (omega (arith, c.requires.few, ap (λ (n : TallyState). n.place) c.self.view_is))
+    (omega (arith, e.frames, e.bytes, s.bytes, both.1, ap (λ u. bytes_of (listed u)) c.joined_unit.ensures, ap (λ u. frames_of (listed u)) c.joined_unit.ensures)))
+
+pub returns-clause-stands : goal.returns-clause-stands
+returns-clause-stands c =
+    let t = tally_view c.self.inside in
+    let d = c.in-Some.datagram in
+    let e = c.in_ok-add_unit.ensures in
+    let counted = c.is_counted.ensures ∙ ap counted_one c.joined_class-class.ensures in
+    rw (counted, ← c.self.view_is)
+    (stands-joined t d c.in-Some.is c.add_unit.new.talks (λ us stands. subst (λ u. StandsFor c.add_unit.new.talks (us ++ listed u)) c.joined_unit.ensures (e.stands us stands))
+    c.with_group-self-inside.result (c.with_group-self-inside.ensures ∙ ap (λ k. with_group k d.frames t.classes) c.joined_class-class.ensures)
+    (sym (ap (is_over t.talks.rows) c.joined_unit.ensures) ∙ e.limit))

@@ -1,0 +1,68 @@
+-- The report on a few frames, by computation.
+use Rattle.std.specs.Prelude.{◌≡◌, ℕ, ◌*◌, List, [], ◌∷◌, ◌++◌, codes, Option, Some, None, pos, length, false}
+use Rattle.cap_source.specs.Clocks.{microseconds}
+use Rattle.cap_source.specs.declared.feeds.Ending.{Ending}
+use Rattle.cap_source.specs.declared.packets.Format.TheVariants.{Pcap}
+use Rattle.cap_source.specs.declared.packets.Meta.{Meta}
+use Rattle.cap_time.specs.Stamp.{stamp_in}
+use Rattle.cap_time.specs.declared.resolutions.Interface.{Interface}
+use Rattle.cap_talks.specs.Classes.{classes}
+use Rattle.cap_talks.specs.ReportText.{text_of}
+use Rattle.cap_talks.specs.Taken.{Taken}
+use Rattle.cap_talks.specs.declared.classes.Class.{Class}
+use Rattle.cap_talks.specs.declared.classes.Class.TheVariants.{Unjoined, Counted}
+
+abbrev pub raw : Interface
+raw = record { link = 101; snaplen = 262144; resolution = microseconds; offset = pos 0 }
+
+abbrev pub meta_at : ℕ → ℕ → Meta
+meta_at seconds original =
+    record {
+      file = 1;
+      offset = 24;
+      format = Pcap;
+      skipped = 0;
+      instance = 0;
+      interface = raw;
+      units = Some (seconds * 1000000);
+      captured = original;
+      original = original;
+    }
+
+abbrev pub taken_at : ℕ → List ℕ → Taken
+taken_at seconds frame =
+    record { clock = Some (stamp_in (seconds * 1000000) raw); meta = meta_at seconds (length frame); frame = frame }
+
+-- a fragment from 10.0.0.1 to 10.0.0.2 with identification 7, by its two bytes of flags and offset, and its data
+abbrev pub fragment_at : ℕ → ℕ → List ℕ → List ℕ
+fragment_at high low bytes =
+    69 ∷ 0 ∷ 0 ∷ 28 ∷ 0 ∷ 7 ∷ high ∷ low ∷ 64 ∷ 17 ∷ 0 ∷ 0 ∷ 10 ∷ 0 ∷ 0 ∷ 1 ∷ 10 ∷ 0 ∷ 0 ∷ 2 ∷ bytes
+
+abbrev pub first_two : List Taken
+first_two =
+    taken_at 2 (fragment_at 32 0 (3 ∷ 232 ∷ 7 ∷ 208 ∷ 0 ∷ 24 ∷ 0 ∷ 0 ∷ []))
+    ∷ taken_at 1 (fragment_at 0 2 (176 ∷ 177 ∷ 178 ∷ 179 ∷ 180 ∷ 181 ∷ 182 ∷ 183 ∷ []))
+    ∷ []
+
+abbrev pub all_four : List Taken
+all_four =
+    taken_at 4 (fragment_at 32 1 (160 ∷ 161 ∷ 162 ∷ 163 ∷ 164 ∷ 165 ∷ 166 ∷ 167 ∷ []))
+    ∷ taken_at 3 (fragment_at 32 0 (3 ∷ 233 ∷ 7 ∷ 209 ∷ 0 ∷ 24 ∷ 0 ∷ 0 ∷ []))
+    ∷ first_two
+
+abbrev pub pcap_end : ℕ → Ending
+pcap_end file = record { format = Pcap; skipped = 0; was_cut = false }
+
+-- Overlapped fragments, two of four taken, and all of them.
+pub record Overlapped : Type 0 where
+  pub before : classes first_two ≡ Unjoined ∷ Unjoined ∷ []
+  pub after : classes all_four ≡ Counted ∷ Counted ∷ Counted ∷ Counted ∷ []
+  pub so_far : text_of 1 None first_two
+      ≡ codes "files 1\nfile 1 pcap packets 2 bytes 56 truncated 0 skipped 0 first 1+0/1000000 last 2+0/1000000\n"
+      ++ codes "total packets 2 bytes 56 truncated 0\n"
+      ++ codes "frames other-link 0 not-ipv4 0 short 0 cut 0 bad 0 unjoined 2 counted 0\njoined 0 given-up 0\ntalks 0\n"
+  pub done : text_of 1 (Some pcap_end) all_four
+      ≡ codes "files 1\nfile 1 pcap packets 4 bytes 112 truncated 0 skipped 0 first 1+0/1000000 last 4+0/1000000\n"
+      ++ codes "total packets 4 bytes 112 truncated 0\n"
+      ++ codes "frames other-link 0 not-ipv4 0 short 0 cut 0 bad 0 unjoined 0 counted 4\njoined 1 given-up 0\ntalks 1\n"
+      ++ codes "talk udp 10.0.0.1:1001 10.0.0.2:2001 forward 4 112 backward 0 0 first 1+0/1000000 last 4+0/1000000\n"

@@ -1,0 +1,123 @@
+//! Units that packets complete, and how they are added to the conversations.
+ghost use Rattle.std.specs.Prelude.{◌≡◌, ◌+◌, ◌++◌, ◌<◌, ◌≤◌, ◌^◌, List, length, OnOk, OnErr};
+ghost use Rattle.cap_ip.specs.Transport.{transport_of};
+ghost use Rattle.cap_join.specs.Frames.{timed};
+ghost use Rattle.cap_talks.specs.Rows.{StandsFor, frames_in, bytes_in};
+ghost use Rattle.cap_talks.specs.Talks.{frames_of, bytes_of};
+ghost use Rattle.cap_talks.specs.declared.units.CountedUnit.{CountedUnit};
+ghost use Rattle.cap_talks.specs.Adding.{datagram_unit, datagram_class, is_over};
+ghost use Rattle.cap_talks.specs.Classes.{class_of};
+ghost use Rattle.cap_talks.specs.Taken.{stamped_of};
+ghost use Rattle.cap_talks.specs.Tallies.{LimitBy};
+ghost use Rattle.cap_talks.specs.CountedUnits.{listed, whole_unit};
+
+use crate::classes::Class;
+use crate::counts::time_of;
+use crate::talks::{Talks, TalksFault};
+use crate::tallies::TallyFault;
+use crate::units::{CountedUnit, ends_of};
+use cap_ip::{Header, Transport, transport};
+use cap_join::{Datagram, Stamped};
+use cap_source::Meta;
+
+/// What is told of a packet's frame, that has a place in the run.
+pub fn stamped_of(place: u64, meta: &Meta) -> Stamped
+    ensures { result ≡ stamped_of place meta.now }
+{
+    Stamped {
+        time: time_of(meta),
+        place,
+        original: meta.original,
+    }
+}
+
+// A frame, where it has a time.
+fn timed(stamped: Stamped) -> Option<Stamped>
+    ensures { result ≡ timed stamped stamped.time }
+{
+    match stamped.time {
+        None => None,
+        Some(_) => Some(stamped),
+    }
+}
+
+/// A datagram's class, by what its data says of its ports.
+pub fn class_of(transport: Transport) -> Class
+    ensures { result ≡ class_of transport }
+{
+    match transport {
+        Transport::Ports(_, _) => Class::Counted,
+        Transport::NoPorts => Class::Counted,
+        Transport::Bad => Class::Bad,
+        Transport::Cut => Class::Cut,
+    }
+}
+
+/// The unit that a whole datagram is, of which some data was captured.
+pub fn whole_unit(header: &Header, captured: &[u8], stamped: Stamped) -> Option<CountedUnit>
+    ensures { result ≡ whole_unit header.now captured.now stamped }
+{
+    let key = header.key();
+    let seen = transport(key.protocol, captured, header.data_length());
+    let (source, destination) = ends_of(key.source, key.destination, seen)?;
+    Some(CountedUnit {
+        protocol: key.protocol,
+        source,
+        destination,
+        frames: 1,
+        bytes: u128::from(stamped.original),
+        first: timed(stamped),
+        last: timed(stamped),
+    })
+}
+
+/// The unit that a joined datagram is.
+#[tactic(auto, unfolding(crate::specs::Adding::datagram_unit))]
+pub fn joined_unit(datagram: &Datagram) -> Option<CountedUnit>
+    requires short { length datagram.now.payload.items ≤ 65520 }
+    ensures { result ≡ datagram_unit datagram.now }
+{
+    let key = datagram.header.key();
+    let bytes = datagram.payload.as_slice();
+    let seen = transport(key.protocol, bytes, bytes.len() as u32);
+    let (source, destination) = ends_of(key.source, key.destination, seen)?;
+    Some(CountedUnit {
+        protocol: key.protocol,
+        source,
+        destination,
+        frames: datagram.frames,
+        bytes: datagram.bytes,
+        first: datagram.first,
+        last: datagram.last,
+    })
+}
+
+/// The class of a joined datagram's frames.
+#[tactic(auto, unfolding(crate::specs::Adding::datagram_class))]
+pub fn joined_class(datagram: &Datagram) -> Class
+    requires short { length datagram.now.payload.items ≤ 65520 }
+    ensures { result ≡ datagram_class datagram.now }
+{
+    let bytes = datagram.payload.as_slice();
+    class_of(transport(datagram.header.key().protocol, bytes, bytes.len() as u32))
+}
+
+/// Adds a unit to the conversations, where there is one.
+pub fn add_unit(talks: &mut Talks, unit: Option<CountedUnit>) -> Result<(), TallyFault>
+    requires frames { frames_in talks.old.rows + frames_of (listed unit) < 2 ^ 64 }
+    requires bytes { bytes_in talks.old.rows + bytes_of (listed unit) < 2 ^ 128 }
+    ensures stands { OnOk result ((units : List CountedUnit) → StandsFor talks.old units → StandsFor talks.new (units ++ listed unit)) }
+    ensures frames { OnOk result (frames_in talks.new.rows ≡ frames_in talks.old.rows + frames_of (listed unit)) }
+    ensures bytes { OnOk result (bytes_in talks.new.rows ≡ bytes_in talks.old.rows + bytes_of (listed unit)) }
+    ensures limit { LimitBy result (is_over talks.old.rows unit) }
+    ensures err { OnErr result (talks.new ≡ talks.old) }
+{
+    match unit {
+        None => Ok(()),
+        Some(unit) => match talks.add(&unit) {
+            Ok(()) => Ok(()),
+            Err(TalksFault::Limit) => Err(TallyFault::Limit),
+            Err(TalksFault::Memory) => Err(TallyFault::Memory),
+        },
+    }
+}

@@ -1,0 +1,262 @@
+//! What is counted of packets beside what is told of files.
+ghost use Rattle.std.specs.Prelude.{◌≡◌, false, ◌+◌, ◌*◌, ◌≤◌, ◌<◌, ◌<ℤ◌, ◌^◌, pos, List, [], ◌∷◌, length, IsTrue, IfSome, IsSome, OnOk, OnErr, IfOk, IfErr, Option, Some, None, Err, if◌then◌else◌};
+ghost use Rattle.cap_join.specs.Fitting.{FitsPut};
+ghost use Rattle.cap_join.specs.Fragments.{piece_of};
+ghost use Rattle.cap_join.specs.History.{Event, arrives, state_of, joined_pieces};
+ghost use Rattle.cap_join.specs.Joiners.{StandsFor, IsAnswer, open_limit};
+ghost use Rattle.cap_time.specs.Stamp.{seconds_of};
+ghost use Rattle.cap_talks.specs.Looking.{taken};
+ghost use Rattle.cap_talks.specs.Taken.{Taken, stamped_of};
+ghost use Rattle.cap_talks.specs.Tallies.{Stands, LimitBy, counted_one, Looks, WaitsIf, with_frames, with_group};
+ghost use Rattle.cap_talks.specs.declared.tallies.TallyFault.TheVariants.{Memory};
+ghost use Rattle.cap_talks.specs.Classes.{sum_of};
+ghost use Rattle.cap_talks.specs.CountedUnits.{is_limit_at};
+
+use crate::adding::{add_unit, class_of, joined_class, joined_unit, stamped_of, whole_unit};
+use crate::classes::{Class, ClassCounts};
+use crate::looks::{Seen, look};
+use crate::talks::Talks;
+use cap_ip::{Header, transport};
+use cap_join::{Datagram, Joiner, Put, Stamped};
+use cap_source::Meta;
+use cap_time::Stamp;
+use std::alloc::Global;
+use std::marker::Model;
+
+/// Why a packet wasn't taken.
+#[derive(Clone, Copy, Debug, PartialEq, Eq)]
+pub enum TallyFault {
+    /// It completes a unit of a new conversation, and 1,048,576 stand.
+    Limit,
+    /// No memory was found.
+    Memory,
+}
+
+/// What is counted of the packets of a run.
+#[derive(Drop)]
+pub struct Tally {
+    place: u64,
+    classes: ClassCounts,
+    joined: u64,
+    talks: Talks,
+    joiner: Joiner,
+    // a joined datagram whose conversation found no memory, or is one too many
+    waiting: Option<Datagram>,
+}
+
+impl Model for Tally {
+    ghost use Rattle.cap_talks.specs.Tallies.{TallyState};
+
+    ghost Value = { TallyState };
+
+    ghost use Rattle.cap_talks.specs.TallyView.{tally_view, IsSoundInside};
+
+    ghost view = { tally_view };
+
+    ghost invariant = { IsSoundInside };
+}
+
+// So many more packets of a class.
+pub fn with_frames(counts: ClassCounts, class: Class, frames: u64) -> ClassCounts
+    requires few { sum_of counts + frames < 2 ^ 64 }
+    ensures { result ≡ with_frames class frames counts }
+{
+    let mut counts = counts;
+    match class {
+        Class::OtherLink => counts.other_link += frames,
+        Class::NotIpv4 => counts.not_ipv4 += frames,
+        Class::Short => counts.short += frames,
+        Class::Cut => counts.cut += frames,
+        Class::Bad => counts.bad += frames,
+        Class::Unjoined => counts.unjoined += frames,
+        Class::Counted => counts.counted += frames,
+    }
+    counts
+}
+
+// So many packets go from the unjoined ones to a class, itself counted for the first time one of them.
+pub fn with_group(counts: ClassCounts, class: Class, frames: u64) -> ClassCounts
+    requires unjoined { frames ≤ counts.unjoined + 1 }
+    requires few { sum_of counts + 1 < 2 ^ 64 }
+    ensures { result ≡ with_group class frames counts }
+{
+    let mut counts = counts;
+    counts.unjoined = counts.unjoined + 1 - frames;
+    with_frames(counts, class, frames)
+}
+
+// One, of a class that counts.
+fn is_counted(class: Class) -> u64
+    ensures { result ≡ counted_one class }
+{
+    match class {
+        Class::Counted => 1,
+        _ => 0,
+    }
+}
+
+// Puts a fragment into the joiner.
+fn put_fragment(
+    joiner: &mut Joiner,
+    clock: Option<Stamp>,
+    header: &Header,
+    bytes: &[u8],
+    stamped: Stamped,
+) -> Result<Put, TallyFault>
+    requires fragment { IsSome header.now.fragment }
+    requires whole { length bytes.now ≡ header.now.data_length }
+    requires clock { IfSome clock (λ c. seconds_of c <ℤ pos (2 ^ 65)) }
+    requires place { joiner.old.next ≤ stamped.place }
+    requires last { stamped.place < 2 ^ 63 }
+    ensures answer { IfOk result (λ put. (events : List Event) → StandsFor joiner.old events →
+        IsAnswer put (joined_pieces clock (piece_of header.now bytes.now stamped) (state_of open_limit events))) }
+    ensures stands { OnOk result ((events : List Event) → StandsFor joiner.old events →
+        StandsFor joiner.new (arrives clock (piece_of header.now bytes.now stamped) ∷ events)) }
+    ensures next { OnOk result (joiner.new.next ≡ stamped.place + 1) }
+    ensures fits { IfOk result FitsPut }
+    ensures fault { IfErr result (λ e. e ≡ Memory) }
+    ensures err { OnErr result (joiner.new ≡ joiner.old) }
+{
+    match joiner.put(clock, header, bytes, stamped) {
+        Ok(put) => Ok(put),
+        Err(_) => Err(TallyFault::Memory),
+    }
+}
+
+impl Tally {
+    /// Nothing was taken.
+    pub fn new(alloc: Global) -> Tally
+        ensures stands { (next : Option Taken) → Stands result [] next }
+    {
+        Tally {
+            place: 0,
+            classes: ClassCounts {
+                other_link: 0,
+                not_ipv4: 0,
+                short: 0,
+                cut: 0,
+                bad: 0,
+                unjoined: 0,
+                counted: 0,
+            },
+            joined: 0,
+            talks: Talks::new(alloc),
+            joiner: Joiner::new(alloc),
+            waiting: None,
+        }
+    }
+
+    // Looks at a packet that comes next, where no datagram waits: it is counted, or a datagram that it completes waits then, which
+    // is answered.
+    fn look_at(
+        &mut self,
+        clock: Option<Stamp>,
+        meta: &Meta,
+        frame: &[u8],
+    ) -> Result<bool, TallyFault>
+        requires none { self.old.waiting ≡ None }
+        requires clock { IfSome clock (λ c. seconds_of c <ℤ pos (2 ^ 65)) }
+        requires few { self.old.place < 2 ^ 62 }
+        ensures looks { IfOk result (λ waits. Looks self.old (taken clock meta.now frame.now) waits self.new) }
+        ensures waits { IfOk result (λ waits. WaitsIf self.new.waiting waits) }
+        ensures place { IfOk result (λ waits. self.new.place ≡ (if waits then self.old.place else self.old.place + 1)) }
+        ensures limit { IfErr result (λ e. (xs : List Taken) → Stands self.old xs (Some (taken clock meta.now frame.now))
+            → LimitBy (Err e) (is_limit_at xs (taken clock meta.now frame.now))) }
+        ensures err { OnErr result (self.new ≡ self.old) }
+    {
+        let stamped = stamped_of(self.place, meta);
+        match look(meta, frame) {
+            Seen::Plain(class) => {
+                self.classes = with_frames(self.classes, class, 1);
+                self.place += 1;
+                Ok(false)
+            }
+            Seen::Datagram(header, captured) => {
+                add_unit(&mut self.talks, whole_unit(&header, captured, stamped))?;
+                self.joiner.flush(header.key());
+                let seen = transport(header.key().protocol, captured, header.data_length());
+                self.classes = with_frames(self.classes, class_of(seen), 1);
+                self.place += 1;
+                Ok(false)
+            }
+            Seen::Fragment(header, bytes) => {
+                match put_fragment(&mut self.joiner, clock, &header, bytes, stamped)? {
+                    Put::Kept => {
+                        self.classes = with_frames(self.classes, Class::Unjoined, 1);
+                        self.place += 1;
+                        Ok(false)
+                    }
+                    Put::Joined(datagram) => {
+                        self.waiting = Some(datagram);
+                        Ok(true)
+                    }
+                }
+            }
+        }
+    }
+
+    // Counts the datagram that waits.
+    fn take_waiting(&mut self) -> Result<(), TallyFault>
+        requires some { IsSome self.old.waiting }
+        requires few { self.old.place < 2 ^ 62 }
+        ensures stands { OnOk result ((xs : List Taken) (x : Taken) → Stands self.old xs (Some x)
+            → (is_limit_at xs x ≡ false) × ((next : Option Taken) → Stands self.new (x ∷ xs) next)) }
+        ensures limit { IfErr result (λ e. (xs : List Taken) (x : Taken) → Stands self.old xs (Some x) → LimitBy (Err e) (is_limit_at xs x)) }
+        ensures none { OnOk result (self.new.waiting ≡ None) }
+        ensures place { OnOk result (self.new.place ≡ self.old.place + 1) }
+        ensures err { OnErr result (self.new ≡ self.old) }
+    {
+        let Some(datagram) = &self.waiting else {
+            unreachable!();
+        };
+        add_unit(&mut self.talks, joined_unit(datagram))?;
+        let class = joined_class(datagram);
+        let frames = datagram.frames;
+        self.classes = with_group(self.classes, class, frames);
+        self.joined += is_counted(class);
+        self.waiting = None;
+        self.place += 1;
+        Ok(())
+    }
+
+    /// Takes the packet that comes next, which has that clock in the run.
+    ///
+    /// `Limit` comes exactly where it completes a unit of a new conversation and 1,048,576 stand, `Memory` where a growth was
+    /// refused. Both leave the counts as they were, and the same call may be made again; a datagram that the packet joined is kept
+    /// for it.
+    pub fn take(
+        &mut self,
+        clock: Option<Stamp>,
+        meta: &Meta,
+        frame: &[u8],
+    ) -> Result<(), TallyFault>
+        requires clock { IfSome clock (λ c. seconds_of c <ℤ pos (2 ^ 65)) }
+        requires few { self.old.place < 2 ^ 62 }
+        ensures stands { OnOk result (Looks self.old (taken clock meta.now frame.now) false self.new) }
+        ensures limit { IfErr result (λ e. (xs : List Taken) → Stands self.old xs (Some (taken clock meta.now frame.now))
+            → LimitBy (Err e) (is_limit_at xs (taken clock meta.now frame.now))) }
+        ensures none { OnOk result (self.new.waiting ≡ None) }
+        ensures place { OnOk result (self.new.place ≡ self.old.place + 1) }
+        ensures same { OnErr result (self.new.place ≡ self.old.place) }
+        ensures err { OnErr result ((xs : List Taken) → Stands self.old xs (Some (taken clock meta.now frame.now))
+            → Stands self.new xs (Some (taken clock meta.now frame.now))) }
+    {
+        if self.is_waiting() {
+            return self.take_waiting();
+        }
+        if self.look_at(clock, meta, frame)? {
+            return self.take_waiting();
+        }
+        Ok(())
+    }
+
+    /// Whether a joined datagram waits for its conversation.
+    pub fn is_waiting(&self) -> bool
+        ensures { WaitsIf self.now.waiting result }
+    {
+        match self.waiting {
+            None => false,
+            Some(_) => true,
+        }
+    }
+}
