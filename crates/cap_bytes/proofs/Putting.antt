@@ -1,20 +1,14 @@
 -- A text that is being written in pieces.
-use Rattle.std.proofs.Common.{◌≡◌, ℕ, ◌+◌, ◌≤◌, min, List, [], ◌++◌, length, take, drop, Bool, IsTrue, Option, Result, Ok, Err, refl, sym, ◌∙◌, ap, arith, take-add, append_assoc, append-nil, take-append-drop, length-drop}
+use Rattle.std.proofs.Common.{◌≡◌, ℕ, ◌+◌, ◌≤◌, min, List, [], ◌++◌, length, take, drop, IsTrue, Option, Result, Ok, Err, refl, sym, ◌∙◌, ap, arith, take-add, append_assoc, append-nil, take-append-drop, length-drop}
 use Rattle.std.proofs.lemmas.List.{take-append-le, take_min}
 use Rattle.std.proofs.Math.Nat.{min-le_right}
 use Rattle.cap_bytes.proofs.Lists.{drop_more}
 use Rattle.std.proofs.Math.Seq.{take-append-add}
-use Rattle.cap_bytes.specs.Device.{Puts}
+use Rattle.cap_bytes.specs.Device.{Puts, Writer}
 use Rattle.cap_bytes.specs.Printing.{Prints, PrintsFront}
 use Rattle.cap_bytes.specs.declared.faults.Fault.{Fault}
 use Rattle.cap_bytes.specs.declared.faults.Fault.TheVariants.{Refused, Read, Write, Memory}
 use Rattle.cap_bytes.specs.declared.faults.Refusal.{Refusal}
-
--- what a writer is at one moment: whether it tells what it holds, whether it can fail, and what it holds
-pub record Writer : Type 0 where
-  pub told : Bool
-  pub can_fail : Bool
-  pub held : List ℕ
 
 -- a front of the bytes is written, and `rest` is what is left of them
 pub record Putting (old new : Writer) (bytes rest : List ℕ) : Type 0 where

@@ -1,5 +1,5 @@
 -- What the n bytes at the front of a list spell, and what spells a number.
-use Rattle.std.proofs.Common.{◌≡◌, ℕ, ◌+◌, ◌^◌, ◌≤◌, ◌<◌, List, ◌++◌, length, take, slice_index, zero-add, arith}
+use Rattle.std.proofs.Common.{◌≡◌, ℕ, ◌^◌, ◌≤◌, ◌<◌, List, ◌++◌, length, take, slice_index, arith}
 use Rattle.byteorder.specs.Numbers.{big_from-append, big_from-lt, big_from-take, big_number-reads_back, length-bytes_high_first, length-bytes_low_first, little_from-append, little_from-lt, little_from-take, little_number-reads_back}
 use Rattle.cap_bytes.specs.Number.{number, bytes_of}
 use Rattle.cap_bytes.specs.declared.numbers.Order.{Order}

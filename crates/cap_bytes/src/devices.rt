@@ -1,6 +1,6 @@
 //! What bytes come from and go to, as far as a contract can speak of it.
 ghost use Rattle.std.specs.Prelude.{◌≡◌, ℕ, List, Bool, ◌||◌, ◌≤◌, ◌<◌, length, is_err, IsTrue, IsErr, IfOk, IsOkUnless};
-ghost use Rattle.cap_bytes.specs.Device.{Takes, Gives, Puts};
+ghost use Rattle.cap_bytes.specs.Device.{Takes, Gives, Puts, WriterKeeps, writer_of};
 
 use crate::faults::Fault;
 
@@ -67,10 +67,7 @@ pub trait Sink: Device {
 pub fn put_all<W: Sink>(writer: &mut W, bytes: &[u8]) -> Result<(), Fault>
     ensures bytes { IsTrue (W.tells_held writer.old)
         → Puts (W.held writer.old) result (W.held writer.new) bytes.now }
-    ensures told { IsTrue (W.tells_held writer.old) → IsTrue (W.tells_held writer.new) }
-    ensures failed { W.has_failed writer.new ≡ (W.has_failed writer.old || is_err result) }
-    ensures can { IsErr result → IsTrue (W.can_fail writer.old) }
-    ensures cannot { IsTrue (W.can_fail writer.new) → IsTrue (W.can_fail writer.old) }
+    ensures writer { WriterKeeps (writer_of W.Sink writer.old) (is_err result) (writer_of W.Sink writer.new) }
     ensures fault { IsOkUnless result Fault.Write }
 {
     let mut rest = bytes;

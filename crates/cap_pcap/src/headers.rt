@@ -1,6 +1,6 @@
 //! The header of a pcap file. draft-ietf-opsawg-pcap, 4.
-ghost use Rattle.std.specs.Prelude.{◌≡◌, true, false, ◌+◌, ◌≤◌, ◌^◌, ◌++◌, ◌||◌, length, take, drop, IsTrue, is_err, IsErr, IsOkUnless, IfSome, IfNone};
-ghost use Rattle.cap_bytes.specs.Device.{Puts};
+ghost use Rattle.std.specs.Prelude.{◌≡◌, true, false, ◌+◌, ◌≤◌, ◌^◌, ◌++◌, ◌||◌, length, take, drop, IsTrue, is_err, IsOkUnless, IfSome, IfNone};
+ghost use Rattle.cap_bytes.specs.Device.{Puts, WriterKeeps, writer_of};
 ghost use Rattle.cap_bytes.specs.Window.{Keeps};
 ghost use Rattle.cap_bytes.specs.Number.{bytes_of};
 ghost use Rattle.cap_pcap.specs.Grammar.{magic_of, header_text};
@@ -162,10 +162,7 @@ fn header_bytes(header: &PcapHeader) -> [u8; HEADER_SIZE]
 pub fn put_header<W: Sink>(writer: &mut W, header: &PcapHeader) -> Result<(), Fault>
     ensures bytes { IsTrue (W.tells_held writer.old)
         → Puts (W.held writer.old) result (W.held writer.new) (header_text header.now) }
-    ensures told { IsTrue (W.tells_held writer.old) → IsTrue (W.tells_held writer.new) }
-    ensures failed { W.has_failed writer.new ≡ (W.has_failed writer.old || is_err result) }
-    ensures can { IsErr result → IsTrue (W.can_fail writer.old) }
-    ensures cannot { IsTrue (W.can_fail writer.new) → IsTrue (W.can_fail writer.old) }
+    ensures writer { WriterKeeps (writer_of W.Sink writer.old) (is_err result) (writer_of W.Sink writer.new) }
     ensures fault { IsOkUnless result Fault.Write }
 {
     put_all(writer, &header_bytes(header))

@@ -1,6 +1,6 @@
 //! The records of a pcap file. draft-ietf-opsawg-pcap, 5.
-ghost use Rattle.std.specs.Prelude.{◌≡◌, ◌+◌, ◌≤◌, ◌^◌, ◌||◌, length, IsTrue, is_err, IsErr, IsOkUnless};
-ghost use Rattle.cap_bytes.specs.Device.{Puts};
+ghost use Rattle.std.specs.Prelude.{◌≡◌, ◌+◌, ◌≤◌, ◌^◌, length, IsTrue, is_err, IsOkUnless};
+ghost use Rattle.cap_bytes.specs.Device.{Puts, WriterKeeps, writer_of};
 ghost use Rattle.cap_bytes.specs.Window.{Keeps};
 ghost use Rattle.cap_pcap.specs.Grammar.{head_text, record_text};
 ghost use Rattle.cap_pcap.specs.Sights.{Measures, LooksForRecord};
@@ -170,10 +170,7 @@ pub fn put_record<W: Sink>(
     ensures bytes { IsTrue (W.tells_held writer.old)
         → Puts (W.held writer.old) result (W.held writer.new)
         (record_text order seconds fraction original frame.now) }
-    ensures told { IsTrue (W.tells_held writer.old) → IsTrue (W.tells_held writer.new) }
-    ensures failed { W.has_failed writer.new ≡ (W.has_failed writer.old || is_err result) }
-    ensures can { IsErr result → IsTrue (W.can_fail writer.old) }
-    ensures cannot { IsTrue (W.can_fail writer.new) → IsTrue (W.can_fail writer.old) }
+    ensures writer { WriterKeeps (writer_of W.Sink writer.old) (is_err result) (writer_of W.Sink writer.new) }
     ensures fault { IsOkUnless result Fault.Write }
 {
     let head = record_head(order, seconds, fraction, frame.len() as u32, original);

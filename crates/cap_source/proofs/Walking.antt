@@ -1,7 +1,8 @@
 -- A text of the packets of a feed, written packet by packet.
 use Rattle.std.proofs.Common.{◌≡◌, ℕ, zero, suc, ◌≤◌, List, [], ◌∷◌, ◌++◌, length, take, drop, Bool, IsTrue, Option, Some, None, IsSome, Ok, Err, refl, sym, ap, ◌∙◌, subst, arith, append-nil, length-append, take_at, drop_at}
 use Rattle.std.proofs.lemmas.Bool.{false≢true}
-use Rattle.cap_bytes.proofs.Putting.{Writer, Putting, Putting-more, Putting-all, Putting-front}
+use Rattle.cap_bytes.proofs.Putting.{Putting, Putting-more, Putting-all, Putting-front}
+use Rattle.cap_bytes.specs.Device.{Writer}
 use Rattle.cap_bytes.specs.Printing.{Prints}
 use Rattle.cap_bytes.specs.declared.faults.Fault.{Fault}
 use Rattle.cap_bytes.specs.declared.faults.Fault.TheVariants.{Refused, Read, Write, Memory}

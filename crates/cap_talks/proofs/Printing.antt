@@ -1,6 +1,7 @@
 -- The lines of files, written one by one.
 use Rattle.std.proofs.Common.{◌≡◌, ◌<◌, ◌≤◌, ◌+◌, ℕ, zero, suc, List, [], ◌∷◌, ◌++◌, length, take, drop, get_or, IsTrue, IsOkUnless, refl, sym, ap, ◌∙◌, subst, arith, Option, Some, None, Result, Ok, Err, length-append, take_at, drop_at}
-use Rattle.cap_bytes.proofs.Putting.{Writer, Putting, Putting-more, Putting-front}
+use Rattle.cap_bytes.proofs.Putting.{Putting, Putting-more, Putting-front}
+use Rattle.cap_bytes.specs.Device.{Writer}
 use Rattle.cap_bytes.specs.Printing.{Prints, PrintsFront}
 use Rattle.cap_bytes.specs.declared.faults.Fault.{Fault}
 use Rattle.cap_bytes.specs.declared.faults.Fault.TheVariants.{Refused, Read, Write, Memory}

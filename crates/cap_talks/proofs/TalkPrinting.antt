@@ -1,6 +1,7 @@
 -- The lines of conversations, written one by one.
 use Rattle.std.proofs.Common.{◌≡◌, ◌<◌, ◌≤◌, ◌+◌, ℕ, zero, suc, List, [], ◌∷◌, ◌++◌, length, take, drop, IsTrue, refl, sym, ap, ◌∙◌, subst, arith, length-append, take_at, drop_at}
-use Rattle.cap_bytes.proofs.Putting.{Writer, Putting, Putting-more, Putting-front}
+use Rattle.cap_bytes.proofs.Putting.{Putting, Putting-more, Putting-front}
+use Rattle.cap_bytes.specs.Device.{Writer}
 use Rattle.cap_bytes.specs.Printing.{PrintsFront}
 use Rattle.cap_talks.specs.Talks.{Talk}
 use Rattle.cap_talks.specs.TalkText.{line_at, talk_texts}

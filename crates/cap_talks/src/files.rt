@@ -1,6 +1,7 @@
 //! The lines of the files, each read by itself.
-ghost use Rattle.std.specs.Prelude.{◌≡◌, ◌≤◌, ◌||◌, ◌^◌, ◌++◌, false, IsTrue, IfOk, IsOkUnless, None, Some, length, map, vec_len};
+ghost use Rattle.std.specs.Prelude.{◌≡◌, ◌≤◌, ◌^◌, ◌++◌, false, IsTrue, IfOk, IsOkUnless, None, Some, length, map, vec_len};
 ghost use Rattle.std.specs.List.{list_all, list_any};
+ghost use Rattle.cap_bytes.specs.Device.{WriterKeeps, writer_of};
 ghost use Rattle.cap_bytes.specs.Printing.{Prints, IsRead, is_write};
 ghost use Rattle.cap_talks.specs.FileText.{files_text, info_text, first_refusal};
 ghost use Rattle.cap_talks.specs.Reading.{CountsAll, CountsFile, CountsFiles, counted_texts};
@@ -73,9 +74,7 @@ fn put_each<W: Sink>(writer: &mut W, counted: &[Counted]) -> Result<(), Fault>
     requires most { length counted.now ≤ 32 }
     ensures text { IsTrue (W.tells_held writer.old)
         → Prints (counted_texts 1 counted.now) None (W.held writer.old) result (W.held writer.new) }
-    ensures told { IsTrue (W.tells_held writer.old) → IsTrue (W.tells_held writer.new) }
-    ensures failed { W.has_failed writer.new ≡ (W.has_failed writer.old || is_write result) }
-    ensures write { IsTrue (is_write result) → IsTrue (W.can_fail writer.old) }
+    ensures writer { WriterKeeps (writer_of W.Sink writer.old) (is_write result) (writer_of W.Sink writer.new) }
     ensures fault { IsOkUnless result Fault.Write }
 {
     for (place, each) in counted.iter().enumerate() {
@@ -90,9 +89,7 @@ fn put_lines<W: Sink>(writer: &mut W, counted: &[Counted]) -> Result<(), Fault>
     requires most { length counted.now ≤ 32 }
     ensures text { IsTrue (W.tells_held writer.old)
         → Prints (files_text (length counted.now) ++ counted_texts 1 counted.now) None (W.held writer.old) result (W.held writer.new) }
-    ensures told { IsTrue (W.tells_held writer.old) → IsTrue (W.tells_held writer.new) }
-    ensures failed { W.has_failed writer.new ≡ (W.has_failed writer.old || is_write result) }
-    ensures write { IsTrue (is_write result) → IsTrue (W.can_fail writer.old) }
+    ensures writer { WriterKeeps (writer_of W.Sink writer.old) (is_write result) (writer_of W.Sink writer.new) }
     ensures fault { IsOkUnless result Fault.Write }
 {
     let line = files_line(counted.len() as u32);
@@ -115,10 +112,8 @@ pub fn file_lines<R: Source, W: Sink>(
     ensures text { IsTrue (list_all R.tells_coming sources.items) → IsTrue (W.tells_held writer.old)
         → Tells (info_text tail (map R.coming sources.items)) (first_refusal tail 1 (map R.coming sources.items))
         (W.held writer.old) result (W.held writer.new) }
-    ensures told { IsTrue (W.tells_held writer.old) → IsTrue (W.tells_held writer.new) }
-    ensures failed { W.has_failed writer.new ≡ (W.has_failed writer.old || is_write result) }
+    ensures writer { WriterKeeps (writer_of W.Sink writer.old) (is_write result) (writer_of W.Sink writer.new) }
     ensures read { IsRead result → IsTrue (list_any R.can_fail sources.items) }
-    ensures write { IsTrue (is_write result) → IsTrue (W.can_fail writer.old) }
 {
     let counted = count_files(alloc, sources, tail)?;
     put_lines(writer, counted.as_slice())

@@ -1,5 +1,6 @@
 //! The lines of conversations.
-ghost use Rattle.std.specs.Prelude.{◌≡◌, ◌+◌, ◌≤◌, ◌<◌, ◌++◌, ◌||◌, codes, decimal, length, IsTrue, IsOkUnless, None};
+ghost use Rattle.std.specs.Prelude.{◌≡◌, ◌+◌, ◌≤◌, ◌<◌, ◌++◌, codes, decimal, length, IsTrue, IsOkUnless, None};
+ghost use Rattle.cap_bytes.specs.Device.{WriterKeeps, writer_of};
 ghost use Rattle.cap_bytes.specs.Printing.{Prints, is_write};
 ghost use Rattle.arrayvec.specs.ArrayVec.{array_vec_len};
 ghost use Rattle.cap_talks.specs.TalkText.{protocol_text, address_text, end_text, traffic_text, frame_time, talk_text, talk_texts, talks_text, line_at};
@@ -145,9 +146,7 @@ fn line_at(talks: &Talks, place: usize) -> Line
 fn put_each<W: Sink>(writer: &mut W, talks: &Talks) -> Result<(), Fault>
     ensures text { IsTrue (W.tells_held writer.old)
         → Prints (talk_texts talks.now.rows) None (W.held writer.old) result (W.held writer.new) }
-    ensures told { IsTrue (W.tells_held writer.old) → IsTrue (W.tells_held writer.new) }
-    ensures failed { W.has_failed writer.new ≡ (W.has_failed writer.old || is_write result) }
-    ensures write { IsTrue (is_write result) → IsTrue (W.can_fail writer.old) }
+    ensures writer { WriterKeeps (writer_of W.Sink writer.old) (is_write result) (writer_of W.Sink writer.new) }
     ensures fault { IsOkUnless result Fault.Write }
 {
     for place in 0..talks.len() {
@@ -162,9 +161,7 @@ fn put_each<W: Sink>(writer: &mut W, talks: &Talks) -> Result<(), Fault>
 pub fn put_talks<W: Sink>(writer: &mut W, talks: &Talks) -> Result<(), Fault>
     ensures text { IsTrue (W.tells_held writer.old)
         → Prints (talks_text (length talks.now.rows) ++ talk_texts talks.now.rows) None (W.held writer.old) result (W.held writer.new) }
-    ensures told { IsTrue (W.tells_held writer.old) → IsTrue (W.tells_held writer.new) }
-    ensures failed { W.has_failed writer.new ≡ (W.has_failed writer.old || is_write result) }
-    ensures write { IsTrue (is_write result) → IsTrue (W.can_fail writer.old) }
+    ensures writer { WriterKeeps (writer_of W.Sink writer.old) (is_write result) (writer_of W.Sink writer.new) }
     ensures fault { IsOkUnless result Fault.Write }
 {
     let line = talks_line(talks.len());

@@ -1,6 +1,7 @@
 -- The lines of a file's blocks, written one by one.
 use Rattle.std.proofs.Common.{◌≡◌, ℕ, ◌+◌, ◌^◌, ◌≤◌, List, ◌∷◌, ◌++◌, length, take, drop, Bool, IsTrue, Option, None, Ok, Err, refl, sym, ap, ◌∙◌, subst, arith, take_at, drop_at, length-append}
-use Rattle.cap_bytes.proofs.Putting.{Writer, Putting, Putting-more}
+use Rattle.cap_bytes.proofs.Putting.{Putting, Putting-more}
+use Rattle.cap_bytes.specs.Device.{Writer}
 use Rattle.cap_bytes.specs.declared.faults.Fault.{Fault}
 use Rattle.cap_bytes.specs.declared.faults.Fault.TheVariants.{Refused, Read, Write, Memory}
 use Rattle.cap_bytes.specs.declared.faults.Refusal.{Refusal}

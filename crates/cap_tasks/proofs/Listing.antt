@@ -1,6 +1,7 @@
 -- The lines of a feed's packets, written one by one.
 use Rattle.std.proofs.Common.{ℕ, ◌+◌, ◌≤◌, List, Bool, refl}
-use Rattle.cap_bytes.proofs.Putting.{Writer}
+use Rattle.cap_bytes.proofs.Putting.{}
+use Rattle.cap_bytes.specs.Device.{Writer}
 use Rattle.cap_source.proofs.Walking.{Plan, IsPlan, GoesOn, Walking}
 use Rattle.cap_source.specs.Feed.{Feed}
 use Rattle.cap_source.specs.declared.packets.Meta.{Meta}

@@ -1,7 +1,8 @@
 //! `capt blocks`: one line for each block of a pcapng file, as it is found.
-ghost use Rattle.std.specs.Prelude.{◌≡◌, ◌||◌, IsTrue};
+ghost use Rattle.std.specs.Prelude.{IsTrue};
 ghost use Rattle.cap_blocks.specs.Reader.{items_of};
 ghost use Rattle.cap_tasks.specs.BlockText.{block_lines, block_list, block_refusal, refusal_of};
+ghost use Rattle.cap_bytes.specs.Device.{WriterKeeps, writer_of};
 ghost use Rattle.cap_bytes.specs.Printing.{Prints, IsRead, is_write};
 
 use crate::lines::block_line;
@@ -17,10 +18,8 @@ fn print_blocks<R: Source, W: Sink>(
     ensures text { IsTrue reader.old.told → IsTrue (W.tells_held writer.old)
         → Prints (block_lines 1 (items_of reader.old)) (refusal_of (items_of reader.old))
         (W.held writer.old) result (W.held writer.new) }
-    ensures told { IsTrue (W.tells_held writer.old) → IsTrue (W.tells_held writer.new) }
-    ensures failed { W.has_failed writer.new ≡ (W.has_failed writer.old || is_write result) }
+    ensures writer { WriterKeeps (writer_of W.Sink writer.old) (is_write result) (writer_of W.Sink writer.new) }
     ensures read { IsRead result → IsTrue reader.old.can_fail }
-    ensures write { IsTrue (is_write result) → IsTrue (W.can_fail writer.old) }
 {
     let mut n = 1u64;
     while let Some(block) = reader.next_block()? {
@@ -42,10 +41,8 @@ pub fn blocks_to<R: Source, W: Sink>(
     ensures text { IsTrue (R.tells_coming source) → IsTrue (W.tells_held writer.old)
         → Prints (block_list tail (R.coming source)) (block_refusal tail (R.coming source))
         (W.held writer.old) result (W.held writer.new) }
-    ensures told { IsTrue (W.tells_held writer.old) → IsTrue (W.tells_held writer.new) }
-    ensures failed { W.has_failed writer.new ≡ (W.has_failed writer.old || is_write result) }
+    ensures writer { WriterKeeps (writer_of W.Sink writer.old) (is_write result) (writer_of W.Sink writer.new) }
     ensures read { IsRead result → IsTrue (R.can_fail source) }
-    ensures write { IsTrue (is_write result) → IsTrue (W.can_fail writer.old) }
 {
     let mut reader = BlockReader::new(Window::new(alloc, source, 1), tail);
     print_blocks(&mut reader, writer)

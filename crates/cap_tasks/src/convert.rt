@@ -1,6 +1,7 @@
 //! `capt convert`: the packets of a file, written in either format.
-ghost use Rattle.std.specs.Prelude.{◌≡◌, ◌||◌, IsTrue};
+ghost use Rattle.std.specs.Prelude.{IsTrue};
 ghost use Rattle.cap_tasks.specs.Converted.{convert_text, convert_refusal};
+ghost use Rattle.cap_bytes.specs.Device.{WriterKeeps, writer_of};
 ghost use Rattle.cap_bytes.specs.Printing.{Prints, IsRead, is_write};
 
 use cap_bytes::{Fault, Order, Sink, Source, Tail};
@@ -23,10 +24,8 @@ pub fn convert_to<R: Source, W: Sink>(
     ensures text { IsTrue (R.tells_coming source) → IsTrue (W.tells_held writer.old)
         → Prints (convert_text format order tail (R.coming source)) (convert_refusal format tail (R.coming source))
         (W.held writer.old) result (W.held writer.new) }
-    ensures told { IsTrue (W.tells_held writer.old) → IsTrue (W.tells_held writer.new) }
-    ensures failed { W.has_failed writer.new ≡ (W.has_failed writer.old || is_write result) }
+    ensures writer { WriterKeeps (writer_of W.Sink writer.old) (is_write result) (writer_of W.Sink writer.new) }
     ensures read { IsRead result → IsTrue (R.can_fail source) }
-    ensures write { IsTrue (is_write result) → IsTrue (W.can_fail writer.old) }
 {
     let mut capture = Capture::new(alloc, source, 1, tail);
     match format {

@@ -1,7 +1,8 @@
 //! `capt join`: the whole datagrams of several files, written as one pcapng file.
-ghost use Rattle.std.specs.Prelude.{◌≡◌, ◌≤◌, ◌||◌, IsTrue, map, vec_len};
+ghost use Rattle.std.specs.Prelude.{◌≤◌, IsTrue, map, vec_len};
 ghost use Rattle.std.specs.List.{list_all, list_any};
 ghost use Rattle.cap_tasks.specs.JoinText.{join_text, join_refusal};
+ghost use Rattle.cap_bytes.specs.Device.{WriterKeeps, writer_of};
 ghost use Rattle.cap_bytes.specs.Printing.{Prints, IsRead, is_write};
 
 use cap_bytes::{Fault, Order, Sink, Source, Tail};
@@ -27,10 +28,8 @@ pub fn join_to<R: Source, W: Sink>(
     ensures text { IsTrue (list_all R.tells_coming sources.items) → IsTrue (W.tells_held writer.old)
         → Prints (join_text order tail (map R.coming sources.items)) (join_refusal tail (map R.coming sources.items))
         (W.held writer.old) result (W.held writer.new) }
-    ensures told { IsTrue (W.tells_held writer.old) → IsTrue (W.tells_held writer.new) }
-    ensures failed { W.has_failed writer.new ≡ (W.has_failed writer.old || is_write result) }
+    ensures writer { WriterKeeps (writer_of W.Sink writer.old) (is_write result) (writer_of W.Sink writer.new) }
     ensures read { IsRead result → IsTrue (list_any R.can_fail sources.items) }
-    ensures write { IsTrue (is_write result) → IsTrue (W.can_fail writer.old) }
 {
     let mut merged = merge_files(alloc, sources, tail)?;
     write_joined(alloc, &mut merged, order, writer)

@@ -1,6 +1,7 @@
 //! `capt list`: one line for each packet, as it is found.
-ghost use Rattle.std.specs.Prelude.{◌≡◌, ◌||◌, ◌≤◌, ◌^◌, IsTrue};
+ghost use Rattle.std.specs.Prelude.{◌≤◌, ◌^◌, IsTrue};
 ghost use Rattle.cap_tasks.specs.ListText.{list_lines, list_text, list_refusal};
+ghost use Rattle.cap_bytes.specs.Device.{WriterKeeps, writer_of};
 ghost use Rattle.cap_bytes.specs.Printing.{Prints, IsRead, is_write};
 ghost use Rattle.cap_source.specs.Feed.{refusal_of};
 
@@ -15,10 +16,8 @@ fn list_packets<F: PacketFeed, W: Sink>(feed: &mut F, writer: &mut W) -> Result<
     ensures text { IsTrue (F.feed feed.old).told → IsTrue (W.tells_held writer.old)
         → Prints (list_lines 1 (F.feed feed.old).items) (refusal_of (F.feed feed.old).items)
         (W.held writer.old) result (W.held writer.new) }
-    ensures told { IsTrue (W.tells_held writer.old) → IsTrue (W.tells_held writer.new) }
-    ensures failed { W.has_failed writer.new ≡ (W.has_failed writer.old || is_write result) }
+    ensures writer { WriterKeeps (writer_of W.Sink writer.old) (is_write result) (writer_of W.Sink writer.new) }
     ensures read { IsRead result → IsTrue (F.feed feed.old).can_fail }
-    ensures write { IsTrue (is_write result) → IsTrue (W.can_fail writer.old) }
 {
     let mut n = 1u64;
     while let Some(meta) = next_packet(feed)? {
@@ -41,10 +40,8 @@ pub fn list_to<R: Source, W: Sink>(
     ensures text { IsTrue (R.tells_coming source) → IsTrue (W.tells_held writer.old)
         → Prints (list_text tail (R.coming source)) (list_refusal tail (R.coming source))
         (W.held writer.old) result (W.held writer.new) }
-    ensures told { IsTrue (W.tells_held writer.old) → IsTrue (W.tells_held writer.new) }
-    ensures failed { W.has_failed writer.new ≡ (W.has_failed writer.old || is_write result) }
+    ensures writer { WriterKeeps (writer_of W.Sink writer.old) (is_write result) (writer_of W.Sink writer.new) }
     ensures read { IsRead result → IsTrue (R.can_fail source) }
-    ensures write { IsTrue (is_write result) → IsTrue (W.can_fail writer.old) }
 {
     let mut capture = Capture::new(alloc, source, 1, tail);
     list_packets(&mut capture, writer)

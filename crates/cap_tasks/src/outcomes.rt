@@ -1,6 +1,6 @@
 //! How a run ends: its status, and what is told of it.
-ghost use Rattle.std.specs.Prelude.{◌≡◌, ◌||◌, ◌++◌, is_err, IsTrue, IsFalse, IsOk, IsErr, IsOkUnless};
-ghost use Rattle.cap_bytes.specs.Device.{Puts};
+ghost use Rattle.std.specs.Prelude.{◌≡◌, ◌++◌, is_err, IsTrue, IsFalse, IsOk, IsErr, IsOkUnless};
+ghost use Rattle.cap_bytes.specs.Device.{Puts, WriterKeeps, writer_of};
 ghost use Rattle.cap_tasks.specs.Outcomes.{ends_by, status_after, outcome_text, refusal_text, read_text, open_text, is_help, HelpEnds};
 ghost use Rattle.cap_bytes.specs.Printing.{PrintsFront};
 
@@ -131,10 +131,7 @@ fn open_line(file: u32) -> Line
 pub fn outcome_line<W: Sink>(outcome: &Outcome, writer: &mut W) -> Result<(), Fault>
     ensures text { IsTrue (W.tells_held writer.old)
         → Puts (W.held writer.old) result (W.held writer.new) (outcome_text outcome.now) }
-    ensures told { IsTrue (W.tells_held writer.old) → IsTrue (W.tells_held writer.new) }
-    ensures failed { W.has_failed writer.new ≡ (W.has_failed writer.old || is_err result) }
-    ensures write { IsErr result → IsTrue (W.can_fail writer.old) }
-    ensures cannot { IsTrue (W.can_fail writer.new) → IsTrue (W.can_fail writer.old) }
+    ensures writer { WriterKeeps (writer_of W.Sink writer.old) (is_err result) (writer_of W.Sink writer.new) }
     ensures fault { IsOkUnless result Fault.Write }
 {
     match outcome {

@@ -1,7 +1,8 @@
 -- The packets of a feed, written one by one in the form of pcapng.
 use Rattle.std.proofs.Common.{◌≡◌, ℕ, ◌+◌, ◌≤◌, ◌<◌, ◌==◌, List, [], ◌∷◌, ◌++◌, length, Bool, true, false, Option, Some, None, Err, refl, sym, ap, ◌∙◌, subst, arith, length-append, IsTrue, if◌then◌else◌}
 use Rattle.std.proofs.lemmas.Bool.{eq-eqb, ne_eqb}
-use Rattle.cap_bytes.proofs.Putting.{Writer, Putting}
+use Rattle.cap_bytes.proofs.Putting.{Putting}
+use Rattle.cap_bytes.specs.Device.{Writer}
 use Rattle.cap_bytes.specs.Printing.{Prints}
 use Rattle.cap_bytes.specs.declared.faults.Fault.{Fault}
 use Rattle.cap_bytes.specs.declared.faults.Refusal.{Refusal}

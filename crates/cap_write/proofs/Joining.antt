@@ -1,6 +1,7 @@
 -- The datagrams of a run of packets, written one by one.
 use Rattle.std.proofs.Common.{◌≡◌, ℕ, ◌+◌, ◌*◌, ◌^◌, ◌≤◌, ◌<◌, List, [], ◌∷◌, ◌++◌, length, take, drop, map, Bool, IsTrue, Option, Some, None, Ok, Err, refl, sym, ap, ◌∙◌, subst, arith, append_assoc, append-nil, length-append, take-append-drop, take_at, drop_at}
-use Rattle.cap_bytes.proofs.Putting.{Writer, Putting, Putting-more, Putting-front}
+use Rattle.cap_bytes.proofs.Putting.{Putting, Putting-more, Putting-front}
+use Rattle.cap_bytes.specs.Device.{Writer}
 use Rattle.cap_bytes.specs.Printing.{Prints}
 use Rattle.cap_bytes.specs.declared.faults.Fault.{Fault}
 use Rattle.cap_bytes.specs.declared.faults.Fault.TheVariants.{Refused, Read, Write, Memory}

@@ -1,5 +1,6 @@
 //! Files of whole datagrams.
-ghost use Rattle.std.specs.Prelude.{◌≡◌, ◌+◌, ◌≤◌, ◌<◌, ◌<ℤ◌, ◌^◌, ◌||◌, pos, length, List, [], IsTrue, IfSome, OnOk};
+ghost use Rattle.std.specs.Prelude.{◌≡◌, ◌+◌, ◌≤◌, ◌<◌, ◌<ℤ◌, ◌^◌, pos, length, List, [], IsTrue, IfSome, OnOk};
+ghost use Rattle.cap_bytes.specs.Device.{WriterKeeps, writer_of};
 ghost use Rattle.cap_bytes.specs.Printing.{Prints, IsRead, is_write};
 ghost use Rattle.cap_join.specs.History.{Event};
 ghost use Rattle.cap_join.specs.Joiners.{StandsFor};
@@ -76,11 +77,8 @@ fn put_completed<W: Sink>(
         → StandsFor joiner.new (events_after place events clock meta.now frame.now)) }
     ensures next { OnOk result (joiner.new.next ≤ place + 1) }
     ensures limit { length names.new.keys ≤ 1024 }
-    ensures told { IsTrue (W.tells_held writer.old) → IsTrue (W.tells_held writer.new) }
-    ensures failed { W.has_failed writer.new ≡ (W.has_failed writer.old || is_write result) }
+    ensures writer { WriterKeeps (writer_of W.Sink writer.old) (is_write result) (writer_of W.Sink writer.new) }
     ensures read { IsRead result → ⊥ }
-    ensures write { IsTrue (is_write result) → IsTrue (W.can_fail writer.old) }
-    ensures cannot { IsTrue (W.can_fail writer.new) → IsTrue (W.can_fail writer.old) }
 {
     units_of(meta)?;
     if take_packet(joiner, clock, place, meta, frame, packet)? {
@@ -104,11 +102,8 @@ fn put_joined<F: PacketFeed, W: Sink>(
         → Prints (text_behind order names.old.keys (joined_items 0 [] (run_of (parts_of merged.old))))
         (refusal_in names.old.keys (joined_items 0 [] (run_of (parts_of merged.old))))
         (W.held writer.old) result (W.held writer.new) }
-    ensures told { IsTrue (W.tells_held writer.old) → IsTrue (W.tells_held writer.new) }
-    ensures failed { W.has_failed writer.new ≡ (W.has_failed writer.old || is_write result) }
+    ensures writer { WriterKeeps (writer_of W.Sink writer.old) (is_write result) (writer_of W.Sink writer.new) }
     ensures read { IsRead result → IsTrue (feed_of (parts_of merged.old)).can_fail }
-    ensures write { IsTrue (is_write result) → IsTrue (W.can_fail writer.old) }
-    ensures cannot { IsTrue (W.can_fail writer.new) → IsTrue (W.can_fail writer.old) }
 {
     let mut joiner = Joiner::new(alloc);
     let mut packet = Vec::new(alloc);
@@ -153,11 +148,8 @@ pub fn write_joined<F: PacketFeed, W: Sink>(
     ensures text { IsTrue (feed_of (parts_of merged.old)).told → IsTrue (W.tells_held writer.old)
         → Prints (joined_text order (run_of (parts_of merged.old))) (joined_refusal (run_of (parts_of merged.old)))
         (W.held writer.old) result (W.held writer.new) }
-    ensures told { IsTrue (W.tells_held writer.old) → IsTrue (W.tells_held writer.new) }
-    ensures failed { W.has_failed writer.new ≡ (W.has_failed writer.old || is_write result) }
+    ensures writer { WriterKeeps (writer_of W.Sink writer.old) (is_write result) (writer_of W.Sink writer.new) }
     ensures read { IsRead result → IsTrue (feed_of (parts_of merged.old)).can_fail }
-    ensures write { IsTrue (is_write result) → IsTrue (W.can_fail writer.old) }
-    ensures cannot { IsTrue (W.can_fail writer.new) → IsTrue (W.can_fail writer.old) }
 {
     put_section(writer, order)?;
     let mut names = Names::new(alloc);

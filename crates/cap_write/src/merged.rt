@@ -1,5 +1,6 @@
 //! Merged files.
-ghost use Rattle.std.specs.Prelude.{◌≡◌, ◌||◌, IsTrue};
+ghost use Rattle.std.specs.Prelude.{IsTrue};
+ghost use Rattle.cap_bytes.specs.Device.{WriterKeeps, writer_of};
 ghost use Rattle.cap_bytes.specs.Printing.{Prints, IsRead, is_write};
 ghost use Rattle.cap_write.specs.Texts.{merged_text, merged_refusal};
 
@@ -25,11 +26,8 @@ pub fn write_merged<F: PacketFeed, W: Sink>(
     ensures text { IsTrue (F.feed feed.old).told → IsTrue (W.tells_held writer.old)
         → Prints (merged_text order (F.feed feed.old).items) (merged_refusal (F.feed feed.old).items)
         (W.held writer.old) result (W.held writer.new) }
-    ensures told { IsTrue (W.tells_held writer.old) → IsTrue (W.tells_held writer.new) }
-    ensures failed { W.has_failed writer.new ≡ (W.has_failed writer.old || is_write result) }
+    ensures writer { WriterKeeps (writer_of W.Sink writer.old) (is_write result) (writer_of W.Sink writer.new) }
     ensures read { IsRead result → IsTrue (F.feed feed.old).can_fail }
-    ensures write { IsTrue (is_write result) → IsTrue (W.can_fail writer.old) }
-    ensures cannot { IsTrue (W.can_fail writer.new) → IsTrue (W.can_fail writer.old) }
 {
     put_section(writer, order)?;
     let mut names = Names::new(alloc);

@@ -1,6 +1,6 @@
 //! The packets of a feed, written one by one in the form of pcapng.
-ghost use Rattle.std.specs.Prelude.{◌≡◌, ◌+◌, ◌≤◌, ◌++◌, ◌||◌, length, IsTrue, is_err, IsErr, IsOkUnless, OnOk, None, if◌then◌else◌, ◌==◌, []};
-ghost use Rattle.cap_bytes.specs.Device.{Puts};
+ghost use Rattle.std.specs.Prelude.{◌≡◌, ◌+◌, ◌≤◌, ◌++◌, length, IsTrue, is_err, IsOkUnless, OnOk, None, if◌then◌else◌, ◌==◌, []};
+ghost use Rattle.cap_bytes.specs.Device.{Puts, WriterKeeps, writer_of};
 ghost use Rattle.cap_bytes.specs.Printing.{Prints, IsRead, is_write};
 ghost use Rattle.cap_blocks.specs.Grammar.{interface_text, packet_text};
 ghost use Rattle.cap_write.specs.Numbering.{number_of, with_name, refusal_in, refusal_by, write_fault};
@@ -21,10 +21,7 @@ fn put_new_interface<W: Sink>(
     ensures bytes { IsTrue (W.tells_held writer.old)
         → Puts (W.held writer.old) result (W.held writer.new)
         (if is_new then interface_text order meta.now.interface else []) }
-    ensures told { IsTrue (W.tells_held writer.old) → IsTrue (W.tells_held writer.new) }
-    ensures failed { W.has_failed writer.new ≡ (W.has_failed writer.old || is_err result) }
-    ensures can { IsErr result → IsTrue (W.can_fail writer.old) }
-    ensures cannot { IsTrue (W.can_fail writer.new) → IsTrue (W.can_fail writer.old) }
+    ensures writer { WriterKeeps (writer_of W.Sink writer.old) (is_err result) (writer_of W.Sink writer.new) }
     ensures fault { IsOkUnless result Fault.Write }
 {
     if is_new {
@@ -49,10 +46,7 @@ fn put_numbered<W: Sink>(
         → Puts (W.held writer.old) result (W.held writer.new)
         ((if is_new then interface_text order meta.now.interface else [])
         ++ packet_text order number units meta.now.original frame.now) }
-    ensures told { IsTrue (W.tells_held writer.old) → IsTrue (W.tells_held writer.new) }
-    ensures failed { W.has_failed writer.new ≡ (W.has_failed writer.old || is_err result) }
-    ensures can { IsErr result → IsTrue (W.can_fail writer.old) }
-    ensures cannot { IsTrue (W.can_fail writer.new) → IsTrue (W.can_fail writer.old) }
+    ensures writer { WriterKeeps (writer_of W.Sink writer.old) (is_err result) (writer_of W.Sink writer.new) }
     ensures fault { IsOkUnless result Fault.Write }
 {
     put_new_interface(writer, order, is_new, meta)?;
@@ -75,11 +69,8 @@ pub fn put_one<W: Sink>(
         (W.held writer.old) result (W.held writer.new) }
     ensures names { OnOk result ((names.new.keys ≡ with_name names.old.keys meta.now) × (write_fault names.old.keys meta.now ≡ None)) }
     ensures limit { length names.new.keys ≤ 1024 }
-    ensures told { IsTrue (W.tells_held writer.old) → IsTrue (W.tells_held writer.new) }
-    ensures failed { W.has_failed writer.new ≡ (W.has_failed writer.old || is_write result) }
+    ensures writer { WriterKeeps (writer_of W.Sink writer.old) (is_write result) (writer_of W.Sink writer.new) }
     ensures read { IsRead result → ⊥ }
-    ensures write { IsTrue (is_write result) → IsTrue (W.can_fail writer.old) }
-    ensures cannot { IsTrue (W.can_fail writer.new) → IsTrue (W.can_fail writer.old) }
 {
     let units = units_of(meta)?;
     let count = names.len();
@@ -107,11 +98,8 @@ pub fn put_packets<F: PacketFeed, W: Sink>(
         → Prints (text_behind order names.old.keys (F.feed feed.old).items)
         (refusal_in names.old.keys (F.feed feed.old).items)
         (W.held writer.old) result (W.held writer.new) }
-    ensures told { IsTrue (W.tells_held writer.old) → IsTrue (W.tells_held writer.new) }
-    ensures failed { W.has_failed writer.new ≡ (W.has_failed writer.old || is_write result) }
+    ensures writer { WriterKeeps (writer_of W.Sink writer.old) (is_write result) (writer_of W.Sink writer.new) }
     ensures read { IsRead result → IsTrue (F.feed feed.old).can_fail }
-    ensures write { IsTrue (is_write result) → IsTrue (W.can_fail writer.old) }
-    ensures cannot { IsTrue (W.can_fail writer.new) → IsTrue (W.can_fail writer.old) }
 {
     while let Some(meta) = next_packet(feed)? {
         put_one(names, order, &meta, feed.frame(), writer)?;

@@ -1,5 +1,6 @@
 //! Files written as pcap.
-ghost use Rattle.std.specs.Prelude.{◌≡◌, ◌≤◌, ◌||◌, length, IsTrue, IsFalse, OnOk, Some, None};
+ghost use Rattle.std.specs.Prelude.{◌≡◌, ◌≤◌, length, IsTrue, IsFalse, OnOk, Some, None};
+ghost use Rattle.cap_bytes.specs.Device.{WriterKeeps, writer_of};
 ghost use Rattle.cap_bytes.specs.Printing.{Prints, IsRead, is_write};
 ghost use Rattle.cap_source.specs.Captures.{feed_of, number_of, first_of};
 ghost use Rattle.cap_write.specs.Pcap.{fraction_of, header_of, packet_record, record_fault, records_text, records_refusal, pcap_text, pcap_refusal};
@@ -85,11 +86,8 @@ fn put_one<W: Sink>(
         (refusal_by meta.now (record_fault first.now meta.now))
         (W.held writer.old) result (W.held writer.new) }
     ensures whole { OnOk result (record_fault first.now meta.now ≡ None) }
-    ensures told { IsTrue (W.tells_held writer.old) → IsTrue (W.tells_held writer.new) }
-    ensures failed { W.has_failed writer.new ≡ (W.has_failed writer.old || is_write result) }
+    ensures writer { WriterKeeps (writer_of W.Sink writer.old) (is_write result) (writer_of W.Sink writer.new) }
     ensures read { IsRead result → ⊥ }
-    ensures write { IsTrue (is_write result) → IsTrue (W.can_fail writer.old) }
-    ensures cannot { IsTrue (W.can_fail writer.new) → IsTrue (W.can_fail writer.old) }
 {
     let time = written_time(first, meta)?;
     put_record(
@@ -113,11 +111,8 @@ fn put_records<F: PacketFeed, W: Sink>(
         → Prints (records_text order first.now (F.feed feed.old).items)
         (records_refusal first.now (F.feed feed.old).items)
         (W.held writer.old) result (W.held writer.new) }
-    ensures told { IsTrue (W.tells_held writer.old) → IsTrue (W.tells_held writer.new) }
-    ensures failed { W.has_failed writer.new ≡ (W.has_failed writer.old || is_write result) }
+    ensures writer { WriterKeeps (writer_of W.Sink writer.old) (is_write result) (writer_of W.Sink writer.new) }
     ensures read { IsRead result → IsTrue (F.feed feed.old).can_fail }
-    ensures write { IsTrue (is_write result) → IsTrue (W.can_fail writer.old) }
-    ensures cannot { IsTrue (W.can_fail writer.new) → IsTrue (W.can_fail writer.old) }
 {
     while let Some(meta) = next_packet(feed)? {
         put_one(first, order, &meta, feed.frame(), writer)?;
@@ -137,11 +132,8 @@ fn put_file<F: PacketFeed, W: Sink>(
         → Prints (pcap_text order (Some first.now) (F.feed feed.old).items)
         (records_refusal first.now (F.feed feed.old).items)
         (W.held writer.old) result (W.held writer.new) }
-    ensures told { IsTrue (W.tells_held writer.old) → IsTrue (W.tells_held writer.new) }
-    ensures failed { W.has_failed writer.new ≡ (W.has_failed writer.old || is_write result) }
+    ensures writer { WriterKeeps (writer_of W.Sink writer.old) (is_write result) (writer_of W.Sink writer.new) }
     ensures read { IsRead result → IsTrue (F.feed feed.old).can_fail }
-    ensures write { IsTrue (is_write result) → IsTrue (W.can_fail writer.old) }
-    ensures cannot { IsTrue (W.can_fail writer.new) → IsTrue (W.can_fail writer.old) }
 {
     put_header(writer, &header_of(order, first))?;
     put_records(feed, order, first, writer)
@@ -182,11 +174,8 @@ pub fn to_pcap<R: Source, W: Sink>(
         → Prints (pcap_text order (first_of capture.old) (feed_of capture.old).items)
         (pcap_refusal (number_of capture.old) (first_of capture.old) (feed_of capture.old).items)
         (W.held writer.old) result (W.held writer.new) }
-    ensures told { IsTrue (W.tells_held writer.old) → IsTrue (W.tells_held writer.new) }
-    ensures failed { W.has_failed writer.new ≡ (W.has_failed writer.old || is_write result) }
+    ensures writer { WriterKeeps (writer_of W.Sink writer.old) (is_write result) (writer_of W.Sink writer.new) }
     ensures read { IsRead result → IsTrue (feed_of capture.old).can_fail }
-    ensures write { IsTrue (is_write result) → IsTrue (W.can_fail writer.old) }
-    ensures cannot { IsTrue (W.can_fail writer.new) → IsTrue (W.can_fail writer.old) }
 {
     let file = capture.file();
     let first = capture.first()?;
@@ -205,11 +194,8 @@ fn put_pcap<F: PacketFeed, W: Sink>(
         → Prints (pcap_text order first (F.feed feed.old).items)
         (pcap_refusal file first (F.feed feed.old).items)
         (W.held writer.old) result (W.held writer.new) }
-    ensures told { IsTrue (W.tells_held writer.old) → IsTrue (W.tells_held writer.new) }
-    ensures failed { W.has_failed writer.new ≡ (W.has_failed writer.old || is_write result) }
+    ensures writer { WriterKeeps (writer_of W.Sink writer.old) (is_write result) (writer_of W.Sink writer.new) }
     ensures read { IsRead result → IsTrue (F.feed feed.old).can_fail }
-    ensures write { IsTrue (is_write result) → IsTrue (W.can_fail writer.old) }
-    ensures cannot { IsTrue (W.can_fail writer.new) → IsTrue (W.can_fail writer.old) }
 {
     match first {
         Some(first) => put_file(feed, order, &first, writer),

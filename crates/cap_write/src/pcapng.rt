@@ -1,6 +1,6 @@
 //! Files written as pcapng.
-ghost use Rattle.std.specs.Prelude.{◌≡◌, ◌||◌, IsTrue, is_err, IsErr, IsOkUnless};
-ghost use Rattle.cap_bytes.specs.Device.{Puts};
+ghost use Rattle.std.specs.Prelude.{IsTrue, is_err, IsOkUnless};
+ghost use Rattle.cap_bytes.specs.Device.{Puts, WriterKeeps, writer_of};
 ghost use Rattle.cap_bytes.specs.Printing.{Prints, IsRead, is_write};
 ghost use Rattle.cap_source.specs.Captures.{feed_of, number_of, first_of};
 ghost use Rattle.cap_write.specs.Names.{Holds};
@@ -32,10 +32,7 @@ fn first_names(alloc: Global, file: u32, first: Option<Interface>) -> Result<Nam
 fn put_first<W: Sink>(writer: &mut W, order: Order, first: Option<Interface>) -> Result<(), Fault>
     ensures bytes { IsTrue (W.tells_held writer.old)
         → Puts (W.held writer.old) result (W.held writer.new) (first_text order first) }
-    ensures told { IsTrue (W.tells_held writer.old) → IsTrue (W.tells_held writer.new) }
-    ensures failed { W.has_failed writer.new ≡ (W.has_failed writer.old || is_err result) }
-    ensures can { IsErr result → IsTrue (W.can_fail writer.old) }
-    ensures cannot { IsTrue (W.can_fail writer.new) → IsTrue (W.can_fail writer.old) }
+    ensures writer { WriterKeeps (writer_of W.Sink writer.old) (is_err result) (writer_of W.Sink writer.new) }
     ensures fault { IsOkUnless result Fault.Write }
 {
     match first {
@@ -48,10 +45,7 @@ fn put_first<W: Sink>(writer: &mut W, order: Order, first: Option<Interface>) ->
 fn put_front<W: Sink>(writer: &mut W, order: Order, first: Option<Interface>) -> Result<(), Fault>
     ensures bytes { IsTrue (W.tells_held writer.old)
         → Puts (W.held writer.old) result (W.held writer.new) (front_text order first) }
-    ensures told { IsTrue (W.tells_held writer.old) → IsTrue (W.tells_held writer.new) }
-    ensures failed { W.has_failed writer.new ≡ (W.has_failed writer.old || is_err result) }
-    ensures can { IsErr result → IsTrue (W.can_fail writer.old) }
-    ensures cannot { IsTrue (W.can_fail writer.new) → IsTrue (W.can_fail writer.old) }
+    ensures writer { WriterKeeps (writer_of W.Sink writer.old) (is_err result) (writer_of W.Sink writer.new) }
     ensures fault { IsOkUnless result Fault.Write }
 {
     put_section(writer, order)?;
@@ -74,11 +68,8 @@ pub fn to_pcapng<R: Source, W: Sink>(
         → Prints (pcapng_text order (number_of capture.old) (first_of capture.old) (feed_of capture.old).items)
         (pcapng_refusal (number_of capture.old) (first_of capture.old) (feed_of capture.old).items)
         (W.held writer.old) result (W.held writer.new) }
-    ensures told { IsTrue (W.tells_held writer.old) → IsTrue (W.tells_held writer.new) }
-    ensures failed { W.has_failed writer.new ≡ (W.has_failed writer.old || is_write result) }
+    ensures writer { WriterKeeps (writer_of W.Sink writer.old) (is_write result) (writer_of W.Sink writer.new) }
     ensures read { IsRead result → IsTrue (feed_of capture.old).can_fail }
-    ensures write { IsTrue (is_write result) → IsTrue (W.can_fail writer.old) }
-    ensures cannot { IsTrue (W.can_fail writer.new) → IsTrue (W.can_fail writer.old) }
 {
     let file = capture.file();
     let first = capture.first()?;
@@ -98,11 +89,8 @@ fn put_pcapng<F: PacketFeed, W: Sink>(
         → Prints (pcapng_text order file first (F.feed feed.old).items)
         (pcapng_refusal file first (F.feed feed.old).items)
         (W.held writer.old) result (W.held writer.new) }
-    ensures told { IsTrue (W.tells_held writer.old) → IsTrue (W.tells_held writer.new) }
-    ensures failed { W.has_failed writer.new ≡ (W.has_failed writer.old || is_write result) }
+    ensures writer { WriterKeeps (writer_of W.Sink writer.old) (is_write result) (writer_of W.Sink writer.new) }
     ensures read { IsRead result → IsTrue (F.feed feed.old).can_fail }
-    ensures write { IsTrue (is_write result) → IsTrue (W.can_fail writer.old) }
-    ensures cannot { IsTrue (W.can_fail writer.new) → IsTrue (W.can_fail writer.old) }
 {
     let mut names = first_names(alloc, file, first)?;
     put_front(writer, order, first)?;

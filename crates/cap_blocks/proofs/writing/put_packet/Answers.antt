@@ -20,7 +20,7 @@ returns-in_err-put_all-2-clause-bytes g c =
     (λ t. Puts-second (Unit {0}) _ (g.W.Sink.held c.put_all.new.writer) _ _ _ (Err c.in_err-put_all-2.field-0.0)
     (rw (c.bytes.ensures, c.packet_head.ensures) at (c.in_ok-put_all.ensures.bytes t))
     (Puts-first (Unit {0}) _ _ _ (packet_tail a.order (length a.data.now)) c.in_err-put_all-2.field-0.0
-    (c.in_err-put_all-2.ensures.bytes (c.in_ok-put_all.ensures.told t))))
+    (c.in_err-put_all-2.ensures.bytes (c.in_ok-put_all.ensures.writer.told t))))
 
 pub returns-clause-bytes : goal.returns-clause-bytes
 returns-clause-bytes g c =
@@ -29,5 +29,5 @@ returns-clause-bytes g c =
     (λ t. Puts-second (Unit {0}) _ (g.W.Sink.held c.put_all.new.writer) _ _ _ c.put_all-3.result
     (rw (c.bytes.ensures, c.packet_head.ensures) at (c.in_ok-put_all.ensures.bytes t))
     (Puts-second (Unit {0}) _ (g.W.Sink.held c.put_all-2.new.writer) _ _ _ c.put_all-3.result
-    (c.in_ok-put_all-2.ensures.bytes (c.in_ok-put_all.ensures.told t))
-    (rw (c.bytes-2.ensures, c.packet_tail.ensures) at (c.put_all-3.ensures.bytes (c.in_ok-put_all-2.ensures.told (c.in_ok-put_all.ensures.told t))))))
+    (c.in_ok-put_all-2.ensures.bytes (c.in_ok-put_all.ensures.writer.told t))
+    (rw (c.bytes-2.ensures, c.packet_tail.ensures) at (c.put_all-3.ensures.bytes (c.in_ok-put_all-2.ensures.writer.told (c.in_ok-put_all.ensures.writer.told t))))))

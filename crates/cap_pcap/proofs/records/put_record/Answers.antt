@@ -11,4 +11,4 @@ returns-in_err-put_all-clause-bytes g c =
 pub returns-clause-bytes : goal.returns-clause-bytes
 returns-clause-bytes g c = λ t.
     Puts-second (Unit {0}) _ (g.W.Sink.held c.put_all.new.writer) _ _ c.args.frame.now c.put_all-2.result
-    (rw c.record_head-head.ensures at (c.in_ok-put_all.ensures.bytes t)) (c.put_all-2.ensures.bytes (c.in_ok-put_all.ensures.told t))
+    (rw c.record_head-head.ensures at (c.in_ok-put_all.ensures.bytes t)) (c.put_all-2.ensures.bytes (c.in_ok-put_all.ensures.writer.told t))

@@ -1,6 +1,7 @@
 use Rattle.std.proofs.Common.{◌≡◌, ◌∙◌, ◌+◌, Some, refl, sym, ap, add-one, arith, rules}
 use Rattle.std.proofs.lemmas.Result.{err_from_is_err_and}
-use Rattle.cap_bytes.proofs.Putting.{Writer, Putting-all}
+use Rattle.cap_bytes.proofs.Putting.{Putting-all}
+use Rattle.cap_bytes.specs.Device.{Writer}
 use Rattle.cap_talks.specs.FileText.{file_text}
 use Rattle.cap_talks.specs.Reading.{counted_texts}
 use Rattle.cap_talks.proofs.Printing.{lines-more, lines-front, texts-none}
@@ -23,7 +24,7 @@ loop-place-preserved g c =
       putting =
           lines-more _ _ _ c.args.counted.now c.loop-place.place c.index-counted-place.result c.as_slice.result.now
           c.index-counted-place.is c.loop-place-test.true (c.as_slice.ensures.value ∙ c.file_line-line.ensures) c.loop-place.invariant.putting
-          e.bytes e.told e.cannot;
+          e.bytes e.writer.told e.writer.cannot;
     }
 
 pub returns-clause-text : goal.returns-clause-text

@@ -19,4 +19,4 @@ returns-clause-text g c = λ w.
     let all = c.args.counted.now in
     let line_is = c.as_slice.ensures.value ∙ c.files_line-line.ensures in
     Prints-behind None (g.W.Sink.held c.args.writer.now) (g.W.Sink.held c.put_all.new.writer) (g.W.Sink.held c.put_each.new.writer) (files_text (length all)) (counted_texts 1 all)
-    c.put_each.result (rw line_is at (c.in_ok-put_all.ensures.bytes w)) (c.put_each.ensures.text (c.in_ok-put_all.ensures.told w))
+    c.put_each.result (rw line_is at (c.in_ok-put_all.ensures.bytes w)) (c.put_each.ensures.text (c.in_ok-put_all.ensures.writer.told w))

@@ -24,7 +24,7 @@ loop-place-preserved g c =
       putting =
           line-more _ _ _ c.args.talks.now.rows c.loop-place.place c.as_slice.result.now
           within (c.as_slice.ensures.value ∙ c.line_at-line.ensures) c.loop-place.invariant.putting
-          e.bytes e.told e.cannot;
+          e.bytes e.writer.told e.writer.cannot;
     }
 
 pub returns-clause-text : goal.returns-clause-text

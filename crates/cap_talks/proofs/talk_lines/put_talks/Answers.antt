@@ -18,4 +18,4 @@ returns-clause-text g c = λ w.
     let all = c.args.talks.now.rows in
     let line_is = c.as_slice.ensures.value ∙ c.talks_line-line.ensures ∙ ap talks_text c.len.ensures.value in
     Prints-behind None (g.W.Sink.held c.args.writer.now) (g.W.Sink.held c.put_all.new.writer) (g.W.Sink.held c.put_each.new.writer) (talks_text (length all)) (talk_texts all)
-    c.put_each.result (rw line_is at (c.in_ok-put_all.ensures.bytes w)) (c.put_each.ensures.text (c.in_ok-put_all.ensures.told w))
+    c.put_each.result (rw line_is at (c.in_ok-put_all.ensures.bytes w)) (c.put_each.ensures.text (c.in_ok-put_all.ensures.writer.told w))

@@ -42,7 +42,7 @@ loop-block-preserved g c =
     i gives c.in_ok-block.ensures.keeps
     (λ t. rw c.in-Some.is at (c.in_ok-block.ensures.items t))
     (c.as_slice.ensures.value ∙ c.block_line-line.ensures)
-    e.bytes e.told e.cannot (search rules)
+    e.bytes e.writer.told e.writer.cannot (search rules)
 
 pub returns-clause-text : goal.returns-clause-text
 returns-clause-text g c = λ t w.

@@ -51,7 +51,7 @@ loop-meta-preserved g c =
           i.walk c.in_ok-meta.ensures.keeps (λ t. rw c.in-Some.is at (c.in_ok-meta.ensures.items t))
           c.pass.ensures.keeps c.pass.ensures.passes.items (plan_of-next n meta shown.frame)
           (λ w. rw line_is at (e.bytes w))
-          e.told e.cannot (search rules);
+          e.writer.told e.writer.cannot (search rules);
     }
 
 pub returns-clause-text : goal.returns-clause-text

@@ -56,7 +56,7 @@ loop-packet-preserved g c =
     c.in_ok-meta.ensures.keeps (λ t. rw c.in-Some.is at (c.in_ok-meta.ensures.items t)) (λ t. c.in_ok-meta.ensures.run t)
     (λ t. c.clock.ensures.run t) c.pass.ensures.keeps c.pass.ensures.passes.left (λ t. c.pass.ensures.run t)
     e.limit e.next e.stands e.names
-    (λ w events stands. (e.text w events stands).1) e.told e.cannot (search rules)
+    (λ w events stands. (e.text w events stands).1) e.writer.told e.writer.cannot (search rules)
 
 pub returns-clause-text : goal.returns-clause-text
 returns-clause-text g c = λ t w.

@@ -8,8 +8,8 @@ abbrev pub invariant-loop-packet : goal.invariant-loop-packet
 invariant-loop-packet g l =
     Joining l.order (parts_of l.fn.merged) (parts_of l.merged) l.fn.names.keys l.names.keys l.joiner l.place
     (g.W.Device.has_failed l.fn.writer) (g.W.Device.has_failed l.writer)
-    (record { told = g.W.Sink.tells_held l.fn.writer; can_fail = g.W.Device.can_fail l.fn.writer; held = g.W.Sink.held l.fn.writer })
-    (record { told = g.W.Sink.tells_held l.writer; can_fail = g.W.Device.can_fail l.writer; held = g.W.Sink.held l.writer })
+    (record { told = g.W.Sink.tells_held l.fn.writer; held = g.W.Sink.held l.fn.writer; failed = g.W.Device.has_failed l.fn.writer; can_fail = g.W.Device.can_fail l.fn.writer })
+    (record { told = g.W.Sink.tells_held l.writer; held = g.W.Sink.held l.writer; failed = g.W.Device.has_failed l.writer; can_fail = g.W.Device.can_fail l.writer })
 
 abbrev pub decreases-loop-packet : goal.decreases-loop-packet
 decreases-loop-packet g l = (feed_of (parts_of l.merged)).left

@@ -16,4 +16,4 @@ pub returns-clause-bytes : goal.returns-clause-bytes
 returns-clause-bytes g c = λ t.
     Puts-second (Unit {0}) _ (g.W.Sink.held c.put_new_interface.new.writer) _ (if c.args.is_new then interface_text c.args.order c.args.meta.now.interface else [])
     (packet_text c.args.order c.args.number c.args.units c.args.meta.now.original c.args.frame.now) c.put_packet.result
-    (c.in_ok-put_new_interface.ensures.bytes t) (c.put_packet.ensures.bytes (c.in_ok-put_new_interface.ensures.told t))
+    (c.in_ok-put_new_interface.ensures.bytes t) (c.put_packet.ensures.bytes (c.in_ok-put_new_interface.ensures.writer.told t))

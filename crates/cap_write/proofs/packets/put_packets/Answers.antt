@@ -46,7 +46,7 @@ loop-meta-preserved g c =
           i.walk c.in_ok-meta.ensures.keeps (λ t. rw c.in-Some.is at (c.in_ok-meta.ensures.items t))
           c.pass.ensures.keeps c.pass.ensures.passes.items goes
           (λ w. (rw c.frame.ensures.frame at (e.text w)).1)
-          e.told e.cannot (search rules);
+          e.writer.told e.writer.cannot (search rules);
     }
 
 pub returns-clause-text : goal.returns-clause-text

@@ -21,4 +21,4 @@ returns-clause-text g c = λ t w.
     Prints-behind (records_refusal first items) (g.W.Sink.held c.args.writer.now) (g.W.Sink.held c.put_header.new.writer) (g.W.Sink.held c.put_records.new.writer)
     (header_text (header_of c.args.order first)) (records_text c.args.order first items) c.put_records.result
     (rw c.header_of.ensures at (c.in_ok-put_header.ensures.bytes w))
-    (c.put_records.ensures.text t (c.in_ok-put_header.ensures.told w))
+    (c.put_records.ensures.text t (c.in_ok-put_header.ensures.writer.told w))

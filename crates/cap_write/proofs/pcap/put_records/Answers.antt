@@ -40,7 +40,7 @@ loop-meta-preserved g c =
     i c.in_ok-meta.ensures.keeps (λ t. rw c.in-Some.is at (c.in_ok-meta.ensures.items t))
     c.pass.ensures.keeps c.pass.ensures.passes.items (plan_of-next c.args.order first meta shown.frame e.whole)
     (λ w. (rw c.frame.ensures.frame at (e.text w)).1)
-    e.told e.cannot (search rules)
+    e.writer.told e.writer.cannot (search rules)
 
 pub returns-clause-text : goal.returns-clause-text
 returns-clause-text g c = λ t w.

@@ -14,4 +14,4 @@ returns-in_err-put_section-clause-bytes g c =
 pub returns-clause-bytes : goal.returns-clause-bytes
 returns-clause-bytes g c = λ t.
     Puts-second (Unit {0}) _ (g.W.Sink.held c.put_section.new.writer) _ (section_text c.args.order) (first_text c.args.order c.args.first) c.put_first.result
-    (c.in_ok-put_section.ensures.bytes t) (c.put_first.ensures.bytes (c.in_ok-put_section.ensures.told t))
+    (c.in_ok-put_section.ensures.bytes t) (c.put_first.ensures.bytes (c.in_ok-put_section.ensures.writer.told t))

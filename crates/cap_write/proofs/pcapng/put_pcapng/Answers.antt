@@ -19,4 +19,4 @@ returns-clause-text g c = λ t w.
     let names = first_names c.args.file c.args.first in
     Prints-behind (refusal_in names items) (g.W.Sink.held c.args.writer.now) (g.W.Sink.held c.put_front.new.writer) (g.W.Sink.held c.put_packets.new.writer)
     (front_text c.args.order c.args.first) (text_behind c.args.order names items) c.put_packets.result (c.in_ok-put_front.ensures.bytes w)
-    (rw c.in_ok-names.ensures.names at (c.put_packets.ensures.text t (c.in_ok-put_front.ensures.told w)))
+    (rw c.in_ok-names.ensures.names at (c.put_packets.ensures.text t (c.in_ok-put_front.ensures.writer.told w)))
