@@ -4,6 +4,7 @@ pub mod Firsts
 pub mod Going
 pub mod Lists
 pub mod Looks
+pub mod Onward
 pub mod Options
 pub mod Pcaps
 pub mod Resolutions

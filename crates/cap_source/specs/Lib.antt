@@ -7,6 +7,7 @@ pub mod Lanes
 pub mod Laws
 pub mod ListLaws
 pub mod Listings
+pub mod ReadFaults
 pub mod Reached
 pub mod Readers
 pub mod Walk

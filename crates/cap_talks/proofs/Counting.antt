@@ -1,10 +1,13 @@
 -- The packets of a file, counted one by one.
-use Rattle.std.proofs.Common.{◌≡◌, ◌≤◌, ◌<◌, ◌+◌, ◌*◌, ◌^◌, ℕ, cond, nat_lt, List, [], ◌∷◌, ◌++◌, length, drop, refl, sym, ap, ◌∙◌, arith, Option, Some, None, option_map, IsTrue, Ok, Err, append-nil, append_assoc, length-append, true, false}
+use Rattle.std.proofs.Common.{◌≡◌, ◌≤◌, ◌<◌, ◌+◌, ◌*◌, ◌^◌, ℕ, cond, nat_lt, List, [], ◌∷◌, ◌++◌, length, drop, refl, sym, ap, ◌∙◌, arith, Option, Some, None, option_map, IsTrue, Ok, Err, append-nil, append_assoc, length-append, Bool, true, false, ◌==◌, ◌||◌, Result, subst}
 use Rattle.std.specs.Option.{option_map_or}
 use Rattle.cap_bytes.specs.declared.faults.Fault.{Fault}
 use Rattle.cap_bytes.specs.declared.faults.Fault.TheVariants.{Refused, Read, Write, Memory}
-use Rattle.cap_source.specs.Feed.{Feed, Item, packet, refused, Keeps, refusal_of}
-use Rattle.cap_source.specs.Walk.{ShowsItem}
+use Rattle.std.proofs.lemmas.Bool.{eqb-true, false≢true}
+use Rattle.cap_source.proofs.Onward.{Went, Went-none, Went-more}
+use Rattle.cap_source.specs.Feed.{Feed, Item, packet, refused, Keeps, Passes, HasFile, refusal_of}
+use Rattle.cap_source.specs.ReadFaults.{FailsAs}
+use Rattle.cap_source.specs.Walk.{GivesPacket, ShowsItem, Walks}
 use Rattle.cap_source.specs.declared.packets.Meta.{Meta}
 use Rattle.cap_talks.specs.Counting.{packets_of, original_bytes, truncated_packets, last_packet, counted, with_packet}
 use Rattle.cap_talks.specs.Reading.{CountsAll}
@@ -45,6 +48,7 @@ pub record IsCounted (old new : Feed) (counts : Counts) : Type 0 where
   pub few : counts.packets + new.left ≤ 2 ^ 40
   pub sums : counts.bytes ≤ counts.packets * 2 ^ 32
   pub truncated : counts.truncated ≤ counts.packets
+  pub went : Went old new
   pub files : new.files ≡ old.files
   pub told : IsTrue old.told → IsTrue new.told
   pub can_fail : IsTrue new.can_fail → IsTrue old.can_fail
@@ -60,6 +64,7 @@ counted-none feed counts few is = record {
   few = rw is (omega (arith, few));
   sums = rw is (omega arith);
   truncated = rw is (omega arith);
+  went = Went-none feed;
   files = refl;
   told = λ t. t;
   can_fail = λ t. t;
@@ -84,19 +89,20 @@ one_or_none captured original = by (nat_lt captured original)
     by false = omega arith
 
 -- one packet more is taken
-pub counted-taken : (old mid shown new : Feed) (counts more : Counts) (meta : Meta) → IsCounted old mid counts → Keeps mid shown
-    → (IsTrue mid.told → ShowsItem mid (Ok (Some meta)) shown) → Keeps shown new → new.left < shown.left
+pub counted-taken : (old mid shown new : Feed) (counts more : Counts) (meta : Meta) → IsCounted old mid counts → GivesPacket mid (Ok (Some meta)) shown → Keeps mid shown
+    → (IsTrue mid.told → ShowsItem mid (Ok (Some meta)) shown) → Keeps shown new → Passes shown new
     → (IsTrue shown.told → new.items ≡ drop 1 shown.items) → (IsTrue shown.told → (file : ℕ) → new.endings file ≡ shown.endings file)
     → meta.original < 2 ^ 32 → more ≡ with_packet counts meta → IsCounted old new more
-counted-taken old mid shown new counts more meta c asked shows passed less dropped ended few is =
+counted-taken old mid shown new counts more meta c gives asked shows passed passes dropped ended few is =
     let rest : IsTrue old.told → new.items ≡ drop 1 mid.items =
     λ t. dropped (asked.told (c.told t)) ∙ ap (drop 1) (shows (c.told t)).0.items in
     record {
       taken = c.taken ++ meta ∷ [];
       counts_is = is ∙ ap (λ w. with_packet w meta) c.counts_is ∙ sym (counted-more c.taken meta);
-      few = rw is (omega (arith, c.few, asked.left, less));
+      few = rw is (omega (arith, c.few, asked.left, passes.left));
       sums = rw is (omega (arith, c.sums, few));
       truncated = rw is (omega (arith, c.truncated, one_or_none meta.captured meta.original));
+      went = Went-more old mid shown new meta c.went gives asked passes passed;
       files = passed.files ∙ asked.files ∙ c.files;
       told = λ t. passed.told (asked.told (c.told t));
       can_fail = λ t. c.can_fail (asked.can_fail (passed.can_fail t));
@@ -128,3 +134,15 @@ counted-fault (Refused refusal) old mid shown new counts c t shows = sym (c.refu
 counted-fault (Read file offset) old mid shown new counts c t shows = tt
 counted-fault Write old mid shown new counts c t shows = absurd (shows (c.told t))
 counted-fault Memory old mid shown new counts c t shows = tt
+
+-- A read of the file of that number fails.
+pub fails-as : (A : Type 0) (old new : Feed) (number : ℕ) (can_fail : Bool) (fault : Fault) → old.files ≡ number ∷ [] → old.can_fail ≡ can_fail
+    → Walks {A = Counts} old (Err fault) new → FailsAs {A = A} number can_fail (Err fault)
+fails-as A old new number can_fail (Refused r) files can w = tt
+fails-as A old new number can_fail (Read file offset) files can w = by (number == file) refl (subst (λ l. HasFile l file) files w.of)
+  where
+    by : (b : Bool) → (number == file) ≡ b → (b || false) ≡ true → (file ≡ number) × IsTrue can_fail
+    by true e h = (sym (eqb-true number file e), subst IsTrue can w.can_fail)
+    by false e h = absurd (false≢true h)
+fails-as A old new number can_fail Write files can w = tt
+fails-as A old new number can_fail Memory files can w = tt

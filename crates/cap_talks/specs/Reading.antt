@@ -1,5 +1,5 @@
 -- What reading a file whole, to count its packets, answers.
-use Rattle.std.specs.Prelude.{◌≡◌, ℕ, ◌+◌, List, [], ◌∷◌, ◌++◌, Vec, Option, Some, None, Result, Ok, Err, ⊤}
+use Rattle.std.specs.Prelude.{◌≡◌, ℕ, ◌+◌, ◌-◌, List, [], ◌∷◌, ◌++◌, take, Vec, Option, Some, None, Result, Ok, Err, ⊤}
 use Rattle.std.specs.declared.alloc.Global.{Global}
 use Rattle.cap_bytes.specs.declared.faults.Fault.{Fault}
 use Rattle.cap_bytes.specs.declared.faults.Fault.TheVariants.{Refused, Read, Write, Memory}
@@ -28,7 +28,7 @@ counted_of tail file bytes =
 abbrev pub CountsFile : Tail → ℕ → List ℕ → Result Counted Fault → Type 0
 CountsFile tail file bytes (Ok it) = (refusal_of (file_items tail file bytes) ≡ None) × (it ≡ counted_of tail file bytes)
 CountsFile tail file bytes (Err (Refused refusal)) = refusal_of (file_items tail file bytes) ≡ Some refusal
-CountsFile tail file bytes (Err (Read f offset)) = ⊤
+CountsFile tail file bytes (Err (Read f offset)) = f ≡ file
 CountsFile tail file bytes (Err Write) = ⊥
 CountsFile tail file bytes (Err Memory) = ⊤
 
@@ -40,9 +40,17 @@ counted_files tail file (bytes ∷ files) = counted_of tail file bytes ∷ count
 abbrev pub CountsFiles : Tail → List (List ℕ) → Result (Vec Counted Global) Fault → Type 0
 CountsFiles tail files (Ok all) = (first_refusal tail 1 files ≡ None) × (all.items ≡ counted_files tail 1 files)
 CountsFiles tail files (Err (Refused refusal)) = first_refusal tail 1 files ≡ Some refusal
-CountsFiles tail files (Err (Read f offset)) = ⊤
+CountsFiles tail files (Err (Read f offset)) = first_refusal tail 1 (take (f - 1) files) ≡ None
 CountsFiles tail files (Err Write) = ⊥
 CountsFiles tail files (Err Memory) = ⊤
+
+-- No file before the one of which a read failed is refused.
+abbrev pub FailsFirst : {A : Type 0} → Tail → List (List ℕ) → Result A Fault → Type 0
+FailsFirst tail files (Ok _) = ⊤
+FailsFirst tail files (Err (Refused refusal)) = ⊤
+FailsFirst tail files (Err (Read f offset)) = first_refusal tail 1 (take (f - 1) files) ≡ None
+FailsFirst tail files (Err Write) = ⊤
+FailsFirst tail files (Err Memory) = ⊤
 
 -- the lines of files that were counted, from that number on
 abbrev pub counted_texts : ℕ → List Counted → List ℕ

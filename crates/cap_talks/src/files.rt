@@ -2,9 +2,12 @@
 ghost use Rattle.std.specs.Prelude.{◌≡◌, ◌≤◌, ◌^◌, ◌++◌, false, IsTrue, IfOk, IsOkUnless, None, Some, length, map, vec_len};
 ghost use Rattle.std.specs.List.{list_all, list_any};
 ghost use Rattle.cap_bytes.specs.Device.{WriterKeeps, writer_of};
-ghost use Rattle.cap_bytes.specs.Printing.{Prints, IsRead, is_write};
+ghost use Rattle.cap_bytes.specs.Printing.{Prints, is_write};
+ghost use Rattle.cap_source.specs.Feed.{Keeps};
+ghost use Rattle.cap_source.specs.ReadFaults.{FailsAs, FailsOf};
+ghost use Rattle.cap_source.specs.Walk.{Walks};
 ghost use Rattle.cap_talks.specs.FileText.{files_text, info_text, first_refusal};
-ghost use Rattle.cap_talks.specs.Reading.{CountsAll, CountsFile, CountsFiles, counted_texts};
+ghost use Rattle.cap_talks.specs.Reading.{CountsAll, CountsFile, CountsFiles, FailsFirst, counted_texts};
 ghost use Rattle.cap_talks.specs.Telling.{Tells};
 
 use crate::counts::Counts;
@@ -24,9 +27,8 @@ pub struct Counted {
 fn count_packets<F: PacketFeed>(feed: &mut F) -> Result<Counts, Fault>
     requires { (F.feed feed.old).left ≤ 2 ^ 40 }
     ensures counts { IsTrue (F.feed feed.old).told → CountsAll (F.feed feed.old) result (F.feed feed.new) }
-    ensures known { IfOk result (λ _. (F.feed feed.new).known ≡ Some Head.End) }
-    ensures files { (F.feed feed.new).files ≡ (F.feed feed.old).files }
-    ensures read { IsRead result → IsTrue (F.feed feed.old).can_fail }
+    ensures walks { Walks (F.feed feed.old) result (F.feed feed.new) }
+    ensures keeps { Keeps (F.feed feed.old) (F.feed feed.new) }
     ensures write { is_write result ≡ false }
 {
     let mut counts = Counts::new();
@@ -40,7 +42,7 @@ fn count_packets<F: PacketFeed>(feed: &mut F) -> Result<Counts, Fault>
 // Reads the file of that number whole.
 fn count_file<R: Source>(alloc: Global, source: R, file: u32, tail: Tail) -> Result<Counted, Fault>
     ensures counts { IsTrue (R.tells_coming source) → CountsFile tail file (R.coming source) result }
-    ensures read { IsRead result → IsTrue (R.can_fail source) }
+    ensures read { FailsAs file (R.can_fail source) result }
     ensures write { is_write result ≡ false }
 {
     let mut capture = Capture::new(alloc, source, file, tail);
@@ -54,7 +56,7 @@ fn count_files<R: Source>(alloc: Global, sources: Vec<R>, tail: Tail) -> Result<
     requires most { vec_len sources ≤ 32 }
     ensures counts { IsTrue (list_all R.tells_coming sources.items) → CountsFiles tail (map R.coming sources.items) result }
     ensures len { IfOk result (λ counted. length counted.items ≡ length sources.items) }
-    ensures read { IsRead result → IsTrue (list_any R.can_fail sources.items) }
+    ensures read { FailsOf (vec_len sources) (list_any R.can_fail sources.items) result }
     ensures write { is_write result ≡ false }
 {
     let mut counted = Vec::new(alloc);
@@ -113,7 +115,8 @@ pub fn file_lines<R: Source, W: Sink>(
         → Tells (info_text tail (map R.coming sources.items)) (first_refusal tail 1 (map R.coming sources.items))
         (W.held writer.old) result (W.held writer.new) }
     ensures writer { WriterKeeps (writer_of W.Sink writer.old) (is_write result) (writer_of W.Sink writer.new) }
-    ensures read { IsRead result → IsTrue (list_any R.can_fail sources.items) }
+    ensures read { FailsOf (vec_len sources) (list_any R.can_fail sources.items) result }
+    ensures first { IsTrue (list_all R.tells_coming sources.items) → FailsFirst tail (map R.coming sources.items) result }
 {
     let counted = count_files(alloc, sources, tail)?;
     put_lines(writer, counted.as_slice())

@@ -2,7 +2,8 @@
 ghost use Rattle.std.specs.Prelude.{IsTrue};
 ghost use Rattle.cap_tasks.specs.Converted.{convert_text, convert_refusal};
 ghost use Rattle.cap_bytes.specs.Device.{WriterKeeps, writer_of};
-ghost use Rattle.cap_bytes.specs.Printing.{Prints, IsRead, is_write};
+ghost use Rattle.cap_bytes.specs.Printing.{Prints, is_write};
+ghost use Rattle.cap_source.specs.ReadFaults.{FailsOf};
 
 use cap_bytes::{Fault, Order, Sink, Source, Tail};
 use cap_source::{Capture, Format};
@@ -25,7 +26,7 @@ pub fn convert_to<R: Source, W: Sink>(
         → Prints (convert_text format order tail (R.coming source)) (convert_refusal format tail (R.coming source))
         (W.held writer.old) result (W.held writer.new) }
     ensures writer { WriterKeeps (writer_of W.Sink writer.old) (is_write result) (writer_of W.Sink writer.new) }
-    ensures read { IsRead result → IsTrue (R.can_fail source) }
+    ensures read { FailsOf 1 (R.can_fail source) result }
 {
     let mut capture = Capture::new(alloc, source, 1, tail);
     match format {

@@ -3,7 +3,8 @@ ghost use Rattle.std.specs.Prelude.{◌≤◌, IsTrue, map, vec_len};
 ghost use Rattle.std.specs.List.{list_all, list_any};
 ghost use Rattle.cap_tasks.specs.JoinText.{join_text, join_refusal};
 ghost use Rattle.cap_bytes.specs.Device.{WriterKeeps, writer_of};
-ghost use Rattle.cap_bytes.specs.Printing.{Prints, IsRead, is_write};
+ghost use Rattle.cap_bytes.specs.Printing.{Prints, is_write};
+ghost use Rattle.cap_source.specs.ReadFaults.{FailsOf};
 
 use cap_bytes::{Fault, Order, Sink, Source, Tail};
 use cap_merge::merge_files;
@@ -29,7 +30,7 @@ pub fn join_to<R: Source, W: Sink>(
         → Prints (join_text order tail (map R.coming sources.items)) (join_refusal tail (map R.coming sources.items))
         (W.held writer.old) result (W.held writer.new) }
     ensures writer { WriterKeeps (writer_of W.Sink writer.old) (is_write result) (writer_of W.Sink writer.new) }
-    ensures read { IsRead result → IsTrue (list_any R.can_fail sources.items) }
+    ensures read { FailsOf (vec_len sources) (list_any R.can_fail sources.items) result }
 {
     let mut merged = merge_files(alloc, sources, tail)?;
     write_joined(alloc, &mut merged, order, writer)

@@ -8,6 +8,7 @@ use Rattle.cap_bytes.specs.declared.faults.Fault.{Fault}
 use Rattle.cap_bytes.specs.declared.faults.Refusal.{Refusal}
 use Rattle.cap_bytes.specs.declared.faults.Rule.{Rule}
 use Rattle.cap_bytes.specs.declared.numbers.Order.{Order}
+use Rattle.cap_source.proofs.Onward.{Went}
 use Rattle.cap_source.proofs.Walking.{Plan, IsPlan, GoesOn, GivesUp, Walking, Prints-refused, Prints-front}
 use Rattle.cap_source.specs.Feed.{Feed, Item, packet}
 use Rattle.cap_source.specs.declared.packets.Meta.{Meta}
@@ -57,6 +58,7 @@ plan_of-refused order names meta frame rule is =
 -- The packets so far of a feed that was `old` are written by a writer that was `from`.
 pub record Feeding (order : Order) (old new : Feed) (names_old names : List Name) (failed_old failed_new : Bool) (from to : Writer) : Type 0 where
   pub limit : length names ≤ 1024
+  pub went : Went old new
   pub walk : Walking (plan_of order names_old) (plan_of order names) old new failed_old failed_new from to
 
 -- what is written where a packet is refused, or isn't written whole

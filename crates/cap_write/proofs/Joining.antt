@@ -12,9 +12,10 @@ use Rattle.cap_join.specs.History.{Event}
 use Rattle.cap_join.specs.Joiners.{JoinerState, StandsFor}
 use Rattle.cap_merge.specs.Parts.{Part, feed_of, run_of, BeginsAt}
 use Rattle.cap_merge.specs.Run.{Clocked}
+use Rattle.cap_source.proofs.Onward.{Went, Went-more}
 use Rattle.cap_source.proofs.Walking.{Prints-fault, Prints-end, Prints-front}
-use Rattle.cap_source.specs.Feed.{Feed, Item, packet, refused, Keeps, SameItems, IsFeed, Leads}
-use Rattle.cap_source.specs.Walk.{ShowsItem}
+use Rattle.cap_source.specs.Feed.{Feed, Item, packet, refused, Keeps, Passes, SameItems, IsFeed, Leads}
+use Rattle.cap_source.specs.Walk.{GivesPacket, ShowsItem}
 use Rattle.cap_source.specs.declared.feeds.Head.{Head}
 use Rattle.cap_source.specs.declared.feeds.Head.TheVariants as heads
 use Rattle.cap_source.specs.declared.packets.Meta.{Meta}
@@ -173,6 +174,7 @@ joined-at-first mid shown meta frame clock place events head same begins =
 -- The datagrams so far of a run that was `old` are written by a writer that was `from`.
 pub record Joining (order : Order) (old new : List Part) (names_old names : List Name) (joiner : JoinerState) (place : ℕ) (failed_old failed_new : Bool) (from to : Writer) : Type 0 where
   pub limit : length names ≤ 1024
+  pub went : Went (feed_of old) (feed_of new)
   pub events : List Event
   pub stands : StandsFor joiner events
   pub next : joiner.next ≤ place
@@ -192,10 +194,10 @@ pub Joining-more : (order : Order) (old mid shown new : List Part) (names_old na
     (from m to : Writer) (meta : Meta) (lent : List ℕ) (clock : Option Stamp)
     → lent ≡ (feed_of shown).frame
     → Joining order old mid names_old names joiner place fo fm from m
-    → Keeps (feed_of mid) (feed_of shown) → (IsTrue (feed_of mid).told → ShowsItem (feed_of mid) (Ok (Some meta)) (feed_of shown))
+    → GivesPacket (feed_of mid) (Ok (Some meta)) (feed_of shown) → Keeps (feed_of mid) (feed_of shown) → (IsTrue (feed_of mid).told → ShowsItem (feed_of mid) (Ok (Some meta)) (feed_of shown))
     → (IsTrue (feed_of mid).told → run_of shown ≡ run_of mid)
     → (IsTrue (feed_of shown).told → BeginsAt clock (run_of shown))
-    → Keeps (feed_of shown) (feed_of new) → (feed_of new).left < (feed_of shown).left
+    → Keeps (feed_of shown) (feed_of new) → Passes (feed_of shown) (feed_of new)
     → (IsTrue (feed_of shown).told → run_of new ≡ drop 1 (run_of shown))
     → length names_new ≤ 1024 → joiner_new.next ≤ place + 1
     → ((events : List Event) → StandsFor joiner events → StandsFor joiner_new (events_after place events clock meta lent))
@@ -206,7 +208,7 @@ pub Joining-more : (order : Order) (old mid shown new : List Part) (names_old na
     → to.held ≡ m.held ++ text_behind order names (items_of_packet place events clock meta lent))
     → (IsTrue m.told → IsTrue to.told) → (IsTrue to.can_fail → IsTrue m.can_fail) → fn ≡ fm
     → Joining order old new names_old names_new joiner_new (place + 1) fo fn from to
-Joining-more order old mid shown new names_old names names_new joiner joiner_new place fo fm fn from m to meta frame clock lent p asked shows same begins passed fewer dropped limit next stands named wrote told cannot failed =
+Joining-more order old mid shown new names_old names names_new joiner joiner_new place fo fm fn from m to meta frame clock lent p gives asked shows same begins passed passes dropped limit next stands named wrote told cannot failed =
     let events = p.events in
     let after = events_after place events clock meta frame in
     let items = items_of_packet place events clock meta frame in
@@ -221,10 +223,11 @@ Joining-more order old mid shown new names_old names names_new joiner joiner_new
     λ t. ap (text_behind order names) (split t) ∙ (behind-text order names items rest none ∙ ap (λ n. line ++ text_behind order n rest) (sym names_is)) in
     record {
       limit = limit;
+      went = Went-more (feed_of old) (feed_of mid) (feed_of shown) (feed_of new) meta p.went gives asked passes passed;
       events = after;
       stands = stands events p.stands;
       next = next;
-      places = omega (arith, p.places, asked.left, fewer);
+      places = omega (arith, p.places, asked.left, passes.left);
       failed = failed ∙ p.failed;
       told = λ t. passed.told (asked.told (p.told t));
       can_fail = λ c. p.can_fail (asked.can_fail (passed.can_fail c));

@@ -10,8 +10,9 @@ use Rattle.cap_bytes.specs.declared.faults.Refusal.{Refusal}
 use Rattle.cap_bytes.specs.declared.faults.Rule.{Rule}
 use Rattle.cap_bytes.specs.declared.faults.Rule.TheVariants.{NoTime, LinkMixed}
 use Rattle.cap_bytes.specs.declared.numbers.Order.{Order}
-use Rattle.cap_source.proofs.Walking.{Plan, IsPlan, GoesOn, GivesUp, Prints-refused, Prints-front}
-use Rattle.cap_source.specs.Feed.{Item, packet}
+use Rattle.cap_source.proofs.Onward.{Went}
+use Rattle.cap_source.proofs.Walking.{Plan, IsPlan, GoesOn, GivesUp, Walking, Prints-refused, Prints-front}
+use Rattle.cap_source.specs.Feed.{Feed, Item, packet}
 use Rattle.cap_source.specs.declared.packets.Meta.{Meta}
 use Rattle.cap_time.specs.declared.resolutions.Interface.{Interface}
 use Rattle.cap_time.specs.declared.stamps.Unit.{Unit as Fraction}
@@ -142,3 +143,8 @@ Prints-one order fault text refusal from mid held first meta frame lent items re
     (subst (λ l. Putting from mid text (records_text order first l)) is p) t
     (ap (records_refusal first) (sym is) ∙ same)
     (subst (λ f. Prints {A = Unit {0}} (text_or (record_fault first meta) (packet_record order first meta f)) (refusal_by meta (record_fault first meta)) mid.held (Err fault) held) same_frame prints)
+
+-- The packets so far of a feed that was `old` are written by a writer that was `from`.
+pub record Recording (order : Order) (first : Interface) (old new : Feed) (failed_old failed_new : Bool) (from to : Writer) : Type 0 where
+  pub went : Went old new
+  pub walk : Walking (plan_of order first) (plan_of order first) old new failed_old failed_new from to

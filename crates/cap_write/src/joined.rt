@@ -7,6 +7,8 @@ ghost use Rattle.cap_join.specs.Joiners.{StandsFor};
 ghost use Rattle.cap_merge.specs.Parts.{feed_of, run_of};
 ghost use Rattle.cap_merge.specs.View.{parts_of};
 ghost use Rattle.cap_time.specs.Stamp.{seconds_of};
+ghost use Rattle.cap_source.specs.Feed.{Keeps};
+ghost use Rattle.cap_source.specs.Walk.{Walks};
 ghost use Rattle.cap_write.specs.Datagrams.{Stands, names_behind};
 ghost use Rattle.cap_write.specs.Joined.{datagram_meta, items_of_packet, events_after, joined_items, joined_text, joined_refusal};
 ghost use Rattle.cap_write.specs.Numbering.{refusal_in};
@@ -103,7 +105,8 @@ fn put_joined<F: PacketFeed, W: Sink>(
         (refusal_in names.old.keys (joined_items 0 [] (run_of (parts_of merged.old))))
         (W.held writer.old) result (W.held writer.new) }
     ensures writer { WriterKeeps (writer_of W.Sink writer.old) (is_write result) (writer_of W.Sink writer.new) }
-    ensures read { IsRead result → IsTrue (feed_of (parts_of merged.old)).can_fail }
+    ensures walks { Walks (feed_of (parts_of merged.old)) result (feed_of (parts_of merged.new)) }
+    ensures keeps { Keeps (feed_of (parts_of merged.old)) (feed_of (parts_of merged.new)) }
 {
     let mut joiner = Joiner::new(alloc);
     let mut packet = Vec::new(alloc);
@@ -149,7 +152,8 @@ pub fn write_joined<F: PacketFeed, W: Sink>(
         → Prints (joined_text order (run_of (parts_of merged.old))) (joined_refusal (run_of (parts_of merged.old)))
         (W.held writer.old) result (W.held writer.new) }
     ensures writer { WriterKeeps (writer_of W.Sink writer.old) (is_write result) (writer_of W.Sink writer.new) }
-    ensures read { IsRead result → IsTrue (feed_of (parts_of merged.old)).can_fail }
+    ensures walks { Walks (feed_of (parts_of merged.old)) result (feed_of (parts_of merged.new)) }
+    ensures keeps { Keeps (feed_of (parts_of merged.old)) (feed_of (parts_of merged.new)) }
 {
     put_section(writer, order)?;
     let mut names = Names::new(alloc);

@@ -1,7 +1,9 @@
 //! Merged files.
 ghost use Rattle.std.specs.Prelude.{IsTrue};
 ghost use Rattle.cap_bytes.specs.Device.{WriterKeeps, writer_of};
-ghost use Rattle.cap_bytes.specs.Printing.{Prints, IsRead, is_write};
+ghost use Rattle.cap_bytes.specs.Printing.{Prints, is_write};
+ghost use Rattle.cap_source.specs.Feed.{Keeps};
+ghost use Rattle.cap_source.specs.Walk.{Walks};
 ghost use Rattle.cap_write.specs.Texts.{merged_text, merged_refusal};
 
 use crate::names::Names;
@@ -27,7 +29,8 @@ pub fn write_merged<F: PacketFeed, W: Sink>(
         → Prints (merged_text order (F.feed feed.old).items) (merged_refusal (F.feed feed.old).items)
         (W.held writer.old) result (W.held writer.new) }
     ensures writer { WriterKeeps (writer_of W.Sink writer.old) (is_write result) (writer_of W.Sink writer.new) }
-    ensures read { IsRead result → IsTrue (F.feed feed.old).can_fail }
+    ensures walks { Walks (F.feed feed.old) result (F.feed feed.new) }
+    ensures keeps { Keeps (F.feed feed.old) (F.feed feed.new) }
 {
     put_section(writer, order)?;
     let mut names = Names::new(alloc);

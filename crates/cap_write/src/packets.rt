@@ -3,6 +3,8 @@ ghost use Rattle.std.specs.Prelude.{◌≡◌, ◌+◌, ◌≤◌, ◌++◌, len
 ghost use Rattle.cap_bytes.specs.Device.{Puts, WriterKeeps, writer_of};
 ghost use Rattle.cap_bytes.specs.Printing.{Prints, IsRead, is_write};
 ghost use Rattle.cap_blocks.specs.Grammar.{interface_text, packet_text};
+ghost use Rattle.cap_source.specs.Feed.{Keeps};
+ghost use Rattle.cap_source.specs.Walk.{Walks};
 ghost use Rattle.cap_write.specs.Numbering.{number_of, with_name, refusal_in, refusal_by, write_fault};
 ghost use Rattle.cap_write.specs.Texts.{text_behind, one_text};
 
@@ -99,7 +101,8 @@ pub fn put_packets<F: PacketFeed, W: Sink>(
         (refusal_in names.old.keys (F.feed feed.old).items)
         (W.held writer.old) result (W.held writer.new) }
     ensures writer { WriterKeeps (writer_of W.Sink writer.old) (is_write result) (writer_of W.Sink writer.new) }
-    ensures read { IsRead result → IsTrue (F.feed feed.old).can_fail }
+    ensures walks { Walks (F.feed feed.old) result (F.feed feed.new) }
+    ensures keeps { Keeps (F.feed feed.old) (F.feed feed.new) }
 {
     while let Some(meta) = next_packet(feed)? {
         put_one(names, order, &meta, feed.frame(), writer)?;

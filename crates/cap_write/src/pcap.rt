@@ -3,6 +3,8 @@ ghost use Rattle.std.specs.Prelude.{◌≡◌, ◌≤◌, length, IsTrue, IsFals
 ghost use Rattle.cap_bytes.specs.Device.{WriterKeeps, writer_of};
 ghost use Rattle.cap_bytes.specs.Printing.{Prints, IsRead, is_write};
 ghost use Rattle.cap_source.specs.Captures.{feed_of, number_of, first_of};
+ghost use Rattle.cap_source.specs.Feed.{Keeps};
+ghost use Rattle.cap_source.specs.Walk.{Walks};
 ghost use Rattle.cap_write.specs.Pcap.{fraction_of, header_of, packet_record, record_fault, records_text, records_refusal, pcap_text, pcap_refusal};
 ghost use Rattle.cap_write.specs.Times.{HasTime, HasRecord, IsBare};
 ghost use Rattle.cap_write.specs.Texts.{text_or};
@@ -112,7 +114,8 @@ fn put_records<F: PacketFeed, W: Sink>(
         (records_refusal first.now (F.feed feed.old).items)
         (W.held writer.old) result (W.held writer.new) }
     ensures writer { WriterKeeps (writer_of W.Sink writer.old) (is_write result) (writer_of W.Sink writer.new) }
-    ensures read { IsRead result → IsTrue (F.feed feed.old).can_fail }
+    ensures walks { Walks (F.feed feed.old) result (F.feed feed.new) }
+    ensures keeps { Keeps (F.feed feed.old) (F.feed feed.new) }
 {
     while let Some(meta) = next_packet(feed)? {
         put_one(first, order, &meta, feed.frame(), writer)?;
@@ -133,7 +136,8 @@ fn put_file<F: PacketFeed, W: Sink>(
         (records_refusal first.now (F.feed feed.old).items)
         (W.held writer.old) result (W.held writer.new) }
     ensures writer { WriterKeeps (writer_of W.Sink writer.old) (is_write result) (writer_of W.Sink writer.new) }
-    ensures read { IsRead result → IsTrue (F.feed feed.old).can_fail }
+    ensures walks { Walks (F.feed feed.old) result (F.feed feed.new) }
+    ensures keeps { Keeps (F.feed feed.old) (F.feed feed.new) }
 {
     put_header(writer, &header_of(order, first))?;
     put_records(feed, order, first, writer)
@@ -143,7 +147,8 @@ fn put_file<F: PacketFeed, W: Sink>(
 fn refuse_bare<F: PacketFeed>(feed: &mut F, file: u32) -> Result<(), Fault>
     ensures text { IsTrue (F.feed feed.old).told
         → IsBare file (F.feed feed.old).items result }
-    ensures read { IsRead result → IsTrue (F.feed feed.old).can_fail }
+    ensures walks { Walks (F.feed feed.old) result (F.feed feed.new) }
+    ensures keeps { Keeps (F.feed feed.old) (F.feed feed.new) }
     ensures write { IsFalse (is_write result) }
 {
     match feed.head()? {
@@ -175,7 +180,8 @@ pub fn to_pcap<R: Source, W: Sink>(
         (pcap_refusal (number_of capture.old) (first_of capture.old) (feed_of capture.old).items)
         (W.held writer.old) result (W.held writer.new) }
     ensures writer { WriterKeeps (writer_of W.Sink writer.old) (is_write result) (writer_of W.Sink writer.new) }
-    ensures read { IsRead result → IsTrue (feed_of capture.old).can_fail }
+    ensures walks { Walks (feed_of capture.old) result (feed_of capture.new) }
+    ensures keeps { Keeps (feed_of capture.old) (feed_of capture.new) }
 {
     let file = capture.file();
     let first = capture.first()?;
@@ -195,7 +201,8 @@ fn put_pcap<F: PacketFeed, W: Sink>(
         (pcap_refusal file first (F.feed feed.old).items)
         (W.held writer.old) result (W.held writer.new) }
     ensures writer { WriterKeeps (writer_of W.Sink writer.old) (is_write result) (writer_of W.Sink writer.new) }
-    ensures read { IsRead result → IsTrue (F.feed feed.old).can_fail }
+    ensures walks { Walks (F.feed feed.old) result (F.feed feed.new) }
+    ensures keeps { Keeps (F.feed feed.old) (F.feed feed.new) }
 {
     match first {
         Some(first) => put_file(feed, order, &first, writer),

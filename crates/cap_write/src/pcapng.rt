@@ -1,8 +1,10 @@
 //! Files written as pcapng.
 ghost use Rattle.std.specs.Prelude.{IsTrue, is_err, IsOkUnless};
 ghost use Rattle.cap_bytes.specs.Device.{Puts, WriterKeeps, writer_of};
-ghost use Rattle.cap_bytes.specs.Printing.{Prints, IsRead, is_write};
+ghost use Rattle.cap_bytes.specs.Printing.{Prints, is_write};
 ghost use Rattle.cap_source.specs.Captures.{feed_of, number_of, first_of};
+ghost use Rattle.cap_source.specs.Feed.{Keeps};
+ghost use Rattle.cap_source.specs.Walk.{Walks};
 ghost use Rattle.cap_write.specs.Names.{Holds};
 ghost use Rattle.cap_write.specs.Texts.{first_names, first_text, front_text, pcapng_text, pcapng_refusal};
 
@@ -69,7 +71,8 @@ pub fn to_pcapng<R: Source, W: Sink>(
         (pcapng_refusal (number_of capture.old) (first_of capture.old) (feed_of capture.old).items)
         (W.held writer.old) result (W.held writer.new) }
     ensures writer { WriterKeeps (writer_of W.Sink writer.old) (is_write result) (writer_of W.Sink writer.new) }
-    ensures read { IsRead result → IsTrue (feed_of capture.old).can_fail }
+    ensures walks { Walks (feed_of capture.old) result (feed_of capture.new) }
+    ensures keeps { Keeps (feed_of capture.old) (feed_of capture.new) }
 {
     let file = capture.file();
     let first = capture.first()?;
@@ -90,7 +93,8 @@ fn put_pcapng<F: PacketFeed, W: Sink>(
         (pcapng_refusal file first (F.feed feed.old).items)
         (W.held writer.old) result (W.held writer.new) }
     ensures writer { WriterKeeps (writer_of W.Sink writer.old) (is_write result) (writer_of W.Sink writer.new) }
-    ensures read { IsRead result → IsTrue (F.feed feed.old).can_fail }
+    ensures walks { Walks (F.feed feed.old) result (F.feed feed.new) }
+    ensures keeps { Keeps (F.feed feed.old) (F.feed feed.new) }
 {
     let mut names = first_names(alloc, file, first)?;
     put_front(writer, order, first)?;

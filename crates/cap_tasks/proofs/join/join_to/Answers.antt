@@ -1,8 +1,9 @@
 use Rattle.std.proofs.lemmas.Result.{err_from_is_err_and}
 use Rattle.std.proofs.Common.{map}
-use Rattle.cap_merge.proofs.Unread.{can_fail-readers}
+use Rattle.cap_merge.specs.Parts.{feed_of}
 use Rattle.cap_merge.specs.Readers.{reader_of}
-use Rattle.cap_tasks.proofs.Merging.{Prints-joined, Prints-nothing}
+use Rattle.cap_merge.specs.View.{parts_of}
+use Rattle.cap_tasks.proofs.Merging.{Prints-joined, Prints-nothing, Fails-merged}
 use Rattle.cap_tasks.specs.JoinText.{join_text}
 use Rattle.cap_tasks.proofs.join.join_to.Goals as goal
 
@@ -21,6 +22,8 @@ returns-clause-text g c = λ t w.
     (λ told. c.write_joined.ensures.text told w) t
 
 pub returns-clause-read : goal.returns-clause-read
-returns-clause-read g c = λ r.
+returns-clause-read g c =
     let reader = reader_of g.R.Source.tells_coming g.R.Device.can_fail g.R.Source.coming in
-    can_fail-readers reader c.args.tail c.args.sources.items _ c.in_ok-merged.ensures.unread (c.write_joined.ensures.read r)
+    rw c.args.sources.ok.0
+    (Fails-merged reader c.args.tail c.args.sources.items _ (feed_of (parts_of c.write_joined.new.merged)) c.write_joined.result
+    c.in_ok-merged.ensures.unread c.write_joined.ensures.walks)

@@ -3,6 +3,7 @@ use Rattle.std.proofs.lemmas.Result.{err_from_is_err_and}
 use Rattle.cap_merge.specs.MergedLaws.{merged-is-feed}
 use Rattle.cap_merge.specs.Parts.{feed_of}
 use Rattle.cap_merge.specs.View.{parts_of}
+use Rattle.cap_source.proofs.Onward.{Walks-fault, Walks-end, Walks-stop, Keeps-trans}
 use Rattle.cap_source.specs.Walk.{ShowsItem}
 use Rattle.cap_write.proofs.Joining.{Joining-more, Joining-fault, Joining-end, Joining-part, place-small}
 use Rattle.cap_write.proofs.joined.put_joined.Goals as goal
@@ -53,8 +54,8 @@ loop-packet-preserved g c =
     Joining-more c.args.order (parts_of c.args.merged.now) mid shown (parts_of c.pass.new.self)
     c.args.names.now.keys c.loop-packet.names.keys c.put_completed.new.names.keys c.loop-packet.joiner c.put_completed.new.joiner c.loop-packet.place _ _ _ _ _ _
     c.in-Some.meta c.frame.result.now c.clock.result c.frame.ensures.frame i
-    c.in_ok-meta.ensures.keeps (λ t. rw c.in-Some.is at (c.in_ok-meta.ensures.items t)) (λ t. c.in_ok-meta.ensures.run t)
-    (λ t. c.clock.ensures.run t) c.pass.ensures.keeps c.pass.ensures.passes.left (λ t. c.pass.ensures.run t)
+    (rw c.in-Some.is at c.in_ok-meta.ensures.answer) c.in_ok-meta.ensures.keeps (λ t. rw c.in-Some.is at (c.in_ok-meta.ensures.items t)) (λ t. c.in_ok-meta.ensures.run t)
+    (λ t. c.clock.ensures.run t) c.pass.ensures.keeps c.pass.ensures.passes (λ t. c.pass.ensures.run t)
     e.limit e.next e.stands e.names
     (λ w events stands. (e.text w events stands).1) e.writer.told e.writer.cannot (search rules)
 
@@ -65,3 +66,37 @@ returns-clause-text g c = λ t w.
     let shown = parts_of c.next_of.new.merged in
     let shows : ShowsItem (feed_of mid) (Ok None) (feed_of shown) = rw c.in_default.is at (c.in_ok-meta.ensures.items (i.told t)) in
     Joining-end c.args.order (parts_of c.args.merged.now) mid (feed_of shown) c.args.names.now.keys c.loop-packet.names.keys c.loop-packet.joiner c.loop-packet.place _ _ _ _ i t w shows
+
+pub returns-in_err-meta-clause-walks : goal.returns-in_err-meta-clause-walks
+returns-in_err-meta-clause-walks g c =
+    let p = err_from_is_err_and c.from_residual.result c.from_residual.ensures.1 in
+    rw (p.1, p.2)
+    (Walks-fault (feed_of (parts_of c.args.merged.now)) (feed_of (parts_of c.loop-packet.merged)) (feed_of (parts_of c.next_of.new.merged)) c.in_err-meta.field-0.0
+    c.loop-packet.invariant.went c.in_err-meta.ensures.answer)
+
+pub returns-in_err-meta-clause-keeps : goal.returns-in_err-meta-clause-keeps
+returns-in_err-meta-clause-keeps g c =
+    Keeps-trans (feed_of (parts_of c.args.merged.now)) (feed_of (parts_of c.loop-packet.merged)) (feed_of (parts_of c.next_of.new.merged))
+    c.loop-packet.invariant.went.keeps c.in_err-meta.ensures.keeps
+
+pub returns-in_err-put_completed-clause-walks : goal.returns-in_err-put_completed-clause-walks
+returns-in_err-put_completed-clause-walks g c =
+    let p = err_from_is_err_and c.from_residual-in_err-put_completed.result c.from_residual-in_err-put_completed.ensures.1 in
+    rw (p.1, p.2)
+    (Walks-stop (feed_of (parts_of c.args.merged.now)) (feed_of (parts_of c.loop-packet.merged)) (feed_of (parts_of c.next_of.new.merged)) c.in-Some.meta
+    c.in_err-put_completed.field-0.0 c.loop-packet.invariant.went (rw c.in-Some.is at c.in_ok-meta.ensures.answer) c.in_err-put_completed.ensures.read)
+
+pub returns-in_err-put_completed-clause-keeps : goal.returns-in_err-put_completed-clause-keeps
+returns-in_err-put_completed-clause-keeps g c =
+    Keeps-trans (feed_of (parts_of c.args.merged.now)) (feed_of (parts_of c.loop-packet.merged)) (feed_of (parts_of c.next_of.new.merged))
+    c.loop-packet.invariant.went.keeps c.in_ok-meta.ensures.keeps
+
+pub returns-clause-walks : goal.returns-clause-walks
+returns-clause-walks g c =
+    Walks-end (feed_of (parts_of c.args.merged.now)) (feed_of (parts_of c.loop-packet.merged)) (feed_of (parts_of c.next_of.new.merged))
+    c.loop-packet.invariant.went (rw c.in_default.is at c.in_ok-meta.ensures.answer)
+
+pub returns-clause-keeps : goal.returns-clause-keeps
+returns-clause-keeps g c =
+    Keeps-trans (feed_of (parts_of c.args.merged.now)) (feed_of (parts_of c.loop-packet.merged)) (feed_of (parts_of c.next_of.new.merged))
+    c.loop-packet.invariant.went.keeps c.in_ok-meta.ensures.keeps

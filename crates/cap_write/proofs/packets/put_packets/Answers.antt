@@ -1,5 +1,6 @@
 use Rattle.std.proofs.Common.{Some, None, Ok, drop, subst, sym, rules}
 use Rattle.std.proofs.lemmas.Result.{err_from_is_err_and}
+use Rattle.cap_source.proofs.Onward.{Went-more, Walks-fault, Walks-end, Walks-stop, Keeps-trans}
 use Rattle.cap_source.proofs.Walking.{GoesOn, Walking-more, Prints-fault, Prints-end}
 use Rattle.cap_source.specs.Walk.{ShowsItem}
 use Rattle.cap_write.proofs.Feeding.{plan_of, plan_of-is, plan_of-next, Prints-one}
@@ -41,6 +42,9 @@ loop-meta-preserved g c =
     (plan_of-next c.args.order names meta shown.frame e.names.1) in
     record {
       limit = e.limit;
+      went =
+          Went-more (g.F.PacketFeed.feed c.args.feed.now) mid shown (g.F.PacketFeed.feed c.pass.new.self) meta i.went
+          (rw c.in-Some.is at c.in_ok-meta.ensures.answer) c.in_ok-meta.ensures.keeps c.pass.ensures.passes c.pass.ensures.keeps;
       walk =
           Walking-more _ _ _ _ mid shown (g.F.PacketFeed.feed c.pass.new.self) _ _ _ _ _ _ meta line
           i.walk c.in_ok-meta.ensures.keeps (λ t. rw c.in-Some.is at (c.in_ok-meta.ensures.items t))
@@ -57,3 +61,34 @@ returns-clause-text g c = λ t w.
     let names = c.loop-meta.names.keys in
     let shows : ShowsItem mid (Ok None) shown = rw c.in_default.is at (c.in_ok-meta.ensures.items (i.told t)) in
     Prints-end (plan_of c.args.order names) _ _ _ _ mid shown (plan_of-is c.args.order names) (i.text t) w (i.refusal_same t) shows
+
+pub returns-in_err-meta-clause-walks : goal.returns-in_err-meta-clause-walks
+returns-in_err-meta-clause-walks g c =
+    let p = err_from_is_err_and c.from_residual.result c.from_residual.ensures.1 in
+    rw (p.1, p.2)
+    (Walks-fault (g.F.PacketFeed.feed c.args.feed.now) (g.F.PacketFeed.feed c.loop-meta.feed) (g.F.PacketFeed.feed c.next_packet.new.feed) c.in_err-meta.field-0.0
+    c.loop-meta.invariant.went c.in_err-meta.ensures.answer)
+
+pub returns-in_err-meta-clause-keeps : goal.returns-in_err-meta-clause-keeps
+returns-in_err-meta-clause-keeps g c =
+    Keeps-trans (g.F.PacketFeed.feed c.args.feed.now) (g.F.PacketFeed.feed c.loop-meta.feed) (g.F.PacketFeed.feed c.next_packet.new.feed) c.loop-meta.invariant.went.keeps c.in_err-meta.ensures.keeps
+
+pub returns-in_err-put_one-clause-walks : goal.returns-in_err-put_one-clause-walks
+returns-in_err-put_one-clause-walks g c =
+    let p = err_from_is_err_and c.from_residual-in_err-put_one.result c.from_residual-in_err-put_one.ensures.1 in
+    rw (p.1, p.2)
+    (Walks-stop (g.F.PacketFeed.feed c.args.feed.now) (g.F.PacketFeed.feed c.loop-meta.feed) (g.F.PacketFeed.feed c.next_packet.new.feed) c.in-Some.meta c.in_err-put_one.field-0.0
+    c.loop-meta.invariant.went (rw c.in-Some.is at c.in_ok-meta.ensures.answer) c.in_err-put_one.ensures.read)
+
+pub returns-in_err-put_one-clause-keeps : goal.returns-in_err-put_one-clause-keeps
+returns-in_err-put_one-clause-keeps g c =
+    Keeps-trans (g.F.PacketFeed.feed c.args.feed.now) (g.F.PacketFeed.feed c.loop-meta.feed) (g.F.PacketFeed.feed c.next_packet.new.feed) c.loop-meta.invariant.went.keeps c.in_ok-meta.ensures.keeps
+
+pub returns-clause-walks : goal.returns-clause-walks
+returns-clause-walks g c =
+    Walks-end (g.F.PacketFeed.feed c.args.feed.now) (g.F.PacketFeed.feed c.loop-meta.feed) (g.F.PacketFeed.feed c.next_packet.new.feed)
+    c.loop-meta.invariant.went (rw c.in_default.is at c.in_ok-meta.ensures.answer)
+
+pub returns-clause-keeps : goal.returns-clause-keeps
+returns-clause-keeps g c =
+    Keeps-trans (g.F.PacketFeed.feed c.args.feed.now) (g.F.PacketFeed.feed c.loop-meta.feed) (g.F.PacketFeed.feed c.next_packet.new.feed) c.loop-meta.invariant.went.keeps c.in_ok-meta.ensures.keeps

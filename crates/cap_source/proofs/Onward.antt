@@ -1,0 +1,124 @@
+-- Going through a feed: what it was at first, on the way, and where the call ends.
+use Rattle.std.proofs.Common.{◌≡◌, ℕ, ◌≤◌, IsTrue, Option, Some, None, IfSome, Result, Ok, Err, refl, sym, ap, ◌∙◌, subst, arith}
+use Rattle.cap_bytes.specs.Printing.{IsRead}
+use Rattle.cap_bytes.specs.declared.faults.Fault.{Fault}
+use Rattle.cap_bytes.specs.declared.faults.Fault.TheVariants.{Refused, Read, Write, Memory}
+use Rattle.cap_source.specs.Feed.{Feed, Keeps, Goes, Knows, Breaks, Waits, GivesHead, Passes, HasFile}
+use Rattle.cap_source.specs.Walk.{GivesPacket, Lasts, Fails, Walks}
+use Rattle.cap_source.specs.declared.feeds.Head.{Head}
+use Rattle.cap_source.specs.declared.packets.Meta.{Meta}
+
+-- What is true of a feed on the way: all that every answer keeps, and no read has failed.
+pub record Went (old new : Feed) : Type 0 where
+  pub keeps : Keeps old new
+  pub lasts : Lasts old new
+
+pub Keeps-refl : (a : Feed) → Keeps a a
+Keeps-refl a = record { files = refl; told = λ t. t; can_fail = λ c. c; places = λ file. omega arith; left = omega arith }
+
+pub Keeps-trans : (a b c : Feed) → Keeps a b → Keeps b c → Keeps a c
+Keeps-trans a b c k l =
+    record {
+      files = l.files ∙ k.files;
+      told = λ t. l.told (k.told t);
+      can_fail = λ t. k.can_fail (l.can_fail t);
+      places = λ file. omega (arith, k.places file, l.places file);
+      left = omega (arith, k.left, l.left);
+    }
+
+pub Lasts-refl : (a : Feed) → Lasts a a
+Lasts-refl a = record { broken = refl; failed = refl }
+
+pub Lasts-goes : (a b : Feed) → Goes a b → Lasts a b
+Lasts-goes a b g = record { broken = g.after ∙ sym g.before; failed = g.failed }
+
+pub Lasts-trans : (a b c : Feed) → Lasts a b → Lasts b c → Lasts a c
+Lasts-trans a b c k l = record { broken = l.broken ∙ k.broken; failed = l.failed ∙ k.failed }
+
+pub Goes-behind : (a b c : Feed) → Lasts a b → Goes b c → Goes a c
+Goes-behind a b c l g = record { before = sym l.broken ∙ g.before; after = g.after; failed = g.failed ∙ l.failed }
+
+pub Went-none : (a : Feed) → Went a a
+Went-none a = record { keeps = Keeps-refl a; lasts = Lasts-refl a }
+
+-- one more packet
+pub Went-more : (old mid shown new : Feed) (meta : Meta) → Went old mid → GivesPacket mid (Ok (Some meta)) shown → Keeps mid shown
+    → Passes shown new → Keeps shown new → Went old new
+Went-more old mid shown new meta p gives asked passes passed =
+    record {
+      keeps = Keeps-trans old mid new p.keeps (Keeps-trans mid shown new asked passed);
+      lasts = Lasts-trans old mid new p.lasts (record {
+        broken = passes.broken ∙ sym gives.goes.before;
+        failed = ap (λ h. h.failed) passes.held ∙ gives.goes.failed;
+      });
+    }
+
+Fails-behind : (old mid new : Feed) (file offset : ℕ) → Keeps old mid → Lasts old mid → Fails mid file offset new → Fails old file offset new
+Fails-behind old mid new file offset k l p =
+    record {
+      of = subst (λ files. HasFile files file) k.files p.of;
+      again = subst (λ broken. IfSome broken (λ first. Read file offset ≡ first)) l.broken p.again;
+      after = p.after;
+      broken = p.broken;
+      place = p.place;
+      failed = p.failed;
+      can_fail = k.can_fail p.can_fail;
+    }
+
+Fails-breaks : (old new : Feed) (file offset : ℕ) → Breaks old file offset new → Fails old file offset new
+Fails-breaks old new file offset p =
+    record {
+      of = p.of;
+      again = p.again;
+      after = p.after;
+      broken = p.broken;
+      place = p.place;
+      failed = p.failed;
+      can_fail = p.can_fail;
+    }
+
+-- The rest of a walk is done behind its first part.
+pub Walks-behind : {A : Type 0} (old mid new : Feed) (result : Result A Fault) → Keeps old mid → Lasts old mid → Walks mid result new → Walks old result new
+Walks-behind old mid new (Ok x) k l p = (p.0, Goes-behind old mid new l p.1)
+Walks-behind old mid new (Err (Refused r)) k l p = Goes-behind old mid new l p
+Walks-behind old mid new (Err (Read file offset)) k l p = Fails-behind old mid new file offset k l p
+Walks-behind old mid new (Err Write) k l p = Lasts-trans old mid new l p
+Walks-behind old mid new (Err Memory) k l p = Lasts-trans old mid new l p
+
+-- what comes next of a feed can't be told
+pub Walks-head : (old new : Feed) (fault : Fault) → GivesHead old (Err fault) new → Walks {A = Unit {0}} old (Err fault) new
+Walks-head old new (Refused r) p = absurd p
+Walks-head old new (Read file offset) p = Fails-breaks old new file offset p
+Walks-head old new Write p = absurd p
+Walks-head old new Memory p = Lasts-goes old new p.goes
+
+-- the call for the next packet answers a fault
+pub Walks-fault : (old mid new : Feed) (fault : Fault) → Went old mid → GivesPacket mid (Err fault) new → Walks {A = Unit {0}} old (Err fault) new
+Walks-fault old mid new (Refused r) w p = Goes-behind old mid new w.lasts p.goes
+Walks-fault old mid new (Read file offset) w p = Fails-behind old mid new file offset w.keeps w.lasts (Fails-breaks mid new file offset p)
+Walks-fault old mid new Write w p = absurd p
+Walks-fault old mid new Memory w p = Lasts-trans old mid new w.lasts (Lasts-goes mid new p.goes)
+
+-- it answers that there is none
+pub Walks-end : (old mid new : Feed) → Went old mid → GivesPacket mid (Ok None) new → Walks {A = Unit {0}} old (Ok tt) new
+Walks-end old mid new w p = (p.known, Goes-behind old mid new w.lasts p.goes)
+
+-- A packet that came isn't written.
+pub Walks-stop : (old mid new : Feed) (meta : Meta) (fault : Fault) → Went old mid → GivesPacket mid (Ok (Some meta)) new
+    → (IsRead {A = Unit {0}} (Err fault) → ⊥) → Walks {A = Unit {0}} old (Err fault) new
+Walks-stop old mid new meta (Refused r) w p other = Goes-behind old mid new w.lasts p.goes
+Walks-stop old mid new meta (Read file offset) w p other = absurd (other tt)
+Walks-stop old mid new meta Write w p other = Lasts-trans old mid new w.lasts (Lasts-goes mid new p.goes)
+Walks-stop old mid new meta Memory w p other = Lasts-trans old mid new w.lasts (Lasts-goes mid new p.goes)
+
+-- Nothing is read.
+pub Walks-none : (old : Feed) (fault : Fault) → fault ≡ Write → Walks {A = Unit {0}} old (Err fault) old
+Walks-none old fault is = rw is (Lasts-refl old)
+
+-- A read that failed can fail.
+pub Walks-can_fail : {A : Type 0} (old new : Feed) (result : Result A Fault) → Walks old result new → IsRead result → IsTrue old.can_fail
+Walks-can_fail old new (Ok x) p is = absurd is
+Walks-can_fail old new (Err (Refused r)) p is = absurd is
+Walks-can_fail old new (Err (Read file offset)) p is = p.can_fail
+Walks-can_fail old new (Err Write) p is = absurd is
+Walks-can_fail old new (Err Memory) p is = absurd is
