@@ -1,14 +1,20 @@
 -- The feeds of a merge before anything is read.
-use Rattle.std.proofs.Common.{◌≡◌, ℕ, suc, ◌+◌, ◌==◌, ◌≤◌, List, [], ◌∷◌, ◌++◌, length, map, Bool, true, false, ◌&&◌, ◌||◌, IsTrue, Option, None, refl, sym, ap, ◌∙◌, subst, arith}
+use Rattle.std.proofs.Common.{◌≡◌, ℕ, zero, suc, ◌+◌, ◌==◌, ◌≤◌, ◌<◌, List, [], ◌∷◌, ◌++◌, length, map, Bool, true, false, ◌&&◌, ◌||◌, IsTrue, Option, None, Result, Ok, Err, refl, sym, ap, ◌∙◌, subst, arith}
 use Rattle.std.specs.Prelude.{if◌then◌else◌}
 use Rattle.std.specs.List.{flat_map, list_all, list_any, range_with_len}
+use Rattle.std.proofs.lemmas.Bool.{eqb-true, false≢true}
+use Rattle.std.proofs.lemmas.List.{length-map}
+use Rattle.cap_bytes.specs.declared.faults.Fault.{Fault}
+use Rattle.cap_bytes.specs.declared.faults.Fault.TheVariants.{Refused, Read, Write, Memory}
 use Rattle.cap_bytes.specs.declared.faults.Tail.{Tail}
 use Rattle.cap_merge.specs.Files.{items_of_files, run_of_files, clocked_run, endings_from, endings_of_files}
 use Rattle.cap_merge.specs.Parts.{Part, new_parts, item_time, is_refusal, is_known, head_by, first_of, feed_of, run_of, known_of, broken_of, endings_of, has_file, IsNumbered}
 use Rattle.cap_merge.specs.Readers.{Reader, IsUnread, AreUnread, IsUnreadRun}
 use Rattle.cap_merge.specs.Run.{opened, run}
-use Rattle.cap_source.specs.Feed.{Feed}
+use Rattle.cap_source.specs.Feed.{Feed, HasFile}
 use Rattle.cap_source.specs.Items.{file_items, file_ending}
+use Rattle.cap_source.specs.ReadFaults.{FailsOf}
+use Rattle.cap_source.specs.Walk.{Walks}
 use Rattle.cap_source.specs.declared.feeds.Ending.{Ending}
 
 -- one more feed after some
@@ -153,3 +159,26 @@ pub run-items : {A : Type 0} (reader : A → Reader) (tail : Tail) (sources : Li
     → (feed_of ps).items ≡ run_of_files tail (map (λ s. (reader s).bytes) sources)
 unfolding feed_of run_of_files
 run-items reader tail sources ps u = ap (map (λ x. x.item)) (u.run ∙ ap (clocked_run tail) (bytes-readers reader sources))
+
+-- a file that is one of some has a number of theirs
+pub numbers-within : (file count n : ℕ) → HasFile (range_with_len file count) n → (file ≤ n) × (n < file + count)
+numbers-within file zero n has = absurd (false≢true has)
+numbers-within file (suc count) n has = by (file == n) (λ h. numbers-within (file + 1) count n h) refl has
+  where
+    by : (b : Bool) → (HasFile (range_with_len (file + 1) count) n → (file + 1 ≤ n) × (n < file + 1 + count))
+        → (file == n) ≡ b → (b || list_any (λ m. m == n) (range_with_len (file + 1) count)) ≡ true
+        → (file ≤ n) × (n < file + suc count)
+    by true more e h = let same = eqb-true file n e in (omega (arith, same), omega (arith, same))
+    by false more e h = let p = more h in (omega (arith, p.0), omega (arith, p.1))
+
+-- A read that fails as files are gone through as one is told of one of them.
+pub Fails-merged : {A B : Type 0} (reader : A → Reader) (tail : Tail) (sources : List A) (ps : List Part) (new : Feed) (result : Result B Fault)
+    → IsUnreadRun tail (map reader sources) ps → Walks (feed_of ps) result new
+    → FailsOf (length sources) (list_any (λ s. (reader s).can_fail) sources) result
+Fails-merged reader tail sources ps new (Ok x) u w = tt
+Fails-merged reader tail sources ps new (Err (Refused r)) u w = tt
+Fails-merged reader tail sources ps new (Err (Read file offset)) u w =
+    let p = numbers-within 1 (length (map reader sources)) file (subst (λ l. HasFile l file) u.files w.of) in
+    (p.0, omega (arith, p.1, length-map sources reader), can_fail-readers reader tail sources ps u w.can_fail)
+Fails-merged reader tail sources ps new (Err Write) u w = tt
+Fails-merged reader tail sources ps new (Err Memory) u w = tt

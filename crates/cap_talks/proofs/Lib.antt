@@ -20,3 +20,9 @@ pub mod Stepping
 pub mod Reporting
 pub mod Lone
 pub mod Room
+pub mod Totaling
+pub mod Waiting
+pub mod Written
+pub mod FileLines
+pub mod TableTexts
+pub mod Headline

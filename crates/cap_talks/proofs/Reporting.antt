@@ -1,9 +1,11 @@
 -- Taking all packets of a run, one by one.
-use Rattle.std.proofs.Common.{◌≡◌, ℕ, ◌+◌, ◌≤◌, ◌<◌, Bool, true, false, List, [], ◌∷◌, refl, sym, ◌∙◌, ap, subst, arith, true≢false, Option, Some, None, Result, Ok, Err, IsTrue, inl, inr}
+use Rattle.std.proofs.Common.{◌≡◌, ℕ, ◌+◌, ◌≤◌, ◌<◌, Bool, true, false, List, [], ◌∷◌, length, refl, sym, ◌∙◌, ap, subst, arith, true≢false, Option, Some, None, Result, Ok, Err, IsTrue, inl, inr}
 use Rattle.std.specs.Prelude.{if◌then◌else◌, ◌⊎◌}
 use Rattle.cap_bytes.specs.declared.faults.Fault.{Fault}
 use Rattle.cap_bytes.specs.declared.faults.Fault.TheVariants.{Refused, Read, Write, Memory}
 use Rattle.cap_bytes.specs.declared.faults.Refusal.{Refusal}
+use Rattle.cap_source.proofs.Onward.{Went, Went-none, Keeps-trans, Lasts-trans, Lasts-goes, Walks-behind, Walks-head}
+use Rattle.cap_source.specs.Walk.{Walks}
 use Rattle.cap_merge.specs.Parts.{feed_of, run_of}
 use Rattle.cap_merge.specs.Run.{Clocked}
 use Rattle.cap_source.specs.Feed.{Item, packet, refused}
@@ -20,14 +22,23 @@ use Rattle.cap_talks.specs.declared.tables.Step.TheVariants as steps
 -- Some packets were taken, and others are to come.
 pub record Reporting (old new : TableState) : Type 0 where
   pub taken : List Taken
-  pub told : IsTrue (feed_of old.parts).told → IsTrue (feed_of new.parts).told
-  pub can_fail : IsTrue (feed_of new.parts).can_fail → IsTrue (feed_of old.parts).can_fail
+  pub went : Went (feed_of old.parts) (feed_of new.parts)
+  pub files : length new.totals.files ≡ length old.totals.files
   pub stands : TableStands old [] → TableStands new taken
   pub text : IsTrue (feed_of old.parts).told → taken_behind [] (run_of old.parts) ≡ taken_behind taken (run_of new.parts)
   pub refusal : IsTrue (feed_of old.parts).told → TableStands old [] → refusal_behind [] (run_of old.parts) ≡ refusal_behind taken (run_of new.parts)
+  pub endings : IsTrue (feed_of old.parts).told → (file : ℕ) → (feed_of new.parts).endings file ≡ (feed_of old.parts).endings file
 
 pub Reporting-begin : (t : TableState) → Reporting t t
-Reporting-begin t = record { taken = []; told = λ h. h; can_fail = λ h. h; stands = λ h. h; text = λ h. refl; refusal = λ h s. refl }
+Reporting-begin t = record {
+  taken = [];
+  went = Went-none (feed_of t.parts);
+  files = refl;
+  stands = λ h. h;
+  text = λ h. refl;
+  refusal = λ h s. refl;
+  endings = λ h file. refl;
+}
 
 -- the refusal of a run that begins with a packet
 refusal-packet : (xs : List Taken) (x : Taken) (run : List (Clocked Item)) (b : Bool) → is_limit_at xs x ≡ b
@@ -55,13 +66,17 @@ refusal-refused xs clock r = refl
 more : (old mid new : TableState) → Reporting old mid → StepKeeps mid new → Takes mid new → Reporting old new
 more old mid new p k t = record {
   taken = t.item ∷ p.taken;
-  told = λ h. k.keeps.told (p.told h);
-  can_fail = λ h. p.can_fail (k.keeps.can_fail h);
+  went = record {
+    keeps = Keeps-trans (feed_of old.parts) (feed_of mid.parts) (feed_of new.parts) p.went.keeps k.keeps;
+    lasts = Lasts-trans (feed_of old.parts) (feed_of mid.parts) (feed_of new.parts) p.went.lasts (Lasts-goes (feed_of mid.parts) (feed_of new.parts) t.goes);
+  };
+  files = k.files ∙ p.files;
   stands = λ s. (t.stands p.taken (p.stands s)).1;
-  text = λ h. p.text h ∙ ap (taken_behind p.taken) (t.run (p.told h)) ∙ taken-packet p.taken t.item (run_of new.parts);
+  text = λ h. p.text h ∙ ap (taken_behind p.taken) (t.run (p.went.keeps.told h)) ∙ taken-packet p.taken t.item (run_of new.parts);
   refusal = λ h s.
-      p.refusal h s ∙ ap (refusal_behind p.taken) (t.run (p.told h))
+      p.refusal h s ∙ ap (refusal_behind p.taken) (t.run (p.went.keeps.told h))
       ∙ refusal-packet p.taken t.item (run_of new.parts) false (t.stands p.taken (p.stands s)).0;
+  endings = λ h file. t.endings (p.went.keeps.told h) file ∙ p.endings h file;
 }
 
 clash : true ≡ false → ⊥
@@ -75,22 +90,43 @@ pub left-more : (mid new : TableState) (step : Step) (b : Bool) → Steps mid (O
 left-more mid new steps.Took b t m is = t.left
 left-more mid new steps.Done b t m is = absurd (clash (sym is ∙ m))
 
-pub TakesAll-end : (old mid new : TableState) (step : Step) (b : Bool) → Reporting old mid → Steps mid (Ok step) new → IsMore step b → b ≡ false → TookAll old new
-TakesAll-end old mid new steps.Took b p t m is = absurd (clash (sym m ∙ is))
-TakesAll-end old mid new steps.Done b p t m is = record {
+pub TakesAll-end : (old mid new : TableState) (step : Step) (b : Bool) → Reporting old mid → StepKeeps mid new → Steps mid (Ok step) new → IsMore step b → b ≡ false → TookAll old new
+TakesAll-end old mid new steps.Took b p k t m is = absurd (clash (sym m ∙ is))
+TakesAll-end old mid new steps.Done b p k t m is = record {
   known = t.known;
-  free = λ h s. p.refusal h s ∙ ap (refusal_behind p.taken) (t.run (p.told h)).0 ∙ refusal-none p.taken;
+  done = t.done;
+  files = k.files ∙ p.files;
+  endings = λ h file. (t.same (p.went.keeps.told h)).endings file ∙ p.endings h file;
+  free = λ h s. p.refusal h s ∙ ap (refusal_behind p.taken) (t.run (p.went.keeps.told h)) ∙ refusal-none p.taken;
   stands = λ h s.
-      subst (TableStands new) (sym (p.text h ∙ ap (taken_behind p.taken) (t.run (p.told h)).0 ∙ taken-none p.taken)) (t.stands p.taken (p.stands s));
+      subst (TableStands new) (sym (p.text h ∙ ap (taken_behind p.taken) (t.run (p.went.keeps.told h)) ∙ taken-none p.taken)) (t.stands p.taken (p.stands s));
 }
 
 pub TakesAll-fault : (old mid new : TableState) (fault : Fault) → Reporting old mid → Steps mid (Err fault) new → TakesAll old (Err fault) new
 TakesAll-fault old mid new (Refused r) p (inl t) = λ h s.
-    let one = t.run (p.told h) in
+    let one = t.run (p.went.keeps.told h) in
     p.refusal h s ∙ ap (refusal_behind p.taken) one.1 ∙ refusal-refused p.taken one.0 r
 TakesAll-fault old mid new (Refused r) p (inr t) = λ h s.
-    p.refusal h s ∙ ap (refusal_behind p.taken) (t.run (p.told h))
-    ∙ refusal-packet p.taken t.item _ true (t.stands p.taken (p.stands s)).0 ∙ ap Some (sym t.is)
-TakesAll-fault old mid new (Read file offset) p t = p.can_fail t.breaks.can_fail
+    p.refusal h s ∙ ap (refusal_behind p.taken) (t.run (p.went.keeps.told h))
+    ∙ refusal-packet p.taken t.item _ true (t.limit p.taken (p.stands s)) ∙ ap Some (sym t.is)
+TakesAll-fault old mid new (Read file offset) p t = tt
 TakesAll-fault old mid new Write p t = absurd t
 TakesAll-fault old mid new Memory p t = tt
+
+-- a fault is one of the feeds as the walk over them has it
+step-walks : (mid new : TableState) (fault : Fault) → Steps mid (Err fault) new → Walks {A = Unit {0}} (feed_of mid.parts) (Err fault) (feed_of new.parts)
+step-walks mid new (Refused r) (inl t) = t.goes
+step-walks mid new (Refused r) (inr t) = t.goes
+step-walks mid new (Read file offset) t = Walks-head (feed_of mid.parts) (feed_of new.parts) (Read file offset) t.breaks
+step-walks mid new Write t = absurd t
+step-walks mid new Memory t = Lasts-goes (feed_of mid.parts) (feed_of new.parts) t.goes
+
+pub Walks-faulty : (old mid new : TableState) (fault : Fault) → Reporting old mid → Steps mid (Err fault) new → Walks {A = Unit {0}} (feed_of old.parts) (Err fault) (feed_of new.parts)
+Walks-faulty old mid new fault p t =
+    Walks-behind {A = Unit {0}} (feed_of old.parts) (feed_of mid.parts) (feed_of new.parts) (Err fault) p.went.keeps p.went.lasts (step-walks mid new fault t)
+
+pub Walks-done : (old mid new : TableState) (step : Step) (b : Bool) → Reporting old mid → Steps mid (Ok step) new → IsMore step b → b ≡ false
+    → Walks {A = Unit {0}} (feed_of old.parts) (Ok tt) (feed_of new.parts)
+Walks-done old mid new steps.Took b p t m is = absurd (clash (sym m ∙ is))
+Walks-done old mid new steps.Done b p t m is =
+    Walks-behind {A = Unit {0}} (feed_of old.parts) (feed_of mid.parts) (feed_of new.parts) (Ok tt) p.went.keeps p.went.lasts (t.known, t.goes)

@@ -1,20 +1,25 @@
 -- One step of a table.
-use Rattle.std.proofs.Common.{◌≡◌, ℕ, ◌+◌, ◌≤◌, ◌<◌, Bool, true, false, List, [], ◌∷◌, length, drop, map, refl, sym, ◌∙◌, ap, subst, arith, cond, ◌&&◌, true≢false, Option, Some, None, Result, Ok, Err, IsTrue}
-use Rattle.std.specs.Prelude.{is_some, if◌then◌else◌}
+use Rattle.std.proofs.Common.{◌≡◌, ℕ, ◌+◌, ◌≤◌, ◌<◌, Bool, true, false, List, [], ◌∷◌, length, drop, map, refl, sym, ◌∙◌, ap, subst, arith, cond, ◌&&◌, true≢false, Option, Some, None, Result, Ok, Err, IsTrue, inl, inr}
+use Rattle.std.specs.Prelude.{is_some, if◌then◌else◌, IfSome, IfOk}
+use Rattle.std.specs.List.{range_with_len}
 use Rattle.cap_bytes.specs.declared.faults.Fault.{Fault}
+use Rattle.cap_bytes.specs.declared.faults.Fault.TheVariants.{Refused, Read, Write, Memory}
 use Rattle.cap_bytes.specs.declared.faults.Refusal.{Refusal}
 use Rattle.cap_join.specs.declared.datagrams.Datagram.{Datagram}
 use Rattle.cap_join.specs.Joiners.{JoinerState}
 use Rattle.cap_merge.specs.Merge.{LearnsBy, LearnsAll, AsksAll}
-use Rattle.cap_merge.specs.Parts.{Part, feed_of, run_of, clock_of, known_of, is_known, head_by, first_of, BeginsAt}
+use Rattle.cap_merge.specs.Parts.{Part, feed_of, run_of, clock_of, known_of, is_known, head_by, first_of, BeginsAt, KeepsRun}
 use Rattle.cap_merge.specs.Run.{Clocked}
-use Rattle.cap_source.specs.Feed.{Feed, Item, packet, refused, Keeps, Leads, IsFeed, SameItems}
+use Rattle.cap_source.specs.Feed.{Feed, Item, packet, refused, Keeps, Leads, IsFeed, SameItems, Knows, GivesHead, KeepsItems, IsPacket, IsPacketOf, IfPacket, HasFile}
 use Rattle.cap_source.specs.declared.feeds.Head.{Head}
 use Rattle.cap_source.specs.declared.feeds.Head.TheVariants as heads
 use Rattle.cap_source.specs.declared.packets.Meta.{Meta}
 use Rattle.cap_time.specs.declared.stamps.Stamp.{Stamp}
-use Rattle.cap_talks.specs.Stepping.{next_by, next_of, clocked, TableState, TableStands}
+use Rattle.cap_talks.specs.Stepping.{next_by, next_taken, clocked, TableState, TableStands, SameRun, Steps, AnswersAgain}
 use Rattle.cap_talks.specs.Taken.{Taken}
+use Rattle.cap_talks.specs.Totals.{TotalsState}
+use Rattle.cap_talks.specs.declared.tables.Step.{Step}
+use Rattle.cap_talks.specs.declared.tables.Step.TheVariants as steps
 use Rattle.cap_talks.specs.Tallies.{TallyState, WaitsFor, Joins, Stands}
 
 -- ---- what was known stays
@@ -48,7 +53,7 @@ no-wait (Some d) j xs next h = absurd (clash h.is_next)
     clash : None ≡ Some h.packet → ⊥
     clash e = cc
 
-pub stands-unknown : (t : TallyState) (ps : List Part) (xs : List Taken) (next : Option Taken) → (feed_of ps).known ≡ None → Stands t xs (next_of ps) → Stands t xs next
+pub stands-unknown : (t : TallyState) (ps : List Part) (xs : List Taken) (next : Option Taken) → (feed_of ps).known ≡ None → Stands t xs (next_taken ps) → Stands t xs next
 stands-unknown t ps xs next unknown h = record {
   place = h.place;
   classes = h.classes;
@@ -57,15 +62,15 @@ stands-unknown t ps xs next unknown h = record {
   joins = no-wait t.waiting t.joiner xs next (subst (λ (k : Option Head). Joins t.waiting t.joiner xs (next_by k (clock_of ps) (feed_of ps).frame)) unknown h.joins);
 }
 
-pub stands-asked : (t : TallyState) (ps qs : List Part) (xs : List Taken) → LearnsAll ps qs → Stands t xs (next_of ps) → Stands t xs (next_of qs)
+pub stands-asked : (t : TallyState) (ps qs : List Part) (xs : List Taken) → LearnsAll ps qs → Stands t xs (next_taken ps) → Stands t xs (next_taken qs)
 stands-asked t ps qs xs asks h = by (feed_of ps).known refl
   where
-    by : (known : Option Head) → (feed_of ps).known ≡ known → Stands t xs (next_of qs)
-    by None is = stands-unknown t ps xs (next_of qs) is h
-    by (Some head) is = subst (λ (rs : List Part). Stands t xs (next_of rs)) (sym (all_known ps qs asks (known-some ps head is))) h
+    by : (known : Option Head) → (feed_of ps).known ≡ known → Stands t xs (next_taken qs)
+    by None is = stands-unknown t ps xs (next_taken qs) is h
+    by (Some head) is = subst (λ (rs : List Part). Stands t xs (next_taken rs)) (sym (all_known ps qs asks (known-some ps head is))) h
 
 pub next-is : (qs : List Part) (meta : Meta) (clock : Option Stamp) (frame : List ℕ) → (feed_of qs).known ≡ Some (heads.Packet meta) → clock ≡ clock_of qs → frame ≡ (feed_of qs).frame
-    → next_of qs ≡ Some (record { clock = clock; meta = meta; frame = frame })
+    → next_taken qs ≡ Some (record { clock = clock; meta = meta; frame = frame })
 next-is qs meta clock frame known c f = λ i. next_by (known i) (sym c i) (sym f i)
 
 -- ---- the run
@@ -121,3 +126,121 @@ one-left (x ∷ y ∷ xs) i e = absurd (clash e)
 pub run-refused : (qs : List Part) (r : Refusal) → IsFeed (feed_of qs) → IsTrue (feed_of qs).told → (feed_of qs).known ≡ Some (heads.Refused r)
     → (clock : Option Stamp) × (run_of qs ≡ record { clock = clock; item = refused r } ∷ [])
 run-refused qs r law t known = one-left (run_of qs) (refused r) (sym (items-of-run qs) ∙ leads_by (feed_of qs) (heads.Refused r) law t known)
+
+-- ---- the first packet
+
+-- what is known to come next is what comes next
+pub first-asked : (ps qs : List Part) (x : Taken) → LearnsAll ps qs → next_taken qs ≡ Some x → IfSome (next_taken ps) (λ y. y ≡ x)
+first-asked ps qs x asks is = by (feed_of ps).known refl
+  where
+    out : (o : Option Taken) → o ≡ Some x → IfSome o (λ y. y ≡ x)
+    out None e = absurd (clash e)
+      where
+        clash : None ≡ Some x → ⊥
+        clash e = cc
+    out (Some y) e = cc
+
+    by : (known : Option Head) → (feed_of ps).known ≡ known → IfSome (next_taken ps) (λ y. y ≡ x)
+    by None e = subst (λ (k : Option Head). IfSome (next_by k (clock_of ps) (feed_of ps).frame) (λ y. y ≡ x)) (sym e) tt
+    by (Some head) e = out (next_taken ps) (ap next_taken (sym (all_known ps qs asks (known-some ps head e))) ∙ is)
+
+-- ---- the end and a refusal come again
+
+again-none : (known : Option Head) (result : Result Step Fault) → known ≡ None → AnswersAgain known result
+again-none known result is = subst (λ (k : Option Head). AnswersAgain k result) (sym is) tt
+
+pub again-fault : (old new : Feed) (fault : Fault) (result : Result Step Fault) → GivesHead old (Err fault) new → AnswersAgain old.known result
+again-fault old new (Refused r) result h = absurd h
+again-fault old new (Read file offset) result h = again-none old.known result h.before
+again-fault old new Write result h = absurd h
+again-fault old new Memory result h = again-none old.known result h.before
+
+pub again-packet : (old new : Feed) (meta : Meta) (result : Result Step Fault) → Knows old (heads.Packet meta) new → AnswersAgain old.known result
+again-packet old new meta result k = by old.known k.again
+  where
+    by : (known : Option Head) → IfSome known (λ first. (heads.Packet meta ≡ first) × (new ≡ old)) → AnswersAgain known result
+    by None again = tt
+    by (Some (heads.Packet m)) again = tt
+    by (Some (heads.Refused r)) again = absurd (clash again.0)
+      where
+        clash : heads.Packet meta ≡ heads.Refused r → ⊥
+        clash e = cc
+    by (Some heads.End) again = absurd (clash again.0)
+      where
+        clash : heads.Packet meta ≡ heads.End → ⊥
+        clash e = cc
+
+pub again-refused : (old new : Feed) (refusal : Refusal) → Knows old (heads.Refused refusal) new → AnswersAgain old.known (Err (Refused refusal))
+again-refused old new refusal k = by old.known k.again
+  where
+    by : (known : Option Head) → IfSome known (λ first. (heads.Refused refusal ≡ first) × (new ≡ old)) → AnswersAgain known (Err (Refused refusal))
+    by None again = tt
+    by (Some (heads.Packet m)) again = tt
+    by (Some (heads.Refused r)) again = cc
+    by (Some heads.End) again = absurd (clash again.0)
+      where
+        clash : heads.Refused refusal ≡ heads.End → ⊥
+        clash e = cc
+
+pub again-end : (old new : Feed) → Knows old heads.End new → AnswersAgain old.known (Ok steps.Done)
+again-end old new k = by old.known k.again
+  where
+    by : (known : Option Head) → IfSome known (λ first. (heads.End ≡ first) × (new ≡ old)) → AnswersAgain known (Ok steps.Done)
+    by None again = tt
+    by (Some (heads.Packet m)) again = tt
+    by (Some (heads.Refused r)) again = absurd (clash again.0)
+      where
+        clash : heads.End ≡ heads.Refused r → ⊥
+        clash e = cc
+    by (Some heads.End) again = refl
+
+-- ---- what the table stands for
+
+-- nothing changed but what is known of the feeds
+pub asked : (totals : TotalsState) (tally : TallyState) (done : Bool) (ps qs : List Part) (xs : List Taken) → LearnsAll ps qs
+    → TableStands (record { parts = ps; totals = totals; tally = tally; done = done }) xs
+    → TableStands (record { parts = qs; totals = totals; tally = tally; done = done }) xs
+asked totals tally done ps qs xs asks h = record { totals = h.totals; tally = stands-asked tally ps qs xs asks h.tally }
+
+pub failed : (totals : TotalsState) (tally : TallyState) (done : Bool) (ps qs : List Part) (fault : Fault) (xs : List Taken) → GivesHead (feed_of ps) (Err fault) (feed_of qs)
+    → TableStands (record { parts = ps; totals = totals; tally = tally; done = done }) xs
+    → TableStands (record { parts = qs; totals = totals; tally = tally; done = done }) xs
+failed totals tally done ps qs fault xs gives h = record { totals = h.totals; tally = stands-unknown tally ps xs (next_taken qs) (before (feed_of ps) (feed_of qs) fault gives) h.tally }
+  where
+    before : (old new : Feed) (fault : Fault) → GivesHead old (Err fault) new → old.known ≡ None
+    before old new (Refused r) h = absurd h
+    before old new (Read file offset) h = h.before
+    before old new Write h = absurd h
+    before old new Memory h = h.before
+
+-- what a step answers if what comes next can't be told
+pub Steps-fault : (totals : TotalsState) (tally : TallyState) (done : Bool) (ps qs : List Part) (fault : Fault) → GivesHead (feed_of ps) (Err fault) (feed_of qs)
+    → (IsTrue (feed_of ps).told → KeepsItems (feed_of ps) (Err fault) (feed_of qs)) → (IsTrue (feed_of ps).told → KeepsRun ps (Err fault) qs)
+    → Steps (record { parts = ps; totals = totals; tally = tally; done = done }) (Err fault) (record { parts = qs; totals = totals; tally = tally; done = done })
+Steps-fault totals tally done ps qs (Refused r) gives items run = absurd gives
+Steps-fault totals tally done ps qs (Read file offset) gives items run = record {
+  breaks = gives;
+  stays = record { stands = λ xs. failed totals tally done ps qs (Read file offset) xs gives; going = refl };
+}
+Steps-fault totals tally done ps qs Write gives items run = absurd gives
+Steps-fault totals tally done ps qs Memory gives items run = record {
+  cause = inl gives;
+  goes = gives.goes;
+  same = λ t. record { run = run t; endings = (items t).endings };
+  stays = record { stands = λ xs. failed totals tally done ps qs Memory xs gives; going = refl };
+}
+
+-- ---- what is true of a packet that comes next
+
+packet-law : (feed : Feed) (meta : Meta) → IsFeed feed → feed.known ≡ Some (heads.Packet meta) → IsPacketOf feed meta
+packet-law feed meta law known = subst (λ (k : Option Head). IfPacket k (λ m. IsPacketOf feed m)) known law.packet
+
+pub of-file : (feed : Feed) (meta : Meta) (count : ℕ) → IsFeed feed → feed.known ≡ Some (heads.Packet meta) → feed.files ≡ range_with_len 1 count
+    → HasFile (range_with_len 1 count) meta.file
+of-file feed meta count law known files = subst (λ l. HasFile l meta.file) files (packet-law feed meta law known).file
+
+pub is-left : (feed : Feed) (meta : Meta) → IsFeed feed → feed.known ≡ Some (heads.Packet meta) → 1 ≤ feed.left
+is-left feed meta law known = (packet-law feed meta law known).left
+
+pub is-packet : (feed : Feed) (meta : Meta) → feed.known ≡ Some (heads.Packet meta) → IsPacket feed.known
+is-packet feed meta known = subst IsPacket (sym known) tt

@@ -21,3 +21,8 @@ pub mod Adding
 pub mod Stepping
 pub mod Reporting
 pub mod InOrder
+pub mod Totals
+pub mod TotalsView
+pub mod TableView
+pub mod Holding
+pub mod FileProps

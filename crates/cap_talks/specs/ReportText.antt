@@ -9,7 +9,7 @@ use Rattle.cap_source.specs.Feed.{Item, packet, refused}
 use Rattle.cap_source.specs.declared.feeds.Ending.{Ending}
 use Rattle.cap_source.specs.declared.packets.Meta.{Meta}
 use Rattle.cap_talks.specs.Counting.{counted}
-use Rattle.cap_talks.specs.FileText.{file_text, files_text, or_else}
+use Rattle.cap_talks.specs.FileText.{file_text, files_text, ending_at, or_else}
 use Rattle.cap_time.specs.declared.stamps.Stamp.{Stamp}
 use Rattle.cap_talks.specs.TalkText.{talk_texts, talks_text}
 use Rattle.cap_talks.specs.Talks.{rows_of}
@@ -25,8 +25,7 @@ metas_of file (x ∷ xs) = metas_of file xs ++ (if x.meta.file == file then x.me
 
 -- the line of a file: how it ended is told once all have
 abbrev pub file_line : Option (ℕ → Ending) → List Taken → ℕ → List ℕ
-file_line None xs file = file_text file (counted (metas_of file xs)) None
-file_line (Some endings) xs file = file_text file (counted (metas_of file xs)) (Some (endings file))
+file_line endings xs file = file_text file (counted (metas_of file xs)) (ending_at endings file)
 
 -- the sum of the packets' original lengths, and of how many fewer bytes were captured than they had
 abbrev pub bytes_of : List Taken → ℕ

@@ -1,5 +1,5 @@
 -- What taking all packets of a run answers.
-use Rattle.std.specs.Prelude.{◌≡◌, List, [], IsTrue, Option, Some, None, Result, Ok, Err, ⊤}
+use Rattle.std.specs.Prelude.{◌≡◌, ℕ, List, [], Bool, true, IsTrue, Option, Some, None, Result, Ok, Err, ⊤, length}
 use Rattle.cap_bytes.specs.declared.faults.Fault.{Fault}
 use Rattle.cap_bytes.specs.declared.faults.Fault.TheVariants.{Refused, Read, Write, Memory}
 use Rattle.cap_merge.specs.Parts.{feed_of, run_of}
@@ -10,13 +10,16 @@ use Rattle.cap_talks.specs.Stepping.{TableState, TableStands}
 -- All packets of a run that isn't refused were taken, by a table that stood for none.
 pub record TookAll (old new : TableState) : Type 0 where
   pub known : (feed_of new.parts).known ≡ Some heads.End
+  pub done : new.done ≡ true
+  pub files : length new.totals.files ≡ length old.totals.files
   pub free : IsTrue (feed_of old.parts).told → TableStands old [] → refusal_behind [] (run_of old.parts) ≡ None
   pub stands : IsTrue (feed_of old.parts).told → TableStands old [] → TableStands new (taken_behind [] (run_of old.parts))
+  pub endings : IsTrue (feed_of old.parts).told → (file : ℕ) → (feed_of new.parts).endings file ≡ (feed_of old.parts).endings file
 
 abbrev pub TakesAll : TableState → Result (Unit {0}) Fault → TableState → Type 0
 TakesAll old (Ok _) new = TookAll old new
 TakesAll old (Err (Refused refusal)) new =
     IsTrue (feed_of old.parts).told → TableStands old [] → refusal_behind [] (run_of old.parts) ≡ Some refusal
-TakesAll old (Err (Read file offset)) new = IsTrue (feed_of old.parts).can_fail
+TakesAll old (Err (Read file offset)) new = ⊤
 TakesAll old (Err Write) new = ⊥
 TakesAll old (Err Memory) new = ⊤

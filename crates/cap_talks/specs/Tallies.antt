@@ -1,5 +1,5 @@
 -- What a tally keeps, and what it stands for.
-use Rattle.std.specs.Prelude.{◌≡◌, ℕ, List, [], ◌∷◌, ◌+◌, ◌-◌, ◌*◌, ◌≤◌, ◌^◌, Bool, true, false, length, Option, Some, None, Result, Ok, Err, ⊤, if◌then◌else◌}
+use Rattle.std.specs.Prelude.{◌≡◌, ℕ, List, [], ◌∷◌, ◌++◌, ◌+◌, ◌-◌, ◌*◌, ◌≤◌, ◌^◌, Bool, true, false, length, Option, Some, None, Result, Ok, Err, ⊤, if◌then◌else◌}
 use Rattle.cap_join.specs.ByteMap.{completes}
 use Rattle.cap_join.specs.Fragments.{Piece}
 use Rattle.cap_join.specs.Groups.{IsDatagramOf}
@@ -11,6 +11,8 @@ use Rattle.cap_join.specs.Fitting.{FitsDatagram}
 use Rattle.cap_talks.specs.Rows.{TalksState, frames_in, bytes_in}
 use Rattle.cap_talks.specs.Rows as talks
 use Rattle.cap_talks.specs.Classes.{classes, counts_of, is_class}
+use Rattle.cap_talks.specs.ReportText.{frames_text, joined_text}
+use Rattle.cap_talks.specs.TalkText.{talk_texts, talks_text}
 use Rattle.cap_talks.specs.Taken.{Taken, fragment, look, events_of}
 use Rattle.cap_talks.specs.CountedUnits.{units_of, joined_in, is_limit_at}
 use Rattle.cap_talks.specs.declared.classes.Class.{Class}
@@ -68,6 +70,16 @@ pub record IsSoundTally (t : TallyState) : Type 0 where
   pub places : t.joiner.next ≤ t.place + one_if t.waiting
   pub bytes : bytes_in t.talks.rows ≤ frames_in t.talks.rows * 2 ^ 32
   pub fits : Fits t.waiting t.place
+
+-- the bytes of a joined datagram that waits
+abbrev pub waiting_bytes : Option Datagram → ℕ
+waiting_bytes None = 0
+waiting_bytes (Some d) = length d.payload.items
+
+-- the lines of a tally
+unfoldable pub tally_text : TallyState → List ℕ
+tally_text t =
+    frames_text t.classes ++ joined_text t.joined t.joiner.given_up ++ (talks_text (length t.talks.rows) ++ talk_texts t.talks.rows)
 
 -- so many more packets of a class
 abbrev pub with_frames : Class → ℕ → ClassCounts → ClassCounts

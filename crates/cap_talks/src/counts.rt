@@ -7,7 +7,7 @@ use cap_source::{Format, Meta};
 use cap_time::Stamp;
 
 /// What is counted of the packets of one file, as far as they were taken.
-#[derive(Clone, Copy)]
+#[derive(Clone, Copy, Default)]
 pub struct Counts {
     /// The file's format, once a packet was taken.
     pub format: Option<Format>,
@@ -43,9 +43,9 @@ impl Counts {
 
     /// Takes one more packet, behind those that were taken.
     pub fn take(&mut self, meta: &Meta)
-        requires packets { self.old.packets < 2 ^ 40 }
-        requires bytes { self.old.bytes ≤ 2 ^ 40 * 2 ^ 32 }
-        requires truncated { self.old.truncated < 2 ^ 40 }
+        requires packets { self.old.packets < 2 ^ 45 }
+        requires bytes { self.old.bytes ≤ 2 ^ 45 * 2 ^ 32 }
+        requires truncated { self.old.truncated < 2 ^ 45 }
         ensures counts { (metas : List Meta) → self.old ≡ counted metas → self.new ≡ counted (metas ++ meta.now ∷ []) }
         ensures one_more { self.new ≡ with_packet self.old meta.now }
     {
@@ -54,10 +54,10 @@ impl Counts {
 }
 
 // The counts with one packet more.
-fn with_packet(counts: Counts, meta: &Meta) -> Counts
-    requires packets { counts.packets < 2 ^ 40 }
-    requires bytes { counts.bytes ≤ 2 ^ 40 * 2 ^ 32 }
-    requires truncated { counts.truncated < 2 ^ 40 }
+pub(crate) fn with_packet(counts: Counts, meta: &Meta) -> Counts
+    requires packets { counts.packets < 2 ^ 45 }
+    requires bytes { counts.bytes ≤ 2 ^ 45 * 2 ^ 32 }
+    requires truncated { counts.truncated < 2 ^ 45 }
     ensures { result ≡ with_packet counts meta.now }
 {
     let time = time_of(meta);

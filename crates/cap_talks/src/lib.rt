@@ -9,22 +9,19 @@ mod laws;
 mod lines;
 mod looks;
 mod report_lines;
+mod reports;
 mod rows;
 mod tables;
 mod talk_lines;
-mod tallies;
 mod talks;
+mod tallies;
+mod totals;
 mod units;
 
-pub use crate::classes::{Class, ClassCounts};
 pub use crate::files::file_lines;
 pub use crate::laws::{one_class, talk_laws, worked_report, worked_talks};
-pub use crate::rows::{TalkKey, TalkRow, Traffic};
-pub use crate::tables::{Step, Table, take_all};
-pub use crate::talk_lines::{put_talks, talk_line, talks_line};
-pub use crate::talks::{Talks, TalksFault};
-pub use crate::tallies::{Tally, TallyFault};
-pub use crate::units::{CountedUnit, End, ends_of};
+pub use crate::reports::report;
+pub use crate::tables::{Held, Step, Table};
 
 #[cfg(test)]
 mod tests;

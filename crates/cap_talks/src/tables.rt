@@ -1,14 +1,24 @@
 //! The table of a report, step by step.
-ghost use Rattle.std.specs.Prelude.{◌≡◌, ◌+◌, ◌≤◌, ◌^◌, ◌||◌, [], not, IsTrue, Some, None, IfOk, OnErr, if◌then◌else◌, vec_len, map};
-ghost use Rattle.cap_source.specs.Feed.{HasFile};
-ghost use Rattle.cap_merge.specs.Parts.{feed_of, is_end, new_parts, IsNumbered};
+ghost use Rattle.std.specs.Prelude.{◌≡◌, ◌+◌, ◌≤◌, ◌^◌, ◌||◌, ◌++◌, List, [], not, false, length, IsTrue, IsOkUnless, Some, None, if◌then◌else◌};
+ghost use Rattle.std.specs.List.{range_with_len};
+ghost use Rattle.cap_bytes.specs.Device.{WriterKeeps, writer_of};
+ghost use Rattle.cap_bytes.specs.Printing.{Prints, is_write};
+ghost use Rattle.cap_merge.specs.Parts.{feed_of, is_end};
 ghost use Rattle.cap_merge.specs.View.{parts_of};
-ghost use Rattle.cap_talks.specs.Reporting.{TakesAll};
-ghost use Rattle.cap_talks.specs.Stepping.{TableStands, StepKeeps, Steps, IsMore, is_done};
-ghost use Rattle.cap_talks.specs.ReportText.{refusal_at};
+ghost use Rattle.cap_source.specs.Feed.{HasFile};
+ghost use Rattle.cap_talks.specs.FileProps.{IsNumbered-prop};
+ghost use Rattle.cap_talks.specs.FileText.{files_text, ending_at, lines_from};
+ghost use Rattle.cap_talks.specs.Holding.{held_of};
+ghost use Rattle.cap_talks.specs.Stepping.{TableStands, StepKeeps, Steps, AnswersAgain, endings_so_far};
+ghost use Rattle.cap_talks.specs.ReportText.{refusal_at, text_of};
+ghost use Rattle.cap_talks.specs.Taken.{Taken};
 
+use crate::counts::Counts;
+use crate::lines::{file_line, files_line};
+use crate::report_lines::total_line;
 use crate::tallies::{Tally, TallyFault};
-use cap_bytes::{Fault, Refusal, Rule};
+use crate::totals::Totals;
+use cap_bytes::{Fault, Refusal, Rule, Sink, put_all};
 use cap_merge::Merged;
 use cap_source::{Ending, Head, Meta, PacketFeed};
 use std::alloc::Global;
@@ -18,18 +28,36 @@ use std::alloc::Global;
 pub enum Step {
     /// It took the packet that came next.
     Took,
-    /// Nothing comes any more.
+    /// No packet is left.
     Done,
 }
 
-/// The table of a report, over the feeds whose packets it takes.
+/// What a table holds: the lengths of its buffers and tables themselves.
+#[derive(Clone, Copy, Debug, PartialEq, Eq)]
+pub struct Held {
+    /// The bytes of the largest window's buffer: at most 524,288.
+    pub window: u64,
+    /// The most interfaces of a file's present section: at most 1,024.
+    pub interfaces: u64,
+    /// The open groups of fragments, and a joined datagram that waits for its conversation: at most 1,024.
+    pub groups: u64,
+    /// The bytes of the largest of these: at most 65,520.
+    pub group_bytes: u64,
+    /// The conversations: at most 1,048,576.
+    pub talks: u64,
+}
+
+/// The table of a report: what is counted of the packets that a merge of files gives, packet by packet.
 #[derive(Drop)]
 pub struct Table<F: PacketFeed> {
     merged: Merged<F>,
+    totals: Totals,
     tally: Tally,
-    // whether the feeds are at their end
+    // whether the files are at their end
     done: bool,
+    ghost numbered: { (feed_of (parts_of merged)).files ≡ range_with_len 1 (length totals.files) } by { IsNumbered-prop (feed_of (parts_of merged)).files (length totals.files) },
     ghost finished: { IsTrue (not done || is_end (feed_of (parts_of merged)).known) },
+    ghost counted: { totals.packets ≡ tally.place },
     ghost places: { tally.place + (feed_of (parts_of merged)).left ≤ 2 ^ 45 },
 }
 
@@ -45,42 +73,34 @@ fn talk_limit(meta: &Meta) -> Refusal
 }
 
 impl<F: PacketFeed> Table<F> {
-    /// The table of some feeds, of which nothing is known yet.
-    pub fn new(alloc: Global, feeds: Vec<F>) -> Table<F>
-        requires some { 1 ≤ vec_len feeds }
-        requires most { vec_len feeds ≤ 32 }
-        requires numbered { IsNumbered (map F.feed feeds.items) }
-        ensures stands { TableStands (record { parts = parts_of result.merged; tally = result.tally }) [] }
-        ensures parts { parts_of result.merged ≡ new_parts (map F.feed feeds.items) }
+    ghost use Rattle.cap_talks.specs.TableView.{table_of};
+
+    /// The table of a merge of files, of which it has taken no packet yet.
+    pub fn new(alloc: Global, merged: Merged<F>) -> Table<F>
+        ensures stands { TableStands (table_of result) [] }
+        ensures parts { (table_of result).parts ≡ parts_of merged }
+        ensures files { length (table_of result).totals.files ≡ length (feed_of (parts_of merged)).files }
+        ensures going { (table_of result).done ≡ false }
     {
-        let merged = Merged::new(feeds);
-        // 32 files at most, of at most 2^40 packets each
-        let _ = merged.files();
+        let totals = Totals::new(merged.files());
         Table {
             merged,
+            totals,
             tally: Tally::new(alloc),
             done: false,
         }
     }
 
-    /// How a file of that number ended, once all have.
-    pub fn ending(&self, file: u32) -> Option<Ending>
-        requires file { HasFile (feed_of (parts_of self.now.merged)).files file }
-        ensures { result ≡ (if self.now.done then Some ((feed_of (parts_of self.now.merged)).endings file) else None) }
-    {
-        if self.done {
-            Some(self.merged.ending(file))
-        } else {
-            None
-        }
-    }
-
-    /// Takes the packet that comes next.
+    /// Takes the packet that comes next, or answers `Done` if none is left, and then again.
+    ///
+    /// `Refused` comes exactly if what comes next is a refusal, or a packet that would open the 1,048,577th
+    /// conversation (rule 16, talk-limit), and then again. `Read` comes if a device failed, and `Memory` if a
+    /// growth was refused. A step that answers a fault has taken nothing: the table is as it was, and so are the
+    /// packets to come, unless it was `Read`.
     pub fn step(&mut self) -> Result<Step, Fault>
-        ensures step { Steps (record { parts = parts_of self.old.merged; tally = self.old.tally }) result (record { parts = parts_of self.new.merged; tally = self.new.tally }) }
-        ensures done { IfOk result (λ step. self.new.done ≡ (self.old.done || is_done step)) }
-        ensures same { OnErr result (self.new.done ≡ self.old.done) }
-        ensures keeps { StepKeeps (record { parts = parts_of self.old.merged; tally = self.old.tally }) (record { parts = parts_of self.new.merged; tally = self.new.tally }) }
+        ensures step { Steps (table_of self.old) result (table_of self.new) }
+        ensures keeps { StepKeeps (table_of self.old) (table_of self.new) }
+        ensures again { AnswersAgain (feed_of (table_of self.old).parts).known result }
     {
         let meta = match self.merged.head()? {
             Head::Packet(meta) => meta,
@@ -90,11 +110,11 @@ impl<F: PacketFeed> Table<F> {
                 return Ok(Step::Done);
             }
         };
-        match self
-            .tally
-            .take(self.merged.clock(), &meta, self.merged.frame())
-        {
+        let clock = self.merged.clock();
+        let frame = self.merged.frame();
+        match self.tally.take(clock, &meta, frame) {
             Ok(()) => {
+                self.totals.take(&meta, frame);
                 self.merged.pass();
                 Ok(Step::Took)
             }
@@ -102,22 +122,100 @@ impl<F: PacketFeed> Table<F> {
             Err(TallyFault::Memory) => Err(Fault::Memory),
         }
     }
+
+    /// Writes the report over the packets that were taken. Until `step` has answered `Done` it doesn't say how the
+    /// files end: a file of which no packet was taken has the format `-`, the blocks that were skipped are those
+    /// before the last packet that was taken, and no line says `cut`. It takes no memory, and can be called at any
+    /// time. After `Write` a prefix of the report is written.
+    pub fn write_so_far<W: Sink>(&self, writer: &mut W) -> Result<(), Fault>
+        ensures text { (xs : List Taken) → TableStands (table_of self.now) xs → IsTrue (W.tells_held writer.old)
+            → Prints (text_of (length (table_of self.now).totals.files) (endings_so_far (table_of self.now)) xs) None
+            (W.held writer.old) result (W.held writer.new) }
+        ensures writer { WriterKeeps (writer_of W.Sink writer.old) (is_write result) (writer_of W.Sink writer.new) }
+        ensures fault { IsOkUnless result Fault.Write }
+    {
+        let totals = &self.totals;
+        put_files(writer, totals.files(), &self.merged, self.done)?;
+        let line = total_line(totals.packets(), totals.bytes(), totals.truncated());
+        put_all(writer, line.as_slice())?;
+        self.tally.put_lines(writer)
+    }
+
+    /// What the table holds of its files, of groups of fragments and of conversations.
+    pub fn held(&self) -> Held
+        ensures value { result ≡ held_of (table_of self.now) }
+        ensures window { result.window ≤ 524288 }
+        ensures interfaces { result.interfaces ≤ 1024 }
+        ensures groups { result.groups ≤ 1024 }
+        ensures group_bytes { result.group_bytes ≤ 65520 }
+        ensures talks { result.talks ≤ 1048576 }
+    {
+        let feed = self.merged.feed_held();
+        let tally = &self.tally;
+        Held {
+            window: feed.window,
+            interfaces: feed.interfaces,
+            groups: tally.groups() as u64,
+            group_bytes: tally.group_bytes() as u64,
+            talks: tally.talks() as u64,
+        }
+    }
 }
 
-/// Takes all packets that come.
-pub fn take_all<F: PacketFeed>(table: &mut Table<F>) -> Result<(), Fault>
-    ensures { TakesAll (record { parts = parts_of table.old.merged; tally = table.old.tally }) result (record { parts = parts_of table.new.merged; tally = table.new.tally }) }
+// How the file of that number ended, once all have.
+fn ending_of<F: PacketFeed>(merged: &Merged<F>, done: bool, file: u32) -> Option<Ending>
+    requires end { IsTrue (not done || is_end (feed_of (parts_of merged.now)).known) }
+    requires file { HasFile (feed_of (parts_of merged.now)).files file }
+    ensures { result ≡ ending_at (if done then Some (feed_of (parts_of merged.now)).endings else None) file }
 {
-    while is_more(table.step()?) {}
+    if done {
+        Some(merged.ending(file))
+    } else {
+        None
+    }
+}
+
+// Writes the lines of files, by number.
+fn put_each<F: PacketFeed, W: Sink>(
+    writer: &mut W,
+    files: &[Counts],
+    merged: &Merged<F>,
+    done: bool,
+) -> Result<(), Fault>
+    requires end { IsTrue (not done || is_end (feed_of (parts_of merged.now)).known) }
+    requires numbered { (feed_of (parts_of merged.now)).files ≡ range_with_len 1 (length files.now) }
+    requires few { length files.now ≤ 32 }
+    ensures text { IsTrue (W.tells_held writer.old)
+        → Prints (lines_from (if done then Some (feed_of (parts_of merged.now)).endings else None) 1 files.now) None
+        (W.held writer.old) result (W.held writer.new) }
+    ensures writer { WriterKeeps (writer_of W.Sink writer.old) (is_write result) (writer_of W.Sink writer.new) }
+    ensures fault { IsOkUnless result Fault.Write }
+{
+    for (place, counts) in files.iter().enumerate() {
+        let file = place as u32 + 1;
+        let line = file_line(file, counts, ending_of(merged, done, file));
+        put_all(writer, line.as_slice())?;
+    }
     Ok(())
 }
 
-// Whether a step took a packet.
-fn is_more(step: Step) -> bool
-    ensures { IsMore step result }
+// The same after the line that says how many they are.
+fn put_files<F: PacketFeed, W: Sink>(
+    writer: &mut W,
+    files: &[Counts],
+    merged: &Merged<F>,
+    done: bool,
+) -> Result<(), Fault>
+    requires end { IsTrue (not done || is_end (feed_of (parts_of merged.now)).known) }
+    requires numbered { (feed_of (parts_of merged.now)).files ≡ range_with_len 1 (length files.now) }
+    requires few { length files.now ≤ 32 }
+    ensures text { IsTrue (W.tells_held writer.old)
+        → Prints (files_text (length files.now) ++ lines_from (if done then Some (feed_of (parts_of merged.now)).endings else None) 1 files.now) None
+        (W.held writer.old) result (W.held writer.new) }
+    ensures writer { WriterKeeps (writer_of W.Sink writer.old) (is_write result) (writer_of W.Sink writer.new) }
+    ensures fault { IsOkUnless result Fault.Write }
 {
-    match step {
-        Step::Took => true,
-        Step::Done => false,
-    }
+    let line = files_line(files.len() as u32);
+    put_all(writer, line.as_slice())?;
+    put_each(writer, files, merged, done)
 }

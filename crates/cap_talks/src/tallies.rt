@@ -1,13 +1,16 @@
 //! What is counted of packets beside what is told of files.
-ghost use Rattle.std.specs.Prelude.{◌≡◌, false, ◌+◌, ◌*◌, ◌≤◌, ◌<◌, ◌<ℤ◌, ◌^◌, pos, List, [], ◌∷◌, length, IsTrue, IfSome, IsSome, OnOk, OnErr, IfOk, IfErr, Option, Some, None, Err, if◌then◌else◌};
+ghost use Rattle.std.specs.Prelude.{◌≡◌, false, ◌+◌, ◌*◌, ◌++◌, IsOkUnless, max, ◌≤◌, ◌<◌, ◌<ℤ◌, ◌^◌, pos, List, [], ◌∷◌, length, IsTrue, IfSome, IsSome, OnOk, OnErr, IfOk, IfErr, Option, Some, None, Err, if◌then◌else◌};
+ghost use Rattle.cap_bytes.specs.Device.{WriterKeeps, writer_of};
+ghost use Rattle.cap_bytes.specs.Printing.{Prints, is_write};
 ghost use Rattle.cap_join.specs.Fitting.{FitsPut};
 ghost use Rattle.cap_join.specs.Fragments.{piece_of};
 ghost use Rattle.cap_join.specs.History.{Event, arrives, state_of, joined_pieces};
-ghost use Rattle.cap_join.specs.Joiners.{StandsFor, IsAnswer, open_limit};
+ghost use Rattle.cap_join.specs.Joiners.{StandsFor, IsAnswer, most_bytes, open_limit};
 ghost use Rattle.cap_time.specs.Stamp.{seconds_of};
 ghost use Rattle.cap_talks.specs.Looking.{taken};
+ghost use Rattle.cap_talks.specs.ReportText.{frames_text, joined_text};
 ghost use Rattle.cap_talks.specs.Taken.{Taken, stamped_of};
-ghost use Rattle.cap_talks.specs.Tallies.{Stands, LimitBy, counted_one, Looks, WaitsIf, with_frames, with_group};
+ghost use Rattle.cap_talks.specs.Tallies.{Stands, LimitBy, one_if, tally_text, waiting_bytes, counted_one, Looks, WaitsIf, with_frames, with_group};
 ghost use Rattle.cap_talks.specs.declared.tallies.TallyFault.TheVariants.{Memory};
 ghost use Rattle.cap_talks.specs.Classes.{sum_of};
 ghost use Rattle.cap_talks.specs.CountedUnits.{is_limit_at};
@@ -15,12 +18,16 @@ ghost use Rattle.cap_talks.specs.CountedUnits.{is_limit_at};
 use crate::adding::{add_unit, class_of, joined_class, joined_unit, stamped_of, whole_unit};
 use crate::classes::{Class, ClassCounts};
 use crate::looks::{Seen, look};
+use crate::report_lines::{frames_line, joined_line};
+use crate::talk_lines::put_talks;
 use crate::talks::Talks;
+use cap_bytes::{Fault, Sink, put_all};
 use cap_ip::{Header, transport};
 use cap_join::{Datagram, Joiner, Put, Stamped};
 use cap_source::Meta;
 use cap_time::Stamp;
 use std::alloc::Global;
+use std::cmp::max;
 use std::marker::Model;
 
 /// Why a packet wasn't taken.
@@ -258,5 +265,79 @@ impl Tally {
             None => false,
             Some(_) => true,
         }
+    }
+
+    /// Writes the lines of the classes, of the joined datagrams and of the conversations: `frames ..`,
+    /// `joined J given-up G`, `talks C` and a line for each conversation. After `Write` a prefix of them is written.
+    pub fn put_lines<W: Sink>(&self, writer: &mut W) -> Result<(), Fault>
+        ensures text { IsTrue (W.tells_held writer.old)
+            → Prints (tally_text self.now) None (W.held writer.old) result (W.held writer.new) }
+        ensures writer { WriterKeeps (writer_of W.Sink writer.old) (is_write result) (writer_of W.Sink writer.new) }
+        ensures fault { IsOkUnless result Fault.Write }
+    {
+        put_counts(writer, &self.classes, self.joined, self.joiner.given_up())?;
+        put_talks(writer, &self.talks)
+    }
+
+    /// How many groups of fragments are held: the open ones, and a joined datagram that waits. At most 1,024.
+    pub fn groups(&self) -> usize
+        ensures value { result ≡ length self.now.joiner.groups + one_if self.now.waiting }
+        ensures bound { result ≤ 1024 }
+    {
+        self.joiner.open_count() + waiting_count(&self.waiting)
+    }
+
+    /// The bytes of the largest of them: at most 65,520.
+    pub fn group_bytes(&self) -> usize
+        ensures value { result ≡ max (most_bytes self.now.joiner.groups) (waiting_bytes self.now.waiting) }
+        ensures bound { result ≤ 65520 }
+    {
+        max(self.joiner.held_bytes(), waiting_bytes(&self.waiting))
+    }
+
+    /// How many conversations there are: at most 1,048,576.
+    pub fn talks(&self) -> usize
+        ensures value { result ≡ length self.now.talks.rows }
+        ensures bound { result ≤ 1048576 }
+    {
+        self.talks.len()
+    }
+}
+
+// Writes the lines of the classes and of the joined datagrams.
+fn put_counts<W: Sink>(
+    writer: &mut W,
+    classes: &ClassCounts,
+    joined: u64,
+    given_up: u64,
+) -> Result<(), Fault>
+    ensures text { IsTrue (W.tells_held writer.old)
+        → Prints (frames_text classes.now ++ joined_text joined given_up) None (W.held writer.old) result (W.held writer.new) }
+    ensures writer { WriterKeeps (writer_of W.Sink writer.old) (is_write result) (writer_of W.Sink writer.new) }
+    ensures fault { IsOkUnless result Fault.Write }
+{
+    let line = frames_line(classes);
+    put_all(writer, line.as_slice())?;
+    let line = joined_line(joined, given_up);
+    put_all(writer, line.as_slice())
+}
+
+// One, if a datagram waits.
+fn waiting_count(waiting: &Option<Datagram>) -> usize
+    ensures { result ≡ one_if waiting.now }
+{
+    match waiting {
+        None => 0,
+        Some(_) => 1,
+    }
+}
+
+// How many bytes of data a datagram has that waits.
+fn waiting_bytes(waiting: &Option<Datagram>) -> usize
+    ensures { result ≡ waiting_bytes waiting.now }
+{
+    match waiting {
+        None => 0,
+        Some(datagram) => datagram.payload.len(),
     }
 }

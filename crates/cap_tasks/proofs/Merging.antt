@@ -8,7 +8,7 @@ use Rattle.cap_bytes.specs.declared.faults.Fault.{Fault}
 use Rattle.cap_bytes.specs.declared.faults.Fault.TheVariants.{Refused, Read, Write, Memory}
 use Rattle.cap_bytes.specs.declared.faults.Tail.{Tail}
 use Rattle.cap_bytes.specs.declared.numbers.Order.{Order}
-use Rattle.cap_merge.proofs.Unread.{told-readers, can_fail-readers, bytes-readers, run-items}
+use Rattle.cap_merge.proofs.Unread.{told-readers, bytes-readers, run-items}
 use Rattle.cap_merge.specs.Files.{clocked_run, run_of_files}
 use Rattle.cap_merge.specs.Parts.{Part, feed_of, run_of}
 use Rattle.cap_merge.specs.Readers.{Reader, IsUnreadRun}
@@ -41,30 +41,7 @@ Prints-joined reader tail order sources ps held new result u prints t =
     (u.run ∙ ap (clocked_run tail) (bytes-readers reader sources))
     (prints (told-readers reader tail sources ps u t))
 
--- Their numbers are those from the first on.
-numbers-within : (file count n : ℕ) → HasFile (range_with_len file count) n → (file ≤ n) × (n < file + count)
-numbers-within file zero n has = absurd (false≢true has)
-numbers-within file (suc count) n has = by (file == n) (λ h. numbers-within (file + 1) count n h) refl has
-  where
-    by : (b : Bool) → (HasFile (range_with_len (file + 1) count) n → (file + 1 ≤ n) × (n < file + 1 + count))
-        → (file == n) ≡ b → (b || list_any (λ m. m == n) (range_with_len (file + 1) count)) ≡ true
-        → (file ≤ n) × (n < file + suc count)
-    by true more e h = let same = eqb-true file n e in (omega (arith, same), omega (arith, same))
-    by false more e h = let p = more h in (omega (arith, p.0), omega (arith, p.1))
-
--- A read that fails as they are gone through as one is told of one of them.
-pub Fails-merged : {A B : Type 0} (reader : A → Reader) (tail : Tail) (sources : List A) (ps : List Part) (new : Feed) (result : Result B Fault)
-    → IsUnreadRun tail (map reader sources) ps → Walks (feed_of ps) result new
-    → FailsOf (length sources) (list_any (λ s. (reader s).can_fail) sources) result
-Fails-merged reader tail sources ps new (Ok x) u w = tt
-Fails-merged reader tail sources ps new (Err (Refused r)) u w = tt
-Fails-merged reader tail sources ps new (Err (Read file offset)) u w =
-    let p = numbers-within 1 (length (map reader sources)) file (subst (λ l. HasFile l file) u.files w.of) in
-    (p.0, omega (arith, p.1, length-map sources reader), can_fail-readers reader tail sources ps u w.can_fail)
-Fails-merged reader tail sources ps new (Err Write) u w = tt
-Fails-merged reader tail sources ps new (Err Memory) u w = tt
-
--- and of one file by itself
+-- A read that fails of one file by itself is told of that file.
 pub Fails-one : {B : Type 0} (old new : Feed) (can_fail : Bool) (result : Result B Fault) → old.files ≡ 1 ∷ [] → old.can_fail ≡ can_fail
     → Walks old result new → FailsOf 1 can_fail result
 Fails-one old new can_fail (Ok x) files can w = tt

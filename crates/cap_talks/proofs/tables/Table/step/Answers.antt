@@ -1,16 +1,18 @@
-use Rattle.std.proofs.Common.{rules, ◌≡◌, ℕ, ◌+◌, ◌<◌, ◌≤◌, ◌∷◌, drop, List, Option, None, Some, Ok, Err, inl, inr, sym, ap, ◌∙◌, subst, arith, refl}
+use Rattle.std.proofs.Common.{rules, ◌≡◌, ℕ, ◌+◌, ◌<◌, ◌≤◌, ◌∷◌, drop, length, List, Option, None, Some, Ok, Err, inl, inr, sym, ap, ◌∙◌, subst, arith, refl}
 use Rattle.cap_merge.specs.MergedLaws.{merged-is-feed}
 use Rattle.cap_merge.specs.Parts.{Part, feed_of, run_of}
 use Rattle.cap_merge.specs.View.{parts_of}
 use Rattle.cap_source.specs.declared.feeds.Head.TheVariants as heads
+use Rattle.cap_source.specs.declared.feeds.FeedHeld.{FeedHeld}
 use Rattle.cap_source.specs.Feed.{Knows}
 use Rattle.cap_talks.specs.Looking.{taken}
 use Rattle.cap_talks.specs.ReportText.{refusal_at}
-use Rattle.cap_talks.specs.Stepping.{next_of, clocked}
+use Rattle.cap_talks.specs.Stepping.{next_taken, clocked}
 use Rattle.cap_talks.specs.Taken.{Taken}
 use Rattle.cap_talks.specs.Tallies.{LimitBy, Stands}
 use Rattle.cap_talks.specs.CountedUnits.{is_limit_at}
-use Rattle.cap_talks.proofs.Stepping.{stands-asked, stands-unknown, next-is, run-packet, run-end, run-refused}
+use Rattle.cap_talks.proofs.Stepping.{asked, stands-asked, next-is, first-asked, run-packet, run-end, run-refused, of-file, is-left, is-packet}
+use Rattle.cap_merge.proofs.Unread.{numbers-within}
 use Rattle.cap_talks.proofs.tables.Table.step.Goals as goal
 
 pub returns-in-Refused-clause-step : goal.returns-in-Refused-clause-step
@@ -26,8 +28,9 @@ returns-in-Refused-clause-step g c =
       run = λ t.
           let one = run-refused q c.in-Refused.refusal law (e.keeps.told t) known.known in
           (one.0, sym (e.run t) ∙ one.1);
-      same = e.run;
-      stands = λ xs h. stands-asked c.args.self.now.tally p q xs e.asks h;
+      same = λ t. record { run = e.run t; endings = (e.items t).endings };
+      goes = known.goes;
+      stays = record { stands = λ xs h. asked c.args.self.now.totals c.args.self.now.tally c.args.self.now.done p q xs e.asks h; going = refl };
     })
 
 pub returns-in-End-clause-step : goal.returns-in-End-clause-step
@@ -40,11 +43,51 @@ returns-in-End-clause-step g c =
     let law = merged-is-feed g.F.PacketFeed.feed g.met.F.PacketFeed.lawful m.lanes.items m.feeds.items m.alike m.numbered m.agrees m.reached in
     record {
       known = known.known;
-      run = λ t.
-          let end = run-end q law (e.keeps.told t) known.known in
-          (sym (e.run t) ∙ end, end);
-      stands = λ xs h. stands-asked c.args.self.now.tally p q xs e.asks h;
+      run = λ t. sym (e.run t) ∙ run-end q law (e.keeps.told t) known.known;
+      same = λ t. record { run = e.run t; endings = (e.items t).endings };
+      stands = λ xs h. record { totals = h.totals; tally = stands-asked c.args.self.now.tally p q xs e.asks h.tally };
+      done = refl;
+      goes = known.goes;
     }
+
+-- the packet is of one of the files
+pub take-requires-in-Ok-clause-first : goal.take-requires-in-Ok-clause-first
+take-requires-in-Ok-clause-first g c =
+    let m = c.head.new.self in
+    let p = parts_of c.args.self.now.merged in
+    let q = parts_of m in
+    let e = c.in_ok-meta.ensures in
+    let known = subst (λ h. Knows (feed_of p) h (feed_of q)) c.in-Packet.is e.answer in
+    let law = merged-is-feed g.F.PacketFeed.feed g.met.F.PacketFeed.lawful m.lanes.items m.feeds.items m.alike m.numbered m.agrees m.reached in
+    let t = c.args.self.now in
+    (numbers-within 1 (length t.totals.files) c.in-Packet.meta.file
+    (of-file (feed_of q) c.in-Packet.meta (length t.totals.files) law known.known (e.keeps.files ∙ t.numbered))).0
+
+pub take-requires-in-Ok-clause-last : goal.take-requires-in-Ok-clause-last
+take-requires-in-Ok-clause-last g c =
+    let m = c.head.new.self in
+    let p = parts_of c.args.self.now.merged in
+    let q = parts_of m in
+    let e = c.in_ok-meta.ensures in
+    let known = subst (λ h. Knows (feed_of p) h (feed_of q)) c.in-Packet.is e.answer in
+    let law = merged-is-feed g.F.PacketFeed.feed g.met.F.PacketFeed.lawful m.lanes.items m.feeds.items m.alike m.numbered m.agrees m.reached in
+    let t = c.args.self.now in
+    omega (
+      arith,
+      (numbers-within 1 (length t.totals.files) c.in-Packet.meta.file
+          (of-file (feed_of q) c.in-Packet.meta (length t.totals.files) law known.known (e.keeps.files ∙ t.numbered))).1,
+    )
+
+pub take-requires-in-Ok-clause-few : goal.take-requires-in-Ok-clause-few
+take-requires-in-Ok-clause-few g c =
+    let m = c.head.new.self in
+    let p = parts_of c.args.self.now.merged in
+    let q = parts_of m in
+    let e = c.in_ok-meta.ensures in
+    let known = subst (λ h. Knows (feed_of p) h (feed_of q)) c.in-Packet.is e.answer in
+    let law = merged-is-feed g.F.PacketFeed.feed g.met.F.PacketFeed.lawful m.lanes.items m.feeds.items m.alike m.numbered m.agrees m.reached in
+    let t = c.args.self.now in
+    omega (arith, t.counted, t.places, e.keeps.left, is-left (feed_of q) c.in-Packet.meta law known.known)
 
 pub returns-in-Ok-clause-step : goal.returns-in-Ok-clause-step
 returns-in-Ok-clause-step g c =
@@ -54,19 +97,25 @@ returns-in-Ok-clause-step g c =
     let e = c.in_ok-meta.ensures in
     let known = subst (λ h. Knows (feed_of p) h (feed_of q)) c.in-Packet.is e.answer in
     let law = merged-is-feed g.F.PacketFeed.feed g.met.F.PacketFeed.lawful m.lanes.items m.feeds.items m.alike m.numbered m.agrees m.reached in
-    let x = taken c.clock.result c.in-Packet.meta c.frame.result.now in
-    let next = next-is q c.in-Packet.meta c.clock.result c.frame.result.now known.known c.clock.ensures.clock c.frame.ensures.frame in
+    let x = taken c.clock-clock.result c.in-Packet.meta c.frame-frame.result.now in
+    let next = next-is q c.in-Packet.meta c.clock-clock.result c.frame-frame.result.now known.known c.clock-clock.ensures.clock c.frame-frame.ensures.frame in
+    let after = parts_of c.pass.new.self in
     record {
       item = x;
+      first = first-asked p q x e.asks next;
       left = omega (arith, c.pass.ensures.passes.left, e.keeps.left);
       run = λ t.
           let told = e.keeps.told t in
-          let first = run-packet p q c.in-Packet.meta c.clock.result c.frame.result.now law told known.known c.frame.ensures.frame (c.clock.ensures.run told) (e.run t) in
+          let first = run-packet p q c.in-Packet.meta c.clock-clock.result c.frame-frame.result.now law told known.known c.frame-frame.ensures.frame (c.clock-clock.ensures.run told) (e.run t) in
           first ∙ ap (λ l. clocked x ∷ l) (sym (c.pass.ensures.run told ∙ ap (drop 1) (e.run t)));
+      goes = record { before = known.goes.before; after = c.pass.ensures.passes.broken; failed = ap (λ (h : FeedHeld). h.failed) c.pass.ensures.passes.held ∙ known.goes.failed };
+      endings = λ t file. c.pass.ensures.passes.endings (e.keeps.told t) file ∙ (e.items t).endings file;
       stands = λ xs h.
-          let asked = stands-asked c.args.self.now.tally p q xs e.asks h in
+          let asked = stands-asked c.args.self.now.tally p q xs e.asks h.tally in
           let now = subst (λ (n : Option Taken). Stands c.args.self.now.tally xs n) next asked in
-          ((c.in-Ok.ensures.stands xs now).0, (c.in-Ok.ensures.stands xs now).1 (next_of (parts_of c.pass.new.self)));
+          let took = c.in-Ok.ensures.stands xs now in
+          (took.0, record { totals = c.take-in-Ok.ensures.stands c.clock-clock.result xs h.totals; tally = took.1 (next_taken after) });
+      going = refl;
     }
 
 pub returns-in-Err-Limit-clause-step : goal.returns-in-Err-Limit-clause-step
@@ -77,20 +126,28 @@ returns-in-Err-Limit-clause-step g c =
     let e = c.in_ok-meta.ensures in
     let known = subst (λ h. Knows (feed_of p) h (feed_of q)) c.in-Packet.is e.answer in
     let law = merged-is-feed g.F.PacketFeed.feed g.met.F.PacketFeed.lawful m.lanes.items m.feeds.items m.alike m.numbered m.agrees m.reached in
-    let x = taken c.clock.result c.in-Packet.meta c.frame.result.now in
-    let next = next-is q c.in-Packet.meta c.clock.result c.frame.result.now known.known c.clock.ensures.clock c.frame.ensures.frame in
+    let x = taken c.clock-clock.result c.in-Packet.meta c.frame-frame.result.now in
+    let next = next-is q c.in-Packet.meta c.clock-clock.result c.frame-frame.result.now known.known c.clock-clock.ensures.clock c.frame-frame.ensures.frame in
+    let now = λ (xs : List Taken) (h : Stands c.args.self.now.tally xs (next_taken p)).
+    subst (λ (n : Option Taken). Stands c.args.self.now.tally xs n) next (stands-asked c.args.self.now.tally p q xs e.asks h) in
     inr (record {
       item = x;
       is = c.talk_limit.ensures;
+      first = first-asked p q x e.asks next;
       next = next;
       run = λ t.
-          run-packet p q c.in-Packet.meta c.clock.result c.frame.result.now law (e.keeps.told t) known.known c.frame.ensures.frame
-          (c.clock.ensures.run (e.keeps.told t)) (e.run t);
-      same = e.run;
-      stands = λ xs h.
-          let asked = stands-asked c.args.self.now.tally p q xs e.asks h in
-          let now = subst (λ (n : Option Taken). Stands c.args.self.now.tally xs n) next asked in
-          (subst (λ f. LimitBy (Err f) (is_limit_at xs x)) c.in-Err-Limit.field-0-is (c.in-Err-Limit.ensures.limit xs now), subst (λ (n : Option Taken). Stands c.take.new.self xs n) (sym next) (c.in-Err-Limit.ensures.err xs now));
+          run-packet p q c.in-Packet.meta c.clock-clock.result c.frame-frame.result.now law (e.keeps.told t) known.known c.frame-frame.ensures.frame
+          (c.clock-clock.ensures.run (e.keeps.told t)) (e.run t);
+      same = λ t. record { run = e.run t; endings = (e.items t).endings };
+      goes = known.goes;
+      limit = λ xs h. subst (λ f. LimitBy (Err f) (is_limit_at xs x)) c.in-Err-Limit.field-0-is (c.in-Err-Limit.ensures.limit xs (now xs h.tally));
+      stays = record {
+        stands = λ xs h. record {
+          totals = h.totals;
+          tally = subst (λ (n : Option Taken). Stands c.take.new.self xs n) (sym next) (c.in-Err-Limit.ensures.err xs (now xs h.tally));
+        };
+        going = refl;
+      };
     })
 
 pub returns-in-Err-Memory-clause-step : goal.returns-in-Err-Memory-clause-step
@@ -100,11 +157,17 @@ returns-in-Err-Memory-clause-step g c =
     let q = parts_of m in
     let e = c.in_ok-meta.ensures in
     let known = subst (λ h. Knows (feed_of p) h (feed_of q)) c.in-Packet.is e.answer in
-    let next = next-is q c.in-Packet.meta c.clock.result c.frame.result.now known.known c.clock.ensures.clock c.frame.ensures.frame in
+    let law = merged-is-feed g.F.PacketFeed.feed g.met.F.PacketFeed.lawful m.lanes.items m.feeds.items m.alike m.numbered m.agrees m.reached in
+    let next = next-is q c.in-Packet.meta c.clock-clock.result c.frame-frame.result.now known.known c.clock-clock.ensures.clock c.frame-frame.ensures.frame in
     record {
-      same = e.run;
-      stands = λ xs h.
-          let asked = stands-asked c.args.self.now.tally p q xs e.asks h in
-          let now = subst (λ (n : Option Taken). Stands c.args.self.now.tally xs n) next asked in
-          subst (λ (n : Option Taken). Stands c.take.new.self xs n) (sym next) (c.in-Err-Memory.ensures.err xs now);
+      cause = inr (is-packet (feed_of q) c.in-Packet.meta known.known);
+      same = λ t. record { run = e.run t; endings = (e.items t).endings };
+      goes = known.goes;
+      stays = record {
+        stands = λ xs h.
+            let asked = stands-asked c.args.self.now.tally p q xs e.asks h.tally in
+            let now = subst (λ (n : Option Taken). Stands c.args.self.now.tally xs n) next asked in
+            record { totals = h.totals; tally = subst (λ (n : Option Taken). Stands c.take.new.self xs n) (sym next) (c.in-Err-Memory.ensures.err xs now) };
+        going = refl;
+      };
     }

@@ -1,0 +1,49 @@
+-- The text of what a table stands for.
+use Rattle.std.proofs.Common.{◌≡◌, ℕ, List, ◌++◌, length, Option, refl, sym, ap, ◌∙◌, append_assoc}
+use Rattle.std.specs.List.{flat_map, range_with_len}
+use Rattle.cap_source.specs.declared.feeds.Ending.{Ending}
+use Rattle.cap_talks.specs.Classes.{classes, counts_of}
+use Rattle.cap_talks.specs.CountedUnits.{units_of, joined_in, given_up_in}
+use Rattle.cap_talks.specs.FileText.{files_text, lines_from}
+use Rattle.cap_talks.specs.ReportText.{file_line, files_part, body_text, text_of, total_text, frames_text, joined_text, bytes_of, truncated_of}
+use Rattle.cap_talks.specs.Rows.{StandsFor}
+use Rattle.cap_talks.specs.Stepping.{TableState, TableStands}
+use Rattle.cap_talks.specs.Taken.{Taken}
+use Rattle.cap_talks.specs.Talks.{rows_of}
+use Rattle.cap_talks.specs.TalkText.{talk_texts, talks_text}
+use Rattle.cap_talks.specs.Tallies.{TallyState, Stands, tally_text}
+use Rattle.cap_talks.specs.Totals.{TotalsState, TotalsStand}
+use Rattle.cap_talks.proofs.FileLines.{lines-counted}
+use Rattle.cap_talks.proofs.Waiting.{given-up}
+
+-- the lines of the files
+pub files-are : (e : Option (ℕ → Ending)) (t : TotalsState) (xs : List Taken) → TotalsStand t xs
+    → files_text (length t.files) ++ lines_from e 1 t.files ≡ files_part (length t.files) e xs
+unfolding files_part
+files-are e t xs s =
+    ap (λ l. files_text (length t.files) ++ l) (ap (lines_from e 1) s.files ∙ lines-counted e xs 1 (length t.files))
+
+-- the lines of a tally
+tally-is : (t : TallyState) (xs : List Taken) (next : Option Taken) → Stands t xs next
+    → tally_text t
+    ≡ frames_text (counts_of (classes xs)) ++ joined_text (joined_in xs) (given_up_in xs) ++ (talks_text (length (rows_of (units_of xs))) ++ talk_texts (rows_of (units_of xs)))
+unfolding tally_text
+tally-is t xs next s = λ i.
+    frames_text (s.classes i) ++ joined_text (s.joined i) (given-up t xs next s i) ++ (talks_text (length (s.talks.rows i)) ++ talk_texts (s.talks.rows i))
+
+regroup : (a b c d e : List ℕ) → a ++ (b ++ c ++ (d ++ e)) ≡ a ++ b ++ c ++ d ++ e
+regroup a b c d e = simp append_assoc refl
+
+-- all other lines
+pub body-is : (t : TotalsState) (u : TallyState) (xs : List Taken) (next : Option Taken) → TotalsStand t xs → Stands u xs next
+    → total_text t.packets t.bytes t.truncated ++ tally_text u ≡ body_text xs
+unfolding body_text
+body-is t u xs next s k =
+    (λ i. total_text (s.packets i) (s.bytes i) (s.truncated i) ++ tally-is u xs next k i)
+    ∙ regroup (total_text (length xs) (bytes_of xs) (truncated_of xs)) (frames_text (counts_of (classes xs))) (joined_text (joined_in xs) (given_up_in xs))
+    (talks_text (length (rows_of (units_of xs)))) (talk_texts (rows_of (units_of xs)))
+
+-- the whole report
+pub text-is : (e : Option (ℕ → Ending)) (t : TotalsState) (u : TallyState) (xs : List Taken) (next : Option Taken) → TotalsStand t xs → Stands u xs next
+    → (files_text (length t.files) ++ lines_from e 1 t.files) ++ (total_text t.packets t.bytes t.truncated ++ tally_text u) ≡ text_of (length t.files) e xs
+text-is e t u xs next s k = λ i. files-are e t xs s i ++ body-is t u xs next s k i
