@@ -61,9 +61,17 @@ list_app = capture_app (codes "list")
 abbrev pub blocks_app : App
 blocks_app = capture_app (codes "blocks")
 
+-- the subcommand of that name with `[--allow-cut] FILE..`
+abbrev pub captures_app : Text → App
+captures_app name = with_rule (with_rule (new_app name) allow_cut_rule) files_rule
+
 -- `info [--allow-cut] FILE..`
 abbrev pub info_app : App
-info_app = with_rule (with_rule (new_app (codes "info")) allow_cut_rule) files_rule
+info_app = captures_app (codes "info")
+
+-- `report [--allow-cut] FILE..`
+abbrev pub report_app : App
+report_app = captures_app (codes "report")
 
 -- the subcommand of that name with `[--allow-cut] [--order ORDER] -o OUT`, before its files
 abbrev pub writing_app : Text → Names → App
@@ -107,9 +115,12 @@ pub record IsJoin (app : App) : Type 0 where
 abbrev pub capt_alone : App
 capt_alone = on_top (λ s. record s { subcommand_required = true; disable_help_subcommand = true }) (new_app (codes "capt"))
 
--- `capt` with the subcommands that print, and with all
+-- `capt` with the subcommands that print one capture, with those that print, and with all
+abbrev pub listing_app : App
+listing_app = with_subcommand (with_subcommand capt_alone list_app.top) blocks_app.top
+
 abbrev pub printing_app : App
-printing_app = with_subcommand (with_subcommand (with_subcommand capt_alone list_app.top) blocks_app.top) info_app.top
+printing_app = with_subcommand (with_subcommand listing_app info_app.top) report_app.top
 
 abbrev pub capt_app : App → App → App → App
 capt_app convert merge join = with_subcommand (with_subcommand (with_subcommand printing_app convert.top) merge.top) join.top

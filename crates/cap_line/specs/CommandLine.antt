@@ -33,6 +33,7 @@ task_by name =
     if bytes_eq name (codes "list") then Some tasks.List else
     if bytes_eq name (codes "blocks") then Some tasks.Blocks else
     if bytes_eq name (codes "info") then Some tasks.Info else
+    if bytes_eq name (codes "report") then Some tasks.Report else
     if bytes_eq name (codes "convert") then Some tasks.Convert else
     if bytes_eq name (codes "merge") then Some tasks.Merge else
     if bytes_eq name (codes "join") then Some tasks.Join else None

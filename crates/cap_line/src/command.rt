@@ -2,18 +2,20 @@
 ghost use Rattle.std.specs.Prelude.{◌≡◌, codes, false, IfOk};
 ghost use Rattle.clap.specs.Words.{app_of, rule_of};
 ghost use Rattle.clap.specs.declared.builder.command.Command.TheViews.{out-Command as fields_of};
-ghost use Rattle.cap_line.specs.Command.{IsCapt, IsConvert, IsJoin, IsMerge, IsOrderRule, IsToRule, IsWriting, allow_cut_rule, blocks_app, capt_alone, capture_app, file_rule, files_rule, info_app, list_app, out_rule, printing_app};
+ghost use Rattle.cap_line.specs.Command.{IsCapt, IsConvert, IsJoin, IsMerge, IsOrderRule, IsToRule, IsWriting, allow_cut_rule, blocks_app, capt_alone, capture_app, captures_app, file_rule, files_rule, info_app, list_app, listing_app, out_rule, printing_app, report_app};
 
 use clap::{Arg, ArgAction, Command};
 use std::alloc::{AllocError, Global};
 
-const EXAMPLE: &str = "Example: capt list trace.pcap";
+const EXAMPLE: &str = "Example: capt report trace.pcap";
 
 const LIST_EXAMPLE: &str = "Example: capt list --allow-cut trace.pcap";
 
 const BLOCKS_EXAMPLE: &str = "Example: capt blocks trace.pcapng";
 
 const INFO_EXAMPLE: &str = "Example: capt info morning.pcap evening.pcapng";
+
+const REPORT_EXAMPLE: &str = "Example: capt report morning.pcap evening.pcapng";
 
 const CONVERT_EXAMPLE: &str = "Example: capt convert --to pcapng -o trace.pcapng trace.pcap";
 
@@ -126,17 +128,37 @@ fn files<'a>(alloc: Global) -> Arg<'a>
         .help("Capture files, of which one may be - for standard input")
 }
 
+// A subcommand with `[--allow-cut] FILE..`, without its texts
+fn captures_command<'a>(alloc: Global, name: &'a str) -> Result<Command<'a>, AllocError>
+    ensures app { IfOk result (λ c. app_of c ≡ captures_app name.entry.now) }
+    ensures local { IfOk result (λ c. (fields_of c).has_globals ≡ false) }
+{
+    Command::new(alloc, name)
+        .arg(allow_cut(alloc))?
+        .arg(files(alloc))
+}
+
 // `info`
 fn info<'a>(alloc: Global) -> Result<Command<'a>, AllocError>
     ensures app { IfOk result (λ c. app_of c ≡ info_app) }
     ensures local { IfOk result (λ c. (fields_of c).has_globals ≡ false) }
 {
     Ok(
-        Command::new(alloc, "info")
-            .arg(allow_cut(alloc))?
-            .arg(files(alloc))?
+        captures_command(alloc, "info")?
             .about("Prints a line for each capture")
             .after_help(INFO_EXAMPLE),
+    )
+}
+
+// `report`
+fn report<'a>(alloc: Global) -> Result<Command<'a>, AllocError>
+    ensures app { IfOk result (λ c. app_of c ≡ report_app) }
+    ensures local { IfOk result (λ c. (fields_of c).has_globals ≡ false) }
+{
+    Ok(
+        captures_command(alloc, "report")?
+            .about("Prints the totals of captures, and a line for each conversation")
+            .after_help(REPORT_EXAMPLE),
     )
 }
 
@@ -203,15 +225,24 @@ fn capt_itself<'a>(alloc: Global) -> Command<'a>
         .disable_help_subcommand(true)
 }
 
+// `capt` with the subcommands that print one capture
+fn listing<'a>(alloc: Global) -> Result<Command<'a>, AllocError>
+    ensures app { IfOk result (λ c. app_of c ≡ listing_app) }
+    ensures local { IfOk result (λ c. (fields_of c).has_globals ≡ false) }
+{
+    capt_itself(alloc)
+        .subcommand(list(alloc)?)?
+        .subcommand(blocks(alloc)?)
+}
+
 // `capt` with the subcommands that print
 fn printing<'a>(alloc: Global) -> Result<Command<'a>, AllocError>
     ensures app { IfOk result (λ c. app_of c ≡ printing_app) }
     ensures local { IfOk result (λ c. (fields_of c).has_globals ≡ false) }
 {
-    capt_itself(alloc)
-        .subcommand(list(alloc)?)?
-        .subcommand(blocks(alloc)?)?
-        .subcommand(info(alloc)?)
+    listing(alloc)?
+        .subcommand(info(alloc)?)?
+        .subcommand(report(alloc)?)
 }
 
 /// The command line of `capt`.

@@ -23,6 +23,8 @@ pub enum Task {
     Blocks,
     /// Print a line for each of some files.
     Info,
+    /// Print what is counted of some files, and a line for each conversation.
+    Report,
     /// Write the packets of a file in one of the formats.
     Convert,
     /// Write the packets of files as one pcapng file, in the order of time.
@@ -103,6 +105,7 @@ fn task_of(name: &str) -> Option<Task>
         "list" => Some(Task::List),
         "blocks" => Some(Task::Blocks),
         "info" => Some(Task::Info),
+        "report" => Some(Task::Report),
         "convert" => Some(Task::Convert),
         "merge" => Some(Task::Merge),
         "join" => Some(Task::Join),

@@ -142,7 +142,7 @@ static WRITING: [(&[&str], Writing); 24] = [
     ),
 ];
 
-static LINES: [(&[&str], Answer); 31] = [
+static LINES: [(&[&str], Answer); 36] = [
     (&["capt", "list", "a"], Ok((Task::List, "a", 1, false))),
     (
         &["capt", "list", "--allow-cut", "a"],
@@ -168,6 +168,17 @@ static LINES: [(&[&str], Answer); 31] = [
     (&["capt", "info", "-o", "c", "a"], Err(LineFault::Line)),
     (&["capt", "info", "-", "a", "-"], Err(LineFault::Input)),
     (&["capt", "info", "--help"], Err(LineFault::Help)),
+    (
+        &["capt", "report", "a", "b"],
+        Ok((Task::Report, "a", 2, false)),
+    ),
+    (
+        &["capt", "report", "-", "--allow-cut"],
+        Ok((Task::Report, "-", 1, true)),
+    ),
+    (&["capt", "report"], Err(LineFault::Line)),
+    (&["capt", "report", "-o", "c", "a"], Err(LineFault::Line)),
+    (&["capt", "report", "-", "-"], Err(LineFault::Input)),
     (&["capt", "blocks", "a", "b"], Err(LineFault::Line)),
     (&["capt", "blocks", "-h"], Err(LineFault::Help)),
     (
