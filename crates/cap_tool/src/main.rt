@@ -1,4 +1,4 @@
-//! The program `capt`: packet captures, read, listed, counted, converted, merged and joined by proved code.
+//! The program `capt`: packet captures, read, reported, converted, merged and joined by proved code.
 #![tactic(auto)]
 
 ghost use Rattle.std.specs.Prelude.{◌≡◌, ◌≤◌, ◌⊎◌, IfErr, vec_len};
@@ -11,7 +11,7 @@ use crate::streams::{create_output, open_all};
 use cap_bytes::{Fault, Order, Sink, Source, Tail, Tracked};
 use cap_line::{Format as Named, Job, LineFault, Task, parse};
 use cap_source::Format;
-use cap_talks::file_lines;
+use cap_talks::{file_lines, report};
 use cap_tasks::{
     Outcome, blocks_to, convert_to, end_of, join_to, list_to, merge_to, status_of, tell,
 };
@@ -38,6 +38,7 @@ enum Single {
 enum Work {
     Single(Single),
     Info,
+    Report,
     Merge,
     Join,
 }
@@ -76,6 +77,7 @@ fn work_of(job: &Job) -> Option<Work> {
         Task::List => Some(Work::Single(Single::List)),
         Task::Blocks => Some(Work::Single(Single::Blocks)),
         Task::Info => Some(Work::Info),
+        Task::Report => Some(Work::Report),
         Task::Convert => match (job.to, job.out) {
             (Some(named), Some(_)) => Some(Work::Single(Single::Convert(format_of(named)))),
             _ => None,
@@ -128,6 +130,7 @@ fn work_to<R: Source, W: Sink>(
 {
     match work {
         Work::Info => file_lines(alloc, sources, ways.tail, writer),
+        Work::Report => report(alloc, sources, ways.tail, writer),
         Work::Merge => merge_to(alloc, sources, ways.tail, ways.order, writer),
         Work::Join => join_to(alloc, sources, ways.tail, ways.order, writer),
         Work::Single(single) => match sources.pop() {
