@@ -12,19 +12,22 @@ use std::io;
 /// What `capt` says of itself: help, and what is told of a faulty command line.
 pub const USAGE: &[u8] = b"capt reads packet captures.
 
-Usage: capt list [--allow-cut] FILE
-       capt blocks [--allow-cut] FILE
+Usage: capt report [--allow-cut] FILE...
        capt info [--allow-cut] FILE...
+       capt list [--allow-cut] FILE
+       capt blocks [--allow-cut] FILE
        capt convert [--allow-cut] [--order ORDER] --to FORMAT -o OUT FILE
        capt merge [--allow-cut] [--order ORDER] -o OUT FILE...
        capt join [--allow-cut] [--order ORDER] -o OUT FILE...
 
+report prints what the packets of captures are, and one line for each conversation:
+  talk PROTO A B forward P BYTES backward P BYTES first T last T
+info prints how many captures there are, and one line for each:
+  file I FORMAT packets P bytes B truncated Q skipped S first T last T
 list prints one line for each packet:
   packet N offset O time T captured C original G link L data X
 blocks prints one line for each block of a pcapng file:
   block N offset O order little kind 0a0d0d0a total T
-info prints how many captures there are, and one line for each:
-  file I FORMAT packets P bytes B truncated Q skipped S first T last T
 convert writes the packets of a capture to OUT
 merge writes the packets of captures to OUT, in the order of time
 join writes the whole IPv4 datagrams of captures to OUT, joined of their fragments
@@ -36,9 +39,10 @@ join writes the whole IPv4 datagrams of captures to OUT, joined of their fragmen
   -o OUT          the file that is written; - is standard output
   -h, --help      prints this text
 
-Examples: capt list --allow-cut monday.pcap
-          capt blocks monday.pcapng
+Examples: capt report monday.pcap tuesday.pcapng
           capt info monday.pcap tuesday.pcapng
+          capt list --allow-cut monday.pcap
+          capt blocks monday.pcapng
           capt convert --to pcapng -o monday.pcapng monday.pcap
           capt merge -o week.pcapng monday.pcapng tuesday.pcap
           capt join -o whole.pcapng monday.pcapng tuesday.pcap
