@@ -1,6 +1,10 @@
 //! The lines of files: worked files of both formats.
 ghost use Rattle.std.specs.Prelude.{◌≤◌};
 
+mod classes;
+mod devices;
+mod report;
+mod steps;
 mod talks;
 
 use crate::file_lines;

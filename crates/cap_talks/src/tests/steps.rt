@@ -1,0 +1,182 @@
+//! The table step by step.
+ghost use Rattle.std.specs.Prelude.{◌≤◌};
+
+use crate::tests::report::{
+    BINARY, BINARY_REPORT, FRAGMENT_FRAMES, FRAGMENT_REPORT, File, RAW, TAGGED_FRAMES,
+    TAGGED_REPORT, TENTHS, UNTIMED_THEN_TIMED,
+};
+use crate::{Step, Table};
+use cap_bytes::{Fault, Pieces, Room, Tail};
+use cap_merge::merge_files;
+use cap_source::{Capture, PacketFeed};
+use std::alloc::Global;
+use std::process::Abort;
+use std::test::Fail;
+
+const BEFORE: &str = "files 1\n\
+    file 1 - packets 0 bytes 0 truncated 0 skipped 0 first - last -\n\
+    total packets 0 bytes 0 truncated 0\n\
+    frames other-link 0 not-ipv4 0 short 0 cut 0 bad 0 unjoined 0 counted 0\n\
+    joined 0 given-up 0\n\
+    talks 0\n";
+
+const AFTER_TWO: &str = "files 1\n\
+    file 1 pcap packets 2 bytes 56 truncated 0 skipped 0 first 1+0/1000000 last 2+0/1000000\n\
+    total packets 2 bytes 56 truncated 0\n\
+    frames other-link 0 not-ipv4 0 short 0 cut 0 bad 0 unjoined 2 counted 0\n\
+    joined 0 given-up 0\n\
+    talks 0\n";
+
+// Two fragments of one datagram, at 1 and at 31 seconds.
+const THIRTY_SECONDS: File = &[
+    RAW,
+    "01000000000000001c0000001c000000",
+    "4500001c00090001401100000a0000010a000002a0a1a2a3a4a5a6a7",
+    "1f000000000000001c0000001c000000",
+    "4500001c00092000401100000a0000010a00000203e807d000100000",
+];
+
+const THIRTY_REPORT: &str = "files 1\n\
+    file 1 pcap packets 2 bytes 56 truncated 0 skipped 0 first 1+0/1000000 last 31+0/1000000\n\
+    total packets 2 bytes 56 truncated 0\n\
+    frames other-link 0 not-ipv4 0 short 0 cut 0 bad 0 unjoined 0 counted 2\n\
+    joined 1 given-up 0\n\
+    talks 1\n\
+    talk udp 10.0.0.1:1000 10.0.0.2:2000 forward 2 56 backward 0 0 first 1+0/1000000 last 31+0/1000000\n";
+
+// The table of some files, if memory is found.
+fn table_once(alloc: Global, files: &[File], piece: usize) -> Option<Table<Capture<Pieces>>>
+    requires { 1 ≤ piece }
+{
+    let mut sources = Vec::new(alloc);
+    for file in files {
+        let mut bytes = Vec::new(alloc);
+        for part in *file {
+            let decoded = hex::decode(alloc, *part).ok()?;
+            bytes.extend_from_slice(decoded.as_slice()).ok()?;
+        }
+        sources.push(Pieces::new(bytes, piece, None)).ok()?;
+    }
+    if sources.is_empty() || sources.len() > 32 {
+        return None;
+    }
+    Some(Table::new(alloc, merge_files(alloc, sources, Tail::Refuse).ok()?))
+}
+
+// The table of 1 to 32 files, where at most one growth is refused.
+fn table_of(rt: &impl Abort, alloc: Global, files: &[File], piece: usize) -> Table<Capture<Pieces>>
+    requires { 1 ≤ piece }
+{
+    for _ in 0..2 {
+        if let Some(table) = table_once(alloc, files, piece) {
+            return table;
+        }
+    }
+    panic!(rt; "no table")
+}
+
+// What a table writes, where at most one growth is refused.
+fn text_of<F: PacketFeed>(alloc: Global, table: &Table<F>) -> Result<Room, Fail> {
+    let room = match Vec::with_capacity(alloc, 1024) {
+        Ok(room) => room,
+        Err(_) => Vec::with_capacity(alloc, 1024)?,
+    };
+    let mut writer = Room::new(room);
+    table.write_so_far(&mut writer)?;
+    Ok(writer)
+}
+
+// Holds a table to what it writes, and to the interfaces, groups, bytes of a group and conversations that it holds.
+fn check<F: PacketFeed>(
+    rt: &impl Abort,
+    alloc: Global,
+    table: &Table<F>,
+    wanted: &str,
+    held: [u64; 4],
+) -> Result<(), Fail> {
+    assert_eq!(rt; text_of(alloc, table)?.bytes(), wanted.as_bytes());
+    let now = table.held();
+    let lengths = [now.interfaces, now.groups, now.group_bytes, now.talks];
+    assert_eq!(rt; lengths, held);
+    Ok(())
+}
+
+#[test]
+fn always_memory_step_by_step(rt: HostRuntime) -> Result<(), Fail> {
+    for piece in [1, 4096] {
+        let mut table = table_of(&rt, rt.alloc(), &[FRAGMENT_FRAMES], piece);
+        check(&rt, rt.alloc(), &table, BEFORE, [0, 0, 0, 0])?;
+        assert_eq!(rt; table.held().window, 0);
+        assert_eq!(rt; table.step(), Ok(Step::Took));
+        assert_eq!(rt; table.step(), Ok(Step::Took));
+        check(&rt, rt.alloc(), &table, AFTER_TWO, [0, 1, 24, 0])?;
+        assert_eq!(rt; table.step(), Ok(Step::Took));
+        assert_eq!(rt; table.step(), Ok(Step::Took));
+        check(&rt, rt.alloc(), &table, FRAGMENT_REPORT, [0, 0, 0, 1])?;
+        for _ in 0..2 {
+            assert_eq!(rt; table.step(), Ok(Step::Done));
+            check(&rt, rt.alloc(), &table, FRAGMENT_REPORT, [0, 0, 0, 1])?;
+        }
+    }
+    Ok(())
+}
+
+#[test]
+fn interfaces_are_held(rt: HostRuntime) -> Result<(), Fail> {
+    let mut table = table_of(&rt, rt.alloc(), &[UNTIMED_THEN_TIMED], 4096);
+    assert_eq!(rt; table.held().interfaces, 0);
+    assert_eq!(rt; table.step(), Ok(Step::Took));
+    assert_eq!(rt; table.held().interfaces, 1);
+    assert_eq!(rt; table.held().talks, 1);
+    Ok(())
+}
+
+#[test]
+fn a_table_is_dropped_after_any_number_of_steps(rt: HostRuntime) -> Result<(), Fail> {
+    for steps in 0..5 {
+        let mut table = table_of(&rt, rt.alloc(), &[FRAGMENT_FRAMES], 1);
+        for _ in 0..steps {
+            assert_eq!(rt; table.step(), Ok(Step::Took));
+        }
+    }
+    Ok(())
+}
+
+// A step, taken again where a growth was refused, which leaves the table as it was.
+fn step_again<F: PacketFeed>(
+    rt: &impl Abort,
+    alloc: Global,
+    table: &mut Table<F>,
+) -> Result<Step, Fail> {
+    let before = text_of(alloc, table)?;
+    let held = table.held();
+    match table.step() {
+        Err(Fault::Memory) => {
+            assert_eq!(rt; text_of(alloc, table)?.bytes(), before.bytes());
+            assert_eq!(rt; table.held().talks, held.talks);
+            Ok(table.step()?)
+        }
+        answer => Ok(answer?),
+    }
+}
+
+// Each report as with memory, whichever growth is refused.
+#[test]
+fn a_refused_growth_leaves_the_table(rt: HostRuntime) -> Result<(), Fail> {
+    let rows: [(&[File], &str); 4] = [
+        (&[FRAGMENT_FRAMES], FRAGMENT_REPORT),
+        (&[TAGGED_FRAMES], TAGGED_REPORT),
+        (&[BINARY, TENTHS], BINARY_REPORT),
+        (&[THIRTY_SECONDS], THIRTY_REPORT),
+    ];
+    for (files, wanted) in rows {
+        let mut table = table_of(&rt, rt.alloc(), files, 4096);
+        let mut step = Step::Took;
+        for _ in 0..8 {
+            step = step_again(&rt, rt.alloc(), &mut table)?;
+        }
+        assert_eq!(rt; step, Step::Done);
+        assert_eq!(rt; text_of(rt.alloc(), &table)?.bytes(), wanted.as_bytes());
+    }
+    Ok(())
+}
