@@ -74,6 +74,31 @@ run convert --to pcap -o /dev/full "$work/cut.pcap"; check 'a refusal on a full 
 run convert --to pcap -o /dev/full "$work/section"; check 'a refusal with nothing to write, on a full disk' 1 '' 'refused: file 1 offset 0 rule 21 no-interface'
 run convert --to pcap "$one"; check 'no output' 2 '' '*'
 run convert -o "$work/none" "$one"; check 'no format' 2 '' '*'; absent 'no format' "$work/none"
+# report: a frame of 4 bytes, short for Ethernet; nothing is written where a file is refused, or a read fails
+report='files 1
+file 1 pcap packets 1 bytes 4 truncated 0 skipped 0 first 2+500000/1000000 last 2+500000/1000000
+total packets 1 bytes 4 truncated 0
+frames other-link 0 not-ipv4 0 short 1 cut 0 bad 0 unjoined 0 counted 0
+joined 0 given-up 0
+talks 0'
+cut='files 1
+file 1 pcap packets 0 bytes 0 truncated 0 skipped 0 first - last - cut
+total packets 0 bytes 0 truncated 0
+frames other-link 0 not-ipv4 0 short 0 cut 0 bad 0 unjoined 0 counted 0
+joined 0 given-up 0
+talks 0'
+run report "$one"; check 'report' 0 "$report" ''
+input=$one; run report -; check 'report of standard input' 0 "$report" ''; input=
+run report "$work/section" "$one"; check 'report of two files' 0 '*' ''; grep -q '^file 2 pcap packets 1 ' "$work/out" || { failed=$((failed + 1)); echo 'report of two files: no second line'; }
+run report --allow-cut "$work/cut.pcap"; check 'report of a cut file, accepted' 0 "$cut" ''
+run report "$one" "$work/cut.pcap"; check 'report of a cut file' 1 '' 'refused: file 2 offset 24 rule 3 cut'
+run report --allow-cut "$work/empty.pcap"; check 'report of an empty file' 1 '' 'refused: file 1 offset 0 rule 3 cut'
+run report "$one" "$work/missing"; check 'report of a missing file' 1 '' 'fault: open file 2'
+run report "$one" "$work/folder"; check 'report of a folder' 1 '' 'fault: read file 2 offset 0'
+run report - -; check 'report of standard input twice' 2 '' 'fault: input'
+run report; check 'report of no file' 2 '' '*'
+"$program" report "$one" > /dev/full 2> "$work/err"; status=$?; : > "$work/out"; check 'report on a full disk' 1 '' 'fault: write'
+"$program" report "$work/cut.pcap" > /dev/full 2> "$work/err"; status=$?; check 'report of a cut file on a full disk' 1 '' 'refused: file 1 offset 24 rule 3 cut'
 # merge: the packet twice, each behind an interface of its own
 { cat "$work/want.pcapng"; tail -c +29 "$work/want.pcapng" | head -c 32
   printf '\x06\0\0\0\x24\0\0\0\x01\0\0\0\0\0\0\0\xa0\x25\x26\0\x04\0\0\0\x04\0\0\0\x01\x02\x03\x04\x24\0\0\0'; } > "$work/twice"
@@ -85,7 +110,7 @@ run merge -o "$one" "$one" "$one"; check 'a merge into one of its files' 2 '' 'f
 run merge -o "$work/none" - -; check 'standard input twice' 2 '' 'fault: input'
 run merge -o "$work/none" $(yes a | head -n 33); check '33 files' 2 '' 'fault: files'
 run merge -o /dev/full "$one" "$one"; check 'a merge on a full disk' 1 '' 'fault: write'
-run --help; check 'help' 0 '*' ''; grep -q 'capt list' "$work/out" || { failed=$((failed + 1)); echo 'help: no example'; }
+run --help; check 'help' 0 '*' ''; grep -q 'capt report' "$work/out" || { failed=$((failed + 1)); echo 'help: no example'; }
 run list --help; check 'help of a subcommand' 0 '*' ''
 run list -h; check 'short help' 0 '*' ''
 run; check 'no words' 2 '' '*'; [ -s "$work/err" ] || { failed=$((failed + 1)); echo 'no words: no usage'; }

@@ -1,13 +1,14 @@
 #!/usr/bin/env bash
-# Each growth refused in turn (of cap_bytes, or of cap_source, cap_join and cap_tasks): runs a crate's tests with the Nth allocation refused, for N from 1 up to
-# a given number. The tests of windows and readers call again after `Fault::Memory`, and every answer
-# must be as with memory; those whose names don't match make data of their own and are left out.
+# Each growth refused in turn (of cap_bytes, or of cap_source, cap_join, cap_tasks and cap_talks): runs a crate's
+# tests with the Nth allocation refused, for N from 1 up to a given number. The tests of windows, readers and tables
+# call again after `Fault::Memory`, and every answer must be as with memory; those whose names don't match make data
+# of their own and are left out.
 #
 # Use: checks/refused.sh [CRATE] [LAST] [NAMES]
 set -eu
 crate=${1:-cap_bytes}
 last=${2:-12}
-names=${3:-a_window|a_standard_reader|a_refused_growth|merge::tests::a_refused_growth}
+names=${3:-a_window|a_standard_reader|a_refused_growth|merge::tests::a_refused_growth|steps::a_refused_growth}
 failures=0
 cd "$(dirname "$0")/../crates/$crate"
 log=$(mktemp)
