@@ -18,7 +18,7 @@ use Rattle.cap_source.specs.ReadFaults.{FailsOf}
 use Rattle.cap_source.specs.Walk.{Walks}
 use Rattle.cap_source.specs.declared.feeds.Ending.{Ending}
 use Rattle.cap_talks.specs.Reporting.{TookAll, TakesAll}
-use Rattle.cap_talks.specs.ReportText.{text_of, taken_behind, refusal_behind, report_text, report_refusal}
+use Rattle.cap_talks.specs.ReportText.{text_of, taken_after, refusal_after, report_text, report_refusal}
 use Rattle.cap_talks.specs.Stepping.{TableState, TableStands, endings_so_far}
 use Rattle.cap_talks.specs.Taken.{Taken}
 use Rattle.cap_talks.specs.Telling.{Tells}
@@ -63,17 +63,17 @@ module _ {A : Type 0} (reader : A → Reader) (tail : Tail) (sources : List A) (
   tells-report new held out result t took fault prints =
       let count = took.files ∙ count-is in
       let endings = ap (λ (d : Bool). if d then Some (feed_of new.parts).endings else None) took.done ∙ ap Some (endings-are new (took.endings (told t))) in
-      let text : text_of (length new.totals.files) (endings_so_far new) (taken_behind [] (run_of old.parts))
+      let text : text_of (length new.totals.files) (endings_so_far new) (taken_after [] (run_of old.parts))
       ≡ report_text (length sources) (endings_of_files tail (map (λ s. (reader s).bytes) sources)) (clocked_run tail (map (λ s. (reader s).bytes) sources)) =
-      λ i. text_of (count i) (endings i) (taken_behind [] (run-is i)) in
-      tells-printed _ _ held result out (ap (refusal_behind []) (sym run-is) ∙ took.free (told t) b.stands) fault
-      (subst (λ l. Prints l None held result out) text (prints (taken_behind [] (run_of old.parts)) (took.stands (told t) b.stands)))
+      λ i. text_of (count i) (endings i) (taken_after [] (run-is i)) in
+      tells-printed _ _ held result out (ap (refusal_after []) (sym run-is) ∙ took.free (told t) b.stands) fault
+      (subst (λ l. Prints l None held result out) text (prints (taken_after [] (run_of old.parts)) (took.stands (told t) b.stands)))
 
   -- taking them faults: nothing is written
   pub tells-nothing : (new : TableState) (held text : List ℕ) (fault : Fault) → IsTrue (list_all (λ s. (reader s).told) sources)
       → TakesAll old (Err fault) new
       → Tells text (report_refusal (clocked_run tail (map (λ s. (reader s).bytes) sources))) held (Err fault) held
-  tells-nothing new held text (Refused r) t takes = (ap (refusal_behind []) (sym run-is) ∙ takes (told t) b.stands, refl)
+  tells-nothing new held text (Refused r) t takes = (ap (refusal_after []) (sym run-is) ∙ takes (told t) b.stands, refl)
   tells-nothing new held text (Read file offset) t takes = refl
   tells-nothing new held text Write t takes = absurd takes
   tells-nothing new held text Memory t takes = refl

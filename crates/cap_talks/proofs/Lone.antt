@@ -28,7 +28,7 @@ use Rattle.cap_join.proofs.Once.{completed}
 use Rattle.cap_talks.proofs.Recount.{place_of}
 use Rattle.cap_talks.specs.Classes.{classes, classes_in}
 use Rattle.cap_talks.specs.InOrder.{ByPlaces}
-use Rattle.cap_talks.specs.ReportText.{with_item, taken_behind}
+use Rattle.cap_talks.specs.ReportText.{with_item, taken_after}
 use Rattle.cap_talks.specs.Taken.{Taken, events_with, events_of, Look, plain, datagram, fragment, look_by, look_in, look_at, look, stamped_of}
 
 -- a fragment behind which more follow, or that doesn't begin at 0
@@ -178,8 +178,8 @@ ordered-item : (c clock : Option Stamp) (i : Item) (xs : List Taken) → AtMost 
 ordered-item c clock (packet meta frame) xs rises o = ordered-more (record { clock = c; meta = meta; frame = frame }) xs clock rises o
 ordered-item c clock (refused r) xs rises o = record { order = o.order; late = at_most-trans (latest_clock (events_of xs)) clock c o.late rises; below = o.below }
 
-ordered-run : (run : List (Clocked Item)) (clock : Option Stamp) (xs : List Taken) → NeverFalls clock run → Ordered xs clock → AreInOrder (events_of (taken_behind xs run))
-unfolding taken_behind
+ordered-run : (run : List (Clocked Item)) (clock : Option Stamp) (xs : List Taken) → NeverFalls clock run → Ordered xs clock → AreInOrder (events_of (taken_after xs run))
+unfolding taken_after
 ordered-run [] clock xs h o = o.order
 ordered-run (a ∷ run) clock xs h o = ordered-run run a.clock (with_item a.clock a.item xs) h.1 (ordered-item a.clock clock a.item xs h.0 o)
 
@@ -191,6 +191,6 @@ pub by-places : ByPlaces
 unfolding classes
 by-places files =
     let r = run item_time is_refusal (map opened files) in
-    let xs = taken_behind [] r in
+    let xs = taken_after [] r in
     ap (λ groups. classes_in groups xs)
     (completed open_limit (events_of xs) (omega arith) (ordered-run r None [] (run-rises item_time is_refusal files) ordered-none))

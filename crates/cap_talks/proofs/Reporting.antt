@@ -11,7 +11,7 @@ use Rattle.cap_merge.specs.Run.{Clocked}
 use Rattle.cap_source.specs.Feed.{Item, packet, refused}
 use Rattle.cap_talks.specs.FileText.{or_else}
 use Rattle.cap_time.specs.declared.stamps.Stamp.{Stamp}
-use Rattle.cap_talks.specs.ReportText.{refusal_at, taken_behind, refusal_behind}
+use Rattle.cap_talks.specs.ReportText.{refusal_at, taken_after, refusal_after}
 use Rattle.cap_talks.specs.Reporting.{TookAll, TakesAll}
 use Rattle.cap_talks.specs.Stepping.{clocked, TableState, TableStands, StepKeeps, Takes, Ends, RefusedNext, RefusedHere, Fails, WaitsAgain, Steps, IsMore}
 use Rattle.cap_talks.specs.Taken.{Taken}
@@ -25,8 +25,8 @@ pub record Reporting (old new : TableState) : Type 0 where
   pub went : Went (feed_of old.parts) (feed_of new.parts)
   pub files : length new.totals.files ≡ length old.totals.files
   pub stands : TableStands old [] → TableStands new taken
-  pub text : IsTrue (feed_of old.parts).told → taken_behind [] (run_of old.parts) ≡ taken_behind taken (run_of new.parts)
-  pub refusal : IsTrue (feed_of old.parts).told → TableStands old [] → refusal_behind [] (run_of old.parts) ≡ refusal_behind taken (run_of new.parts)
+  pub text : IsTrue (feed_of old.parts).told → taken_after [] (run_of old.parts) ≡ taken_after taken (run_of new.parts)
+  pub refusal : IsTrue (feed_of old.parts).told → TableStands old [] → refusal_after [] (run_of old.parts) ≡ refusal_after taken (run_of new.parts)
   pub endings : IsTrue (feed_of old.parts).told → (file : ℕ) → (feed_of new.parts).endings file ≡ (feed_of old.parts).endings file
 
 pub Reporting-begin : (t : TableState) → Reporting t t
@@ -42,25 +42,25 @@ Reporting-begin t = record {
 
 -- the refusal of a run that begins with a packet
 refusal-packet : (xs : List Taken) (x : Taken) (run : List (Clocked Item)) (b : Bool) → is_limit_at xs x ≡ b
-    → refusal_behind xs (clocked x ∷ run) ≡ (if b then Some (refusal_at x.meta) else refusal_behind (x ∷ xs) run)
-unfolding refusal_behind
-refusal-packet xs x run true is = ap (λ (c : Bool). or_else (if c then Some (refusal_at x.meta) else None) (refusal_behind (x ∷ xs) run)) is
-refusal-packet xs x run false is = ap (λ (c : Bool). or_else (if c then Some (refusal_at x.meta) else None) (refusal_behind (x ∷ xs) run)) is
+    → refusal_after xs (clocked x ∷ run) ≡ (if b then Some (refusal_at x.meta) else refusal_after (x ∷ xs) run)
+unfolding refusal_after
+refusal-packet xs x run true is = ap (λ (c : Bool). or_else (if c then Some (refusal_at x.meta) else None) (refusal_after (x ∷ xs) run)) is
+refusal-packet xs x run false is = ap (λ (c : Bool). or_else (if c then Some (refusal_at x.meta) else None) (refusal_after (x ∷ xs) run)) is
 
-taken-packet : (xs : List Taken) (x : Taken) (run : List (Clocked Item)) → taken_behind xs (clocked x ∷ run) ≡ taken_behind (x ∷ xs) run
-unfolding taken_behind
+taken-packet : (xs : List Taken) (x : Taken) (run : List (Clocked Item)) → taken_after xs (clocked x ∷ run) ≡ taken_after (x ∷ xs) run
+unfolding taken_after
 taken-packet xs x run = refl
 
-taken-none : (xs : List Taken) → taken_behind xs [] ≡ xs
-unfolding taken_behind
+taken-none : (xs : List Taken) → taken_after xs [] ≡ xs
+unfolding taken_after
 taken-none xs = refl
 
-refusal-none : (xs : List Taken) → refusal_behind xs [] ≡ None
-unfolding refusal_behind
+refusal-none : (xs : List Taken) → refusal_after xs [] ≡ None
+unfolding refusal_after
 refusal-none xs = refl
 
-refusal-refused : (xs : List Taken) (clock : Option Stamp) (r : Refusal) → refusal_behind xs (record { clock = clock; item = refused r } ∷ []) ≡ Some r
-unfolding refusal_behind
+refusal-refused : (xs : List Taken) (clock : Option Stamp) (r : Refusal) → refusal_after xs (record { clock = clock; item = refused r } ∷ []) ≡ Some r
+unfolding refusal_after
 refusal-refused xs clock r = refl
 
 more : (old mid new : TableState) → Reporting old mid → StepKeeps mid new → Takes mid new → Reporting old new
@@ -72,9 +72,9 @@ more old mid new p k t = record {
   };
   files = k.files ∙ p.files;
   stands = λ s. (t.stands p.taken (p.stands s)).1;
-  text = λ h. p.text h ∙ ap (taken_behind p.taken) (t.run (p.went.keeps.told h)) ∙ taken-packet p.taken t.item (run_of new.parts);
+  text = λ h. p.text h ∙ ap (taken_after p.taken) (t.run (p.went.keeps.told h)) ∙ taken-packet p.taken t.item (run_of new.parts);
   refusal = λ h s.
-      p.refusal h s ∙ ap (refusal_behind p.taken) (t.run (p.went.keeps.told h))
+      p.refusal h s ∙ ap (refusal_after p.taken) (t.run (p.went.keeps.told h))
       ∙ refusal-packet p.taken t.item (run_of new.parts) false (t.stands p.taken (p.stands s)).0;
   endings = λ h file. t.endings (p.went.keeps.told h) file ∙ p.endings h file;
 }
@@ -97,17 +97,17 @@ TakesAll-end old mid new steps.Done b p k t m is = record {
   done = t.done;
   files = k.files ∙ p.files;
   endings = λ h file. (t.same (p.went.keeps.told h)).endings file ∙ p.endings h file;
-  free = λ h s. p.refusal h s ∙ ap (refusal_behind p.taken) (t.run (p.went.keeps.told h)) ∙ refusal-none p.taken;
+  free = λ h s. p.refusal h s ∙ ap (refusal_after p.taken) (t.run (p.went.keeps.told h)) ∙ refusal-none p.taken;
   stands = λ h s.
-      subst (TableStands new) (sym (p.text h ∙ ap (taken_behind p.taken) (t.run (p.went.keeps.told h)) ∙ taken-none p.taken)) (t.stands p.taken (p.stands s));
+      subst (TableStands new) (sym (p.text h ∙ ap (taken_after p.taken) (t.run (p.went.keeps.told h)) ∙ taken-none p.taken)) (t.stands p.taken (p.stands s));
 }
 
 pub TakesAll-fault : (old mid new : TableState) (fault : Fault) → Reporting old mid → Steps mid (Err fault) new → TakesAll old (Err fault) new
 TakesAll-fault old mid new (Refused r) p (inl t) = λ h s.
     let one = t.run (p.went.keeps.told h) in
-    p.refusal h s ∙ ap (refusal_behind p.taken) one.1 ∙ refusal-refused p.taken one.0 r
+    p.refusal h s ∙ ap (refusal_after p.taken) one.1 ∙ refusal-refused p.taken one.0 r
 TakesAll-fault old mid new (Refused r) p (inr t) = λ h s.
-    p.refusal h s ∙ ap (refusal_behind p.taken) (t.run (p.went.keeps.told h))
+    p.refusal h s ∙ ap (refusal_after p.taken) (t.run (p.went.keeps.told h))
     ∙ refusal-packet p.taken t.item _ true (t.limit p.taken (p.stands s)) ∙ ap Some (sym t.is)
 TakesAll-fault old mid new (Read file offset) p t = tt
 TakesAll-fault old mid new Write p t = absurd t

@@ -1,4 +1,4 @@
--- A unit that a packet completes, where it completes one, as it is added to the conversations.
+-- The unit of a joined datagram, and whether a unit's conversation is one too many.
 use Rattle.std.specs.Prelude.{◌≡◌, ℕ, List, Bool, false, length, Option, Some, None}
 use Rattle.std.specs.Option.{option_map, option_map_or}
 use Rattle.cap_ip.specs.Transport.{transport_of}

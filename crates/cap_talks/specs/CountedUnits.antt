@@ -21,7 +21,7 @@ use Rattle.cap_join.specs.Completed.{if_complete}
 use Rattle.cap_talks.specs.Taken.{Taken, Look, plain, datagram, fragment, look, events_of, stamped_of}
 use Rattle.cap_talks.specs.declared.classes.Class.TheVariants as class
 
--- a unit between two ends, of so many frames and bytes, with the first and the last of its frames
+-- a unit between two ends, with the number of its frames, their bytes, and the first and the last of those that have a time
 abbrev pub unit_of : ℕ → ℕ → ℕ → Option Stamped → Option Stamped → End × End → CountedUnit
 unit_of protocol frames bytes first last ends =
     record { protocol = protocol; source = ends.0; destination = ends.1; frames = frames; bytes = bytes; first = first; last = last }
@@ -72,6 +72,6 @@ joined_in xs = counted_in (groups_of xs)
 abbrev pub given_up_in : List Taken → ℕ
 given_up_in xs = (state_of open_limit (events_of xs)).given_up
 
--- behind some packets, the next completes a unit of a new conversation, and as many conversations stand as may
+-- after some packets, the next one completes a unit of a new conversation, and 1,048,576 conversations stand
 abbrev pub is_limit_at : List Taken → Taken → Bool
 is_limit_at xs x = option_map_or (λ unit. is_refused talk_limit (rows_of (units_of xs)) (key_of unit)) (unit_at xs x) false

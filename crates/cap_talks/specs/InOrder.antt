@@ -8,7 +8,7 @@ use Rattle.cap_source.specs.Feed.{Item}
 use Rattle.cap_talks.specs.declared.classes.Class.{Class}
 use Rattle.cap_talks.specs.Classes.{classes, classes_in}
 use Rattle.cap_join.specs.Completed.{completed_at}
-use Rattle.cap_talks.specs.ReportText.{taken_behind}
+use Rattle.cap_talks.specs.ReportText.{taken_after}
 use Rattle.cap_talks.specs.Taken.{Taken, events_of}
 
 -- the classes of some packets, where the groups are those by places
@@ -17,4 +17,4 @@ classes_at xs = classes_in (completed_at (marks open_limit (events_of xs))) xs
 
 -- In every run a packet has the class that it has by places.
 abbrev pub ByPlaces : Type 0
-ByPlaces = (files : List (List Item)) → classes (taken_behind [] (run item_time is_refusal (map opened files))) ≡ classes_at (taken_behind [] (run item_time is_refusal (map opened files)))
+ByPlaces = (files : List (List Item)) → classes (taken_after [] (run item_time is_refusal (map opened files))) ≡ classes_at (taken_after [] (run item_time is_refusal (map opened files)))

@@ -1,5 +1,5 @@
 -- The report of a run of packets, and of the packets that were taken so far.
-use Rattle.std.specs.Prelude.{ℕ, List, [], ◌∷◌, ◌++◌, ◌+◌, ◌==◌, Bool, false, nat_lt, codes, decimal, length, Option, Some, None, if◌then◌else◌}
+use Rattle.std.specs.Prelude.{ℕ, List, [], ◌∷◌, ◌++◌, ◌+◌, ◌==◌, nat_lt, codes, decimal, length, Option, Some, None, if◌then◌else◌}
 use Rattle.std.specs.List.{flat_map, range_with_len}
 use Rattle.cap_bytes.specs.declared.faults.Refusal.{Refusal}
 use Rattle.cap_bytes.specs.declared.faults.Rule.TheVariants.{TalkLimit}
@@ -55,22 +55,22 @@ body_text xs =
     total_text (length xs) (bytes_of xs) (truncated_of xs) ++ frames_text (counts_of (classes xs)) ++ joined_text (joined_in xs) (given_up_in xs)
     ++ talks_text (length (rows_of (units_of xs))) ++ talk_texts (rows_of (units_of xs))
 
--- the lines of so many files
+-- the lines of the files, of which there are `count`
 unfoldable pub files_part : ℕ → Option (ℕ → Ending) → List Taken → List ℕ
 files_part count endings xs = files_text count ++ flat_map (file_line endings xs) (range_with_len 1 count)
 
--- The report over the packets that were taken of so many files: how these ended is told once all have.
+-- The report over the packets that were taken of `count` files: how these ended is told once all have.
 abbrev pub text_of : ℕ → Option (ℕ → Ending) → List Taken → List ℕ
 text_of count endings xs = files_part count endings xs ++ body_text xs
 
--- the packets of a run behind those that were taken
+-- the packets of a run after those that were taken
 abbrev pub with_item : Option Stamp → Item → List Taken → List Taken
 with_item clock (packet meta frame) xs = record { clock = clock; meta = meta; frame = frame } ∷ xs
 with_item clock (refused refusal) xs = xs
 
-unfoldable pub taken_behind : List Taken → List (Clocked Item) → List Taken
-taken_behind xs [] = xs
-taken_behind xs (x ∷ run) = taken_behind (with_item x.clock x.item xs) run
+unfoldable pub taken_after : List Taken → List (Clocked Item) → List Taken
+taken_after xs [] = xs
+taken_after xs (x ∷ run) = taken_after (with_item x.clock x.item xs) run
 
 -- the refusal of a packet that would open a conversation too many, and the one that ends a run
 abbrev pub refusal_at : Meta → Refusal
@@ -81,26 +81,14 @@ refusal_here xs clock (packet meta frame) =
     if is_limit_at xs (record { clock = clock; meta = meta; frame = frame }) then Some (refusal_at meta) else None
 refusal_here xs clock (refused refusal) = Some refusal
 
--- the first refusal of a run behind those that were taken
-unfoldable pub refusal_behind : List Taken → List (Clocked Item) → Option Refusal
-refusal_behind xs [] = None
-refusal_behind xs (x ∷ run) = or_else (refusal_here xs x.clock x.item) (refusal_behind (with_item x.clock x.item xs) run)
+-- the first refusal of a run after those that were taken
+unfoldable pub refusal_after : List Taken → List (Clocked Item) → Option Refusal
+refusal_after xs [] = None
+refusal_after xs (x ∷ run) = or_else (refusal_here xs x.clock x.item) (refusal_after (with_item x.clock x.item xs) run)
 
--- The report of a run of so many files that end so, and the refusal that is answered instead, if there is one.
+-- The report of a run of `count` files with those endings, and the refusal that is answered instead, if there is one.
 abbrev pub report_text : ℕ → (ℕ → Ending) → List (Clocked Item) → List ℕ
-report_text count endings run = text_of count (Some endings) (taken_behind [] run)
+report_text count endings run = text_of count (Some endings) (taken_after [] run)
 
 abbrev pub report_refusal : List (Clocked Item) → Option Refusal
-report_refusal run = refusal_behind [] run
-
--- the place in a run of the first packet that would open a conversation too many
-abbrev pub place_if : Bool → ℕ → Option ℕ → Option ℕ
-place_if here place rest = if here then Some place else rest
-
-abbrev pub limit_here : List Taken → Option Stamp → Item → Bool
-limit_here xs clock (packet meta frame) = is_limit_at xs (record { clock = clock; meta = meta; frame = frame })
-limit_here xs clock (refused refusal) = false
-
-unfoldable pub limit_behind : List Taken → List (Clocked Item) → Option ℕ
-limit_behind xs [] = None
-limit_behind xs (x ∷ run) = place_if (limit_here xs x.clock x.item) (length xs) (limit_behind (with_item x.clock x.item xs) run)
+report_refusal run = refusal_after [] run

@@ -31,7 +31,7 @@ pub record TallyState : Type 0 where
   pub joiner : JoinerState
   pub waiting : Option Datagram
 
--- A joiner stands for the events of some packets and of one behind them, which completed the datagram that waits.
+-- A joiner stands for the events of some packets and of the next one, which completed the datagram that waits.
 pub record WaitsFor (d : Datagram) (joiner : JoinerState) (xs : List Taken) (next : Option Taken) : Type 0 where
   pub packet : Taken
   pub is_next : next ≡ Some packet
@@ -45,7 +45,7 @@ abbrev pub Joins : Option Datagram → JoinerState → List Taken → Option Tak
 Joins None joiner xs next = joiners.StandsFor joiner (events_of xs)
 Joins (Some d) joiner xs next = WaitsFor d joiner xs next
 
--- A tally stands for some packets that were taken, the latest first, behind which that one comes next.
+-- A tally stands for some packets that were taken, the latest first. `next` is the packet that is known to come next, if one is.
 pub record Stands (t : TallyState) (xs : List Taken) (next : Option Taken) : Type 0 where
   pub place : t.place ≡ length xs
   pub classes : t.classes ≡ counts_of (classes xs)
@@ -81,7 +81,7 @@ unfoldable pub tally_text : TallyState → List ℕ
 tally_text t =
     frames_text t.classes ++ joined_text t.joined t.joiner.given_up ++ (talks_text (length t.talks.rows) ++ talk_texts t.talks.rows)
 
--- so many more packets of a class
+-- n more packets of a class
 abbrev pub with_frames : Class → ℕ → ClassCounts → ClassCounts
 with_frames class.OtherLink n counts = record counts { other_link = counts.other_link + n }
 with_frames class.NotIpv4 n counts = record counts { not_ipv4 = counts.not_ipv4 + n }
@@ -91,7 +91,7 @@ with_frames class.Bad n counts = record counts { bad = counts.bad + n }
 with_frames class.Unjoined n counts = record counts { unjoined = counts.unjoined + n }
 with_frames class.Counted n counts = record counts { counted = counts.counted + n }
 
--- the counts where a packet completes a group of so many fragments, itself one of them: they go from the unjoined ones to a class
+-- the counts after a packet completes a group of n fragments, itself one of them: they move from the unjoined ones to a class
 abbrev pub with_group : Class → ℕ → ClassCounts → ClassCounts
 with_group c n counts = with_frames c n (record counts { unjoined = counts.unjoined + 1 - n })
 
@@ -110,7 +110,7 @@ abbrev pub WaitsIf : Option Datagram → Bool → Type 0
 WaitsIf None waits = waits ≡ false
 WaitsIf (Some d) waits = waits ≡ true
 
--- What a call for one packet more answers: it is refused exactly where its conversation is one too many.
+-- What a call for one packet more answers: `Limit` exactly if the packet's conversation would be one too many.
 abbrev pub LimitBy : Result (Unit {0}) TallyFault → Bool → Type 0
 LimitBy (Ok _) limit = limit ≡ false
 LimitBy (Err faults.Limit) limit = limit ≡ true

@@ -13,7 +13,7 @@ pub record TotalsState : Type 0 where
   pub bytes : ℕ
   pub truncated : ℕ
 
--- what is counted of each of so many files, from that number on
+-- what is counted of each of `count` files, from the number `first` on
 abbrev pub counts_from : ℕ → ℕ → List Taken → List Counts
 counts_from first count xs = map (λ file. counted (metas_of file xs)) (range_with_len first count)
 

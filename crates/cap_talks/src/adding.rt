@@ -31,7 +31,7 @@ pub fn stamped_of(place: u64, meta: &Meta) -> Stamped
     }
 }
 
-// A frame, where it has a time.
+// A frame, if it has a time.
 fn timed(stamped: Stamped) -> Option<Stamped>
     ensures { result ≡ timed stamped stamped.time }
 {

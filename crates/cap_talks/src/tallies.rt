@@ -63,7 +63,7 @@ impl Model for Tally {
     ghost invariant = { IsSoundInside };
 }
 
-// So many more packets of a class.
+// The counts with more packets of a class.
 pub fn with_frames(counts: ClassCounts, class: Class, frames: u64) -> ClassCounts
     requires few { sum_of counts + frames < 2 ^ 64 }
     ensures { result ≡ with_frames class frames counts }
@@ -81,7 +81,7 @@ pub fn with_frames(counts: ClassCounts, class: Class, frames: u64) -> ClassCount
     counts
 }
 
-// So many packets go from the unjoined ones to a class, itself counted for the first time one of them.
+// The counts after a packet completes a group of `frames` fragments, itself one of them: they move from the unjoined ones to a class.
 pub fn with_group(counts: ClassCounts, class: Class, frames: u64) -> ClassCounts
     requires unjoined { frames ≤ counts.unjoined + 1 }
     requires few { sum_of counts + 1 < 2 ^ 64 }
@@ -153,8 +153,8 @@ impl Tally {
         }
     }
 
-    // Looks at a packet that comes next, where no datagram waits: it is counted, or a datagram that it completes waits then, which
-    // is answered.
+    // Looks at the packet that comes next, while no datagram waits. It is counted, or it completes a datagram, which waits from then
+    // on: that is answered.
     fn look_at(
         &mut self,
         clock: Option<Stamp>,
@@ -202,7 +202,7 @@ impl Tally {
         }
     }
 
-    // Counts the datagram that waits.
+    // Counts the datagram that waits, and with it the packet that completed it.
     fn take_waiting(&mut self) -> Result<(), TallyFault>
         requires some { IsSome self.old.waiting }
         requires few { self.old.place < 2 ^ 62 }
@@ -228,7 +228,7 @@ impl Tally {
 
     /// Takes the packet that comes next, which has that clock in the run.
     ///
-    /// `Limit` comes exactly where it completes a unit of a new conversation and 1,048,576 stand, `Memory` where a growth was
+    /// `Limit` comes exactly if it completes a unit of a new conversation and 1,048,576 stand, `Memory` if a growth was
     /// refused. Both leave the counts as they were, and the same call may be made again; a datagram that the packet joined is kept
     /// for it.
     pub fn take(

@@ -2,7 +2,9 @@
 ghost use Rattle.std.specs.Prelude.{◌≤◌, ◌*◌};
 ghost use Rattle.cap_talks.specs.Rows.{frames_in, bytes_in};
 
-use crate::{CountedUnit, End, Talks, TalksFault, ends_of, put_talks, talk_line};
+use crate::talk_lines::{put_talks, talk_line};
+use crate::talks::{Talks, TalksFault};
+use crate::units::{CountedUnit, End, ends_of};
 use cap_bytes::{Fault, Room};
 use cap_ip::Transport;
 use cap_join::Stamped;
