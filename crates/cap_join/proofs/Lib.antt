@@ -1,10 +1,12 @@
 pub mod Changes
 pub mod Chains
 pub mod Punching
+pub mod Reading
 pub mod Growing
 pub mod Mapping
 pub mod Grouping
 pub mod Entries
+pub mod Ages
 pub mod Steps
 pub mod Putting
 pub mod Most

@@ -5,6 +5,7 @@ pub mod Buffers
 pub mod Frames
 pub mod Groups
 pub mod GroupView
+pub mod HeldView
 pub mod History
 pub mod Joiners
 pub mod Tables

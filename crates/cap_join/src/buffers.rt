@@ -4,7 +4,7 @@ ghost use Rattle.cap_join.specs.Holes.{Span, IsChain, HasHoles};
 ghost use Rattle.cap_join.specs.Fragments.{Piece, IsShaped};
 ghost use Rattle.cap_join.specs.Buffers.{Maps, Grown};
 
-use crate::holes::{append_hole, copy, punch};
+use crate::holes::{add_hole, copy, fill};
 use std::alloc::AllocError;
 
 // Makes a buffer as long as a size at least. What is added is a hole. Answers where the holes begin
@@ -24,7 +24,7 @@ fn grow(buffer: &mut Vec<u8>, hole: u32, size: u32) -> Result<u32, AllocError>
         return Ok(hole);
     }
     buffer.resize(size as usize, 0)?;
-    Ok(append_hole(buffer.as_mut_slice(), hole, length as u32))
+    Ok(add_hole(buffer.as_mut_slice(), hole, length as u32))
 }
 
 /// Puts a fragment's data into a buffer, which grows where that ends behind it. Answers where the holes
@@ -48,7 +48,7 @@ pub(crate) fn put_data(
     let end = (start + piece.len() as u32).div_ceil(8) * 8;
     let hole = grow(buffer, hole, end)?;
     let bytes = buffer.as_mut_slice();
-    let hole = punch(bytes, hole, start, end);
+    let hole = fill(bytes, hole, start, end);
     copy(bytes, start as usize, piece);
     Ok(hole)
 }

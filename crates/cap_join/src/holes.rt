@@ -9,8 +9,8 @@
 //! 2. each hole that begins before its end loses the blocks that it covers, which become 0, and what is
 //!    left on either side is described anew;
 //! 3. its data is copied, also over bytes of earlier fragments.
-ghost use Rattle.std.specs.Prelude.{◌≡◌, ℕ, List, ◌+◌, ◌-◌, ◌<◌, ◌≤◌, ◌%◌, ◌^◌, length, slice_index};
-ghost use Rattle.cap_join.specs.Holes.{Span, word_at, IsChain, HasHoles, ChangesWithin, kept, Punched, Appended};
+ghost use Rattle.std.specs.Prelude.{◌≡◌, ℕ, List, ◌+◌, ◌-◌, ◌<◌, ◌≤◌, ◌%◌, ◌^◌, length, slice_index, IfSome};
+ghost use Rattle.cap_join.specs.Holes.{Span, word_at, IsChain, HasHoles, Begins, ChangesWithin, kept, Punched, Continues, Appended};
 
 /// What names no hole.
 pub(crate) const NO_HOLE: u32 = 4_294_967_295;
@@ -47,6 +47,7 @@ fn keep(bytes: &mut [u8], from: u32, to: u32, next: u32) -> u32
     requires begins { from % 8 ≡ 0 }
     requires ends { to % 8 ≡ 0 }
     ensures within { ChangesWithin from to bytes.old bytes.new }
+    ensures place { from < to → result ≡ from }
     ensures chain { (low middle high : ℕ) (ss : List Span) → low ≤ from → low ≤ middle → to ≤ middle → to ≤ high →
         IsChain bytes.old middle high next ss → IsChain bytes.new low high result (kept from to ss) }
 {
@@ -82,18 +83,91 @@ pub(crate) fn copy(bytes: &mut [u8], at: usize, piece: &[u8])
     }
 }
 
-/// Fills a range of whole blocks: each hole loses what lies in it, which becomes 0. Answers where the
-/// holes begin now.
-pub(crate) fn punch(bytes: &mut [u8], at: u32, from: u32, to: u32) -> u32
+// The hole behind one, where it lies below a place whole.
+fn next_below(bytes: &[u8], at: u32, below: u32) -> Option<u32>
+    requires within { at + 8 ≤ length bytes.now }
+    requires next { word_at bytes.now (at + 4) < below → word_at bytes.now (at + 4) + 8 ≤ length bytes.now }
+    ensures { IfSome result (λ next. (next ≡ word_at bytes.now (at + 4)) × (next < below) × (word_at bytes.now next ≤ below)) }
+{
+    let next = word_at(bytes, at as usize + 4);
+    if next >= below {
+        return None;
+    }
+    if word_at(bytes, next as usize) > below {
+        return None;
+    }
+    Some(next)
+}
+
+// The last of some holes that lies below a place whole; the first does.
+fn last_below(bytes: &[u8], at: u32, below: u32) -> u32
+    requires holes { HasHoles bytes.now (length bytes.now) at }
+    requires first { at < below }
+    requires whole { word_at bytes.now at ≤ below }
+    requires within { below ≤ length bytes.now }
+    requires short { length bytes.now < 2 ^ 17 }
+    ensures first { result < below }
+    ensures whole { word_at bytes.now result ≤ below }
+    ensures begins { (low high : ℕ) (ss : List Span) → IsChain bytes.now low high at ss → Begins below result ss }
+{
+    let mut last = at;
+    while let Some(next) = next_below(bytes, last, below) {
+        last = next;
+    }
+    last
+}
+
+// The hole at a place, where it lies in a range whole: its end.
+fn covered_end(bytes: &[u8], at: u32, from: u32, to: u32) -> Option<u32>
+    requires { at < to → at + 8 ≤ length bytes.now }
+    ensures { IfSome result (λ end. (end ≡ word_at bytes.now at) × (from ≤ at) × (at < to) × (end ≤ to)) }
+{
+    if at >= to {
+        return None;
+    }
+    if at < from {
+        return None;
+    }
+    let end = word_at(bytes, at as usize);
+    if end > to {
+        return None;
+    }
+    Some(end)
+}
+
+// Fills those of some holes that lie in a range whole, up to the first that doesn't. Answers where the others begin.
+fn cover(bytes: &mut [u8], at: u32, from: u32, to: u32) -> u32
+    requires holes { HasHoles bytes.old (length bytes.old) at }
+    requires within { to ≤ length bytes.old }
+    requires short { length bytes.old < 2 ^ 17 }
+    ensures holes { HasHoles bytes.new (length bytes.new) result }
+    ensures rises { at ≤ result }
+    ensures stays { at < from → (result ≡ at) × (bytes.new ≡ bytes.old) }
+    ensures punched { Continues from to bytes.old at bytes.new result }
+{
+    let mut first = at;
+    while let Some(end) = covered_end(bytes, first, from, to) {
+        let next = word_at(bytes, first as usize + 4);
+        clear(bytes, first as usize, end as usize);
+        first = next;
+    }
+    first
+}
+
+// Fills a range of whole blocks: each hole loses what lies in it, which becomes 0. Answers where the
+// holes begin now. A first hole that lies below the range stays where it is.
+fn punch(bytes: &mut [u8], at: u32, from: u32, to: u32) -> u32
     requires holes { HasHoles bytes.old (length bytes.old) at }
     requires begins { from % 8 ≡ 0 }
     requires ends { to % 8 ≡ 0 }
     requires some { from < to }
     requires within { to ≤ length bytes.old }
     requires short { length bytes.old < 2 ^ 17 }
-    ensures { (low : ℕ) (ss : List Span) → IsChain bytes.old low (length bytes.old) at ss →
+    ensures punched { (low : ℕ) (ss : List Span) → IsChain bytes.old low (length bytes.old) at ss →
         Punched from to bytes.old ss low (length bytes.old) result bytes.new }
+    ensures stays { at < from → word_at bytes.old at ≤ from → result ≡ at }
 {
+    let at = cover(bytes, at, from, to);
     if at >= to {
         return at;
     }
@@ -105,8 +179,52 @@ pub(crate) fn punch(bytes: &mut [u8], at: u32, from: u32, to: u32) -> u32
     keep(bytes, at, end.min(from), right)
 }
 
-/// Describes the bytes from a place on as the last hole, and answers where the holes begin now.
-pub(crate) fn append_hole(bytes: &mut [u8], at: u32, from: u32) -> u32
+/// Fills a range of whole blocks, as `punch` does, and only reads the holes that lie below it. Answers where
+/// the holes begin now.
+pub(crate) fn fill(bytes: &mut [u8], at: u32, from: u32, to: u32) -> u32
+    requires holes { HasHoles bytes.old (length bytes.old) at }
+    requires begins { from % 8 ≡ 0 }
+    requires ends { to % 8 ≡ 0 }
+    requires some { from < to }
+    requires within { to ≤ length bytes.old }
+    requires short { length bytes.old < 2 ^ 17 }
+    ensures { (low : ℕ) (ss : List Span) → IsChain bytes.old low (length bytes.old) at ss →
+        Punched from to bytes.old ss low (length bytes.old) result bytes.new }
+{
+    if at >= from {
+        return punch(bytes, at, from, to);
+    }
+    if word_at(bytes, at as usize) > from {
+        return punch(bytes, at, from, to);
+    }
+    let last = last_below(bytes, at, from);
+    punch(bytes, last, from, to);
+    at
+}
+
+// Describes the bytes from a place on as the last hole, and answers where the holes begin now.
+fn append_hole(bytes: &mut [u8], at: u32, from: u32) -> u32
+    requires holes { HasHoles bytes.old from at }
+    requires begins { from % 8 ≡ 0 }
+    requires ends { length bytes.old % 8 ≡ 0 }
+    requires some { from < length bytes.old }
+    requires short { length bytes.old < 2 ^ 17 }
+    ensures appended { (low : ℕ) (ss : List Span) → low ≤ from → IsChain bytes.old low from at ss →
+        Appended bytes.old ss low from result bytes.new }
+    ensures stays { at < from → result ≡ at }
+{
+    if at >= from {
+        return keep(bytes, from, bytes.len() as u32, NO_HOLE);
+    }
+    let end = word_at(bytes, at as usize);
+    let next = word_at(bytes, at as usize + 4);
+    let rest = append_hole(bytes, next, from);
+    keep(bytes, at, end, rest)
+}
+
+/// Describes the bytes from a place on as the last hole, as `append_hole` does, and only reads the holes before the
+/// last one. Answers where the holes begin now.
+pub(crate) fn add_hole(bytes: &mut [u8], at: u32, from: u32) -> u32
     requires holes { HasHoles bytes.old from at }
     requires begins { from % 8 ≡ 0 }
     requires ends { length bytes.old % 8 ≡ 0 }
@@ -116,10 +234,9 @@ pub(crate) fn append_hole(bytes: &mut [u8], at: u32, from: u32) -> u32
         Appended bytes.old ss low from result bytes.new }
 {
     if at >= from {
-        return keep(bytes, from, bytes.len() as u32, NO_HOLE);
+        return append_hole(bytes, at, from);
     }
-    let end = word_at(bytes, at as usize);
-    let next = word_at(bytes, at as usize + 4);
-    let rest = append_hole(bytes, next, from);
-    keep(bytes, at, end, rest)
+    let last = last_below(bytes, at, from);
+    append_hole(bytes, last, from);
+    at
 }

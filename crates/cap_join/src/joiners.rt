@@ -9,7 +9,7 @@ ghost use Rattle.cap_join.specs.Joiners.{StandsFor, IsAnswer, most_bytes, held_o
 ghost use Rattle.cap_join.specs.declared.datagrams.JoinFault.TheVariants.{Memory};
 
 use crate::datagrams::{JoinFault, Put, Stamped};
-use crate::groups::Group;
+use crate::held::Held;
 use crate::tables::{most_bytes, put_fragment};
 use cap_ip::{Header, Key};
 use cap_time::Stamp;
@@ -30,7 +30,8 @@ use std::marker::Model;
 /// keys that were flushed, the latest first.
 #[derive(Drop)]
 pub struct Joiner {
-    groups: IndexMap<Key, Group>,
+    groups: IndexMap<Key, Held>,
+    deadline: Option<Stamp>,
     next: u64,
     given_up: u64,
     alloc: Global,
@@ -56,6 +57,7 @@ impl Joiner {
     {
         Joiner {
             groups: IndexMap::new(alloc),
+            deadline: None,
             next: 0,
             given_up: 0,
             alloc,
@@ -93,6 +95,7 @@ impl Joiner {
         };
         match put_fragment(
             &mut self.groups,
+            &mut self.deadline,
             self.alloc,
             clock,
             header,

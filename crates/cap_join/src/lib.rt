@@ -5,6 +5,7 @@ mod arrivals;
 mod buffers;
 mod datagrams;
 mod groups;
+mod held;
 mod holes;
 mod joiners;
 mod laws;

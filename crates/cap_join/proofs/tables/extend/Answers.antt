@@ -1,13 +1,32 @@
-use Rattle.std.proofs.Common.{◌≡◌, ◌∙◌, ◌+◌, Bool, true, false, sym, ap, subst, Some, None}
-use Rattle.std.specs.Map.{remove_entry}
+use Rattle.std.proofs.Common.{◌≡◌, ◌∙◌, ◌+◌, Bool, List, true, false, sym, ap, subst, Some, None}
+use Rattle.std.specs.List.{IsDistinct}
+use Rattle.std.specs.Map.{keys_of, remove_entry}
 use Rattle.cap_ip.specs.Header.{HeaderFields}
 use Rattle.cap_ip.specs.declared.headers.Key.{Key}
 use Rattle.cap_join.specs.Fragments.{Piece, piece_of}
 use Rattle.cap_join.specs.History.{same_key, key_of}
+use Rattle.cap_join.specs.Joiners.{Entry, IsDeadline}
 use Rattle.cap_join.specs.Tables.{entry_at, has_live, PutsAt}
 use Rattle.cap_join.proofs.Grouping.{piece_of-header}
+use Rattle.cap_join.proofs.Ages.{keys_of-set_value, IsDeadline-put, IsDeadline-removed}
 use Rattle.cap_join.proofs.Putting.{there, found_after, Puts-kept, Puts-joined, IsTable-put, IsTable-removed}
 use Rattle.cap_join.proofs.tables.extend.Goals as goal
+
+unique_after : (key : Key) (p : Piece) (es mid : List Entry) (complete : Bool) → IsDistinct same_key (keys_of es) → PutsAt key p es complete mid → IsDistinct same_key (keys_of mid)
+unique_after key p es mid complete apart a =
+    subst (IsDistinct same_key) (sym (ap keys_of a.now ∙ keys_of-set_value (same_key key) es a.after)) apart
+
+pub drop_old-requires : goal.drop_old-requires
+drop_old-requires c =
+    let a = c.in_ok-complete.ensures.ok in
+    record {
+      deadline = subst (IsDeadline c.args.deadline.now) (sym a.now)
+          (IsDeadline-put (same_key c.args.key.now) c.args.deadline.now a.before a.after c.args.groups.now.entries a.was a.clock c.requires.deadline);
+    }
+
+pub returns-clause-deadline : goal.returns-clause-deadline
+returns-clause-deadline c =
+    IsDeadline-removed (same_key c.args.key.now) c.drop_old.new.deadline c.drop_old.new.groups.entries c.shift_remove.new.self.entries c.shift_remove.ensures.entries c.drop_old.ensures.deadline
 
 pub put_at-requires-clause-there : goal.put_at-requires-clause-there
 put_at-requires-clause-there c = there c.args.key.now c.args.clock c.args.stamped.place c.args.groups.now.entries c.requires.table c.requires.last c.requires.live
@@ -26,7 +45,7 @@ returns-then-not-complete-clause-ok c = λ os entries.
 pub returns-then-not-complete-clause-table : goal.returns-then-not-complete-clause-table
 returns-then-not-complete-clause-table c =
     IsTable-put c.args.key.now (piece_of c.args.header.now c.args.piece.now c.args.stamped) c.args.clock c.args.stamped.place c.args.groups.now.entries c.put_at.new.groups.entries c.drop_old.new.groups.entries
-    c.in_ok-complete.complete c.requires.table c.in_ok-complete.ensures.ok c.drop_old.ensures.entries c.drop_old.ensures.unique
+    c.in_ok-complete.complete c.requires.table c.in_ok-complete.ensures.ok c.drop_old.ensures.entries (c.drop_old.ensures.unique (unique_after c.args.key.now (piece_of c.args.header.now c.args.piece.now c.args.stamped) c.args.groups.now.entries c.put_at.new.groups.entries c.in_ok-complete.complete c.requires.table.unique c.in_ok-complete.ensures.ok))
 
 pub unreachable-requires : goal.unreachable-requires
 unreachable-requires c =
@@ -47,7 +66,7 @@ returns-clause-ok c = λ os entries.
     Puts-joined c.args.clock p es c.requires.table.unique os entries mid late c.shift_remove.new.self.entries c.in-Some.group c.into_datagram.result
     (subst (λ (k : Key). has_live k c.args.clock es ≡ true) key c.requires.live)
     (subst (λ (k : Key). PutsAt k p es true mid) key (subst (λ (b : Bool). PutsAt c.args.key.now p es b mid) c.if-not-complete.false c.in_ok-complete.ensures.ok))
-    c.drop_old.ensures.entries c.drop_old.ensures.unique
+    c.drop_old.ensures.entries (c.drop_old.ensures.unique (unique_after c.args.key.now (piece_of c.args.header.now c.args.piece.now c.args.stamped) c.args.groups.now.entries c.put_at.new.groups.entries c.in_ok-complete.complete c.requires.table.unique c.in_ok-complete.ensures.ok))
     (subst (λ (k : Key). Some c.in-Some.group ≡ entry_at k late) key c.in-Some.ensures.value)
     (subst (λ (k : Key). c.shift_remove.new.self.entries ≡ remove_entry (same_key k) late) key c.shift_remove.ensures.entries)
     c.into_datagram.ensures.datagram
@@ -56,5 +75,5 @@ pub returns-clause-table : goal.returns-clause-table
 returns-clause-table c =
     IsTable-removed (same_key c.args.key.now) (c.args.stamped.place + 1) c.drop_old.new.groups.entries c.shift_remove.new.self.entries
     (IsTable-put c.args.key.now (piece_of c.args.header.now c.args.piece.now c.args.stamped) c.args.clock c.args.stamped.place c.args.groups.now.entries c.put_at.new.groups.entries c.drop_old.new.groups.entries
-    c.in_ok-complete.complete c.requires.table c.in_ok-complete.ensures.ok c.drop_old.ensures.entries c.drop_old.ensures.unique)
+    c.in_ok-complete.complete c.requires.table c.in_ok-complete.ensures.ok c.drop_old.ensures.entries (c.drop_old.ensures.unique (unique_after c.args.key.now (piece_of c.args.header.now c.args.piece.now c.args.stamped) c.args.groups.now.entries c.put_at.new.groups.entries c.in_ok-complete.complete c.requires.table.unique c.in_ok-complete.ensures.ok)))
     c.shift_remove.ensures.entries c.shift_remove.ensures.unique

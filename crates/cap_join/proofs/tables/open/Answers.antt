@@ -4,10 +4,12 @@ use Rattle.cap_ip.specs.declared.headers.Key.{Key}
 use Rattle.cap_join.specs.declared.datagrams.Stamped.{Stamped}
 use Rattle.cap_join.specs.Fragments.{Piece, piece_of}
 use Rattle.cap_join.specs.ByteMap.{completes}
-use Rattle.cap_join.specs.Groups.{IsGroupOf}
+use Rattle.cap_join.specs.Frames.{deadline_of, sooner}
+use Rattle.cap_join.specs.Groups.{GroupState, IsGroupOf}
 use Rattle.cap_join.specs.History.{key_of}
 use Rattle.cap_join.specs.Tables.{has_live, live_entries}
 use Rattle.cap_join.proofs.Grouping.{piece_of-header, piece_of-stamped}
+use Rattle.cap_join.proofs.Ages.{IsDeadline-opened}
 use Rattle.cap_join.proofs.Putting.{new_key, Puts-alone, Puts-opened, IsTable-live, IsTable-opened}
 use Rattle.cap_join.proofs.tables.open.Goals as goal
 
@@ -24,7 +26,7 @@ returns-then-is_complete-clause-ok c = λ os entries.
 
 pub returns-then-is_complete-clause-table : goal.returns-then-is_complete-clause-table
 returns-then-is_complete-clause-table c =
-    IsTable-live c.args.clock c.args.stamped.place c.args.groups.now.entries c.drop_old.new.groups.entries c.requires.table c.drop_old.ensures.entries c.drop_old.ensures.unique
+    IsTable-live c.args.clock c.args.stamped.place c.args.groups.now.entries c.drop_old.new.groups.entries c.requires.table c.drop_old.ensures.entries (c.drop_old.ensures.unique c.requires.table.unique)
 
 pub add-requires-clause-new : goal.add-requires-clause-new
 add-requires-clause-new c =
@@ -44,10 +46,15 @@ returns-clause-ok c = λ os entries.
     (c.in_ok-put.ensures.clock ∙ c.new-group.ensures.clock)
     (c.in_ok-put.ensures.place ∙ c.new-group.ensures.place ∙ sym (ap (λ (s : Stamped). s.place) (piece_of-stamped c.args.header.now c.args.piece.now c.args.stamped c.args.fragment c.requires.fragment)))
     (c.drop_old-2.ensures.entries ∙ ap (live_entries c.args.clock) c.reserve.ensures.entries) c.make_place-gave_up.ensures.value c.make_place-gave_up.ensures.entries
-    (subst (λ (k : Key). c.add.new.groups.entries ≡ c.make_place-gave_up.new.groups.entries ++ (k, c.put.new.self) ∷ []) key c.add.ensures.entries)
+    (subst (λ (k : Key). c.add.new.groups.entries ≡ c.make_place-gave_up.new.groups.entries ++ (k, c.put.new.self) ∷ []) key (c.add.ensures.entries ∙ ap (λ (s : GroupState). c.make_place-gave_up.new.groups.entries ++ (c.args.key.now, s) ∷ []) c.in_ok-group.ensures.group))
 
 pub returns-clause-table : goal.returns-clause-table
 returns-clause-table c =
     IsTable-opened c.args.clock c.args.key.now c.args.stamped.place c.put.new.self c.args.groups.now.entries c.drop_old-2.new.groups.entries c.make_place-gave_up.new.groups.entries c.add.new.groups.entries c.make_place-gave_up.result
-    c.requires.table (c.drop_old-2.ensures.entries ∙ ap (live_entries c.args.clock) c.reserve.ensures.entries) c.make_place-gave_up.ensures.value c.make_place-gave_up.ensures.entries c.add.ensures.entries
+    c.requires.table (c.drop_old-2.ensures.entries ∙ ap (live_entries c.args.clock) c.reserve.ensures.entries) c.make_place-gave_up.ensures.value c.make_place-gave_up.ensures.entries (c.add.ensures.entries ∙ ap (λ (s : GroupState). c.make_place-gave_up.new.groups.entries ++ (c.args.key.now, s) ∷ []) c.in_ok-group.ensures.group)
     (c.in_ok-put.ensures.place ∙ c.new-group.ensures.place) (omega (arith, c.in_ok-put.ensures.frames, c.new-group.ensures.group.frames)) c.add.ensures.unique
+
+pub returns-clause-deadline : goal.returns-clause-deadline
+returns-clause-deadline c =
+    IsDeadline-opened c.drop_old-2.new.deadline _ c.drop_old-2.new.groups.entries c.make_place-gave_up.new.groups.entries c.add.new.groups.entries c.make_place-gave_up.result c.args.key.now c.put.new.self
+    c.make_place-gave_up.ensures.entries (c.sooner.ensures ∙ ap (sooner c.drop_old-2.new.deadline) (c.deadline.ensures ∙ ap (λ (s : GroupState). deadline_of s.clock) c.in_ok-group.ensures.group)) (c.add.ensures.entries ∙ ap (λ (s : GroupState). c.make_place-gave_up.new.groups.entries ++ (c.args.key.now, s) ∷ []) c.in_ok-group.ensures.group) c.drop_old-2.ensures.deadline

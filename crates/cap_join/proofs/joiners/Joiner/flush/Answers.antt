@@ -1,6 +1,7 @@
 use Rattle.std.proofs.Common.{List, sym, subst}
 use Rattle.cap_join.specs.History.{same_key, state_of, step, without}
 use Rattle.cap_join.specs.Joiners.{Entry, JoinerState, StandsFor, AreEntriesOf, open_limit}
+use Rattle.cap_join.proofs.Ages.{IsDeadline-removed}
 use Rattle.cap_join.proofs.Steps.{AreEntriesOf-without}
 use Rattle.cap_join.proofs.Putting.{IsTable-removed}
 use Rattle.cap_join.proofs.joiners.Joiner.flush.Goals as goal
@@ -8,6 +9,7 @@ use Rattle.cap_join.proofs.joiners.Joiner.flush.Goals as goal
 pub invariant_of-self : goal.invariant_of-self
 invariant_of-self c = record {
   table = IsTable-removed (same_key c.args.key) c.self.inside.next c.self.inside.groups.entries c.shift_remove.new.self.entries c.self.invariant.table c.shift_remove.ensures.entries c.shift_remove.ensures.unique;
+  deadline = IsDeadline-removed (same_key c.args.key) c.self.inside.deadline c.self.inside.groups.entries c.shift_remove.new.self.entries c.shift_remove.ensures.entries c.self.invariant.deadline;
   given_up = c.self.invariant.given_up;
   next = c.self.invariant.next;
 }
