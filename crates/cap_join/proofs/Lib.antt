@@ -4,6 +4,7 @@ pub mod Punching
 pub mod Reading
 pub mod Growing
 pub mod Mapping
+pub mod Cursors
 pub mod Grouping
 pub mod Entries
 pub mod Ages

@@ -98,16 +98,33 @@ Punched-skip a b low high at s ss old new hole below tail behind =
     in_tail f t i true le p q = refl
     in_tail f t i false le p q = grind (arith, nat_tests, p, q)
 
--- A range is filled from the last hole below it on.
-pub Punched-behind : (a b low high at last : ℕ) (ss : List Span) (old new : List ℕ) → IsChain old low high at ss → Begins a last ss
-    → ((low : ℕ) (ss : List Span) → IsChain old low high last ss → Punched a b old ss low high last new) → Punched a b old ss low high at new
-Punched-behind a b low high at last [] old new chain begins from = absurd begins
-Punched-behind a b low high at last (s ∷ ss) old new chain (inl p) from =
+-- a chain's first hole is one of its holes
+begins_here : (xs : List ℕ) (low high at : ℕ) (ss : List Span) → at < no_hole → IsChain xs low high at ss → Begins high at ss
+begins_here xs low high at [] near chain = absurd (omega (arith, chain))
+begins_here xs low high at (s ∷ ss) near chain = inl (sym chain.0.here, chain.0.within)
+
+-- What is left once a range is filled, where one of the holes that are left is known.
+pub record PunchedFrom (a b : ℕ) (old : List ℕ) (ss : List Span) (low high at last : ℕ) (new : List ℕ) : Type 0 where
+  pub punched : Punched a b old ss low high at new
+  pub begins : Begins high last punched.spans
+
+PunchedFrom-skip : (a b low high at last : ℕ) (s : Span) (ss : List Span) (old new : List ℕ) → IsHole old low high at s → s.to ≤ a → IsChain old s.to high (word_at old (s.from + 4)) ss
+    → PunchedFrom a b old ss s.to high (word_at old (s.from + 4)) last new → PunchedFrom a b old (s ∷ ss) low high at last new
+unfolding Punched-skip
+PunchedFrom-skip a b low high at last s ss old new hole below tail behind =
+    record { punched = Punched-skip a b low high at s ss old new hole below tail behind.punched; begins = inr behind.begins }
+
+-- A range is filled from the last hole below it on, which stays.
+pub Punched-behind : (a b low high at last : ℕ) (ss : List Span) (old new : List ℕ) → last < no_hole → IsChain old low high at ss → Begins a last ss
+    → ((low : ℕ) (ss : List Span) → IsChain old low high last ss → Punched a b old ss low high last new) → PunchedFrom a b old ss low high at last new
+Punched-behind a b low high at last [] old new near chain begins from = absurd begins
+Punched-behind a b low high at last (s ∷ ss) old new near chain (inl p) from =
     let here : at ≡ last = chain.0.here ∙ p.0 in
-    subst (λ (n : ℕ). Punched a b old (s ∷ ss) low high n new) (sym here) (from low (s ∷ ss) (subst (λ (n : ℕ). IsChain old low high n (s ∷ ss)) here chain))
-Punched-behind a b low high at last (s ∷ ss) old new chain (inr begins) from =
-    Punched-skip a b low high at s ss old new chain.0 (Begins-low old a last s.to high (word_at old (s.from + 4)) ss chain.1 begins) chain.1
-    (Punched-behind a b s.to high (word_at old (s.from + 4)) last ss old new chain.1 begins from)
+    let q : Punched a b old (s ∷ ss) low high last new = from low (s ∷ ss) (subst (λ (n : ℕ). IsChain old low high n (s ∷ ss)) here chain) in
+    subst (λ (n : ℕ). PunchedFrom a b old (s ∷ ss) low high n last new) (sym here) (record { punched = q; begins = begins_here new low high last q.spans near q.chain })
+Punched-behind a b low high at last (s ∷ ss) old new near chain (inr begins) from =
+    PunchedFrom-skip a b low high at last s ss old new chain.0 (Begins-low old a last s.to high (word_at old (s.from + 4)) ss chain.1 begins) chain.1
+    (Punched-behind a b s.to high (word_at old (s.from + 4)) last ss old new near chain.1 begins from)
 
 -- a hole before the last one
 Appended-skip : (low high at : ℕ) (s : Span) (ss : List Span) (old new : List ℕ) → high ≤ length old → IsHole old low high at s → IsChain old s.to high (word_at old (s.from + 4)) ss
@@ -127,16 +144,28 @@ Appended-skip low high at s ss old new short hole tail behind =
       kept_bytes = λ i p q. behind.kept_bytes i p (or_false_right (is_within s.from s.to i) (in_hole ss i) q);
     }
 
--- A hole is added behind the last one.
-pub Appended-behind : (below low high at last : ℕ) (ss : List Span) (old new : List ℕ) → high ≤ length old → low ≤ high → IsChain old low high at ss → Begins below last ss
-    → ((low : ℕ) (ss : List Span) → low ≤ high → IsChain old low high last ss → Appended old ss low high last new) → Appended old ss low high at new
-Appended-behind below low high at last [] old new short le chain begins from = absurd begins
-Appended-behind below low high at last (s ∷ ss) old new short le chain (inl p) from =
+-- The same with a hole added after them.
+pub record AppendedFrom (old : List ℕ) (ss : List Span) (low high at last : ℕ) (new : List ℕ) : Type 0 where
+  pub appended : Appended old ss low high at new
+  pub begins : Begins (length old) last appended.spans
+
+AppendedFrom-skip : (low high at last : ℕ) (s : Span) (ss : List Span) (old new : List ℕ) → high ≤ length old → IsHole old low high at s → IsChain old s.to high (word_at old (s.from + 4)) ss
+    → AppendedFrom old ss s.to high (word_at old (s.from + 4)) last new → AppendedFrom old (s ∷ ss) low high at last new
+unfolding Appended-skip
+AppendedFrom-skip low high at last s ss old new short hole tail behind =
+    record { appended = Appended-skip low high at s ss old new short hole tail behind.appended; begins = inr behind.begins }
+
+-- A hole is added after the last one, which stays.
+pub Appended-behind : (below low high at last : ℕ) (ss : List Span) (old new : List ℕ) → last < no_hole → high ≤ length old → low ≤ high → IsChain old low high at ss → Begins below last ss
+    → ((low : ℕ) (ss : List Span) → low ≤ high → IsChain old low high last ss → Appended old ss low high last new) → AppendedFrom old ss low high at last new
+Appended-behind below low high at last [] old new near short le chain begins from = absurd begins
+Appended-behind below low high at last (s ∷ ss) old new near short le chain (inl p) from =
     let here : at ≡ last = chain.0.here ∙ p.0 in
-    subst (λ (n : ℕ). Appended old (s ∷ ss) low high n new) (sym here) (from low (s ∷ ss) le (subst (λ (n : ℕ). IsChain old low high n (s ∷ ss)) here chain))
-Appended-behind below low high at last (s ∷ ss) old new short le chain (inr begins) from =
-    Appended-skip low high at s ss old new short chain.0 chain.1
-    (Appended-behind below s.to high (word_at old (s.from + 4)) last ss old new short chain.0.within chain.1 begins from)
+    let q : Appended old (s ∷ ss) low high last new = from low (s ∷ ss) le (subst (λ (n : ℕ). IsChain old low high n (s ∷ ss)) here chain) in
+    subst (λ (n : ℕ). AppendedFrom old (s ∷ ss) low high n last new) (sym here) (record { appended = q; begins = begins_here new low (length old) last q.spans near q.chain })
+Appended-behind below low high at last (s ∷ ss) old new near short le chain (inr begins) from =
+    AppendedFrom-skip low high at last s ss old new short chain.0 chain.1
+    (Appended-behind below s.to high (word_at old (s.from + 4)) last ss old new near short chain.0.within chain.1 begins from)
 
 -- a hole that lies in the range whole is cleared
 Punched-covered : (a b low high at : ℕ) (s : Span) (ss : List Span) (old mid new : List ℕ) (result : ℕ) → IsHole old low high at s → a ≤ s.from → s.to ≤ b → IsChain old s.to high (word_at old (s.from + 4)) ss

@@ -49,6 +49,16 @@ pub record HasHoles (bytes : List ℕ) (high at : ℕ) : Type 0 where
   pub spans : List Span
   pub chain : IsChain bytes 0 high at spans
 
+-- A cursor is one of the holes, or names none.
+abbrev pub HasCursor : List ℕ → ℕ → ℕ → ℕ → Type 0
+HasCursor bytes high first cursor = (ss : List Span) → IsChain bytes 0 high first ss → cursor < no_hole → Begins high cursor ss
+
+-- One of the holes begins at a place and lies below another whole.
+pub record IsBefore (bytes : List ℕ) (first below at : ℕ) : Type 0 where
+  pub here : at < below
+  pub whole : word_at bytes at ≤ below
+  pub begins : (high : ℕ) (ss : List Span) → high < no_hole → IsChain bytes 0 high first ss → Begins below at ss
+
 -- Bytes change from a place up to another alone.
 pub record ChangesWithin (from to : ℕ) (old new : List ℕ) : Type 0 where
   pub length_is : length new ≡ length old

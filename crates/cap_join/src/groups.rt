@@ -10,7 +10,7 @@ ghost use Rattle.cap_join.specs.Groups.{IsGroupOf, IsDatagramOf};
 
 use crate::buffers::put_data;
 use crate::datagrams::{Datagram, Stamped};
-use crate::holes::NO_HOLE;
+use crate::holes::{HoleList, NO_HOLE};
 use cap_ip::{Fragment, Header};
 use cap_time::Stamp;
 use std::alloc::{AllocError, Global};
@@ -24,7 +24,7 @@ const WAIT: u32 = 30;
 #[derive(Drop)]
 pub(crate) struct Group {
     buffer: Vec<u8>,
-    hole: u32,
+    holes: HoleList,
     total: Option<u32>,
     header: Header,
     frames: u64,
@@ -153,7 +153,10 @@ impl Group {
     {
         Group {
             buffer: Vec::new(alloc),
-            hole: NO_HOLE,
+            holes: HoleList {
+                first: NO_HOLE,
+                cursor: NO_HOLE,
+            },
             total: None,
             header: *header,
             frames: 0,
@@ -183,7 +186,7 @@ impl Group {
         ensures place { self.new.place ≡ self.old.place }
         ensures err { OnErr result (self.new ≡ self.old) }
     {
-        self.hole = put_data(&mut self.buffer, self.hole, fragment.start, piece)?;
+        self.holes = put_data(&mut self.buffer, self.holes, fragment.start, piece)?;
         self.total = total_after(self.total, fragment);
         self.header = header_after(self.header, fragment.start, header);
         self.frames += 1;
@@ -199,7 +202,7 @@ impl Group {
     {
         match self.total {
             None => false,
-            Some(total) => self.hole >= total,
+            Some(total) => self.holes.first >= total,
         }
     }
 
@@ -238,7 +241,7 @@ impl Group {
     {
         let Group {
             mut buffer,
-            hole: _hole,
+            holes: _holes,
             total,
             header,
             frames,

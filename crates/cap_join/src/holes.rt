@@ -9,11 +9,19 @@
 //! 2. each hole that begins before its end loses the blocks that it covers, which become 0, and what is
 //!    left on either side is described anew;
 //! 3. its data is copied, also over bytes of earlier fragments.
-ghost use Rattle.std.specs.Prelude.{◌≡◌, ℕ, List, ◌+◌, ◌-◌, ◌<◌, ◌≤◌, ◌%◌, ◌^◌, length, slice_index, IfSome};
-ghost use Rattle.cap_join.specs.Holes.{Span, word_at, IsChain, HasHoles, Begins, ChangesWithin, kept, Punched, Continues, Appended};
+ghost use Rattle.std.specs.Prelude.{◌≡◌, ℕ, List, ◌+◌, ◌-◌, ◌<◌, ◌≤◌, ◌%◌, ◌^◌, length, slice_index, IsTrue, IfSome};
+ghost use Rattle.cap_join.specs.Holes.{Span, word_at, IsChain, HasHoles, Begins, HasCursor, IsBefore, ChangesWithin, kept, Punched, Continues, Appended};
 
 /// What names no hole.
 pub(crate) const NO_HOLE: u32 = 4_294_967_295;
+
+/// Where the holes of a buffer begin, and the cursor: the last hole below the fragment that was put last, or none. A
+/// walk to a place after it begins there.
+#[derive(Clone, Copy)]
+pub(crate) struct HoleList {
+    pub(crate) first: u32,
+    pub(crate) cursor: u32,
+}
 
 // The little-endian number of 32 bits at a place.
 #[tactic(auto, unfolding(crate::specs::Holes::word_at))]
@@ -83,17 +91,25 @@ pub(crate) fn copy(bytes: &mut [u8], at: usize, piece: &[u8])
     }
 }
 
-// The hole behind one, where it lies below a place whole.
+// Whether a hole lies below a place whole.
+fn lies_below(bytes: &[u8], at: u32, below: u32) -> bool
+    requires { at < below → at + 8 ≤ length bytes.now }
+    ensures { IsTrue result → (at < below) × (word_at bytes.now at ≤ below) }
+{
+    if at >= below {
+        return false;
+    }
+    word_at(bytes, at as usize) <= below
+}
+
+// The hole after one, if it lies below a place whole.
 fn next_below(bytes: &[u8], at: u32, below: u32) -> Option<u32>
     requires within { at + 8 ≤ length bytes.now }
     requires next { word_at bytes.now (at + 4) < below → word_at bytes.now (at + 4) + 8 ≤ length bytes.now }
     ensures { IfSome result (λ next. (next ≡ word_at bytes.now (at + 4)) × (next < below) × (word_at bytes.now next ≤ below)) }
 {
     let next = word_at(bytes, at as usize + 4);
-    if next >= below {
-        return None;
-    }
-    if word_at(bytes, next as usize) > below {
+    if !lies_below(bytes, next, below) {
         return None;
     }
     Some(next)
@@ -115,6 +131,37 @@ fn last_below(bytes: &[u8], at: u32, below: u32) -> u32
         last = next;
     }
     last
+}
+
+// Where a walk to a place may begin: at the cursor, else at the first hole, if that lies below the place whole.
+fn start_below(bytes: &[u8], holes: HoleList, below: u32) -> Option<u32>
+    requires holes { HasHoles bytes.now (length bytes.now) holes.first }
+    requires cursor { HasCursor bytes.now (length bytes.now) holes.first holes.cursor }
+    requires within { below ≤ length bytes.now }
+    requires short { length bytes.now < 2 ^ 17 }
+    ensures { IfSome result (λ at. IsBefore bytes.now holes.first below at) }
+{
+    if lies_below(bytes, holes.cursor, below) {
+        return Some(holes.cursor);
+    }
+    if lies_below(bytes, holes.first, below) {
+        return Some(holes.first);
+    }
+    None
+}
+
+// The last hole that lies below a place whole. `None` only if the first one doesn't.
+fn last_before(bytes: &[u8], holes: HoleList, below: u32) -> Option<u32>
+    requires holes { HasHoles bytes.now (length bytes.now) holes.first }
+    requires cursor { HasCursor bytes.now (length bytes.now) holes.first holes.cursor }
+    requires within { below ≤ length bytes.now }
+    requires short { length bytes.now < 2 ^ 17 }
+    ensures { IfSome result (λ at. IsBefore bytes.now holes.first below at) }
+{
+    match start_below(bytes, holes, below) {
+        None => None,
+        Some(at) => Some(last_below(bytes, at, below)),
+    }
 }
 
 // The hole at a place, where it lies in a range whole: its end.
@@ -179,27 +226,33 @@ fn punch(bytes: &mut [u8], at: u32, from: u32, to: u32) -> u32
     keep(bytes, at, end.min(from), right)
 }
 
-/// Fills a range of whole blocks, as `punch` does, and only reads the holes that lie below it. Answers where
-/// the holes begin now.
-pub(crate) fn fill(bytes: &mut [u8], at: u32, from: u32, to: u32) -> u32
-    requires holes { HasHoles bytes.old (length bytes.old) at }
+/// Fills a range of whole blocks: each hole loses what lies in it, which becomes 0. The holes that lie below it are
+/// only read, from the cursor on if that is one of them.
+pub(crate) fn fill(bytes: &mut [u8], holes: HoleList, from: u32, to: u32) -> HoleList
+    requires holes { HasHoles bytes.old (length bytes.old) holes.first }
+    requires cursor { HasCursor bytes.old (length bytes.old) holes.first holes.cursor }
     requires begins { from % 8 ≡ 0 }
     requires ends { to % 8 ≡ 0 }
     requires some { from < to }
     requires within { to ≤ length bytes.old }
     requires short { length bytes.old < 2 ^ 17 }
-    ensures { (low : ℕ) (ss : List Span) → IsChain bytes.old low (length bytes.old) at ss →
-        Punched from to bytes.old ss low (length bytes.old) result bytes.new }
+    ensures punched { (ss : List Span) → IsChain bytes.old 0 (length bytes.old) holes.first ss →
+        Punched from to bytes.old ss 0 (length bytes.old) result.first bytes.new }
+    ensures cursor { HasCursor bytes.new (length bytes.new) result.first result.cursor }
 {
-    if at >= from {
-        return punch(bytes, at, from, to);
+    match last_before(bytes, holes, from) {
+        None => HoleList {
+            first: punch(bytes, holes.first, from, to),
+            cursor: NO_HOLE,
+        },
+        Some(last) => {
+            punch(bytes, last, from, to);
+            HoleList {
+                first: holes.first,
+                cursor: last,
+            }
+        }
     }
-    if word_at(bytes, at as usize) > from {
-        return punch(bytes, at, from, to);
-    }
-    let last = last_below(bytes, at, from);
-    punch(bytes, last, from, to);
-    at
 }
 
 // Describes the bytes from a place on as the last hole, and answers where the holes begin now.
@@ -222,21 +275,30 @@ fn append_hole(bytes: &mut [u8], at: u32, from: u32) -> u32
     keep(bytes, at, end, rest)
 }
 
-/// Describes the bytes from a place on as the last hole, as `append_hole` does, and only reads the holes before the
-/// last one. Answers where the holes begin now.
-pub(crate) fn add_hole(bytes: &mut [u8], at: u32, from: u32) -> u32
-    requires holes { HasHoles bytes.old from at }
+/// Describes the bytes from a place on as the last hole. The holes before the last one are only read, from the cursor
+/// on.
+pub(crate) fn add_hole(bytes: &mut [u8], holes: HoleList, from: u32) -> HoleList
+    requires holes { HasHoles bytes.old from holes.first }
+    requires cursor { HasCursor bytes.old from holes.first holes.cursor }
     requires begins { from % 8 ≡ 0 }
     requires ends { length bytes.old % 8 ≡ 0 }
     requires some { from < length bytes.old }
     requires short { length bytes.old < 2 ^ 17 }
-    ensures { (low : ℕ) (ss : List Span) → low ≤ from → IsChain bytes.old low from at ss →
-        Appended bytes.old ss low from result bytes.new }
+    ensures appended { (ss : List Span) → IsChain bytes.old 0 from holes.first ss →
+        Appended bytes.old ss 0 from result.first bytes.new }
+    ensures cursor { HasCursor bytes.new (length bytes.new) result.first result.cursor }
 {
-    if at >= from {
-        return append_hole(bytes, at, from);
+    match last_before(bytes, holes, from) {
+        None => HoleList {
+            first: append_hole(bytes, holes.first, from),
+            cursor: NO_HOLE,
+        },
+        Some(last) => {
+            append_hole(bytes, last, from);
+            HoleList {
+                first: holes.first,
+                cursor: last,
+            }
+        }
     }
-    let last = last_below(bytes, at, from);
-    append_hole(bytes, last, from);
-    at
 }
