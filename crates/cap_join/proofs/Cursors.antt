@@ -1,8 +1,8 @@
 -- The cursor of a chain of holes, which is one of them.
-use Rattle.std.proofs.Common.{◌≡◌, ℕ, ◌+◌, ◌<◌, ◌≤◌, true, List, [], ◌∷◌, length, refl, sym, ◌∙◌, ap, subst, arith, inl, inr}
+use Rattle.std.proofs.Common.{◌≡◌, ℕ, ◌+◌, ◌<◌, ◌≤◌, List, [], ◌∷◌, length, refl, sym, ◌∙◌, ap, subst, arith, inl, inr}
 use Rattle.std.specs.Prelude.{slice_index}
-use Rattle.cap_join.specs.Holes.{Span, in_hole, is_within, no_hole, word_at, IsChain, HasHoles, Begins, HasCursor, IsBefore, ChangesWithin, Punched}
-use Rattle.cap_join.proofs.Chains.{IsHole-block, IsChain-higher}
+use Rattle.cap_join.specs.Holes.{Span, no_hole, word_at, IsChain, HasHoles, Begins, HasCursor, IsBefore, ChangesWithin, Punched}
+use Rattle.cap_join.proofs.Chains.{IsHole-block}
 use Rattle.cap_join.proofs.Growing.{IsChain-apart, IsChain-front}
 use Rattle.cap_join.proofs.Mapping.{outside_after}
 

@@ -7,7 +7,8 @@ pub mod Mapping
 pub mod Cursors
 pub mod Grouping
 pub mod Entries
-pub mod Ages
+pub mod Aging
+pub mod Tabling
 pub mod Steps
 pub mod Putting
 pub mod Most

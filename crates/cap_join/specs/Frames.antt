@@ -52,19 +52,3 @@ wait = 30
 abbrev pub is_too_old : Option Stamp → Option Stamp → Bool
 is_too_old None now = false
 is_too_old (Some clock) now = is_before (Some (stamp_plus clock wait)) now
-
--- the last time at which a group isn't too old, where its first fragment has a clock
-abbrev pub deadline_of : Option Stamp → Option Stamp
-deadline_of None = None
-deadline_of (Some clock) = Some (stamp_plus clock wait)
-
--- a deadline is before a clock; where there is none it never is
-abbrev pub is_past : Option Stamp → Option Stamp → Bool
-is_past None now = false
-is_past (Some deadline) now = is_before (Some deadline) now
-
--- the sooner of two deadlines
-abbrev pub sooner : Option Stamp → Option Stamp → Option Stamp
-sooner None b = b
-sooner (Some a) None = Some a
-sooner (Some a) (Some b) = if is_lt (stamp_cmp b a) then Some b else Some a

@@ -1,14 +1,12 @@
 -- What a joiner keeps, and what it stands for.
-use Rattle.std.specs.Prelude.{◌≡◌, ℕ, List, [], ◌∷◌, Option, true, false, ◌+◌, ◌<◌, ◌≤◌, length, max}
+use Rattle.std.specs.Prelude.{◌≡◌, ℕ, List, [], ◌∷◌, true, false, ◌+◌, ◌<◌, ◌≤◌, ◌^◌, length, max}
 use Rattle.std.specs.List.{IsDistinct}
 use Rattle.std.specs.Map.{keys_of}
 use Rattle.cap_ip.specs.declared.headers.Key.{Key}
-use Rattle.cap_time.specs.declared.stamps.Stamp.{Stamp}
 use Rattle.cap_join.specs.declared.datagrams.Put.{Put}
 use Rattle.cap_join.specs.declared.datagrams.Put.TheVariants.{Kept, Joined}
 use Rattle.cap_join.specs.Fragments.{Piece}
 use Rattle.cap_join.specs.ByteMap.{completes, greatest_end, rounded}
-use Rattle.cap_join.specs.Frames.{is_too_old, is_past}
 use Rattle.cap_join.specs.Groups.{GroupState, IsGroupOf, IsDatagramOf}
 use Rattle.cap_join.specs.History.{Event, OpenGroup, same_key, state_of}
 
@@ -72,11 +70,8 @@ pub record IsTable (high : ℕ) (es : List Entry) : Type 0 where
   pub few : length es ≤ open_limit
   pub rises : Rises 0 high es
 
--- No group is too old at a clock.
-abbrev pub NoneOld : Option Stamp → List Entry → Type 0
-NoneOld now [] = Unit {0}
-NoneOld now (e ∷ es) = (is_too_old e.1.clock now ≡ false) × NoneOld now es
-
--- No group is too old before a deadline is past.
-abbrev pub IsDeadline : Option Stamp → List Entry → Type 0
-IsDeadline deadline es = (now : Option Stamp) → is_past deadline now ≡ false → NoneOld now es
+-- The groups are a table, and the numbers fit.
+pub record IsSoundJoiner (j : JoinerState) : Type 0 where
+  pub table : IsTable j.next j.groups
+  pub given_up : j.given_up ≤ j.next
+  pub next : j.next ≤ 2 ^ 63

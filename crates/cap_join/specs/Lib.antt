@@ -5,9 +5,10 @@ pub mod Buffers
 pub mod Frames
 pub mod Groups
 pub mod GroupView
-pub mod HeldView
 pub mod History
 pub mod Joiners
+pub mod Ages
+pub mod TableView
 pub mod Tables
 pub mod JoinerView
 pub mod Places

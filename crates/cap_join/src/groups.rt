@@ -1,11 +1,12 @@
 //! A group of fragments that aren't a whole datagram yet.
-ghost use Rattle.std.specs.Prelude.{◌≡◌, ℕ, List, [], ◌∷◌, ◌+◌, ◌==◌, ◌≤◌, ◌<◌, ◌<ℤ◌, ◌^◌, pos, true, length, Some, IfSome, OnOk, OnErr, if◌then◌else◌};
+ghost use Rattle.std.specs.Prelude.{◌≡◌, ℕ, List, [], ◌∷◌, ◌+◌, ◌==◌, ◌≤◌, ◌<◌, ◌<ℤ◌, ◌^◌, pos, true, length, Some, IsSome, IsTrue, IfSome, OnOk, OnErr, if◌then◌else◌};
 ghost use Rattle.cap_time.specs.Stamp.{seconds_of};
 ghost use Rattle.cap_ip.specs.Header.{IsPiece};
 ghost use Rattle.cap_join.specs.Fitting.{FitsDatagram};
 ghost use Rattle.cap_join.specs.Fragments.{Piece, piece_of};
 ghost use Rattle.cap_join.specs.ByteMap.{completes};
-ghost use Rattle.cap_join.specs.Frames.{timed, earlier, later, is_too_old, deadline_of, is_past, sooner};
+ghost use Rattle.cap_join.specs.Frames.{timed, earlier, later, is_too_old};
+ghost use Rattle.cap_join.specs.Ages.{deadline_of};
 ghost use Rattle.cap_join.specs.Groups.{IsGroupOf, IsDatagramOf};
 
 use crate::buffers::put_data;
@@ -114,35 +115,6 @@ fn header_after(header: Header, start: u32, new: &Header) -> Header
     if start == 0 { *new } else { header }
 }
 
-/// Whether a deadline is before a clock.
-pub(crate) fn is_past(deadline: Option<Stamp>, now: Option<Stamp>) -> bool
-    ensures { result ≡ is_past deadline now }
-{
-    match deadline {
-        None => false,
-        Some(deadline) => Some(deadline) < now,
-    }
-}
-
-/// The sooner of two deadlines.
-pub(crate) fn sooner(a: Option<Stamp>, b: Option<Stamp>) -> Option<Stamp>
-    ensures { result ≡ sooner a b }
-{
-    match a {
-        None => b,
-        Some(first) => match b {
-            None => Some(first),
-            Some(second) => {
-                if second < first {
-                    Some(second)
-                } else {
-                    Some(first)
-                }
-            }
-        },
-    }
-}
-
 impl Group {
     /// A group without a fragment, whose first one comes at a clock and a place, under a header.
     pub(crate) fn new(alloc: Global, header: &Header, clock: Option<Stamp>, place: u64) -> Group
@@ -224,6 +196,13 @@ impl Group {
             None => None,
             Some(clock) => Some(clock.plus_seconds(WAIT)),
         }
+    }
+
+    /// Whether the first fragment had a clock.
+    pub(crate) fn has_clock(&self) -> bool
+        ensures { IsTrue result → IsSome self.now.clock }
+    {
+        self.clock.is_some()
     }
 
     /// The length of the buffer.

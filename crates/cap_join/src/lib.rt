@@ -1,11 +1,11 @@
 //! IPv4 fragments, joined into datagrams.
 #![tactic(auto)]
 
+mod ages;
 mod arrivals;
 mod buffers;
 mod datagrams;
 mod groups;
-mod held;
 mod holes;
 mod joiners;
 mod laws;

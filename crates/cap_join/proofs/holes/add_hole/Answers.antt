@@ -1,5 +1,5 @@
-use Rattle.std.proofs.Common.{◌≡◌, ℕ, ◌<◌, List, length, sym, subst, arith}
-use Rattle.cap_join.specs.Holes.{Span, no_hole, IsChain, Begins, HasCursor, Appended}
+use Rattle.std.proofs.Common.{◌≡◌, ℕ, ◌<◌, length, sym, subst, arith}
+use Rattle.cap_join.specs.Holes.{no_hole, HasCursor, Appended}
 use Rattle.cap_join.proofs.Chains.{IsChain-higher}
 use Rattle.cap_join.proofs.Reading.{AppendedFrom, HasHoles-begins, Appended-behind}
 use Rattle.cap_join.proofs.Cursors.{HasCursor-marked, HasCursor-higher}

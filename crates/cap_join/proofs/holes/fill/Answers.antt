@@ -1,5 +1,5 @@
-use Rattle.std.proofs.Common.{◌≡◌, ℕ, ◌<◌, List, length, sym, subst, arith}
-use Rattle.cap_join.specs.Holes.{Span, no_hole, IsChain, Begins, HasCursor, Punched}
+use Rattle.std.proofs.Common.{◌≡◌, ℕ, ◌<◌, length, sym, subst, arith}
+use Rattle.cap_join.specs.Holes.{no_hole, HasCursor, Punched}
 use Rattle.cap_join.proofs.Reading.{PunchedFrom, HasHoles-begins, Punched-behind}
 use Rattle.cap_join.proofs.Cursors.{HasCursor-marked}
 use Rattle.cap_join.proofs.holes.fill.Goals as goal

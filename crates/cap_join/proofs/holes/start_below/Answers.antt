@@ -1,4 +1,4 @@
-use Rattle.std.proofs.Common.{◌≡◌, ◌<◌, ◌≤◌, ◌+◌, length, arith}
+use Rattle.std.proofs.Common.{◌<◌, ◌≤◌, length, arith}
 use Rattle.cap_join.specs.Holes.{word_at}
 use Rattle.cap_join.proofs.Punching.{HasHoles-first}
 use Rattle.cap_join.proofs.Cursors.{Begins-block, IsBefore-cursor, IsBefore-first}
