@@ -1,10 +1,14 @@
 pub mod Changes
 pub mod Chains
 pub mod Punching
+pub mod Reading
 pub mod Growing
 pub mod Mapping
+pub mod Cursors
 pub mod Grouping
 pub mod Entries
+pub mod Aging
+pub mod Tabling
 pub mod Steps
 pub mod Putting
 pub mod Most

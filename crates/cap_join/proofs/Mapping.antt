@@ -3,7 +3,7 @@ use Rattle.std.proofs.Common.{◌≡◌, ℕ, ◌-◌, ◌*◌, ◌/◌, ◌%◌
 use Rattle.std.specs.Prelude.{slice_index, nat_lt, nat_le, if◌then◌else◌}
 use Rattle.std.proofs.lemmas.Bool.{cases_lt}
 use Rattle.std.proofs.lemmas.Bool.Decides.{nat_tests}
-use Rattle.cap_join.specs.Holes.{is_within, in_hole, IsChain, ChangesWithin, Punched}
+use Rattle.cap_join.specs.Holes.{Span, is_within, in_hole, IsChain, ChangesWithin, Punched}
 use Rattle.cap_join.specs.Fragments.{Piece, end_of, IsShaped, AreShaped}
 use Rattle.cap_join.specs.ByteMap.{holds, is_covered, byte_at, greatest_end, rounded}
 use Rattle.cap_join.specs.Buffers.{Maps, Grown}
@@ -91,6 +91,12 @@ sized n g e end l p q r = by (cases_lt e g)
     by (inl h) = omega arith
     by (inr h) = omega arith
 
+-- a hole that is left lies outside of what is copied
+pub outside_after : (a e b : ℕ) (old mid new : List ℕ) (ss : List Span) (first : ℕ) → e ≤ b → (u : Punched a b old ss 0 (length old) first mid) → ChangesWithin a e mid new
+    → (k : ℕ) → in_hole u.spans k ≡ true → slice_index new k ≡ slice_index mid k
+outside_after a e b old mid new ss first le u w k h =
+    unchanged a e mid new w k (outside_shorter a e b k le (and_right (in_hole ss k) (is_within a b k) (sym (u.holes k) ∙ h)))
+
 module _ (p : Piece) (ps : List Piece) (end hole0 hole1 hole2 : ℕ) (xs0 xs1 xs2 xs3 : List ℕ)
     (shaped : IsShaped p) (end_is : end ≡ rounded (end_of p)) (m : Maps xs0 hole0 ps)
     (g : Grown end xs0 m.spans hole1 xs1)
@@ -120,8 +126,7 @@ module _ (p : Piece) (ps : List Piece) (end hole0 hole1 hole2 : ℕ) (xs0 xs1 xs
   reach = omega (arith, end_is)
 
   outside_hole : (k : ℕ) → in_hole u.spans k ≡ true → slice_index xs3 k ≡ slice_index xs2 k
-  outside_hole k h =
-      unchanged p.start (end_of p) xs2 xs3 w k (outside_shorter p.start (end_of p) end k reach (and_right (in_hole g.spans k) (is_within p.start end k) (sym (u.holes k) ∙ h)))
+  outside_hole = outside_after p.start (end_of p) end xs1 xs2 xs3 g.spans hole2 reach u w
 
   -- a byte that the fragment doesn't hold, in a block that is covered now
   other_byte : (i : ℕ) → i < length xs1 → (in_gap : Bool) → in_hole g.spans i ≡ in_gap → is_covered (p ∷ ps) (i / 8) ≡ true → slice_index xs2 i ≡ byte_at ps i

@@ -190,7 +190,7 @@ pub or_false : (x : Bool) → (x || false) ≡ x
 or_false true = refl
 or_false false = refl
 
-or_assoc : (x y z : Bool) → (x || (y || z)) ≡ ((x || y) || z)
+pub or_assoc : (x y z : Bool) → (x || (y || z)) ≡ ((x || y) || z)
 or_assoc true y z = refl
 or_assoc false y z = refl
 

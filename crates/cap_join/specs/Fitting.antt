@@ -1,5 +1,5 @@
 -- What every datagram keeps that a joiner answers, whatever it stands for.
-use Rattle.std.specs.Prelude.{ℕ, ◌*◌, ◌≤◌, ◌^◌, length, ⊤}
+use Rattle.std.specs.Prelude.{◌*◌, ◌≤◌, ◌^◌, length, ⊤}
 use Rattle.cap_join.specs.declared.datagrams.Datagram.{Datagram}
 use Rattle.cap_join.specs.declared.datagrams.Put.{Put}
 use Rattle.cap_join.specs.declared.datagrams.Put.TheVariants.{Kept, Joined}

@@ -1,6 +1,6 @@
 -- The holes of a group's buffer: the parts that no fragment has filled (RFC 815, 4). A hole is described in its own first 8
 -- bytes, by two little-endian numbers of 32 bits: the place after its last byte, and where the next hole begins.
-use Rattle.std.specs.Prelude.{◌≡◌, ℕ, List, [], ◌∷◌, Bool, true, false, ◌+◌, ◌*◌, ◌%◌, ◌<◌, ◌≤◌, ◌&&◌, ◌||◌, not, length, nat_le, nat_lt, slice_index, if◌then◌else◌}
+use Rattle.std.specs.Prelude.{◌≡◌, ℕ, List, [], ◌∷◌, Bool, true, false, ◌+◌, ◌*◌, ◌%◌, ◌<◌, ◌≤◌, ◌&&◌, ◌||◌, ◌⊎◌, not, length, nat_le, nat_lt, slice_index, if◌then◌else◌}
 
 -- the places from one up to another
 pub record Span : Type 0 where
@@ -39,10 +39,25 @@ abbrev pub IsChain : List ℕ → ℕ → ℕ → ℕ → List Span → Type 0
 IsChain bytes low high at [] = at ≡ no_hole
 IsChain bytes low high at (s ∷ ss) = IsHole bytes low high at s × IsChain bytes s.to high (word_at bytes (s.from + 4)) ss
 
+-- One of some holes begins at a place and lies below another whole.
+abbrev pub Begins : ℕ → ℕ → List Span → Type 0
+Begins below at [] = ⊥
+Begins below at (s ∷ ss) = ((s.from ≡ at) × (s.to ≤ below)) ⊎ Begins below at ss
+
 -- Some holes begin at a place.
 pub record HasHoles (bytes : List ℕ) (high at : ℕ) : Type 0 where
   pub spans : List Span
   pub chain : IsChain bytes 0 high at spans
+
+-- A cursor is one of the holes, or names none.
+abbrev pub HasCursor : List ℕ → ℕ → ℕ → ℕ → Type 0
+HasCursor bytes high first cursor = (ss : List Span) → IsChain bytes 0 high first ss → cursor < no_hole → Begins high cursor ss
+
+-- One of the holes begins at a place and lies below another whole.
+pub record IsBefore (bytes : List ℕ) (first below at : ℕ) : Type 0 where
+  pub here : at < below
+  pub whole : word_at bytes at ≤ below
+  pub begins : (high : ℕ) (ss : List Span) → high < no_hole → IsChain bytes 0 high first ss → Begins below at ss
 
 -- Bytes change from a place up to another alone.
 pub record ChangesWithin (from to : ℕ) (old new : List ℕ) : Type 0 where
@@ -62,6 +77,12 @@ pub record Punched (a b : ℕ) (old : List ℕ) (ss : List Span) (low high at : 
   pub holes : (i : ℕ) → in_hole spans i ≡ (in_hole ss i && not (is_within a b i))
   pub kept_bytes : (i : ℕ) → in_hole ss i ≡ false → slice_index new i ≡ slice_index old i
   pub zeros : (i : ℕ) → in_hole ss i ≡ true → is_within a b i ≡ true → slice_index new i ≡ 0
+
+-- Some bytes of a range were filled: what is left once the rest is filled is what is left once all is.
+abbrev pub Continues : ℕ → ℕ → List ℕ → ℕ → List ℕ → ℕ → Type 0
+Continues a b old at mid first =
+    (result : ℕ) (new : List ℕ) → ((low : ℕ) (ss : List Span) → IsChain mid low (length mid) first ss → Punched a b mid ss low (length mid) result new)
+    → (low : ℕ) (ss : List Span) → IsChain old low (length old) at ss → Punched a b old ss low (length old) result new
 
 -- Some holes with one more behind them, which reaches from `high` up to the end.
 pub record Appended (old : List ℕ) (ss : List Span) (low high at : ℕ) (new : List ℕ) : Type 0 where

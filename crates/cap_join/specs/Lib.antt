@@ -7,6 +7,8 @@ pub mod Groups
 pub mod GroupView
 pub mod History
 pub mod Joiners
+pub mod Ages
+pub mod TableView
 pub mod Tables
 pub mod JoinerView
 pub mod Places

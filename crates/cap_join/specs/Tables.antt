@@ -1,5 +1,5 @@
 -- What one step does to the table of open groups.
-use Rattle.std.specs.Prelude.{◌≡◌, List, ◌∷◌, Bool, false, ◌+◌, not, filter, Option, Some}
+use Rattle.std.specs.Prelude.{◌≡◌, List, [], ◌∷◌, Bool, false, ◌+◌, not, filter, Option, None, Some}
 use Rattle.std.specs.Map.{lookup, set_value}
 use Rattle.std.specs.Option.{option_map_or}
 use Rattle.cap_ip.specs.declared.headers.Key.{Key}
@@ -11,6 +11,11 @@ use Rattle.cap_join.specs.Frames.{is_too_old}
 use Rattle.cap_join.specs.Groups.{GroupState, IsGroupOf}
 use Rattle.cap_join.specs.History.{OpenGroup, same_key, key_of, live_at, group_at, pieces_with, opens_with, gives_up_with}
 use Rattle.cap_join.specs.Joiners.{Entry, AreEntriesOf, IsAnswer, open_limit}
+
+-- the groups of a table; where none was opened there is none
+abbrev pub entries_of : Option (List Entry) → List Entry
+entries_of None = []
+entries_of (Some es) = es
 
 -- the group of a key
 abbrev pub entry_at : Key → List Entry → Option GroupState

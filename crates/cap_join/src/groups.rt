@@ -1,16 +1,17 @@
 //! A group of fragments that aren't a whole datagram yet.
-ghost use Rattle.std.specs.Prelude.{◌≡◌, ℕ, List, [], ◌∷◌, ◌+◌, ◌==◌, ◌≤◌, ◌<◌, ◌<ℤ◌, ◌^◌, pos, true, length, Some, IfSome, OnOk, OnErr, if◌then◌else◌};
+ghost use Rattle.std.specs.Prelude.{◌≡◌, ℕ, List, [], ◌∷◌, ◌+◌, ◌==◌, ◌≤◌, ◌<◌, ◌<ℤ◌, ◌^◌, pos, true, length, Some, IsSome, IsTrue, IfSome, OnOk, OnErr, if◌then◌else◌};
 ghost use Rattle.cap_time.specs.Stamp.{seconds_of};
 ghost use Rattle.cap_ip.specs.Header.{IsPiece};
 ghost use Rattle.cap_join.specs.Fitting.{FitsDatagram};
 ghost use Rattle.cap_join.specs.Fragments.{Piece, piece_of};
 ghost use Rattle.cap_join.specs.ByteMap.{completes};
 ghost use Rattle.cap_join.specs.Frames.{timed, earlier, later, is_too_old};
+ghost use Rattle.cap_join.specs.Ages.{deadline_of};
 ghost use Rattle.cap_join.specs.Groups.{IsGroupOf, IsDatagramOf};
 
 use crate::buffers::put_data;
 use crate::datagrams::{Datagram, Stamped};
-use crate::holes::NO_HOLE;
+use crate::holes::{HoleList, NO_HOLE};
 use cap_ip::{Fragment, Header};
 use cap_time::Stamp;
 use std::alloc::{AllocError, Global};
@@ -24,7 +25,7 @@ const WAIT: u32 = 30;
 #[derive(Drop)]
 pub(crate) struct Group {
     buffer: Vec<u8>,
-    hole: u32,
+    holes: HoleList,
     total: Option<u32>,
     header: Header,
     frames: u64,
@@ -124,7 +125,10 @@ impl Group {
     {
         Group {
             buffer: Vec::new(alloc),
-            hole: NO_HOLE,
+            holes: HoleList {
+                first: NO_HOLE,
+                cursor: NO_HOLE,
+            },
             total: None,
             header: *header,
             frames: 0,
@@ -154,7 +158,7 @@ impl Group {
         ensures place { self.new.place ≡ self.old.place }
         ensures err { OnErr result (self.new ≡ self.old) }
     {
-        self.hole = put_data(&mut self.buffer, self.hole, fragment.start, piece)?;
+        self.holes = put_data(&mut self.buffer, self.holes, fragment.start, piece)?;
         self.total = total_after(self.total, fragment);
         self.header = header_after(self.header, fragment.start, header);
         self.frames += 1;
@@ -170,7 +174,7 @@ impl Group {
     {
         match self.total {
             None => false,
-            Some(total) => self.hole >= total,
+            Some(total) => self.holes.first >= total,
         }
     }
 
@@ -182,6 +186,23 @@ impl Group {
             None => false,
             Some(clock) => Some(clock.plus_seconds(WAIT)) < now,
         }
+    }
+
+    /// 30 seconds after the clock of the first fragment.
+    pub(crate) fn deadline(&self) -> Option<Stamp>
+        ensures { result ≡ deadline_of self.now.clock }
+    {
+        match self.clock {
+            None => None,
+            Some(clock) => Some(clock.plus_seconds(WAIT)),
+        }
+    }
+
+    /// Whether the first fragment had a clock.
+    pub(crate) fn has_clock(&self) -> bool
+        ensures { IsTrue result → IsSome self.now.clock }
+    {
+        self.clock.is_some()
     }
 
     /// The length of the buffer.
@@ -199,7 +220,7 @@ impl Group {
     {
         let Group {
             mut buffer,
-            hole: _hole,
+            holes: _holes,
             total,
             header,
             frames,

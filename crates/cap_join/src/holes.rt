@@ -9,11 +9,19 @@
 //! 2. each hole that begins before its end loses the blocks that it covers, which become 0, and what is
 //!    left on either side is described anew;
 //! 3. its data is copied, also over bytes of earlier fragments.
-ghost use Rattle.std.specs.Prelude.{◌≡◌, ℕ, List, ◌+◌, ◌-◌, ◌<◌, ◌≤◌, ◌%◌, ◌^◌, length, slice_index};
-ghost use Rattle.cap_join.specs.Holes.{Span, word_at, IsChain, HasHoles, ChangesWithin, kept, Punched, Appended};
+ghost use Rattle.std.specs.Prelude.{◌≡◌, ℕ, List, ◌+◌, ◌-◌, ◌<◌, ◌≤◌, ◌%◌, ◌^◌, length, slice_index, IsTrue, IfSome};
+ghost use Rattle.cap_join.specs.Holes.{Span, word_at, IsChain, HasHoles, Begins, HasCursor, IsBefore, ChangesWithin, kept, Punched, Continues, Appended};
 
 /// What names no hole.
 pub(crate) const NO_HOLE: u32 = 4_294_967_295;
+
+/// Where the holes of a buffer begin, and the cursor: the last hole below the fragment that was put last, or none. A
+/// walk to a place after it begins there.
+#[derive(Clone, Copy)]
+pub(crate) struct HoleList {
+    pub(crate) first: u32,
+    pub(crate) cursor: u32,
+}
 
 // The little-endian number of 32 bits at a place.
 #[tactic(auto, unfolding(crate::specs::Holes::word_at))]
@@ -47,6 +55,7 @@ fn keep(bytes: &mut [u8], from: u32, to: u32, next: u32) -> u32
     requires begins { from % 8 ≡ 0 }
     requires ends { to % 8 ≡ 0 }
     ensures within { ChangesWithin from to bytes.old bytes.new }
+    ensures place { from < to → result ≡ from }
     ensures chain { (low middle high : ℕ) (ss : List Span) → low ≤ from → low ≤ middle → to ≤ middle → to ≤ high →
         IsChain bytes.old middle high next ss → IsChain bytes.new low high result (kept from to ss) }
 {
@@ -82,18 +91,130 @@ pub(crate) fn copy(bytes: &mut [u8], at: usize, piece: &[u8])
     }
 }
 
-/// Fills a range of whole blocks: each hole loses what lies in it, which becomes 0. Answers where the
-/// holes begin now.
-pub(crate) fn punch(bytes: &mut [u8], at: u32, from: u32, to: u32) -> u32
+// Whether a hole lies below a place whole.
+fn lies_below(bytes: &[u8], at: u32, below: u32) -> bool
+    requires { at < below → at + 8 ≤ length bytes.now }
+    ensures { IsTrue result → (at < below) × (word_at bytes.now at ≤ below) }
+{
+    if at >= below {
+        return false;
+    }
+    word_at(bytes, at as usize) <= below
+}
+
+// The hole after one, if it lies below a place whole.
+fn next_below(bytes: &[u8], at: u32, below: u32) -> Option<u32>
+    requires within { at + 8 ≤ length bytes.now }
+    requires next { word_at bytes.now (at + 4) < below → word_at bytes.now (at + 4) + 8 ≤ length bytes.now }
+    ensures { IfSome result (λ next. (next ≡ word_at bytes.now (at + 4)) × (next < below) × (word_at bytes.now next ≤ below)) }
+{
+    let next = word_at(bytes, at as usize + 4);
+    if !lies_below(bytes, next, below) {
+        return None;
+    }
+    Some(next)
+}
+
+// The last of some holes that lies below a place whole; the first does.
+fn last_below(bytes: &[u8], at: u32, below: u32) -> u32
+    requires holes { HasHoles bytes.now (length bytes.now) at }
+    requires first { at < below }
+    requires whole { word_at bytes.now at ≤ below }
+    requires within { below ≤ length bytes.now }
+    requires short { length bytes.now < 2 ^ 17 }
+    ensures first { result < below }
+    ensures whole { word_at bytes.now result ≤ below }
+    ensures begins { (low high : ℕ) (ss : List Span) → IsChain bytes.now low high at ss → Begins below result ss }
+{
+    let mut last = at;
+    while let Some(next) = next_below(bytes, last, below) {
+        last = next;
+    }
+    last
+}
+
+// Where a walk to a place may begin: at the cursor, else at the first hole, if that lies below the place whole.
+fn start_below(bytes: &[u8], holes: HoleList, below: u32) -> Option<u32>
+    requires holes { HasHoles bytes.now (length bytes.now) holes.first }
+    requires cursor { HasCursor bytes.now (length bytes.now) holes.first holes.cursor }
+    requires within { below ≤ length bytes.now }
+    requires short { length bytes.now < 2 ^ 17 }
+    ensures { IfSome result (λ at. IsBefore bytes.now holes.first below at) }
+{
+    if lies_below(bytes, holes.cursor, below) {
+        return Some(holes.cursor);
+    }
+    if lies_below(bytes, holes.first, below) {
+        return Some(holes.first);
+    }
+    None
+}
+
+// The last hole that lies below a place whole. `None` only if the first one doesn't.
+fn last_before(bytes: &[u8], holes: HoleList, below: u32) -> Option<u32>
+    requires holes { HasHoles bytes.now (length bytes.now) holes.first }
+    requires cursor { HasCursor bytes.now (length bytes.now) holes.first holes.cursor }
+    requires within { below ≤ length bytes.now }
+    requires short { length bytes.now < 2 ^ 17 }
+    ensures { IfSome result (λ at. IsBefore bytes.now holes.first below at) }
+{
+    match start_below(bytes, holes, below) {
+        None => None,
+        Some(at) => Some(last_below(bytes, at, below)),
+    }
+}
+
+// The hole at a place, where it lies in a range whole: its end.
+fn covered_end(bytes: &[u8], at: u32, from: u32, to: u32) -> Option<u32>
+    requires { at < to → at + 8 ≤ length bytes.now }
+    ensures { IfSome result (λ end. (end ≡ word_at bytes.now at) × (from ≤ at) × (at < to) × (end ≤ to)) }
+{
+    if at >= to {
+        return None;
+    }
+    if at < from {
+        return None;
+    }
+    let end = word_at(bytes, at as usize);
+    if end > to {
+        return None;
+    }
+    Some(end)
+}
+
+// Fills those of some holes that lie in a range whole, up to the first that doesn't. Answers where the others begin.
+fn cover(bytes: &mut [u8], at: u32, from: u32, to: u32) -> u32
+    requires holes { HasHoles bytes.old (length bytes.old) at }
+    requires within { to ≤ length bytes.old }
+    requires short { length bytes.old < 2 ^ 17 }
+    ensures holes { HasHoles bytes.new (length bytes.new) result }
+    ensures rises { at ≤ result }
+    ensures stays { at < from → (result ≡ at) × (bytes.new ≡ bytes.old) }
+    ensures punched { Continues from to bytes.old at bytes.new result }
+{
+    let mut first = at;
+    while let Some(end) = covered_end(bytes, first, from, to) {
+        let next = word_at(bytes, first as usize + 4);
+        clear(bytes, first as usize, end as usize);
+        first = next;
+    }
+    first
+}
+
+// Fills a range of whole blocks: each hole loses what lies in it, which becomes 0. Answers where the
+// holes begin now. A first hole that lies below the range stays where it is.
+fn punch(bytes: &mut [u8], at: u32, from: u32, to: u32) -> u32
     requires holes { HasHoles bytes.old (length bytes.old) at }
     requires begins { from % 8 ≡ 0 }
     requires ends { to % 8 ≡ 0 }
     requires some { from < to }
     requires within { to ≤ length bytes.old }
     requires short { length bytes.old < 2 ^ 17 }
-    ensures { (low : ℕ) (ss : List Span) → IsChain bytes.old low (length bytes.old) at ss →
+    ensures punched { (low : ℕ) (ss : List Span) → IsChain bytes.old low (length bytes.old) at ss →
         Punched from to bytes.old ss low (length bytes.old) result bytes.new }
+    ensures stays { at < from → word_at bytes.old at ≤ from → result ≡ at }
 {
+    let at = cover(bytes, at, from, to);
     if at >= to {
         return at;
     }
@@ -105,15 +226,45 @@ pub(crate) fn punch(bytes: &mut [u8], at: u32, from: u32, to: u32) -> u32
     keep(bytes, at, end.min(from), right)
 }
 
-/// Describes the bytes from a place on as the last hole, and answers where the holes begin now.
-pub(crate) fn append_hole(bytes: &mut [u8], at: u32, from: u32) -> u32
+/// Fills a range of whole blocks: each hole loses what lies in it, which becomes 0. The holes that lie below it are
+/// only read, from the cursor on if that is one of them.
+pub(crate) fn fill(bytes: &mut [u8], holes: HoleList, from: u32, to: u32) -> HoleList
+    requires holes { HasHoles bytes.old (length bytes.old) holes.first }
+    requires cursor { HasCursor bytes.old (length bytes.old) holes.first holes.cursor }
+    requires begins { from % 8 ≡ 0 }
+    requires ends { to % 8 ≡ 0 }
+    requires some { from < to }
+    requires within { to ≤ length bytes.old }
+    requires short { length bytes.old < 2 ^ 17 }
+    ensures punched { (ss : List Span) → IsChain bytes.old 0 (length bytes.old) holes.first ss →
+        Punched from to bytes.old ss 0 (length bytes.old) result.first bytes.new }
+    ensures cursor { HasCursor bytes.new (length bytes.new) result.first result.cursor }
+{
+    match last_before(bytes, holes, from) {
+        None => HoleList {
+            first: punch(bytes, holes.first, from, to),
+            cursor: NO_HOLE,
+        },
+        Some(last) => {
+            punch(bytes, last, from, to);
+            HoleList {
+                first: holes.first,
+                cursor: last,
+            }
+        }
+    }
+}
+
+// Describes the bytes from a place on as the last hole, and answers where the holes begin now.
+fn append_hole(bytes: &mut [u8], at: u32, from: u32) -> u32
     requires holes { HasHoles bytes.old from at }
     requires begins { from % 8 ≡ 0 }
     requires ends { length bytes.old % 8 ≡ 0 }
     requires some { from < length bytes.old }
     requires short { length bytes.old < 2 ^ 17 }
-    ensures { (low : ℕ) (ss : List Span) → low ≤ from → IsChain bytes.old low from at ss →
+    ensures appended { (low : ℕ) (ss : List Span) → low ≤ from → IsChain bytes.old low from at ss →
         Appended bytes.old ss low from result bytes.new }
+    ensures stays { at < from → result ≡ at }
 {
     if at >= from {
         return keep(bytes, from, bytes.len() as u32, NO_HOLE);
@@ -122,4 +273,32 @@ pub(crate) fn append_hole(bytes: &mut [u8], at: u32, from: u32) -> u32
     let next = word_at(bytes, at as usize + 4);
     let rest = append_hole(bytes, next, from);
     keep(bytes, at, end, rest)
+}
+
+/// Describes the bytes from a place on as the last hole. The holes before the last one are only read, from the cursor
+/// on.
+pub(crate) fn add_hole(bytes: &mut [u8], holes: HoleList, from: u32) -> HoleList
+    requires holes { HasHoles bytes.old from holes.first }
+    requires cursor { HasCursor bytes.old from holes.first holes.cursor }
+    requires begins { from % 8 ≡ 0 }
+    requires ends { length bytes.old % 8 ≡ 0 }
+    requires some { from < length bytes.old }
+    requires short { length bytes.old < 2 ^ 17 }
+    ensures appended { (ss : List Span) → IsChain bytes.old 0 from holes.first ss →
+        Appended bytes.old ss 0 from result.first bytes.new }
+    ensures cursor { HasCursor bytes.new (length bytes.new) result.first result.cursor }
+{
+    match last_before(bytes, holes, from) {
+        None => HoleList {
+            first: append_hole(bytes, holes.first, from),
+            cursor: NO_HOLE,
+        },
+        Some(last) => {
+            append_hole(bytes, last, from);
+            HoleList {
+                first: holes.first,
+                cursor: last,
+            }
+        }
+    }
 }

@@ -9,11 +9,9 @@ ghost use Rattle.cap_join.specs.Joiners.{StandsFor, IsAnswer, most_bytes, held_o
 ghost use Rattle.cap_join.specs.declared.datagrams.JoinFault.TheVariants.{Memory};
 
 use crate::datagrams::{JoinFault, Put, Stamped};
-use crate::groups::Group;
-use crate::tables::{most_bytes, put_fragment};
+use crate::tables::{Table, drop_group, put_fragment};
 use cap_ip::{Header, Key};
 use cap_time::Stamp;
-use indexmap::IndexMap;
 use std::alloc::Global;
 use std::marker::Model;
 
@@ -30,7 +28,8 @@ use std::marker::Model;
 /// keys that were flushed, the latest first.
 #[derive(Drop)]
 pub struct Joiner {
-    groups: IndexMap<Key, Group>,
+    // `None` until the first group is opened.
+    table: Option<Table>,
     next: u64,
     given_up: u64,
     alloc: Global,
@@ -55,7 +54,7 @@ impl Joiner {
         ensures next { result.next ≡ 0 }
     {
         Joiner {
-            groups: IndexMap::new(alloc),
+            table: None,
             next: 0,
             given_up: 0,
             alloc,
@@ -92,7 +91,7 @@ impl Joiner {
             unreachable!();
         };
         match put_fragment(
-            &mut self.groups,
+            &mut self.table,
             self.alloc,
             clock,
             header,
@@ -114,7 +113,7 @@ impl Joiner {
         ensures stands { (events : List Event) → StandsFor self.old events → StandsFor self.new (flushes key ∷ events) }
         ensures next { self.new.next ≡ self.old.next }
     {
-        self.groups.shift_remove(&key);
+        drop_group(&mut self.table, &key);
     }
 
     /// How many groups are open: at most 1,024. A group that is too old counts until the next fragment is
@@ -124,7 +123,10 @@ impl Joiner {
         ensures stands { (events : List Event) → StandsFor self.now events → result ≡ length (state_of open_limit events).opens }
         ensures bound { result ≤ 1024 }
     {
-        self.groups.len()
+        match &self.table {
+            None => 0,
+            Some(table) => table.len(),
+        }
     }
 
     /// The greatest length of an open group's buffer, in bytes: the greatest end of the group's fragments,
@@ -134,7 +136,10 @@ impl Joiner {
         ensures stands { (events : List Event) → StandsFor self.now events → result ≡ held_of (state_of open_limit events).opens }
         ensures bound { result ≤ 65520 }
     {
-        most_bytes(&self.groups)
+        match &self.table {
+            None => 0,
+            Some(table) => table.most_bytes(),
+        }
     }
 
     /// How many groups were given up.

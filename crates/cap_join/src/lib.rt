@@ -1,6 +1,7 @@
 //! IPv4 fragments, joined into datagrams.
 #![tactic(auto)]
 
+mod ages;
 mod arrivals;
 mod buffers;
 mod datagrams;

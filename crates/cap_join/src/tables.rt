@@ -1,54 +1,207 @@
 //! The table of open groups, in the order in which they were opened.
-ghost use Rattle.std.specs.Prelude.{◌≡◌, ℕ, List, [], ◌∷◌, ◌++◌, ◌+◌, ◌<◌, ◌≤◌, ◌<ℤ◌, ◌^◌, pos, true, false, not, length, Some, None, IsTrue, IfSome, IsSomeAnd, IfOk, OnOk, OnErr, remove, nat_lt, if◌then◌else◌};
+ghost use Rattle.std.specs.Prelude.{◌≡◌, ℕ, List, [], ◌∷◌, ◌++◌, ◌+◌, ◌<◌, ◌≤◌, ◌<ℤ◌, ◌^◌, pos, true, false, not, length, Some, None, IsTrue, IsSome, IfSome, IfNone, IsSomeAnd, IfOk, OnOk, OnErr, remove, nat_lt, if◌then◌else◌};
 ghost use Rattle.cap_time.specs.Stamp.{seconds_of};
 ghost use Rattle.cap_ip.specs.Header.{IsPiece};
-ghost use Rattle.indexmap.specs.IndexMap.{spare, KeepsRoom};
 ghost use Rattle.cap_join.specs.Fitting.{FitsPut};
 ghost use Rattle.cap_join.specs.Fragments.{piece_of};
 ghost use Rattle.cap_join.specs.Frames.{is_too_old};
 ghost use Rattle.std.specs.List.{IsDistinct};
-ghost use Rattle.std.specs.Map.{keys_of};
+ghost use Rattle.std.specs.Map.{keys_of, remove_entry};
 ghost use Rattle.cap_join.specs.History.{OpenGroup, same_key};
 ghost use Rattle.cap_join.specs.Joiners.{AreEntriesOf, IsTable, open_limit, most_bytes};
-ghost use Rattle.cap_join.specs.Tables.{entry_at, live_entries, has_live, PutsAt, Puts};
+ghost use Rattle.cap_join.specs.Ages.{NoneOld, IsDeadline, AreInTurn};
+ghost use Rattle.cap_join.specs.Tables.{entries_of, entry_at, live_entries, has_live, PutsAt, Puts};
 
+use crate::ages::{is_past, latest_of, sooner, stays_in_order};
 use crate::datagrams::{Put, Stamped};
 use crate::groups::Group;
 use cap_ip::{Fragment, Header, Key};
 use cap_time::Stamp;
-use indexmap::IndexMap;
+use lru::LruCache;
 use std::alloc::{AllocError, Global};
+use std::marker::Model;
 
 /// How many groups may be open.
 const OPEN_LIMIT: usize = 1024;
 
-// Whether a key has a group that isn't too old at a clock.
-fn has_live(groups: &IndexMap<Key, Group>, key: &Key, now: Option<Stamp>) -> bool
-    ensures { result ≡ has_live key.now now groups.now.entries }
+/// The open groups by their keys. `LruCache` links its entries, so that the first, the last and the one of a key are
+/// taken out, and one is added, at a cost that doesn't depend on how many there are. Its order is that of their opening:
+/// a new group goes last, and no other call moves one.
+#[derive(Drop)]
+pub(crate) struct Table {
+    groups: LruCache<Key, Group>,
+    // No group is too old before this is past.
+    deadline: Option<Stamp>,
+    // The deadline of the group with a clock that was opened last.
+    latest: Option<Stamp>,
+    // Whether the groups with a clock were opened in the order of their clocks: then the first that isn't too old is
+    // before no other that is.
+    in_order: bool,
+}
+
+impl Model for Table {
+    ghost use Rattle.std.specs.Prelude.{List};
+    ghost use Rattle.cap_ip.specs.declared.headers.Key.{Key as TableKey};
+    ghost use Rattle.cap_join.specs.Groups.{GroupState};
+
+    ghost Value = { List (TableKey × GroupState) };
+
+    ghost use Rattle.cap_join.specs.TableView.{table_view, IsSoundTable};
+
+    ghost view = { table_view };
+
+    ghost invariant = { IsSoundTable };
+}
+
+// The first group that is too old at a clock: its key. Where the groups are in order, those after one that isn't too
+// old aren't looked at.
+fn first_old(groups: &LruCache<Key, Group>, in_order: bool, now: Option<Stamp>) -> Option<Key>
+    requires unique { IsDistinct same_key (keys_of groups.now.entries) }
+    requires in_turn { in_order ≡ true → AreInTurn groups.now.entries }
+    ensures old { IfSome result (λ key. IsSomeAnd (entry_at key groups.now.entries) (λ s. is_too_old s.clock now ≡ true)) }
+    ensures none { IfNone result (NoneOld now groups.now.entries) }
 {
-    match groups.get(key) {
-        None => false,
-        Some(group) => !group.is_too_old(now),
+    for (key, group) in groups.iter() {
+        if group.is_too_old(now) {
+            return Some(*key);
+        }
+        if in_order && group.has_clock() {
+            return None;
+        }
+    }
+    None
+}
+
+// The soonest deadline of the groups. Where they are in order, it is that of the first with a clock.
+fn soonest(groups: &LruCache<Key, Group>, in_order: bool) -> Option<Stamp>
+    requires { in_order ≡ true → AreInTurn groups.now.entries }
+    ensures { IsDeadline result groups.now.entries }
+{
+    let mut deadline = None;
+    for (_key, group) in groups.iter() {
+        deadline = sooner(deadline, group.deadline());
+        if in_order && group.has_clock() {
+            return deadline;
+        }
+    }
+    deadline
+}
+
+impl Table {
+    /// A table without a group.
+    pub(crate) fn new(alloc: Global) -> Result<Table, AllocError>
+        ensures { IfOk result (λ table. table ≡ []) }
+    {
+        Ok(Table {
+            groups: LruCache::unbounded(alloc)?,
+            deadline: None,
+            latest: None,
+            in_order: true,
+        })
+    }
+
+    /// How many groups are open.
+    pub(crate) fn len(&self) -> usize
+        ensures { result ≡ length self.now }
+    {
+        self.groups.len()
+    }
+
+    // Whether a key has a group that isn't too old at a clock.
+    fn has_live(&self, key: &Key, now: Option<Stamp>) -> bool
+        ensures { result ≡ has_live key.now now self.now }
+    {
+        match self.groups.peek(key) {
+            None => false,
+            Some(group) => !group.is_too_old(now),
+        }
+    }
+
+    // Puts a fragment into the group of its key, and answers whether that is complete. An `Err` leaves the
+    // groups as they were.
+    fn put_at(
+        &mut self,
+        key: &Key,
+        header: &Header,
+        fragment: Fragment,
+        piece: &[u8],
+        stamped: Stamped,
+    ) -> Result<bool, AllocError>
+        requires there { IsSomeAnd (entry_at key.now self.old) (λ s. s.frames < 2 ^ 63) }
+        requires fragment { header.now.fragment ≡ Some fragment }
+        requires shape { IsPiece (length piece.now) fragment }
+        ensures ok { IfOk result (λ complete.
+            PutsAt key.now (piece_of header.now piece.now stamped) self.old complete self.new) }
+        ensures err { OnErr result (self.new ≡ self.old) }
+    {
+        put_in(&mut self.groups, key, header, fragment, piece, stamped)
+    }
+
+    /// Takes the group of a key out.
+    pub(crate) fn remove(&mut self, key: &Key) -> Option<Group>
+        ensures value { result ≡ entry_at key.now self.old }
+        ensures entries { self.new ≡ remove_entry (same_key key.now) self.old }
+        ensures unique { IsDistinct same_key (keys_of self.new) }
+    {
+        self.groups.pop(key)
+    }
+
+    // Drops the groups that are too old at a clock, and looks at none while the deadline isn't past.
+    fn drop_old(&mut self, now: Option<Stamp>)
+        ensures entries { self.new ≡ live_entries now self.old }
+        ensures unique { IsDistinct same_key (keys_of self.new) }
+    {
+        if !is_past(self.deadline, now) {
+            return;
+        }
+        expire(&mut self.groups, self.in_order, now);
+        self.deadline = soonest(&self.groups, self.in_order);
+    }
+
+    // Adds a group after the others, in the place of one of its key. An `Err` leaves the groups as they were.
+    fn add(&mut self, key: &Key, group: Group) -> Result<(), AllocError>
+        requires few { length self.old ≤ open_limit }
+        ensures ok { OnOk result (self.new ≡ remove_entry (same_key key.now) self.old ++ (key.now, group) ∷ []) }
+        ensures unique { IsDistinct same_key (keys_of self.new) }
+        ensures err { OnErr result (self.new ≡ self.old) }
+    {
+        let deadline = group.deadline();
+        append(&mut self.groups, key, group)?;
+        self.in_order = stays_in_order(self.in_order, self.latest, deadline);
+        self.latest = latest_of(self.latest, deadline);
+        self.deadline = sooner(self.deadline, deadline);
+        Ok(())
+    }
+
+    // Gives up the group that was opened first if more are open than may be, and answers whether it did.
+    fn make_place(&mut self) -> bool
+        ensures value { result ≡ nat_lt open_limit (length self.old) }
+        ensures entries { self.new ≡ (if result then remove self.old 0 else self.old) }
+        ensures unique { IsDistinct same_key (keys_of self.new) }
+    {
+        if self.groups.len() <= OPEN_LIMIT {
+            return false;
+        }
+        self.groups.pop_mru();
+        true
+    }
+
+    /// The greatest length of a group's buffer.
+    pub(crate) fn most_bytes(&self) -> usize
+        ensures value { result ≡ most_bytes self.now }
+        ensures bound { result ≤ 65520 }
+    {
+        let mut most = 0;
+        for (_key, group) in self.groups.iter() {
+            most = group.held_bytes().max(most);
+        }
+        most
     }
 }
 
-// Drops the groups that are too old at a clock.
-fn drop_old(groups: &mut IndexMap<Key, Group>, now: Option<Stamp>)
-    ensures entries { groups.new.entries ≡ live_entries now groups.old.entries }
-    ensures room { KeepsRoom groups.old groups.new }
-    ensures unique { IsDistinct same_key (keys_of groups.new.entries) }
-{
-    groups.retain(
-        |_key: &Key, group: &mut Group| -> bool
-            ensures { (result ≡ not (is_too_old group.old.clock now)) × (group.new ≡ group.old) }
-        { !group.is_too_old(now) },
-    );
-}
-
-// Puts a fragment into the group of its key, and answers whether that is complete. An `Err` leaves the
-// groups as they were.
-fn put_at(
-    groups: &mut IndexMap<Key, Group>,
+// Puts a fragment into the group of its key, and answers whether that is complete.
+fn put_in(
+    groups: &mut LruCache<Key, Group>,
     key: &Key,
     header: &Header,
     fragment: Fragment,
@@ -61,8 +214,9 @@ fn put_at(
     ensures ok { IfOk result (λ complete.
         PutsAt key.now (piece_of header.now piece.now stamped) groups.old.entries complete groups.new.entries) }
     ensures err { OnErr result (groups.new.entries ≡ groups.old.entries) }
+    ensures cap { groups.new.cap ≡ groups.old.cap }
 {
-    match groups.get_mut(key) {
+    match groups.peek_mut(key) {
         None => unreachable!(),
         Some(group) => {
             group.put(header, fragment, piece, stamped)?;
@@ -71,34 +225,38 @@ fn put_at(
     }
 }
 
-// Adds a group of a new key behind the others.
-fn add(groups: &mut IndexMap<Key, Group>, key: &Key, group: Group)
-    requires room { 0 < spare groups.old }
-    requires new { entry_at key.now groups.old.entries ≡ None }
-    ensures entries { groups.new.entries ≡ groups.old.entries ++ (key.now, group) ∷ [] }
+// Takes the groups out that are too old at a clock.
+fn expire(groups: &mut LruCache<Key, Group>, in_order: bool, now: Option<Stamp>)
+    requires unique { IsDistinct same_key (keys_of groups.old.entries) }
+    requires in_turn { in_order ≡ true → AreInTurn groups.old.entries }
+    ensures entries { groups.new.entries ≡ live_entries now groups.old.entries }
     ensures unique { IsDistinct same_key (keys_of groups.new.entries) }
+    ensures cap { groups.new.cap ≡ groups.old.cap }
 {
-    let Ok(_) = groups.insert(*key, group) else {
-        unreachable!();
-    };
+    while let Some(key) = first_old(groups, in_order, now) {
+        groups.pop(&key);
+    }
 }
 
-// Gives up the group that was opened first where as many are open as may be, and answers whether it did.
-fn make_place(groups: &mut IndexMap<Key, Group>) -> bool
-    ensures value { result ≡ not (nat_lt (length groups.old.entries) open_limit) }
-    ensures entries { groups.new.entries ≡ (if result then remove groups.old.entries 0 else groups.old.entries) }
-    ensures room { KeepsRoom groups.old groups.new }
+// Puts a group after the others, in the place of one of its key.
+fn append(groups: &mut LruCache<Key, Group>, key: &Key, group: Group) -> Result<(), AllocError>
+    requires few { length groups.old.entries < groups.old.cap }
+    ensures ok { OnOk result (groups.new.entries ≡ remove_entry (same_key key.now) groups.old.entries ++ (key.now, group) ∷ []) }
+    ensures err { OnErr result (groups.new.entries ≡ groups.old.entries) }
+    ensures cap { groups.new.cap ≡ groups.old.cap }
 {
-    if groups.len() < OPEN_LIMIT {
-        return false;
+    match groups.put(*key, group) {
+        Err(_) => Err(AllocError),
+        Ok(_) => {
+            groups.demote(key);
+            Ok(())
+        }
     }
-    groups.shift_remove_index(0);
-    true
 }
 
 // Puts a fragment into the group of its key, which isn't too old, and drops the groups that are.
 fn extend(
-    groups: &mut IndexMap<Key, Group>,
+    groups: &mut Table,
     key: &Key,
     clock: Option<Stamp>,
     header: &Header,
@@ -106,34 +264,34 @@ fn extend(
     piece: &[u8],
     stamped: Stamped,
 ) -> Result<Put, AllocError>
-    requires live { has_live key.now clock groups.old.entries ≡ true }
+    requires live { has_live key.now clock groups.old ≡ true }
     requires key { header.now.key ≡ key.now }
     requires fragment { header.now.fragment ≡ Some fragment }
     requires shape { IsPiece (length piece.now) fragment }
-    requires table { IsTable stamped.place groups.old.entries }
+    requires table { IsTable stamped.place groups.old }
     requires last { stamped.place < 2 ^ 63 }
-    ensures ok { IfOk result (λ put. (os : List OpenGroup) → AreEntriesOf groups.old.entries os →
-        Puts clock (piece_of header.now piece.now stamped) os put false groups.new.entries) }
+    ensures ok { IfOk result (λ put. (os : List OpenGroup) → AreEntriesOf groups.old os →
+        Puts clock (piece_of header.now piece.now stamped) os put false groups.new) }
     ensures fits { IfOk result FitsPut }
-    ensures table { OnOk result (IsTable (stamped.place + 1) groups.new.entries) }
-    ensures err { OnErr result (groups.new.entries ≡ groups.old.entries) }
+    ensures table { OnOk result (IsTable (stamped.place + 1) groups.new) }
+    ensures err { OnErr result (groups.new ≡ groups.old) }
 {
-    let complete = put_at(groups, key, header, fragment, piece, stamped)?;
-    drop_old(groups, clock);
+    let complete = groups.put_at(key, header, fragment, piece, stamped)?;
+    groups.drop_old(clock);
     if !complete {
         return Ok(Put::Kept);
     }
-    match groups.shift_remove(key) {
+    match groups.remove(key) {
         None => unreachable!(),
         Some(group) => Ok(Put::Joined(group.into_datagram())),
     }
 }
 
 // Opens a group with a fragment whose key has none, or one that is too old, and drops the groups that
-// are. Where as many are open as may be the oldest is given up; answers whether it was. All memory is
-// found before.
+// are. Where as many are open as may be the oldest is given up; answers whether it was. The group is
+// added before any is dropped, so that no memory is asked for after.
 fn open(
-    groups: &mut IndexMap<Key, Group>,
+    groups: &mut Table,
     alloc: Global,
     key: &Key,
     clock: Option<Stamp>,
@@ -142,36 +300,35 @@ fn open(
     piece: &[u8],
     stamped: Stamped,
 ) -> Result<(Put, bool), AllocError>
-    requires live { has_live key.now clock groups.old.entries ≡ false }
+    requires live { has_live key.now clock groups.old ≡ false }
     requires key { header.now.key ≡ key.now }
     requires fragment { header.now.fragment ≡ Some fragment }
     requires shape { IsPiece (length piece.now) fragment }
     requires clock { IfSome clock (λ c. seconds_of c <ℤ pos (2 ^ 65)) }
-    requires table { IsTable stamped.place groups.old.entries }
-    ensures ok { IfOk result (λ put. (os : List OpenGroup) → AreEntriesOf groups.old.entries os →
-        Puts clock (piece_of header.now piece.now stamped) os put.0 put.1 groups.new.entries) }
+    requires table { IsTable stamped.place groups.old }
+    ensures ok { IfOk result (λ put. (os : List OpenGroup) → AreEntriesOf groups.old os →
+        Puts clock (piece_of header.now piece.now stamped) os put.0 put.1 groups.new) }
     ensures fits { IfOk result (λ put. FitsPut put.0) }
-    ensures table { OnOk result (IsTable (stamped.place + 1) groups.new.entries) }
-    ensures err { OnErr result (groups.new.entries ≡ groups.old.entries) }
+    ensures table { OnOk result (IsTable (stamped.place + 1) groups.new) }
+    ensures err { OnErr result (groups.new ≡ groups.old) }
 {
     let mut group = Group::new(alloc, header, clock, stamped.place);
     group.put(header, fragment, piece, stamped)?;
     if group.is_complete() {
-        drop_old(groups, clock);
+        groups.drop_old(clock);
         return Ok((Put::Joined(group.into_datagram()), false));
     }
-    groups.reserve(1)?;
-    drop_old(groups, clock);
-    let gave_up = make_place(groups);
-    add(groups, key, group);
+    groups.add(key, group)?;
+    groups.drop_old(clock);
+    let gave_up = groups.make_place();
     Ok((Put::Kept, gave_up))
 }
 
-/// Puts a fragment at a clock: into the group of its key, unless that is too old, else into a new one.
-/// Groups that are too old are dropped, and the oldest is given up where a new one would be too many:
-/// answers whether it was. An `Err` leaves the groups as they were.
-pub(crate) fn put_fragment(
-    groups: &mut IndexMap<Key, Group>,
+// Puts a fragment at a clock: into the group of its key, unless that is too old, else into a new one.
+// Groups that are too old are dropped, and the oldest is given up where a new one would be too many:
+// answers whether it was. An `Err` leaves the groups as they were.
+fn put_into(
+    groups: &mut Table,
     alloc: Global,
     clock: Option<Stamp>,
     header: &Header,
@@ -182,16 +339,16 @@ pub(crate) fn put_fragment(
     requires fragment { header.now.fragment ≡ Some fragment }
     requires shape { IsPiece (length piece.now) fragment }
     requires clock { IfSome clock (λ c. seconds_of c <ℤ pos (2 ^ 65)) }
-    requires table { IsTable stamped.place groups.old.entries }
+    requires table { IsTable stamped.place groups.old }
     requires last { stamped.place < 2 ^ 63 }
-    ensures ok { IfOk result (λ put. (os : List OpenGroup) → AreEntriesOf groups.old.entries os →
-        Puts clock (piece_of header.now piece.now stamped) os put.0 put.1 groups.new.entries) }
+    ensures ok { IfOk result (λ put. (os : List OpenGroup) → AreEntriesOf groups.old os →
+        Puts clock (piece_of header.now piece.now stamped) os put.0 put.1 groups.new) }
     ensures fits { IfOk result (λ put. FitsPut put.0) }
-    ensures table { OnOk result (IsTable (stamped.place + 1) groups.new.entries) }
-    ensures err { OnErr result (groups.new.entries ≡ groups.old.entries) }
+    ensures table { OnOk result (IsTable (stamped.place + 1) groups.new) }
+    ensures err { OnErr result (groups.new ≡ groups.old) }
 {
     let key = header.key();
-    if has_live(groups, &key, clock) {
+    if groups.has_live(&key, clock) {
         let put = extend(groups, &key, clock, header, fragment, piece, stamped)?;
         Ok((put, false))
     } else {
@@ -199,14 +356,53 @@ pub(crate) fn put_fragment(
     }
 }
 
-/// The greatest length of a group's buffer.
-pub(crate) fn most_bytes(groups: &IndexMap<Key, Group>) -> usize
-    ensures value { result ≡ most_bytes groups.now.entries }
-    ensures bound { result ≤ 65520 }
+// Makes a table where there is none. An `Err` changes nothing.
+fn make_table(table: &mut Option<Table>, alloc: Global) -> Result<(), AllocError>
+    ensures there { OnOk result (IsSome table.new) }
+    ensures same { entries_of table.new ≡ entries_of table.old }
 {
-    let mut most = 0;
-    for group in groups.values() {
-        most = group.held_bytes().max(most);
+    if table.is_none() {
+        *table = Some(Table::new(alloc)?);
     }
-    most
+    Ok(())
+}
+
+/// Puts a fragment at a clock: into the group of its key, unless that is too old, else into a new one.
+/// Groups that are too old are dropped, and the oldest is given up where a new one would be too many:
+/// answers whether it was. An `Err` leaves the groups as they were.
+pub(crate) fn put_fragment(
+    table: &mut Option<Table>,
+    alloc: Global,
+    clock: Option<Stamp>,
+    header: &Header,
+    fragment: Fragment,
+    piece: &[u8],
+    stamped: Stamped,
+) -> Result<(Put, bool), AllocError>
+    requires fragment { header.now.fragment ≡ Some fragment }
+    requires shape { IsPiece (length piece.now) fragment }
+    requires clock { IfSome clock (λ c. seconds_of c <ℤ pos (2 ^ 65)) }
+    requires table { IsTable stamped.place (entries_of table.old) }
+    requires last { stamped.place < 2 ^ 63 }
+    ensures ok { IfOk result (λ put. (os : List OpenGroup) → AreEntriesOf (entries_of table.old) os →
+        Puts clock (piece_of header.now piece.now stamped) os put.0 put.1 (entries_of table.new)) }
+    ensures fits { IfOk result (λ put. FitsPut put.0) }
+    ensures table { OnOk result (IsTable (stamped.place + 1) (entries_of table.new)) }
+    ensures err { OnErr result (entries_of table.new ≡ entries_of table.old) }
+{
+    make_table(table, alloc)?;
+    match table {
+        None => unreachable!(),
+        Some(groups) => put_into(groups, alloc, clock, header, fragment, piece, stamped),
+    }
+}
+
+/// Drops the group of a key.
+pub(crate) fn drop_group(table: &mut Option<Table>, key: &Key)
+    ensures entries { entries_of table.new ≡ remove_entry (same_key key.now) (entries_of table.old) }
+    ensures unique { IsDistinct same_key (keys_of (entries_of table.old)) → IsDistinct same_key (keys_of (entries_of table.new)) }
+{
+    if let Some(groups) = table {
+        groups.remove(key);
+    }
 }

@@ -3,8 +3,8 @@ use Rattle.cap_join.specs.Holes.{Span, word_at, IsChain, Appended}
 use Rattle.cap_join.proofs.Punching.{HasHoles-first, Appended-last, Appended-hole}
 use Rattle.cap_join.proofs.holes.+append_hole.Goals as goal
 
-pub returns-then-at-from : goal.returns-then-at-from
-returns-then-at-from t c = λ low ss le chain.
+pub returns-then-at-from-clause-appended : goal.returns-then-at-from-clause-appended
+returns-then-at-from-clause-appended t c = λ low ss le chain.
     Appended-last low c.args.from c.args.at c.keep.result c.args.bytes.now c.keep.new.bytes ss le c.if-at-from.true c.requires.some (omega (arith, c.requires.short)) chain
     c.keep.ensures.within c.keep.ensures.chain
 
@@ -41,8 +41,8 @@ keep-requires-2-clause-ends t c =
     let first = HasHoles-first c.args.bytes.now c.args.from c.args.at c.requires.holes (omega (arith, c.requires.some, c.requires.short)) in
     rw c.word_at-end.ensures first.ends
 
-pub returns : goal.returns
-returns t c = λ low ss le chain. by low ss le chain
+pub returns-clause-appended : goal.returns-clause-appended
+returns-clause-appended t c = λ low ss le chain. by low ss le chain
   where
     by : (low : ℕ) (ss : List Span) → low ≤ c.args.from → IsChain c.args.bytes.now low c.args.from c.args.at ss
         → Appended c.args.bytes.now ss low c.args.from c.keep-2.result c.keep-2.new.bytes
@@ -53,5 +53,10 @@ returns t c = λ low ss le chain. by low ss le chain
         let tail : IsChain c.args.bytes.now s.to c.args.from c.word_at-next.result ss = subst (λ (n : ℕ). IsChain c.args.bytes.now s.to c.args.from n ss) next_is chain.1 in
         Appended-hole low c.args.from c.args.at c.word_at-end.result c.word_at-next.result c.append_hole-rest.result c.keep-2.result s ss
         c.args.bytes.now c.append_hole-rest.new.bytes c.keep-2.new.bytes
-        c.requires.some chain.0 end_is tail (c.append_hole-rest.ensures s.to ss chain.0.within tail)
+        c.requires.some chain.0 end_is tail (c.append_hole-rest.ensures.appended s.to ss chain.0.within tail)
         c.keep-2.ensures.within c.keep-2.ensures.chain
+
+pub returns-clause-stays : goal.returns-clause-stays
+returns-clause-stays t c = λ near.
+    let first = HasHoles-first c.args.bytes.now c.args.from c.args.at c.requires.holes (omega (arith, c.requires.some, c.requires.short)) in
+    c.keep-2.ensures.place (omega (arith, first.block, c.word_at-end.ensures))

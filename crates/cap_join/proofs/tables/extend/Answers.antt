@@ -10,28 +10,28 @@ use Rattle.cap_join.proofs.Putting.{there, found_after, Puts-kept, Puts-joined, 
 use Rattle.cap_join.proofs.tables.extend.Goals as goal
 
 pub put_at-requires-clause-there : goal.put_at-requires-clause-there
-put_at-requires-clause-there c = there c.args.key.now c.args.clock c.args.stamped.place c.args.groups.now.entries c.requires.table c.requires.last c.requires.live
+put_at-requires-clause-there c = there c.args.key.now c.args.clock c.args.stamped.place c.args.groups.now c.requires.table c.requires.last c.requires.live
 
 pub returns-then-not-complete-clause-ok : goal.returns-then-not-complete-clause-ok
 returns-then-not-complete-clause-ok c = λ os entries.
-    let es = c.args.groups.now.entries in
-    let mid = c.put_at.new.groups.entries in
+    let es = c.args.groups.now in
+    let mid = c.put_at.new.self in
     let p : Piece = piece_of c.args.header.now c.args.piece.now c.args.stamped in
     let key : c.args.key.now ≡ key_of p = sym (ap (λ (h : HeaderFields). h.key) (piece_of-header c.args.header.now c.args.piece.now c.args.stamped c.args.fragment c.requires.fragment) ∙ c.requires.key) in
-    Puts-kept c.args.clock p es c.requires.table.unique os entries mid c.drop_old.new.groups.entries
+    Puts-kept c.args.clock p es c.requires.table.unique os entries mid c.drop_old.new.self
     (subst (λ (k : Key). has_live k c.args.clock es ≡ true) key c.requires.live)
     (subst (λ (k : Key). PutsAt k p es false mid) key (subst (λ (b : Bool). PutsAt c.args.key.now p es b mid) c.if-not-complete.true c.in_ok-complete.ensures.ok))
     c.drop_old.ensures.entries
 
 pub returns-then-not-complete-clause-table : goal.returns-then-not-complete-clause-table
 returns-then-not-complete-clause-table c =
-    IsTable-put c.args.key.now (piece_of c.args.header.now c.args.piece.now c.args.stamped) c.args.clock c.args.stamped.place c.args.groups.now.entries c.put_at.new.groups.entries c.drop_old.new.groups.entries
+    IsTable-put c.args.key.now (piece_of c.args.header.now c.args.piece.now c.args.stamped) c.args.clock c.args.stamped.place c.args.groups.now c.put_at.new.self c.drop_old.new.self
     c.in_ok-complete.complete c.requires.table c.in_ok-complete.ensures.ok c.drop_old.ensures.entries c.drop_old.ensures.unique
 
 pub unreachable-requires : goal.unreachable-requires
 unreachable-requires c =
-    let found = found_after c.args.key.now (piece_of c.args.header.now c.args.piece.now c.args.stamped) c.args.clock c.args.groups.now.entries c.put_at.new.groups.entries c.in_ok-complete.complete c.in_ok-complete.ensures.ok c.requires.live in
-    let none : entry_at c.args.key.now c.drop_old.new.groups.entries ≡ None = sym c.in-None.ensures.value in
+    let found = found_after c.args.key.now (piece_of c.args.header.now c.args.piece.now c.args.stamped) c.args.clock c.args.groups.now c.put_at.new.self c.in_ok-complete.complete c.in_ok-complete.ensures.ok c.requires.live in
+    let none : entry_at c.args.key.now c.drop_old.new.self ≡ None = sym c.in-None.ensures.value in
     clash (sym none ∙ ap (entry_at c.args.key.now) c.drop_old.ensures.entries ∙ found)
   where
     clash : {A : Type 0} {x : A} → None ≡ Some x → ⊥
@@ -39,22 +39,22 @@ unreachable-requires c =
 
 pub returns-clause-ok : goal.returns-clause-ok
 returns-clause-ok c = λ os entries.
-    let es = c.args.groups.now.entries in
-    let mid = c.put_at.new.groups.entries in
-    let late = c.drop_old.new.groups.entries in
+    let es = c.args.groups.now in
+    let mid = c.put_at.new.self in
+    let late = c.drop_old.new.self in
     let p : Piece = piece_of c.args.header.now c.args.piece.now c.args.stamped in
     let key : c.args.key.now ≡ key_of p = sym (ap (λ (h : HeaderFields). h.key) (piece_of-header c.args.header.now c.args.piece.now c.args.stamped c.args.fragment c.requires.fragment) ∙ c.requires.key) in
-    Puts-joined c.args.clock p es c.requires.table.unique os entries mid late c.shift_remove.new.self.entries c.in-Some.group c.into_datagram.result
+    Puts-joined c.args.clock p es c.requires.table.unique os entries mid late c.remove.new.self c.in-Some.group c.into_datagram.result
     (subst (λ (k : Key). has_live k c.args.clock es ≡ true) key c.requires.live)
     (subst (λ (k : Key). PutsAt k p es true mid) key (subst (λ (b : Bool). PutsAt c.args.key.now p es b mid) c.if-not-complete.false c.in_ok-complete.ensures.ok))
     c.drop_old.ensures.entries c.drop_old.ensures.unique
     (subst (λ (k : Key). Some c.in-Some.group ≡ entry_at k late) key c.in-Some.ensures.value)
-    (subst (λ (k : Key). c.shift_remove.new.self.entries ≡ remove_entry (same_key k) late) key c.shift_remove.ensures.entries)
+    (subst (λ (k : Key). c.remove.new.self ≡ remove_entry (same_key k) late) key c.remove.ensures.entries)
     c.into_datagram.ensures.datagram
 
 pub returns-clause-table : goal.returns-clause-table
 returns-clause-table c =
-    IsTable-removed (same_key c.args.key.now) (c.args.stamped.place + 1) c.drop_old.new.groups.entries c.shift_remove.new.self.entries
-    (IsTable-put c.args.key.now (piece_of c.args.header.now c.args.piece.now c.args.stamped) c.args.clock c.args.stamped.place c.args.groups.now.entries c.put_at.new.groups.entries c.drop_old.new.groups.entries
+    IsTable-removed (same_key c.args.key.now) (c.args.stamped.place + 1) c.drop_old.new.self c.remove.new.self
+    (IsTable-put c.args.key.now (piece_of c.args.header.now c.args.piece.now c.args.stamped) c.args.clock c.args.stamped.place c.args.groups.now c.put_at.new.self c.drop_old.new.self
     c.in_ok-complete.complete c.requires.table c.in_ok-complete.ensures.ok c.drop_old.ensures.entries c.drop_old.ensures.unique)
-    c.shift_remove.ensures.entries c.shift_remove.ensures.unique
+    c.remove.ensures.entries c.remove.ensures.unique

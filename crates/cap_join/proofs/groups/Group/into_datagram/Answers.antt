@@ -20,15 +20,15 @@ returns-clause-datagram c = λ ps group done.
 
 pub returns-clause-fits : goal.returns-clause-fits
 returns-clause-fits c = record {
-  bytes = c.self.invariant.bounded;
+  bytes = c.self.invariant.sound.bounded;
   short = elim c.match-total.branch [
     | in-Some w ↦ omega (
       arith,
       ap (λ b. length b.items) w.buffer-is,
       ap length w.truncate.ensures.items,
       length-take w.in-Some.total c.self.inside.buffer.items,
-      Maps-short c.self.inside.buffer.items c.self.inside.hole c.self.invariant.pieces c.self.invariant.group.maps,
+      Maps-short c.self.inside.buffer.items c.self.inside.holes.first c.self.invariant.sound.pieces c.self.invariant.sound.group.maps,
     )
-    | in_default w ↦ omega (arith, ap (λ b. length b.items) w.buffer-is, Maps-short c.self.inside.buffer.items c.self.inside.hole c.self.invariant.pieces c.self.invariant.group.maps)
+    | in_default w ↦ omega (arith, ap (λ b. length b.items) w.buffer-is, Maps-short c.self.inside.buffer.items c.self.inside.holes.first c.self.invariant.sound.pieces c.self.invariant.sound.group.maps)
   ];
 }

@@ -12,5 +12,5 @@ pub returns-in-Some : goal.returns-in-Some
 returns-in-Some c = λ ps group.
     let g = subst (λ (s : GroupState). IsGroupOf s ps) (sym c.self.view_is) group in
     let total = sym g.total ∙ c.in-Some.is in
-    covers_below-hole c.self.inside.buffer.items c.self.inside.hole c.in-Some.total ps g.maps (total_of-reached ps c.in-Some.total g.maps.shaped total).0
+    covers_below-hole c.self.inside.buffer.items c.self.inside.holes.first c.in-Some.total ps g.maps (total_of-reached ps c.in-Some.total g.maps.shaped total).0
     ∙ completes-some ps c.in-Some.total total

@@ -8,20 +8,23 @@ use Rattle.cap_join.proofs.groups.Group.put.Goals as goal
 
 pub put_data-requires-clause-bounded : goal.put_data-requires-clause-bounded
 put_data-requires-clause-bounded c =
-    omega (arith, c.self.inside.buffer.ok.0, Maps-short c.self.inside.buffer.items c.self.inside.hole c.self.invariant.pieces c.self.invariant.group.maps)
+    omega (arith, c.self.inside.buffer.ok.0, Maps-short c.self.inside.buffer.items c.self.inside.holes.first c.self.invariant.sound.pieces c.self.invariant.sound.group.maps)
 
 pub invariant_of-self-2 : goal.invariant_of-self-2
 invariant_of-self-2 c = record {
-  pieces = piece_of c.args.header.now c.args.piece.now c.args.stamped ∷ c.self.invariant.pieces;
-  group = IsGroupOf-put (group_view c.self.inside) _ c.args.header.now c.args.piece.now c.args.stamped c.args.fragment c.requires.fragment c.requires.shape
-      c.in_ok-self-inside.ensures.ok c.total_after-self-inside.ensures c.header_after-self-inside.ensures refl
-      (ap (λ (n : ℕ). c.self.inside.bytes + n) c.from.ensures)
-      (c.earlier-self-inside.ensures ∙ ap (earlier c.self.inside.first) c.timed.ensures)
-      (c.later-self-inside.ensures ∙ ap (later c.self.inside.last) c.timed-2.ensures)
-      c.self.invariant.pieces c.self.invariant.group;
-  few = omega (arith, c.requires.few, ap (λ (s : GroupState). s.frames) c.self.view_is);
-  bounded = omega (arith, c.from.ensures, c.self.invariant.bounded);
-  clock = c.self.invariant.clock;
+  sound = record {
+    pieces = piece_of c.args.header.now c.args.piece.now c.args.stamped ∷ c.self.invariant.sound.pieces;
+    group = IsGroupOf-put (group_view c.self.inside) _ c.args.header.now c.args.piece.now c.args.stamped c.args.fragment c.requires.fragment c.requires.shape
+        c.in_ok-self-inside.ensures.ok c.total_after-self-inside.ensures c.header_after-self-inside.ensures refl
+        (ap (λ (n : ℕ). c.self.inside.bytes + n) c.from.ensures)
+        (c.earlier-self-inside.ensures ∙ ap (earlier c.self.inside.first) c.timed.ensures)
+        (c.later-self-inside.ensures ∙ ap (later c.self.inside.last) c.timed-2.ensures)
+        c.self.invariant.sound.pieces c.self.invariant.sound.group;
+    few = omega (arith, c.requires.few, ap (λ (s : GroupState). s.frames) c.self.view_is);
+    bounded = omega (arith, c.from.ensures, c.self.invariant.sound.bounded);
+    clock = c.self.invariant.sound.clock;
+  };
+  cursor = c.in_ok-self-inside.ensures.cursor;
 }
 
 pub returns-clause-ok : goal.returns-clause-ok

@@ -1,8 +1,12 @@
-use Rattle.std.proofs.Common.{List, [], sym, refl, subst}
+use Rattle.std.proofs.Common.{refl, arith}
+use Rattle.std.specs.List.{IsDistinct}
 use Rattle.cap_join.specs.History.{state_of}
-use Rattle.cap_join.specs.Joiners.{AreEntriesOf, Entry}
 use Rattle.cap_join.proofs.joiners.Joiner.new.Goals as goal
+
+pub invariant_of-result : goal.invariant_of-result
+unfolding IsDistinct
+invariant_of-result c = record { table = record { unique = tt; few = omega arith; rises = tt }; given_up = omega arith; next = omega arith }
 
 pub returns-clause-stands : goal.returns-clause-stands
 unfolding state_of
-returns-clause-stands c = record { groups = subst (λ (es : List Entry). AreEntriesOf es []) (sym c.new.ensures.empty) tt; given_up = refl }
+returns-clause-stands c = record { groups = tt; given_up = refl }

@@ -4,6 +4,7 @@ use mir.Val.{bool_byte}
 use Rattle.cap_join.specs.Fragments.{piece_of}
 use Rattle.cap_join.specs.History.{state_of, step, joined_pieces, gives_up_with, group_at, live_at, key_of}
 use Rattle.cap_join.specs.Joiners.{JoinerState, StandsFor, open_limit}
+use Rattle.cap_join.specs.Tables.{entries_of}
 use Rattle.cap_join.proofs.Putting.{IsTable-wider}
 use Rattle.cap_join.proofs.joiners.Joiner.put.Goals as goal
 
@@ -14,7 +15,7 @@ number false = refl
 
 pub put_fragment-requires-clause-table : goal.put_fragment-requires-clause-table
 put_fragment-requires-clause-table c =
-    IsTable-wider c.self.inside.next c.args.stamped.place c.self.inside.groups.entries (omega (arith, c.requires.place, ap (λ (j : JoinerState). j.next) c.self.view_is)) c.self.invariant.table
+    IsTable-wider c.self.inside.next c.args.stamped.place (entries_of c.self.inside.table) (omega (arith, c.requires.place, ap (λ (j : JoinerState). j.next) c.self.view_is)) c.self.invariant.table
 
 pub returns-in-Ok-clause-answer : goal.returns-in-Ok-clause-answer
 unfolding joined_pieces

@@ -1,0 +1,288 @@
+-- Deadlines of open groups, and groups in the order of their clocks, under what a step does to the table.
+use Rattle.std.proofs.Common.{◌≡◌, Bool, true, false, List, [], ◌∷◌, ◌++◌, refl, sym, ◌∙◌, ap, subst, cond, not, true≢false, Option, Some, None, append_assoc, lit<}
+use Rattle.std.specs.Prelude.{IsSome, remove, if◌then◌else◌}
+use Rattle.std.specs.Ordering.{is_lt, is_gt, ordering_reverse}
+use Rattle.std.specs.declared.cmp.Ordering.{Ordering}
+use Rattle.std.specs.declared.cmp.Ordering.TheVariants.{Less, Equal, Greater}
+use Rattle.std.specs.Map.{lookup, set_value, remove_entry}
+use Rattle.cap_ip.specs.declared.headers.Key.{Key}
+use Rattle.cap_time.specs.declared.stamps.Stamp.{Stamp}
+use Rattle.cap_time.specs.Stamp.{stamp_cmp, stamp_plus}
+use Rattle.cap_time.specs.StampLaws.{stamp_cmp_total}
+use Rattle.cap_time.proofs.StampForms.{stamp_cmp_itself, stamp_upto_turned, stamp_upto_trans, stamp_cmp-later}
+use Rattle.cap_join.specs.Frames.{wait, is_too_old}
+use Rattle.cap_join.specs.Groups.{GroupState}
+use Rattle.cap_join.specs.Joiners.{Entry}
+use Rattle.cap_join.specs.Ages.{deadline_of, is_past, sooner, latest_of, is_in_turn, NoneOld, IsDeadline, Precedes, AreInTurn, IsUpTo, AreUpTo}
+use Rattle.cap_join.specs.Tables.{live_entries}
+
+pub is_past-deadline : (clock now : Option Stamp) → is_past (deadline_of clock) now ≡ is_too_old clock now
+is_past-deadline None now = refl
+is_past-deadline (Some c) now = refl
+
+back : (r : Ordering) → is_gt r ≡ false → is_lt (ordering_reverse r) ≡ false
+back Less h = refl
+back Equal h = refl
+back Greater h = absurd (true≢false h)
+
+not_after : (r : Ordering) → is_lt r ≡ true → is_gt r ≡ false
+not_after Less h = refl
+not_after Equal h = refl
+not_after Greater h = absurd (true≢false (sym h))
+
+-- a time from another on isn't before what that one isn't before
+from_on : (x y n : Stamp) → is_gt (stamp_cmp x y) ≡ false → is_lt (stamp_cmp x n) ≡ false → is_lt (stamp_cmp y n) ≡ false
+from_on x y n upto late =
+    ap is_lt (stamp_cmp_total.antisymm y n) ∙ back (stamp_cmp n y) (stamp_upto_trans n x y (stamp_upto_turned x n late) upto)
+
+-- where the sooner of two deadlines isn't past, neither is
+sooner-first : (a b now : Option Stamp) → is_past (sooner a b) now ≡ false → is_past a now ≡ false
+sooner-first None b now h = refl
+sooner-first (Some a) None now h = h
+sooner-first (Some a) (Some b) None h = refl
+sooner-first (Some a) (Some b) (Some n) h = by (is_lt (stamp_cmp b a)) refl h
+  where
+    by : (t : Bool) → is_lt (stamp_cmp b a) ≡ t → is_past (if t then Some b else Some a) (Some n) ≡ false → is_past (Some a) (Some n) ≡ false
+    by true is p = from_on b a n (not_after (stamp_cmp b a) is) p
+    by false is p = p
+
+sooner-second : (a b now : Option Stamp) → is_past (sooner a b) now ≡ false → is_past b now ≡ false
+sooner-second None b now h = h
+sooner-second (Some a) None now h = refl
+sooner-second (Some a) (Some b) None h = refl
+sooner-second (Some a) (Some b) (Some n) h = by (is_lt (stamp_cmp b a)) refl h
+  where
+    by : (t : Bool) → is_lt (stamp_cmp b a) ≡ t → is_past (if t then Some b else Some a) (Some n) ≡ false → is_past (Some b) (Some n) ≡ false
+    by true is p = p
+    by false is p = from_on a b n (stamp_upto_turned b a is) p
+
+-- where none is too old all stay
+pub live-all : (now : Option Stamp) (es : List Entry) → NoneOld now es → live_entries now es ≡ es
+live-all now [] h = refl
+live-all now (e ∷ es) h =
+    ap (λ (b : Bool). cond (not b) (e ∷ live_entries now es) (live_entries now es)) h.0 ∙ ap (λ (l : List Entry). e ∷ l) (live-all now es h.1)
+
+-- a group with one more fragment
+NoneOld-set_value : (test : Key → Bool) (now : Option Stamp) (before after : GroupState) (es : List Entry) → lookup test es ≡ Some before → after.clock ≡ before.clock
+    → NoneOld now es → NoneOld now (set_value test es after)
+NoneOld-set_value test now before after [] found same h = h
+NoneOld-set_value test now before after (e ∷ es) found same h = by (test e.0) found (λ f. NoneOld-set_value test now before after es f same h.1)
+  where
+    by : (b : Bool) → cond b (Some e.1) (lookup test es) ≡ Some before → (lookup test es ≡ Some before → NoneOld now (set_value test es after))
+        → NoneOld now (cond b ((e.0, after) ∷ es) (e ∷ set_value test es after))
+    by true f rest =
+        let is : e.1 ≡ before = cc in
+        (ap (λ (c : Option Stamp). is_too_old c now) (same ∙ ap (λ (s : GroupState). s.clock) (sym is)) ∙ h.0, h.1)
+    by false f rest = (h.0, rest f)
+
+NoneOld-remove_entry : (test : Key → Bool) (now : Option Stamp) (es : List Entry) → NoneOld now es → NoneOld now (remove_entry test es)
+NoneOld-remove_entry test now [] h = h
+NoneOld-remove_entry test now (e ∷ es) h = by (test e.0) (NoneOld-remove_entry test now es h.1)
+  where
+    by : (b : Bool) → NoneOld now (remove_entry test es) → NoneOld now (cond b es (e ∷ remove_entry test es))
+    by true rest = h.1
+    by false rest = (h.0, rest)
+
+NoneOld-push : (now : Option Stamp) (es : List Entry) (e : Entry) → NoneOld now es → is_too_old e.1.clock now ≡ false → NoneOld now (es ++ e ∷ [])
+NoneOld-push now [] e h fresh = (fresh, tt)
+NoneOld-push now (x ∷ es) e h fresh = (h.0, NoneOld-push now es e h.1 fresh)
+
+NoneOld-append : (now : Option Stamp) (es rest : List Entry) → NoneOld now es → NoneOld now rest → NoneOld now (es ++ rest)
+NoneOld-append now [] rest h k = k
+NoneOld-append now (e ∷ es) rest h k = (h.0, NoneOld-append now es rest h.1 k)
+
+Precedes-more : (clock : Option Stamp) (es new : List Entry) → ((now : Option Stamp) → NoneOld now es → NoneOld now new) → Precedes clock es → Precedes clock new
+Precedes-more None es new f h = tt
+Precedes-more (Some c) es new f h = λ now p. f now (h now p)
+
+-- what holds of a table under one more fragment of a group
+module _ (test : Key → Bool) (before after : GroupState) (same : after.clock ≡ before.clock) where
+  same_clock : (e : Entry) (es : List Entry) → Some e.1 ≡ Some before → e.1.clock ≡ after.clock
+  same_clock e es f = let is : e.1 ≡ before = cc in ap (λ (s : GroupState). s.clock) is ∙ sym same
+
+  pub AreInTurn-set_value : (es : List Entry) → lookup test es ≡ Some before → AreInTurn es → AreInTurn (set_value test es after)
+  AreInTurn-set_value [] found h = h
+  AreInTurn-set_value (e ∷ es) found h = by (test e.0) found (λ f. AreInTurn-set_value es f h.1)
+    where
+      by : (b : Bool) → cond b (Some e.1) (lookup test es) ≡ Some before → (lookup test es ≡ Some before → AreInTurn (set_value test es after))
+          → AreInTurn (cond b ((e.0, after) ∷ es) (e ∷ set_value test es after))
+      by true f rest = (subst (λ (c : Option Stamp). Precedes c es) (same_clock e es f) h.0, h.1)
+      by false f rest = (Precedes-more e.1.clock es (set_value test es after) (λ now p. NoneOld-set_value test now before after es f same p) h.0, rest f)
+
+  pub AreUpTo-set_value : (latest : Option Stamp) (es : List Entry) → lookup test es ≡ Some before → AreUpTo latest es → AreUpTo latest (set_value test es after)
+  AreUpTo-set_value latest [] found h = h
+  AreUpTo-set_value latest (e ∷ es) found h = by (test e.0) found (λ f. AreUpTo-set_value latest es f h.1)
+    where
+      by : (b : Bool) → cond b (Some e.1) (lookup test es) ≡ Some before → (lookup test es ≡ Some before → AreUpTo latest (set_value test es after))
+          → AreUpTo latest (cond b ((e.0, after) ∷ es) (e ∷ set_value test es after))
+      by true f rest = (subst (λ (c : Option Stamp). IsUpTo (deadline_of c) latest) (same_clock e es f) h.0, h.1)
+      by false f rest = (h.0, rest f)
+
+  pub IsDeadline-set_value : (deadline : Option Stamp) (es : List Entry) → lookup test es ≡ Some before → IsDeadline deadline es → IsDeadline deadline (set_value test es after)
+  IsDeadline-set_value deadline es found h = λ now p. NoneOld-set_value test now before after es found same (h now p)
+
+-- a group is taken out
+module _ (test : Key → Bool) where
+  pub AreInTurn-remove_entry : (es : List Entry) → AreInTurn es → AreInTurn (remove_entry test es)
+  AreInTurn-remove_entry [] h = h
+  AreInTurn-remove_entry (e ∷ es) h = by (test e.0) (AreInTurn-remove_entry es h.1)
+    where
+      by : (b : Bool) → AreInTurn (remove_entry test es) → AreInTurn (cond b es (e ∷ remove_entry test es))
+      by true rest = h.1
+      by false rest = (Precedes-more e.1.clock es (remove_entry test es) (λ now p. NoneOld-remove_entry test now es p) h.0, rest)
+
+  pub AreUpTo-remove_entry : (latest : Option Stamp) (es : List Entry) → AreUpTo latest es → AreUpTo latest (remove_entry test es)
+  AreUpTo-remove_entry latest [] h = h
+  AreUpTo-remove_entry latest (e ∷ es) h = by (test e.0) (AreUpTo-remove_entry latest es h.1)
+    where
+      by : (b : Bool) → AreUpTo latest (remove_entry test es) → AreUpTo latest (cond b es (e ∷ remove_entry test es))
+      by true rest = h.1
+      by false rest = (h.0, rest)
+
+  pub IsDeadline-remove_entry : (deadline : Option Stamp) (es : List Entry) → IsDeadline deadline es → IsDeadline deadline (remove_entry test es)
+  IsDeadline-remove_entry deadline es h = λ now p. NoneOld-remove_entry test now es (h now p)
+
+-- the first is
+pub AreInTurn-first : (es : List Entry) → AreInTurn es → AreInTurn (remove es 0)
+AreInTurn-first [] h = h
+AreInTurn-first (e ∷ es) h = h.1
+
+pub AreUpTo-first : (latest : Option Stamp) (es : List Entry) → AreUpTo latest es → AreUpTo latest (remove es 0)
+AreUpTo-first latest [] h = h
+AreUpTo-first latest (e ∷ es) h = h.1
+
+NoneOld-first : (now : Option Stamp) (es : List Entry) → NoneOld now es → NoneOld now (remove es 0)
+NoneOld-first now [] h = h
+NoneOld-first now (e ∷ es) h = h.1
+
+pub IsDeadline-first : (deadline : Option Stamp) (es : List Entry) → IsDeadline deadline es → IsDeadline deadline (remove es 0)
+IsDeadline-first deadline es h = λ now p. NoneOld-first now es (h now p)
+
+-- those that aren't too old
+pub AreInTurn-live : (now : Option Stamp) (es : List Entry) → AreInTurn es → AreInTurn (live_entries now es)
+AreInTurn-live now [] h = h
+AreInTurn-live now (e ∷ es) h = by (is_too_old e.1.clock now) (AreInTurn-live now es h.1)
+  where
+    stays : (at : Option Stamp) (es : List Entry) → NoneOld at es → NoneOld at (live_entries now es)
+    stays at [] h = h
+    stays at (x ∷ xs) h = one (is_too_old x.1.clock now) (stays at xs h.1)
+      where
+        one : (b : Bool) → NoneOld at (live_entries now xs) → NoneOld at (cond (not b) (x ∷ live_entries now xs) (live_entries now xs))
+        one true r = r
+        one false r = (h.0, r)
+
+    by : (b : Bool) → AreInTurn (live_entries now es) → AreInTurn (cond (not b) (e ∷ live_entries now es) (live_entries now es))
+    by true rest = rest
+    by false rest = (Precedes-more e.1.clock es (live_entries now es) (λ at p. stays at es p) h.0, rest)
+
+pub AreUpTo-live : (latest now : Option Stamp) (es : List Entry) → AreUpTo latest es → AreUpTo latest (live_entries now es)
+AreUpTo-live latest now [] h = h
+AreUpTo-live latest now (e ∷ es) h = by (is_too_old e.1.clock now) (AreUpTo-live latest now es h.1)
+  where
+    by : (b : Bool) → AreUpTo latest (live_entries now es) → AreUpTo latest (cond (not b) (e ∷ live_entries now es) (live_entries now es))
+    by true rest = rest
+    by false rest = (h.0, rest)
+
+-- a group is opened
+later : (latest : Option Stamp) (c : Stamp) (k now : Option Stamp) → IsUpTo (Some (stamp_plus c wait)) latest → is_in_turn latest (deadline_of k) ≡ true
+    → is_too_old (Some c) now ≡ false → is_too_old k now ≡ false
+later latest c None now upto turn fresh = refl
+later None c (Some k) now upto turn fresh = absurd upto
+later (Some l) c (Some k) None upto turn fresh = refl
+later (Some l) c (Some k) (Some n) upto turn fresh =
+    from_on l (stamp_plus k wait) n (stamp_upto_turned (stamp_plus k wait) l (flipped (is_lt (stamp_cmp (stamp_plus k wait) l)) turn)) (from_on (stamp_plus c wait) l n upto fresh)
+  where
+    flipped : (b : Bool) → not b ≡ true → b ≡ false
+    flipped true h = sym h
+    flipped false h = refl
+
+Precedes-none : (clock : Option Stamp) → Precedes clock []
+Precedes-none None = tt
+Precedes-none (Some c) = λ now p. tt
+
+Precedes-push : (latest clock : Option Stamp) (es : List Entry) (e : Entry) → IsUpTo (deadline_of clock) latest → is_in_turn latest (deadline_of e.1.clock) ≡ true → Precedes clock es
+    → Precedes clock (es ++ e ∷ [])
+Precedes-push latest None es e upto turn h = tt
+Precedes-push latest (Some c) es e upto turn h = λ now p. NoneOld-push now es e (h now p) (later latest c e.1.clock now upto turn p)
+
+pub AreInTurn-push : (latest : Option Stamp) (es : List Entry) (e : Entry) → is_in_turn latest (deadline_of e.1.clock) ≡ true → AreUpTo latest es → AreInTurn es → AreInTurn (es ++ e ∷ [])
+AreInTurn-push latest [] e turn upto h = (Precedes-none e.1.clock, tt)
+AreInTurn-push latest (x ∷ es) e turn upto h = (Precedes-push latest x.1.clock es e upto.0 turn h.0, AreInTurn-push latest es e turn upto.1 h.1)
+
+IsUpTo-later : (latest d x : Option Stamp) → is_in_turn latest d ≡ true → IsUpTo x latest → IsUpTo x (latest_of latest d)
+IsUpTo-later latest None x turn h = h
+IsUpTo-later latest (Some d) None turn h = tt
+IsUpTo-later None (Some d) (Some x) turn h = absurd h
+IsUpTo-later (Some l) (Some d) (Some x) turn h = stamp_upto_trans x l d h (stamp_upto_turned d l (flipped (is_lt (stamp_cmp d l)) turn))
+  where
+    flipped : (b : Bool) → not b ≡ true → b ≡ false
+    flipped true h = sym h
+    flipped false h = refl
+
+itself : (d : Stamp) → is_gt (stamp_cmp d d) ≡ false
+itself d = ap is_gt (stamp_cmp_itself d)
+
+IsUpTo-itself : (latest d : Option Stamp) → IsUpTo d (latest_of latest d)
+IsUpTo-itself latest None = tt
+IsUpTo-itself latest (Some d) = itself d
+
+pub AreUpTo-push : (latest : Option Stamp) (es : List Entry) (e : Entry) → is_in_turn latest (deadline_of e.1.clock) ≡ true → AreUpTo latest es → AreUpTo (latest_of latest (deadline_of e.1.clock)) (es ++ e ∷ [])
+AreUpTo-push latest [] e turn h = (IsUpTo-itself latest (deadline_of e.1.clock), tt)
+AreUpTo-push latest (x ∷ es) e turn h = (IsUpTo-later latest (deadline_of e.1.clock) (deadline_of x.1.clock) turn h.0, AreUpTo-push latest es e turn h.1)
+
+pub IsDeadline-push : (deadline : Option Stamp) (es : List Entry) (e : Entry) → IsDeadline deadline es → IsDeadline (sooner deadline (deadline_of e.1.clock)) (es ++ e ∷ [])
+IsDeadline-push deadline es e h = λ now p.
+    NoneOld-push now es e (h now (sooner-first deadline (deadline_of e.1.clock) now p))
+    (sym (is_past-deadline e.1.clock now) ∙ sooner-second deadline (deadline_of e.1.clock) now p)
+
+-- a group isn't too old at the clock at which it is opened
+pub new-fresh : (clock : Option Stamp) → is_too_old clock clock ≡ false
+new-fresh None = refl
+new-fresh (Some c) =
+    ap is_lt (stamp_cmp_total.antisymm (stamp_plus c wait) c) ∙ ap (λ (r : Ordering). is_lt (ordering_reverse r)) (stamp_cmp-later c wait (lit< tt))
+
+-- What a look along a table knows: none before what is left is too old.
+pub record Looked (now : Option Stamp) (es left : List Entry) : Type 0 where
+  pub seen : List Entry
+  pub split : es ≡ seen ++ left
+  pub none : NoneOld now seen
+
+pub Looked-more : (now : Option Stamp) (es : List Entry) (e : Entry) (left : List Entry) → is_too_old e.1.clock now ≡ false → Looked now es (e ∷ left) → Looked now es left
+Looked-more now es e left fresh l = record {
+  seen = l.seen ++ e ∷ [];
+  split = l.split ∙ sym (append_assoc l.seen (e ∷ []) left);
+  none = NoneOld-push now l.seen e l.none fresh;
+}
+
+pub Looked-end : (now : Option Stamp) (es : List Entry) → Looked now es [] → NoneOld now es
+Looked-end now es l = subst (NoneOld now) (sym l.split) (NoneOld-append now l.seen [] l.none tt)
+
+turn_behind : (seen left : List Entry) → AreInTurn (seen ++ left) → AreInTurn left
+turn_behind [] left h = h
+turn_behind (e ∷ seen) left h = turn_behind seen left h.1
+
+pub none_behind : (clock now : Option Stamp) (es : List Entry) → IsSome clock → is_too_old clock now ≡ false → Precedes clock es → NoneOld now es
+none_behind None now es some fresh h = absurd (true≢false (sym some))
+none_behind (Some c) now es some fresh h = h now fresh
+
+-- where the groups are in order, none after one that isn't too old is
+pub Looked-turn : (now : Option Stamp) (es : List Entry) (e : Entry) (left : List Entry) → AreInTurn es → IsSome e.1.clock → is_too_old e.1.clock now ≡ false → Looked now es (e ∷ left) → NoneOld now es
+Looked-turn now es e left turn some fresh l =
+    let here : AreInTurn (e ∷ left) = turn_behind l.seen (e ∷ left) (subst AreInTurn l.split turn) in
+    subst (NoneOld now) (sym l.split) (NoneOld-append now l.seen (e ∷ left) l.none (fresh, none_behind e.1.clock now left some fresh here.0))
+
+-- Where a deadline isn't past and no group of some is too old, none of the table is.
+abbrev pub Leaves : Option Stamp → List Entry → List Entry → Type 0
+Leaves deadline left es = (now : Option Stamp) → is_past deadline now ≡ false → NoneOld now left → NoneOld now es
+
+-- one more group was looked at
+pub Leaves-more : (deadline : Option Stamp) (e : Entry) (left es : List Entry) → Leaves deadline (e ∷ left) es → Leaves (sooner deadline (deadline_of e.1.clock)) left es
+Leaves-more deadline e left es h = λ now p rest.
+    h now (sooner-first deadline (deadline_of e.1.clock) now p)
+    (sym (is_past-deadline e.1.clock now) ∙ sooner-second deadline (deadline_of e.1.clock) now p, rest)
+
+-- where the groups are in order, no more need be
+pub Leaves-turn : (deadline : Option Stamp) (e : Entry) (left es : List Entry) → IsSome e.1.clock → AreInTurn (e ∷ left) → Leaves deadline (e ∷ left) es → IsDeadline (sooner deadline (deadline_of e.1.clock)) es
+Leaves-turn deadline e left es some turn h = λ now p.
+    let fresh : is_too_old e.1.clock now ≡ false = sym (is_past-deadline e.1.clock now) ∙ sooner-second deadline (deadline_of e.1.clock) now p in
+    h now (sooner-first deadline (deadline_of e.1.clock) now p) (fresh, none_behind e.1.clock now left some fresh turn.0)
