@@ -234,9 +234,9 @@ some_is : (o : Option ℕ) (n : ℕ) → o ≡ Some n → IsSome o
 some_is o n e = rw e refl
 
 -- a read fails
-pub LooksAtRest-fault : (block : Block) (n : ℕ) (old new : State) (fault : Fault) → n ≤ 524288 → Needs n old (Err fault) new
+pub LooksAtRest-fault : (block : Block) (old new : State) (fault : Fault) → is_known block.kind ≡ true → Needs block.total old (Err fault) new
     → LooksAtRest block old (Err fault) new
-LooksAtRest-fault block n old new (Read file offset) few (b, same) = record {
+LooksAtRest-fault block old new (Read file offset) known (b, same, fewer) = record {
   file_is = b.file_is;
   again = b.again;
   first = if_none_map old.broken ((offset ≡ new.offset) × IsTrue new.failed) (offset ≡ old.offset) (λ h. h.0 ∙ same) b.first;
@@ -244,9 +244,9 @@ LooksAtRest-fault block n old new (Read file offset) few (b, same) = record {
   failed = b.failed;
   can_fail = b.can_fail;
 }
-LooksAtRest-fault block n old new Memory few h = (h.0, omega (arith, h.1))
-LooksAtRest-fault block n old new Write few h = absurd h
-LooksAtRest-fault block n old new (Refused refusal) few h = absurd h
+LooksAtRest-fault block old new Memory known h = (h.0, h.1, known)
+LooksAtRest-fault block old new Write known h = absurd h
+LooksAtRest-fault block old new (Refused refusal) known h = absurd h
 
 -- a read fails in a block that is skipped
 pub SkipsRest-fault : (block : Block) (n : ℕ) (old new : State) (fault : Fault) → 12 ≤ old.room → old.broken ≡ None

@@ -1,5 +1,5 @@
 -- A look at a block's first 12 bytes, and then one at the rest.
-use Rattle.std.proofs.Common.{◌≡◌, ℕ, ◌+◌, ◌≤◌, ◌<◌, List, length, take, drop, Option, Some, None, is_some, Bool, true, false, IsTrue, Err, refl, sym, ◌∙◌, ap, arith, take-take, length-append, length-take}
+use Rattle.std.proofs.Common.{◌≡◌, ℕ, ◌+◌, ◌≤◌, ◌<◌, List, length, take, drop, Option, Some, None, is_some, Bool, true, false, IsTrue, Err, inr, refl, sym, ◌∙◌, ap, subst, arith, take-take, length-append, length-take}
 use Rattle.cap_bytes.specs.Window.{State, Shows, coming}
 use Rattle.cap_bytes.specs.declared.faults.Fault.{Fault}
 use Rattle.cap_bytes.specs.declared.faults.Fault.TheVariants.{Refused, Read, Write, Memory}
@@ -10,7 +10,7 @@ use Rattle.cap_blocks.specs.Grammar.{is_known}
 use Rattle.cap_blocks.specs.Sights.{Stays, SeesFront, SeesStop, SeesRest, SeesBlock, Leaves, LooksAtRest, LooksForBlock}
 use Rattle.cap_blocks.specs.Split.{order_at, rest_fault, block_at, stop_by}
 use Rattle.cap_blocks.specs.declared.blocks.Block.{Block}
-use Rattle.cap_blocks.proofs.Faults.{block_fault-rest, stop_at-fault, stop_at-whole, not_empty, IsStopAt-stop_by}
+use Rattle.cap_blocks.proofs.Faults.{block_fault-rest, total-known, stop_at-fault, stop_at-whole, not_empty, IsStopAt-stop_by}
 use Rattle.cap_blocks.proofs.Behind.{Goes-trans, if_none, if_some, from_none}
 
 -- the order of a block that stands there
@@ -75,9 +75,9 @@ Shows-trans a b c told p q = record {
 }
 
 -- a fault in the second
-pub LooksForBlock-fault : (section : Option Order) (tail : Tail) (block : Block) (a b c : State) (fault : Fault) → Shows a b → Stays a b
+pub LooksForBlock-fault : (section : Option Order) (tail : Tail) (block : Block) (a b c : State) (fault : Fault) → SeesFront section block a b → Stays a b
     → LooksAtRest block b (Err fault) c → LooksForBlock section tail a (Err fault) c
-LooksForBlock-fault section tail block a b c (Read file offset) p k h = record {
+LooksForBlock-fault section tail block a b c (Read file offset) f k h = let p = f.shows in record {
   file_is = h.file_is ∙ k.file;
   again = if_some a.broken (λ first. offset ≡ first) p.goes.before;
   first = if_none a.broken (offset ≡ a.offset) p.goes.before (from_none b.broken (offset ≡ b.offset) p.goes.after h.first ∙ p.offset);
@@ -85,6 +85,13 @@ LooksForBlock-fault section tail block a b c (Read file offset) p k h = record {
   failed = h.failed;
   can_fail = k.can_fail h.can_fail;
 }
-LooksForBlock-fault section tail block a b c Memory p k h = (Shows-trans a b c k.told p h.0, omega (arith, k.room, h.1))
-LooksForBlock-fault section tail block a b c Write p k h = absurd h
-LooksForBlock-fault section tail block a b c (Refused refusal) p k h = absurd h
+LooksForBlock-fault section tail block a b c Memory f k h = (
+  Shows-trans a b c k.told f.shows h.0,
+  omega (arith, k.room, h.1, total-known block.kind block.total f.front.allowed h.2),
+  λ t. inr (
+    ap (λ (w : Block). is_known w.kind) (sym (f.block_is t)) ∙ h.2,
+    subst (λ (w : Block). a.room < w.total) (f.block_is t) (omega (arith, k.room, h.1)),
+  ),
+)
+LooksForBlock-fault section tail block a b c Write f k h = absurd h
+LooksForBlock-fault section tail block a b c (Refused refusal) f k h = absurd h

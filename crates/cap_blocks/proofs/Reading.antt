@@ -198,15 +198,17 @@ GivesNext-fault w u v tail section shown stop (Some first) Memory free both with
     absurd (let e = both refl in let f = sym p.broken ∙ h.0.goes.before in cc)
 GivesNext-fault w u v tail section shown stop None Memory free both within p h =
     let there = coming-passed (size_of shown) w u within p in
-    let whole : w.broken ≡ None = sym p.broken ∙ h.0.goes.before in
-    record {
-      goes = record { stop = free; before = whole; after = h.0.goes.after; failed = h.0.goes.failed ∙ p.failed };
-      stop = free;
-      section_same = refl;
-      offset_same = omega (arith, h.0.offset, p.offset);
-      coming_same = λ t. h.0.coming_same (told_passed (size_of shown) w u p t) ∙ there;
-      grown = omega (arith, h.1, p.room);
-    }
+    let whole : w.broken ≡ None = sym p.broken ∙ h.0.goes.before in (
+      record {
+        goes = record { stop = free; before = whole; after = h.0.goes.after; failed = h.0.goes.failed ∙ p.failed };
+        stop = free;
+        section_same = refl;
+        offset_same = omega (arith, h.0.offset, p.offset);
+        coming_same = λ t. h.0.coming_same (told_passed (size_of shown) w u p t) ∙ there;
+        grown = omega (arith, h.1, p.room);
+      },
+      λ t. rw (← there, ← p.offset, ← p.room) (h.2 (told_passed (size_of shown) w u p t)),
+    )
 GivesNext-fault w u v tail section shown stop broken Write free both within p h = absurd h
 GivesNext-fault w u v tail section shown stop broken (Refused refusal) free both within p h = absurd h
 

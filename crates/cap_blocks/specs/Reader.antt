@@ -9,7 +9,7 @@ use Rattle.cap_bytes.specs.declared.faults.Tail.{Tail}
 use Rattle.cap_bytes.specs.declared.faults.Tail.TheVariants.{Accept}
 use Rattle.cap_bytes.specs.declared.numbers.Order.{Order}
 use Rattle.cap_blocks.specs.Grammar.{is_known, is_total}
-use Rattle.cap_blocks.specs.Split.{block_at, body_in, stop_at, Item, given, stopped, items_from}
+use Rattle.cap_blocks.specs.Split.{block_at, body_in, stop_at, LacksRoom, Item, given, stopped, items_from}
 use Rattle.cap_blocks.specs.declared.blocks.Block.{Block}
 use Rattle.cap_blocks.specs.declared.blocks.Stop.{Stop}
 use Rattle.cap_blocks.specs.declared.blocks.Stop.TheVariants as stops
@@ -161,7 +161,7 @@ GivesNext old (Ok (Some block)) new = GivesBlock old block new
 GivesNext old (Ok None) new = (stop : Stop) × IsEnd stop × GivesStop stop old new
 GivesNext old (Err (Refused refusal)) new = GivesStop (stops.Refused refusal) old new
 GivesNext old (Err (Read file offset)) new = Breaks old file offset new
-GivesNext old (Err Memory) new = Waits old new
+GivesNext old (Err Memory) new = Waits old new × (IsTrue old.told → LacksRoom old.section old.offset old.coming old.room)
 GivesNext old (Err Write) new = ⊥
 
 -- what it does to the items to come

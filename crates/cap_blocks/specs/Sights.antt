@@ -8,7 +8,7 @@ use Rattle.cap_bytes.specs.declared.faults.Tail.{Tail}
 use Rattle.cap_bytes.specs.declared.numbers.Order.{Order}
 use Rattle.cap_blocks.specs.Grammar.{is_known, is_total}
 use Rattle.cap_blocks.specs.Reader.{IsStopAt}
-use Rattle.cap_blocks.specs.Split.{kind_at, total_at, is_section, is_ordered, own_order, order_at, front_fault, rest_fault, block_at, stop_at}
+use Rattle.cap_blocks.specs.Split.{kind_at, total_at, is_section, is_ordered, own_order, order_at, front_fault, rest_fault, block_at, stop_at, LacksRoom}
 use Rattle.cap_blocks.specs.declared.blocks.Block.{Block}
 use Rattle.cap_blocks.specs.declared.blocks.Stop.{Stop}
 use Rattle.cap_blocks.specs.declared.blocks.Sight.{Sight}
@@ -77,7 +77,7 @@ abbrev pub LooksAtFront : Option Order → Tail → State → Result (Result Blo
 LooksAtFront section tail old (Ok (Ok block)) new = SeesFront section block old new
 LooksAtFront section tail old (Ok (Err stop)) new = SeesStop section tail stop old new
 LooksAtFront section tail old (Err (Read file offset)) new = Fails old file offset new
-LooksAtFront section tail old (Err Memory) new = Shows old new × (old.room < 524288)
+LooksAtFront section tail old (Err Memory) new = Shows old new × (old.room < 12)
 LooksAtFront section tail old (Err Write) new = ⊥
 LooksAtFront section tail old (Err (Refused refusal)) new = ⊥
 
@@ -98,7 +98,7 @@ pub record SeesRest (block : Block) (fault : Option Rule) (old new : State) : Ty
 abbrev pub LooksAtRest : Block → State → Result (Option Rule) Fault → State → Type 0
 LooksAtRest block old (Ok fault) new = SeesRest block fault old new
 LooksAtRest block old (Err (Read file offset)) new = Fails old file offset new
-LooksAtRest block old (Err Memory) new = Shows old new × (old.room < 524288)
+LooksAtRest block old (Err Memory) new = Shows old new × (old.room < block.total) × (is_known block.kind ≡ true)
 LooksAtRest block old (Err Write) new = ⊥
 LooksAtRest block old (Err (Refused refusal)) new = ⊥
 
@@ -132,6 +132,7 @@ abbrev pub LooksForBlock : Option Order → Tail → State → Result Sight Faul
 LooksForBlock section tail old (Ok (Whole block)) new = SeesBlock section tail block old new
 LooksForBlock section tail old (Ok (Stopped stop)) new = SeesStop section tail stop old new
 LooksForBlock section tail old (Err (Read file offset)) new = Fails old file offset new
-LooksForBlock section tail old (Err Memory) new = Shows old new × (old.room < 524288)
+LooksForBlock section tail old (Err Memory) new =
+    Shows old new × (old.room < 524288) × (IsTrue old.told → LacksRoom section old.offset (coming old) old.room)
 LooksForBlock section tail old (Err Write) new = ⊥
 LooksForBlock section tail old (Err (Refused refusal)) new = ⊥

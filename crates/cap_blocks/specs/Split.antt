@@ -1,5 +1,5 @@
 -- How a file splits into its blocks and a rest, and what the rest is refused by.
-use Rattle.std.specs.Prelude.{◌≡◌, ◌≢◌, ◌==◌, ◌&&◌, not, ℕ, zero, suc, ◌+◌, ◌-◌, ◌^◌, ◌≤◌, ◌<◌, nat_lt, if◌then◌else◌, Bool, List, [], ◌∷◌, length, take, drop, slice_index, Option, Some, None, is_some, option_map}
+use Rattle.std.specs.Prelude.{◌≡◌, ◌≢◌, ◌==◌, ◌&&◌, ◌⊎◌, not, ℕ, zero, suc, ◌+◌, ◌-◌, ◌^◌, ◌≤◌, ◌<◌, nat_lt, if◌then◌else◌, Bool, true, List, [], ◌∷◌, length, take, drop, slice_index, Option, Some, None, is_some, option_map}
 use Rattle.cap_bytes.specs.Number.{number}
 use Rattle.cap_bytes.specs.declared.faults.Rule.{Rule}
 use Rattle.cap_bytes.specs.declared.faults.Rule.TheVariants.{Magic, Version, Cut, BlockLength, BlockTrailer, OrderMagic, FileLimit}
@@ -7,7 +7,7 @@ use Rattle.cap_bytes.specs.declared.faults.Tail.{Tail}
 use Rattle.cap_bytes.specs.declared.faults.Tail.TheVariants.{Accept}
 use Rattle.cap_bytes.specs.declared.numbers.Order.{Order}
 use Rattle.cap_bytes.specs.declared.numbers.Order.TheVariants.{Big, Little}
-use Rattle.cap_blocks.specs.Grammar.{section_kind, order_magic, is_total, is_version, SpellsBlock}
+use Rattle.cap_blocks.specs.Grammar.{section_kind, order_magic, is_known, is_total, is_version, SpellsBlock}
 use Rattle.cap_blocks.specs.declared.blocks.Block.{Block}
 use Rattle.cap_blocks.specs.declared.blocks.Stop.{Stop}
 use Rattle.cap_blocks.specs.declared.blocks.Stop.TheVariants as stops
@@ -87,6 +87,11 @@ block_at section offset bytes =
       total = total_at (order_at section bytes) bytes;
       order = order_at section bytes;
     }
+
+-- There is less room than a look for the block at the front needs: that is 12 bytes, and all of a block of a known kind.
+abbrev pub LacksRoom : Option Order → ℕ → List ℕ → ℕ → Type 0
+LacksRoom section offset bytes room =
+    (room < 12) ⊎ ((is_known (block_at section offset bytes).kind ≡ true) × (room < (block_at section offset bytes).total))
 
 -- the body of a block of that total length
 abbrev pub body_in : ℕ → List ℕ → List ℕ

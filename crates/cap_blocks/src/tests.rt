@@ -1,6 +1,6 @@
 //! Whole files, by one byte a read and by many. The files and what they give are worked out by hand from
 //! draft-ietf-opsawg-pcapng.
-ghost use Rattle.std.specs.Prelude.{◌≤◌, ◌≡◌, [], false};
+ghost use Rattle.std.specs.Prelude.{◌≤◌, ◌≡◌, [], None, false};
 
 use crate::blocks::is_known;
 use crate::{Block, BlockReader, Options, put_interface, put_packet, put_section};
@@ -346,6 +346,8 @@ impl Source for Making {
 
     ghost coming = { λ _. [] };
 
+    ghost most = { λ _. None };
+
     fn take(&mut self, buffer: &mut [u8]) -> Result<usize, Broken> {
         let trailer = u64::from(self.total).saturating_add(24);
         let body = if self.at < 36 {
@@ -395,6 +397,22 @@ fn skipped_blocks(rt: HostRuntime) -> Result<(), Fail> {
         } else {
             assert_eq!(rt; (offset, ended), (0, Err(refused(28, Rule::BlockTrailer))));
         }
+    }
+    Ok(())
+}
+
+// A block of a known kind may have 524,288 bytes and no more.
+#[test]
+fn the_longest_known_block(rt: HostRuntime) -> Result<(), Fail> {
+    let longer = Err(refused(28, Rule::BlockLength));
+    for (total, wanted) in [(524_288_u32, Ok((2, false))), (524_292, longer)] {
+        let mut bytes = CARRY.split_at(28).0.to_vec(rt.alloc())?;
+        bytes.extend_from_slice(&[1, 0, 0, 0])?;
+        bytes.extend_from_slice(&total.to_le_bytes())?;
+        bytes.resize((total as usize).saturating_add(24), 0)?;
+        bytes.extend_from_slice(&total.to_le_bytes())?;
+        let mut reader = reader(rt.alloc(), &bytes, 65_536, None, Tail::Refuse)?;
+        assert_eq!(rt; count(&mut reader), wanted);
     }
     Ok(())
 }

@@ -1,3 +1,4 @@
+pub mod Calls
 pub mod Device
 pub mod Feed
 pub mod Number

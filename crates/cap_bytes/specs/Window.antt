@@ -1,10 +1,11 @@
 -- What a window over a reader is at one moment, and what its calls do.
 use Rattle.std.specs.Prelude.{◌≡◌, ◌+◌, ◌^◌, ◌≤◌, ◌<◌, ℕ, List, [], ◌++◌, length, take, drop, Bool, true, false, IsTrue, Option, Some, None, IfSome, IfNone, IsSome, Result, Ok, Err}
+use Rattle.cap_bytes.specs.Feed.{Feed}
 use Rattle.cap_bytes.specs.declared.faults.Fault.{Fault}
 use Rattle.cap_bytes.specs.declared.faults.Fault.TheVariants.{Refused, Read, Write, Memory}
 
 -- A window shows the bytes `shown` of the input, which begin at `offset`. Behind them come those that
--- the reader still gives, `unread`, where it tells them. `broken` is the offset at which a read failed,
+-- the reader still gives, `unread`, where it tells them, at most `most` at a time, where it tells that. `broken` is the offset at which a read failed,
 -- once one has. `held` bytes are kept in its buffer, which has room for `room`.
 pub record State : Type 0 where
   pub file : ℕ
@@ -12,6 +13,7 @@ pub record State : Type 0 where
   pub shown : List ℕ
   pub told : Bool
   pub unread : List ℕ
+  pub most : Option ℕ
   pub broken : Option ℕ
   pub failed : Bool
   pub can_fail : Bool
@@ -23,17 +25,18 @@ abbrev pub coming : State → List ℕ
 coming window = window.shown ++ window.unread
 
 -- a new window, of which nothing has been read
-abbrev pub opened : ℕ → Bool → List ℕ → Bool → Bool → State
-opened file told unread failed can_fail =
+abbrev pub opened : ℕ → Feed → State
+opened file feed =
     record {
       file = file;
       offset = 0;
       shown = [];
-      told = told;
-      unread = unread;
+      told = feed.told;
+      unread = feed.coming;
+      most = feed.most;
       broken = None;
-      failed = failed;
-      can_fail = can_fail;
+      failed = feed.failed;
+      can_fail = feed.can_fail;
       held = 0;
       room = 0;
     }
@@ -43,6 +46,7 @@ pub record Keeps (old new : State) : Type 0 where
   pub file : new.file ≡ old.file
   pub offset : old.offset ≤ new.offset
   pub told : IsTrue old.told → IsTrue new.told
+  pub most : new.most ≡ old.most
   pub can_fail : IsTrue new.can_fail → IsTrue old.can_fail
   pub room : old.room ≤ new.room
   pub held : new.held ≤ 524288
@@ -71,11 +75,12 @@ pub record Breaks (old : State) (file offset : ℕ) (new : State) : Type 0 where
   pub failed : IsTrue new.failed
   pub can_fail : IsTrue old.can_fail
 
--- The next n bytes are there, or the input ends before them.
+-- The next n bytes are there, or the input ends before them. A read fails only where fewer are shown.
 abbrev pub Needs : ℕ → State → Result Bool Fault → State → Type 0
 Needs n old (Ok true) new = Shows old new × (n ≤ length new.shown)
 Needs n old (Ok false) new = Shows old new × (length new.shown < n) × (IsTrue old.told → new.unread ≡ [])
-Needs n old (Err (Read file offset)) new = Breaks old file offset new × (new.offset ≡ old.offset)
+Needs n old (Err (Read file offset)) new =
+    Breaks old file offset new × (new.offset ≡ old.offset) × IfNone old.broken (length new.shown < n)
 Needs n old (Err Memory) new = Shows old new × (old.room < n)
 Needs n old (Err Write) new = ⊥
 Needs n old (Err (Refused refusal)) new = ⊥
@@ -87,6 +92,7 @@ pub record Passes (n : ℕ) (old new : State) : Type 0 where
   pub shown : new.shown ≡ drop n old.shown
   pub told : new.told ≡ old.told
   pub unread : new.unread ≡ old.unread
+  pub most : new.most ≡ old.most
   pub broken : new.broken ≡ old.broken
   pub failed : new.failed ≡ old.failed
   pub can_fail : new.can_fail ≡ old.can_fail
@@ -107,6 +113,7 @@ pub record DropsAll (n : ℕ) (old new : State) : Type 0 where
   pub fewer : new.offset < old.offset + n
   pub room : 12 ≤ new.room
   pub shown : new.shown ≡ []
+  pub least : old.offset + length old.shown ≤ new.offset
   pub offset : IsTrue old.told → new.offset ≡ old.offset + length (coming old)
   pub unread : IsTrue old.told → new.unread ≡ []
 

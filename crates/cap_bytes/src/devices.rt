@@ -1,5 +1,5 @@
 //! What bytes come from and go to, as far as a contract can speak of it.
-ghost use Rattle.std.specs.Prelude.{◌≡◌, ℕ, List, Bool, ◌||◌, ◌≤◌, ◌<◌, length, is_err, IsTrue, IsErr, IfOk, IsOkUnless};
+ghost use Rattle.std.specs.Prelude.{◌≡◌, ℕ, List, Option, Bool, ◌||◌, ◌≤◌, ◌<◌, length, is_err, IsTrue, IsErr, IfOk, IfSome, IsOkUnless};
 ghost use Rattle.cap_bytes.specs.Device.{Takes, Gives, Puts, WriterKeeps, writer_of};
 
 use crate::faults::Fault;
@@ -30,10 +30,15 @@ pub trait Source: Device {
     /// The bytes to come, where it tells them.
     ghost coming: { Self → List ℕ };
 
+    /// How many bytes it gives at a time at most, where it tells that.
+    ghost most: { Self → Option ℕ };
+
     /// Puts the next bytes at the front of `buffer`, and answers how many they are: 0 where none
     /// are left, or where there is no room.
     fn take(&mut self, buffer: &mut [u8]) -> Result<usize, Broken>
         ensures count { IfOk result (λ n. n ≤ length buffer.new) }
+        ensures few { IfSome (most self.old) (λ most. IfOk result (λ n. n ≤ most)) }
+        ensures most { most self.new ≡ most self.old }
         ensures bytes { IsTrue (tells_coming self.old)
             → Takes (coming self.old) result (coming self.new) buffer.new }
         ensures told { IsTrue (tells_coming self.old) → IsTrue (tells_coming self.new) }

@@ -1,5 +1,6 @@
 //! Devices over memory, which cut and fail as they are told.
-ghost use Rattle.std.specs.Prelude.{◌≡◌, ◌≤◌, ◌<◌, ◌++◌, [], take, drop, length, true, false, is_some, vec_len, vec_capacity};
+ghost use Rattle.std.specs.Prelude.{◌≡◌, ◌≤◌, ◌<◌, ◌++◌, [], take, drop, length, true, false, Some, is_some, vec_len, vec_capacity, min, ◌-◌, IfOk, IsErr, ◌↔◌};
+ghost use Rattle.cap_bytes.specs.Calls.{one_call_less};
 
 use crate::devices::{Broken, Device, Sink, Source};
 use std::cmp::min;
@@ -22,6 +23,7 @@ impl Pieces {
     pub fn new(bytes: Vec<u8>, piece: usize, failing: Option<u64>) -> Pieces
         requires { 1 ≤ piece }
         ensures coming { ⟦<Pieces as Source>⟧.coming result ≡ bytes.items }
+        ensures most { ⟦<Pieces as Source>⟧.most result ≡ Some piece }
         ensures fresh { ⟦<Pieces as Device>⟧.has_failed result ≡ false }
         ensures can_fail { ⟦<Pieces as Device>⟧.can_fail result ≡ is_some failing }
     {
@@ -50,18 +52,30 @@ impl Source for Pieces {
 
     ghost coming = { λ p. drop p.at p.bytes.items };
 
+    ghost most = { λ p. Some p.piece };
+
     #[tactic(auto, using(crate::proofs::Lists::drop_more))]
     fn take(&mut self, buffer: &mut [u8]) -> Result<usize, Broken> {
-        if self.failing == Some(1) {
-            self.failing = None;
+        let fails = self.failing == Some(1);
+        self.failing = one_call_less(self.failing);
+        if fails {
             self.failed = true;
             return Err(Broken);
         }
-        self.failing = self.failing.map(|call| call.saturating_sub(1));
         let (_, rest) = self.bytes.split_at(self.at);
         let count = copy_front(rest, self.piece, buffer);
         self.at += count;
         Ok(count)
+    }
+}
+
+// Which of the calls fails, from 1, after one of them.
+fn one_call_less(failing: Option<u64>) -> Option<u64>
+    ensures { result ≡ one_call_less failing }
+{
+    match failing {
+        None | Some(1) => None,
+        Some(call) => Some(call.saturating_sub(1)),
     }
 }
 
@@ -71,6 +85,7 @@ fn copy_front(rest: &[u8], most: usize, buffer: &mut [u8]) -> usize
     ensures front { rest.now ≡ take result buffer.new ++ drop result rest.now }
     ensures none { result ≡ 0 → 0 < length buffer.old → 0 < most → rest.now ≡ [] }
     ensures count { result ≤ length buffer.new }
+    ensures most { result ≤ most }
 {
     let count = min(min(most, buffer.len()), rest.len());
     let (front, _) = rest.split_at(count);
@@ -119,13 +134,23 @@ impl Sink for Room {
     ghost held = { λ r. r.bytes.items };
 
     fn give(&mut self, bytes: &[u8]) -> Result<usize, Broken> {
-        let count = min(bytes.len(), self.bytes.capacity() - self.bytes.len());
-        if count == 0 && !bytes.is_empty()
-            || self.bytes.extend_from_slice(&bytes[..count]).is_err()
-        {
-            self.full = true;
-            return Err(Broken);
-        }
-        Ok(count)
+        let answer = append(&mut self.bytes, bytes);
+        self.full = self.full || answer.is_err();
+        answer
     }
+}
+
+// Appends as many of the first bytes as the vector's capacity has room for, and answers how many. Fails where there
+// are some and it has none.
+fn append(vector: &mut Vec<u8>, bytes: &[u8]) -> Result<usize, Broken>
+    ensures full { IsErr result ↔ ((0 < length bytes.now) × (vec_capacity vector.old ≡ vec_len vector.old)) }
+    ensures count { IfOk result (λ n. n ≡ min (length bytes.now) (vec_capacity vector.old - vec_len vector.old)) }
+    ensures items { IfOk result (λ n. vector.new.items ≡ vector.old.items ++ take n bytes.now) }
+    ensures none { IsErr result → vector.new ≡ vector.old }
+{
+    let count = min(bytes.len(), vector.capacity() - vector.len());
+    if count == 0 && !bytes.is_empty() || vector.extend_from_slice(&bytes[..count]).is_err() {
+        return Err(Broken);
+    }
+    Ok(count)
 }

@@ -1,7 +1,8 @@
 //! Devices over `Read` and `Write` of the standard library.
-ghost use Rattle.std.specs.Prelude.{◌≡◌, false};
+ghost use Rattle.std.specs.Prelude.{◌≡◌, ◌<◌, ◌⊎◌, false, IfOk, IsErr};
 
 use crate::devices::{Broken, Device, Sink, Source};
+use std::io;
 use std::io::{Read, Write};
 
 /// A `Read` or a `Write` of the standard library as a device. Any error is a failure, also
@@ -34,6 +35,29 @@ impl<T> Tracked<T> {
     }
 }
 
+// What a read of the standard library gave. Any error is a failure.
+fn gave(answer: io::Result<usize>) -> Result<usize, Broken>
+    ensures count { IfOk answer (λ n. result ≡ Ok n) }
+    ensures failed { IsErr answer → IsErr result }
+{
+    match answer {
+        Ok(count) => Ok(count),
+        Err(_) => Err(Broken),
+    }
+}
+
+// What a write of the standard library took of so many bytes. Any error is a failure, and so is 0 of some bytes.
+fn took(answer: io::Result<usize>, length: usize) -> Result<usize, Broken>
+    ensures count { IfOk answer (λ n. (0 < n ⊎ length ≡ 0) → result ≡ Ok n) }
+    ensures none { IfOk answer (λ n. n ≡ 0 → 0 < length → IsErr result) }
+    ensures failed { IsErr answer → IsErr result }
+{
+    match answer {
+        Ok(count) if count > 0 || length == 0 => Ok(count),
+        _ => Err(Broken),
+    }
+}
+
 impl<T: Drop> Device for Tracked<T> {
     ghost use Rattle.std.specs.Prelude.{true};
     ghost use Rattle.cap_bytes.specs.Tracked.{has_failed as failed_of};
@@ -48,21 +72,19 @@ impl<T: Drop> Device for Tracked<T> {
 }
 
 impl<T: Read + Drop> Source for Tracked<T> {
-    ghost use Rattle.std.specs.Prelude.{is_some, unwrap_or, []};
+    ghost use Rattle.std.specs.Prelude.{None, is_some, unwrap_or, []};
     ghost use Rattle.cap_bytes.specs.Tracked.{inner_of};
 
     ghost tells_coming = { λ t. is_some (T.remaining (inner_of t)) };
 
     ghost coming = { λ t. unwrap_or (T.remaining (inner_of t)) [] };
 
+    ghost most = { λ _. None };
+
     fn take(&mut self, buffer: &mut [u8]) -> Result<usize, Broken> {
-        match self.inner.read(buffer) {
-            Ok(count) => Ok(count),
-            Err(_) => {
-                self.failed = true;
-                Err(Broken)
-            }
-        }
+        let answer = gave(self.inner.read(buffer));
+        self.failed = self.failed || answer.is_err();
+        answer
     }
 }
 
@@ -75,12 +97,8 @@ impl<T: Write + Drop> Sink for Tracked<T> {
     ghost held = { λ t. unwrap_or (T.contents (inner_of t)) [] };
 
     fn give(&mut self, bytes: &[u8]) -> Result<usize, Broken> {
-        match self.inner.write(bytes) {
-            Ok(count) if count > 0 || bytes.is_empty() => Ok(count),
-            _ => {
-                self.failed = true;
-                Err(Broken)
-            }
-        }
+        let answer = took(self.inner.write(bytes), bytes.len());
+        self.failed = self.failed || answer.is_err();
+        answer
     }
 }

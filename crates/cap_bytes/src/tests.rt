@@ -3,12 +3,12 @@
 ghost use Rattle.std.specs.Prelude.{◌≤◌};
 
 use crate::{
-    Device, Fault, Order, Pieces, Refusal, Room, Rule, Source, Tracked, Window, put_all, u16_at,
-    u32_at, u64_at,
+    Broken, Device, Fault, Order, Pieces, Refusal, Room, Rule, Sink, Source, Tracked, Window,
+    put_all, u16_at, u32_at, u64_at,
 };
 use std::alloc::Global;
 use std::io;
-use std::io::Write;
+use std::io::{ErrorKind, Read, Write};
 use std::process::Abort;
 use std::test::Fail;
 
@@ -239,4 +239,75 @@ fn a_standard_reader_is_read_to_its_end(rt: HostRuntime) -> Result<(), Fail> {
     assert_eq!(rt; window.bytes(), bytes.as_slice());
     assert!(rt; !need(&mut window, 11)?);
     Ok(())
+}
+
+// Reads no further than it is asked: the next read would fail.
+#[test]
+fn a_window_reads_no_further(rt: HostRuntime) -> Result<(), Fail> {
+    for n in 1..=9 {
+        let pieces = Pieces::new(counted(rt.alloc(), 10)?, 1, Some(n as u64 + 1));
+        let mut window = Window::new(rt.alloc(), pieces, 3);
+        assert_eq!(rt; need(&mut window, n), Ok(true));
+        assert_eq!(rt; window.bytes().len(), n);
+        assert_eq!(rt; need(&mut window, n), Ok(true));
+        let fault = Fault::Read { file: 3, offset: 0 };
+        assert_eq!(rt; need(&mut window, n + 1), Err(fault));
+    }
+    Ok(())
+}
+
+// Errs at the first call of each kind, and then reads and takes one byte at a time.
+#[derive(Drop)]
+struct ErrsOnce {
+    kind: ErrorKind,
+    reads: u32,
+    writes: u32,
+}
+
+impl Read for ErrsOnce {
+    fn read(&mut self, buffer: &mut [u8]) -> io::Result<usize> {
+        self.reads = self.reads.saturating_add(1);
+        if self.reads == 1 {
+            return Err(self.kind.into());
+        }
+        let Some(slot) = buffer.first_mut() else {
+            return Ok(0);
+        };
+        *slot = 7;
+        Ok(1)
+    }
+}
+
+impl Write for ErrsOnce {
+    fn write(&mut self, bytes: &[u8]) -> io::Result<usize> {
+        self.writes = self.writes.saturating_add(1);
+        if self.writes == 1 {
+            return Err(self.kind.into());
+        }
+        Ok(bytes.len().min(1))
+    }
+
+    fn flush(&mut self) -> io::Result<()> {
+        Ok(())
+    }
+}
+
+// Any error is a failure at once: nothing is asked again.
+#[test]
+fn an_error_is_told_at_once(rt: HostRuntime) {
+    for kind in [ErrorKind::Interrupted, ErrorKind::Other] {
+        let inner = ErrsOnce {
+            kind,
+            reads: 0,
+            writes: 0,
+        };
+        let mut device = Tracked::new(inner);
+        let mut buffer = [0; 4];
+        assert_eq!(rt; device.take(&mut buffer), Err(Broken));
+        assert!(rt; device.failed());
+        assert_eq!(rt; device.give(b"0123"), Err(Broken));
+        let inner = device.into_inner();
+        assert_eq!(rt; inner.reads, 1);
+        assert_eq!(rt; inner.writes, 1);
+    }
 }

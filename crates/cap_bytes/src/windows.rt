@@ -1,5 +1,6 @@
 //! A window over a reader: the one cursor by which bytes are read.
-ghost use Rattle.std.specs.Prelude.{◌≡◌, ℕ, ◌+◌, ◌^◌, ◌≤◌, None, length};
+ghost use Rattle.std.specs.Prelude.{◌≡◌, ℕ, ◌+◌, ◌^◌, ◌≤◌, ◌<◌, None, length};
+ghost use Rattle.cap_bytes.specs.Feed.{feed_of, IsWithin};
 ghost use Rattle.cap_bytes.specs.Window.{opened, Keeps, Needs, Passes, Skips};
 
 use crate::buffers::{Filling, discard, make_room, read_on};
@@ -37,6 +38,7 @@ impl<R: Source> Model for Window<R> {
       shown = slice_range w.buffer.items w.start w.end;
       told = R.tells_coming w.reader;
       unread = R.coming w.reader;
+      most = R.most w.reader;
       broken = w.broken;
       failed = R.has_failed w.reader;
       can_fail = R.can_fail w.reader || is_some w.broken;
@@ -50,7 +52,7 @@ impl<R: Source> Model for Window<R> {
 impl<R: Source> Window<R> {
     /// A window over the bytes of `reader`, which is the file of that number. It reads nothing yet.
     pub fn new(alloc: Global, reader: R, file: u32) -> Window<R>
-        ensures { result ≡ opened file (R.tells_coming reader) (R.coming reader) (R.has_failed reader) (R.can_fail reader) }
+        ensures { result ≡ opened file (feed_of R.Source reader) }
     {
         Window {
             reader,
@@ -63,12 +65,14 @@ impl<R: Source> Window<R> {
         }
     }
 
-    /// Reads on until the next n bytes are shown. Answers whether they are: if not, the input ends
-    /// first. `Memory` leaves the bytes to come.
+    /// Reads on until the next n bytes are shown, and no further: where they are, nothing changes.
+    /// Answers whether they are shown: if not, the input ends first. `Memory` leaves the bytes to come.
     #[inline]
     pub fn need(&mut self, n: usize) -> Result<bool, Fault>
         requires { n ≤ 524288 }
+        ensures same { n ≤ length self.old.shown → self.old.broken ≡ None → self.new ≡ self.old }
         ensures answer { Needs n self.old result self.new }
+        ensures asked { length self.old.shown < n → IsWithin self.old.most n (length self.new.shown) }
         ensures keeps { Keeps self.old self.new }
     {
         if let Some(offset) = self.broken {
@@ -90,6 +94,7 @@ impl<R: Source> Window<R> {
         requires fewer { length self.old.shown ≤ n }
         requires whole { self.old.broken ≡ None }
         ensures answer { Needs n self.old result self.new }
+        ensures asked { length self.old.shown < n → IsWithin self.old.most n (length self.new.shown) }
         ensures keeps { Keeps self.old self.new }
     {
         let (end, filling) = read_on(&mut self.reader, &mut self.buffer, self.start, self.end, n)?;

@@ -1,5 +1,5 @@
 -- A reader of either format as a file to come.
-use Rattle.std.specs.Prelude.{◌≡◌, ℕ, Bool, true, false, IsTrue, List, [], Option, None, Result, Ok, Err, is_some, ⊤}
+use Rattle.std.specs.Prelude.{◌≡◌, ◌<◌, ℕ, Bool, true, false, IsTrue, List, [], Option, None, Result, Ok, Err, is_some, ⊤}
 use Rattle.cap_bytes.specs.Window.{State as WindowState, Shows, Breaks, coming}
 use Rattle.cap_bytes.specs.declared.faults.Fault.{Fault}
 use Rattle.cap_bytes.specs.declared.faults.Fault.TheVariants.{Refused, Read, Write, Memory}
@@ -51,7 +51,7 @@ has_format Pcapng bytes = is_pcapng bytes ≡ true
 abbrev pub LooksAtWindow : WindowState → Result Format Fault → WindowState → Type 0
 LooksAtWindow old (Ok format) new = Shows old new × (IsTrue old.told → has_format format (coming old))
 LooksAtWindow old (Err (Read file offset)) new = Breaks old file offset new × (new.offset ≡ old.offset)
-LooksAtWindow old (Err Memory) new = Shows old new
+LooksAtWindow old (Err Memory) new = Shows old new × (old.room < 4)
 LooksAtWindow old (Err Write) new = ⊥
 LooksAtWindow old (Err (Refused refusal)) new = ⊥
 

@@ -1,6 +1,6 @@
 //! Whole files, by one byte a read and by many. The files and what they give are worked out by hand from
 //! draft-ietf-opsawg-pcap and draft-ietf-opsawg-pcapng.
-ghost use Rattle.std.specs.Prelude.{◌≡◌, ◌≤◌, [], ◌∷◌, false, Some};
+ghost use Rattle.std.specs.Prelude.{◌≡◌, ◌≤◌, [], ◌∷◌, false, None, Some};
 
 use crate::{Capture, Ending, Format, Head, Listed, Listing, Meta, PacketFeed, next_packet};
 use cap_bytes::{Broken, Device, Fault, Pieces, Refusal, Rule, Source, Tail};
@@ -360,17 +360,97 @@ fn cut_rest(rt: HostRuntime) -> Result<(), Fail> {
     Ok(())
 }
 
-// A read that fails comes again.
+// Where the block begins that a read of so many bytes is in, of OPTIONS_PCAPNG.
+fn block_of(read: u64) -> u64 {
+    if read <= 44 {
+        0
+    } else if read <= 96 {
+        44
+    } else if read <= 144 {
+        96
+    } else if read <= 168 {
+        144
+    } else {
+        168
+    }
+}
+
+// Each read failing in turn: the fault comes again. Nothing is read behind a packet before it is passed.
 #[test]
 fn failing_reads(rt: HostRuntime) -> Result<(), Fail> {
-    for (call, offset) in [(1, 0), (45, 44), (100, 96)] {
+    for call in 1..=169 {
         let pieces = Pieces::new(OPTIONS_PCAPNG.to_vec(rt.alloc())?, 1, Some(call));
         let mut feed = Capture::new(rt.alloc(), pieces, 7, Tail::Refuse);
+        if call > 144 {
+            takes(
+                &rt,
+                &mut feed,
+                carried(&rt, 96, Format::Pcapng),
+                &[1, 2, 3, 4],
+            )?;
+        }
+        let offset = block_of(call);
         let fault = Err(Fault::Read { file: 7, offset });
-        assert_eq!(rt; feed.head(), fault);
-        assert_eq!(rt; feed.head(), fault);
+        assert_eq!(rt; feed.head(), fault, "{call}");
+        assert_eq!(rt; feed.head(), fault, "{call}");
         assert!(rt; feed.feed_held().failed);
     }
+    Ok(())
+}
+
+// The same of a pcap file: the fault is told at the header, or at the record.
+#[test]
+fn failing_reads_of_pcap(rt: HostRuntime) -> Result<(), Fail> {
+    for call in 1..=45 {
+        let pieces = Pieces::new(CARRY_PCAP.to_vec(rt.alloc())?, 1, Some(call));
+        let mut feed = Capture::new(rt.alloc(), pieces, 7, Tail::Refuse);
+        if call > 44 {
+            takes(
+                &rt,
+                &mut feed,
+                carried(&rt, 24, Format::Pcap),
+                &[1, 2, 3, 4],
+            )?;
+        }
+        let offset = if call <= 24 {
+            0
+        } else if call <= 44 {
+            24
+        } else {
+            44
+        };
+        let fault = Err(Fault::Read { file: 7, offset });
+        assert_eq!(rt; feed.head(), fault, "{call}");
+        assert_eq!(rt; feed.head(), fault, "{call}");
+    }
+    Ok(())
+}
+
+// Version 1.2 is read as 1.0 is.
+#[test]
+fn version_1_2(rt: HostRuntime) -> Result<(), Fail> {
+    let mut bytes = in_section(rt.alloc(), &[&INTERFACE, &PACKET])?;
+    if let Some(minor) = bytes.get_mut(14) {
+        *minor = 2;
+    }
+    let head = Head::Packet(carried(&rt, 48, Format::Pcapng));
+    begins(&rt, rt.alloc(), &bytes, head)?;
+    Ok(())
+}
+
+// A packet of 262,145 captured bytes, in a block that is there whole.
+#[test]
+fn a_long_packet(rt: HostRuntime) -> Result<(), Fail> {
+    let mut bytes = in_section(rt.alloc(), &[&INTERFACE])?;
+    let (total, captured) = (262_180_u32, 262_145_u32);
+    bytes.extend_from_slice(&[6, 0, 0, 0])?;
+    bytes.extend_from_slice(&total.to_le_bytes())?;
+    bytes.extend_from_slice(&[0; 12])?;
+    bytes.extend_from_slice(&captured.to_le_bytes())?;
+    bytes.extend_from_slice(&captured.to_le_bytes())?;
+    bytes.resize(262_224, 0)?;
+    bytes.extend_from_slice(&total.to_le_bytes())?;
+    begins(&rt, rt.alloc(), &bytes, refused(48, Rule::PacketLong))?;
     Ok(())
 }
 
@@ -440,6 +520,8 @@ impl Source for Making {
     ghost tells_coming = { λ _. false };
 
     ghost coming = { λ _. [] };
+
+    ghost most = { λ _. None };
 
     fn take(&mut self, buffer: &mut [u8]) -> Result<usize, Broken> {
         let body = if self.at < 36 {

@@ -1,4 +1,5 @@
-use Rattle.cap_blocks.proofs.Finding.{SeesBlock-both, SeesStop-rest}
+use Rattle.std.proofs.lemmas.Result.{err_from_is_err_and}
+use Rattle.cap_blocks.proofs.Finding.{SeesBlock-both, SeesStop-rest, LooksForBlock-fault}
 use Rattle.cap_blocks.proofs.readers.look_for_block.Goals as goal
 
 pub returns-in-None-clause-answer : goal.returns-in-None-clause-answer
@@ -15,3 +16,11 @@ returns-in-Some-clause-answer g c =
     rw (c.stop_of.ensures, c.file-file.ensures, front.front.offset_is)
     (SeesStop-rest c.args.section c.args.tail c.in-Ok.block c.in-Some.rule c.args.window.now c.look_at_front.new.window c.look_at_rest.new.window
     front c.in_ok-block.ensures.stays.told rest)
+
+pub returns-in_err-look_at_rest-clause-answer : goal.returns-in_err-look_at_rest-clause-answer
+returns-in_err-look_at_rest-clause-answer g c =
+    let p = err_from_is_err_and c.from_residual-in_err-look_at_rest.result c.from_residual-in_err-look_at_rest.ensures.1 in
+    let front = rw c.in-Ok.is at c.in_ok-block.ensures.answer in
+    rw (p.1, p.2)
+    (LooksForBlock-fault c.args.section c.args.tail c.in-Ok.block c.args.window.now c.look_at_front.new.window c.look_at_rest.new.window
+    c.in_err-look_at_rest.field-0.0 front c.in_ok-block.ensures.stays c.in_err-look_at_rest.ensures.answer)

@@ -10,8 +10,7 @@ pub returns-in_err-need-clause-answer : goal.returns-in_err-need-clause-answer
 returns-in_err-need-clause-answer g c =
     let p = err_from_is_err_and c.from_residual.result c.from_residual.ensures.1 in
     rw (p.1, p.2)
-    (LooksAtRest-fault c.args.block c.args.block.total c.args.window.now c.need.new.self c.in_err-need.field-0.0
-    (total-known c.args.block.kind c.args.block.total c.requires.front.allowed c.requires.known) c.in_err-need.ensures.answer)
+    (LooksAtRest-fault c.args.block c.args.window.now c.need.new.self c.in_err-need.field-0.0 c.requires.known c.in_err-need.ensures.answer)
 
 pub returns-then-not-branch-clause-answer : goal.returns-then-not-branch-clause-answer
 returns-then-not-branch-clause-answer g c =
