@@ -50,7 +50,7 @@ fn table_once(alloc: Global, files: &[File], piece: usize) -> Option<Table<Captu
 {
     let mut sources = Vec::new(alloc);
     for file in files {
-        let mut bytes = Vec::new(alloc);
+        let mut bytes = Vec::with_capacity(alloc, 512).ok()?;
         for part in *file {
             let decoded = hex::decode(alloc, *part).ok()?;
             bytes.extend_from_slice(decoded.as_slice()).ok()?;
