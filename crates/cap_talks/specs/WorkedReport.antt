@@ -10,28 +10,34 @@ use Rattle.cap_talks.specs.Classes.{classes}
 use Rattle.cap_talks.specs.ReportText.{text_of}
 use Rattle.cap_talks.specs.Taken.{Taken}
 use Rattle.cap_talks.specs.declared.classes.Class.{Class}
-use Rattle.cap_talks.specs.declared.classes.Class.TheVariants.{Unjoined, Counted}
+use Rattle.cap_talks.specs.declared.classes.Class.TheVariants.{Bad, Unjoined, Counted}
 
-abbrev pub raw : Interface
-raw = record { link = 101; snaplen = 262144; resolution = microseconds; offset = pos 0 }
+-- an interface of a link type (LINKTYPE registry): 1 is Ethernet, 101 IP alone
+abbrev pub interface_of : ℕ → Interface
+interface_of link = record { link = link; snaplen = 262144; resolution = microseconds; offset = pos 0 }
 
-abbrev pub meta_at : ℕ → ℕ → Meta
-meta_at seconds original =
+abbrev pub meta_at : ℕ → ℕ → ℕ → Meta
+meta_at link seconds original =
     record {
       file = 1;
       offset = 24;
       format = Pcap;
       skipped = 0;
       instance = 0;
-      interface = raw;
+      interface = interface_of link;
       units = Some (seconds * 1000000);
       captured = original;
       original = original;
     }
 
-abbrev pub taken_at : ℕ → List ℕ → Taken
-taken_at seconds frame =
-    record { clock = Some (stamp_in (seconds * 1000000) raw); meta = meta_at seconds (length frame); frame = frame }
+-- a packet that was captured whole, at a second
+abbrev pub taken_at : ℕ → ℕ → List ℕ → Taken
+taken_at link seconds frame =
+    record {
+      clock = Some (stamp_in (seconds * 1000000) (interface_of link));
+      meta = meta_at link seconds (length frame);
+      frame = frame;
+    }
 
 -- a fragment from 10.0.0.1 to 10.0.0.2 with identification 7, by its two bytes of flags and offset, and its data
 abbrev pub fragment_at : ℕ → ℕ → List ℕ → List ℕ
@@ -40,14 +46,14 @@ fragment_at high low bytes =
 
 abbrev pub first_two : List Taken
 first_two =
-    taken_at 2 (fragment_at 32 0 (3 ∷ 232 ∷ 7 ∷ 208 ∷ 0 ∷ 24 ∷ 0 ∷ 0 ∷ []))
-    ∷ taken_at 1 (fragment_at 0 2 (176 ∷ 177 ∷ 178 ∷ 179 ∷ 180 ∷ 181 ∷ 182 ∷ 183 ∷ []))
+    taken_at 101 2 (fragment_at 32 0 (3 ∷ 232 ∷ 7 ∷ 208 ∷ 0 ∷ 24 ∷ 0 ∷ 0 ∷ []))
+    ∷ taken_at 101 1 (fragment_at 0 2 (176 ∷ 177 ∷ 178 ∷ 179 ∷ 180 ∷ 181 ∷ 182 ∷ 183 ∷ []))
     ∷ []
 
 abbrev pub all_four : List Taken
 all_four =
-    taken_at 4 (fragment_at 32 1 (160 ∷ 161 ∷ 162 ∷ 163 ∷ 164 ∷ 165 ∷ 166 ∷ 167 ∷ []))
-    ∷ taken_at 3 (fragment_at 32 0 (3 ∷ 233 ∷ 7 ∷ 209 ∷ 0 ∷ 24 ∷ 0 ∷ 0 ∷ []))
+    taken_at 101 4 (fragment_at 32 1 (160 ∷ 161 ∷ 162 ∷ 163 ∷ 164 ∷ 165 ∷ 166 ∷ 167 ∷ []))
+    ∷ taken_at 101 3 (fragment_at 32 0 (3 ∷ 233 ∷ 7 ∷ 209 ∷ 0 ∷ 24 ∷ 0 ∷ 0 ∷ []))
     ∷ first_two
 
 abbrev pub pcap_end : ℕ → Ending
@@ -66,3 +72,28 @@ pub record Overlapped : Type 0 where
       ++ codes "total packets 4 bytes 112 truncated 0\n"
       ++ codes "frames other-link 0 not-ipv4 0 short 0 cut 0 bad 0 unjoined 0 counted 4\njoined 1 given-up 0\ntalks 1\n"
       ++ codes "talk udp 10.0.0.1:1001 10.0.0.2:2001 forward 4 112 backward 0 0 first 1+0/1000000 last 4+0/1000000\n"
+
+-- an Ethernet frame with two tags (IEEE 802.1Q, 9.3) and 8 bytes of padding, between 10.0.0.1 and 10.0.0.2: of UDP, by the last bytes of
+-- its addresses, its identification, its ports and its UDP length
+abbrev pub tagged_at : ℕ → ℕ → ℕ → List ℕ → ℕ → List ℕ
+tagged_at from to identification ports length =
+    2 ∷ 0 ∷ 0 ∷ 0 ∷ 0 ∷ to ∷ 2 ∷ 0 ∷ 0 ∷ 0 ∷ 0 ∷ from ∷ 136 ∷ 168 ∷ 0 ∷ 100 ∷ 129 ∷ 0 ∷ 0 ∷ 10 ∷ 8 ∷ 0 ∷ 69 ∷ 0 ∷ 0 ∷ 30 ∷ 0 ∷ identification
+    ∷ 0 ∷ 0 ∷ 64 ∷ 17 ∷ 0 ∷ 0 ∷ 10 ∷ 0 ∷ 0 ∷ from ∷ 10 ∷ 0 ∷ 0 ∷ to
+    ∷ (ports ++ (0 ∷ length ∷ 0 ∷ 0 ∷ 104 ∷ 105 ∷ 0 ∷ 0 ∷ 0 ∷ 0 ∷ 0 ∷ 0 ∷ 0 ∷ 0 ∷ []))
+
+-- there, back, and one whose UDP length reaches into the padding
+abbrev pub tagged_frames : List Taken
+tagged_frames =
+    taken_at 1 3 (tagged_at 1 2 3 (3 ∷ 232 ∷ 7 ∷ 208 ∷ []) 12)
+    ∷ taken_at 1 2 (tagged_at 2 1 2 (7 ∷ 208 ∷ 3 ∷ 232 ∷ []) 10)
+    ∷ taken_at 1 1 (tagged_at 1 2 1 (3 ∷ 232 ∷ 7 ∷ 208 ∷ []) 10)
+    ∷ []
+
+-- Tagged frames: padding isn't data.
+pub record Tagged : Type 0 where
+  pub classes_are : classes tagged_frames ≡ Bad ∷ Counted ∷ Counted ∷ []
+  pub done : text_of 1 (Some pcap_end) tagged_frames
+      ≡ codes "files 1\nfile 1 pcap packets 3 bytes 180 truncated 0 skipped 0 first 1+0/1000000 last 3+0/1000000\n"
+      ++ codes "total packets 3 bytes 180 truncated 0\n"
+      ++ codes "frames other-link 0 not-ipv4 0 short 0 cut 0 bad 1 unjoined 0 counted 2\njoined 0 given-up 0\ntalks 1\n"
+      ++ codes "talk udp 10.0.0.1:1000 10.0.0.2:2000 forward 1 60 backward 1 60 first 1+0/1000000 last 2+0/1000000\n"

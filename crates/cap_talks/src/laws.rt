@@ -4,7 +4,7 @@ ghost use Rattle.cap_talks.specs.Classes.{OneClass};
 ghost use Rattle.cap_talks.specs.InOrder.{ByPlaces};
 ghost use Rattle.cap_talks.specs.TalkLaws.{KeyLaw, FrameLaw, SumLaw};
 ghost use Rattle.cap_talks.specs.Taken.{Taken};
-ghost use Rattle.cap_talks.specs.WorkedReport.{Overlapped};
+ghost use Rattle.cap_talks.specs.WorkedReport.{Overlapped, Tagged};
 ghost use Rattle.cap_talks.specs.WorkedTalks.{TalkLines, TalkLimit};
 ghost use Rattle.cap_talks.specs.declared.units.CountedUnit.{CountedUnit};
 
@@ -32,7 +32,9 @@ pub fn one_class()
     ensures places { ByPlaces }
 {}
 
-/// The report on four fragments that overlap, after two of them and after all, by computation.
+/// The report on four fragments that overlap, after two of them and after all, and on three tagged frames, by
+/// computation.
 pub fn worked_report()
     ensures overlapped { Overlapped }
+    ensures tagged { Tagged }
 {}
