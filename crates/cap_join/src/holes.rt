@@ -3,12 +3,14 @@
 //! A hole is some blocks of 8 bytes that no fragment has filled, and its first 8 bytes describe it: the
 //! place after its last byte and where the next hole begins. RFC 815 links the holes both ways, in any
 //! order, and has a last hole without an end. Here they rise, none links back, and what lies past the
-//! buffer's end is no hole. A fragment is put in these steps:
+//! buffer's end is no hole; and a cursor, which RFC 815 doesn't have, names the hole where the last walk
+//! ended. A fragment is put in these steps:
 //!
-//! 1. where it ends behind the buffer, this grows, and what is added becomes the last hole;
-//! 2. each hole that begins before its end loses the blocks that it covers, which become 0, and what is
-//!    left on either side is described anew;
-//! 3. its data is copied, also over bytes of earlier fragments.
+//! 1. if it ends past the buffer's end, this grows, and what is added becomes the last hole;
+//! 2. the holes below it are walked over and only read, from the cursor on or else from the first;
+//! 3. each hole that it covers a part of loses those blocks, which become 0, and what is left on either
+//!    side is described anew;
+//! 4. its data is copied, also over bytes of earlier fragments.
 ghost use Rattle.std.specs.Prelude.{◌≡◌, ℕ, List, ◌+◌, ◌-◌, ◌<◌, ◌≤◌, ◌%◌, ◌^◌, length, slice_index, IsTrue, IfSome};
 ghost use Rattle.cap_join.specs.Holes.{Span, word_at, IsChain, HasHoles, Begins, HasCursor, IsBefore, ChangesWithin, kept, Punched, Continues, Appended};
 
@@ -133,7 +135,7 @@ fn last_below(bytes: &[u8], at: u32, below: u32) -> u32
     last
 }
 
-// Where a walk to a place may begin: at the cursor, else at the first hole, if that lies below the place whole.
+// Where a walk to a place may begin: at the cursor, or else at the first hole, if that lies below the place whole.
 fn start_below(bytes: &[u8], holes: HoleList, below: u32) -> Option<u32>
     requires holes { HasHoles bytes.now (length bytes.now) holes.first }
     requires cursor { HasCursor bytes.now (length bytes.now) holes.first holes.cursor }
@@ -164,7 +166,7 @@ fn last_before(bytes: &[u8], holes: HoleList, below: u32) -> Option<u32>
     }
 }
 
-// The hole at a place, where it lies in a range whole: its end.
+// The end of the hole at a place, if it lies in a range whole.
 fn covered_end(bytes: &[u8], at: u32, from: u32, to: u32) -> Option<u32>
     requires { at < to → at + 8 ≤ length bytes.now }
     ensures { IfSome result (λ end. (end ≡ word_at bytes.now at) × (from ≤ at) × (at < to) × (end ≤ to)) }

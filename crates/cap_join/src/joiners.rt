@@ -28,7 +28,7 @@ use std::marker::Model;
 /// keys that were flushed, the latest first.
 #[derive(Drop)]
 pub struct Joiner {
-    // `None` until the first group is opened.
+    // `None` until the first fragment is put.
     table: Option<Table>,
     next: u64,
     given_up: u64,

@@ -25,17 +25,17 @@ use std::marker::Model;
 const OPEN_LIMIT: usize = 1024;
 
 /// The open groups by their keys. `LruCache` links its entries, so that the first, the last and the one of a key are
-/// taken out, and one is added, at a cost that doesn't depend on how many there are. Its order is that of their opening:
-/// a new group goes last, and no other call moves one.
+/// taken out, and one is added, at a cost that doesn't depend on how many there are. They stand in the order of their
+/// opening: a new group goes last, and no other call moves one.
 #[derive(Drop)]
 pub(crate) struct Table {
     groups: LruCache<Key, Group>,
-    // No group is too old before this is past.
+    // No group is too old until this is past.
     deadline: Option<Stamp>,
     // The deadline of the group with a clock that was opened last.
     latest: Option<Stamp>,
-    // Whether the groups with a clock were opened in the order of their clocks: then the first that isn't too old is
-    // before no other that is.
+    // Whether the groups with a clock were opened in the order of their clocks: then none after one that isn't too old
+    // is.
     in_order: bool,
 }
 
@@ -53,8 +53,8 @@ impl Model for Table {
     ghost invariant = { IsSoundTable };
 }
 
-// The first group that is too old at a clock: its key. Where the groups are in order, those after one that isn't too
-// old aren't looked at.
+// The key of the first group that is too old at a clock. If the groups are in order, those after one with a clock that
+// isn't too old aren't looked at.
 fn first_old(groups: &LruCache<Key, Group>, in_order: bool, now: Option<Stamp>) -> Option<Key>
     requires unique { IsDistinct same_key (keys_of groups.now.entries) }
     requires in_turn { in_order ≡ true → AreInTurn groups.now.entries }
@@ -72,7 +72,7 @@ fn first_old(groups: &LruCache<Key, Group>, in_order: bool, now: Option<Stamp>) 
     None
 }
 
-// The soonest deadline of the groups. Where they are in order, it is that of the first with a clock.
+// The soonest deadline of the groups. If they are in order, it is that of the first with a clock.
 fn soonest(groups: &LruCache<Key, Group>, in_order: bool) -> Option<Stamp>
     requires { in_order ≡ true → AreInTurn groups.now.entries }
     ensures { IsDeadline result groups.now.entries }
@@ -356,7 +356,7 @@ fn put_into(
     }
 }
 
-// Makes a table where there is none. An `Err` changes nothing.
+// Makes a table if there is none. An `Err` changes nothing.
 fn make_table(table: &mut Option<Table>, alloc: Global) -> Result<(), AllocError>
     ensures there { OnOk result (IsSome table.new) }
     ensures same { entries_of table.new ≡ entries_of table.old }

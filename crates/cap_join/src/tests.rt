@@ -355,6 +355,140 @@ fn every_other_block(rt: HostRuntime) -> Result<(), Fail> {
     Ok(())
 }
 
+/// The last block of 8 bytes that a datagram's data can have whole, in whole blocks.
+const LAST_BLOCK: u16 = 8_188;
+
+/// The data of a block: its number, and 6 bytes more.
+fn block_data(block: u16) -> [u8; 8] {
+    let [high, low] = block.to_be_bytes();
+    [high, low, 1, 2, 3, 4, 5, 6]
+}
+
+/// Puts the 8,189 blocks of a datagram in an order: the last of them completes it, and it has the data of all.
+fn joins_in(rt: &impl Abort, alloc: Global, order: &[u16]) -> Result<(), Fail> {
+    let mut run = Run::new(alloc);
+    let mut done = false;
+    for &block in order {
+        let piece = packet(alloc, 5, block, block != LAST_BLOCK, &block_data(block))?;
+        match run.put(rt, Some(SECOND), &piece)? {
+            Put::Kept => assert_eq!(rt; run.joiner.open_count(), 1),
+            Put::Joined(datagram) => {
+                let mut expected = Vec::new(alloc);
+                for block in 0..=LAST_BLOCK {
+                    expected.extend_from_slice(&block_data(block))?;
+                }
+                assert!(rt; datagram.payload.as_slice() == expected.as_slice());
+                assert_eq!(rt; datagram.frames, 8_189);
+                assert_eq!(rt; run.joiner.open_count(), 0);
+                done = true;
+                assert_eq!(rt; run.place, 8_189);
+            }
+        }
+    }
+    assert!(rt; done);
+    Ok(())
+}
+
+#[test]
+fn blocks_in_rising_order(rt: HostRuntime) -> Result<(), Fail> {
+    let mut order = Vec::new(rt.alloc());
+    for block in 0..=LAST_BLOCK {
+        order.push(block)?;
+    }
+    joins_in(&rt, rt.alloc(), &order)
+}
+
+#[test]
+fn blocks_in_falling_order(rt: HostRuntime) -> Result<(), Fail> {
+    let mut order = Vec::new(rt.alloc());
+    for block in 0..=LAST_BLOCK {
+        order.push(LAST_BLOCK - block)?;
+    }
+    joins_in(&rt, rt.alloc(), &order)
+}
+
+#[test]
+fn even_blocks_then_odd(rt: HostRuntime) -> Result<(), Fail> {
+    let mut order = Vec::new(rt.alloc());
+    for pair in 0..=LAST_BLOCK / 2 {
+        order.push(2 * pair)?;
+    }
+    for pair in 0..LAST_BLOCK / 2 {
+        order.push(2 * pair + 1)?;
+    }
+    joins_in(&rt, rt.alloc(), &order)
+}
+
+#[test]
+fn even_blocks_then_odd_falling(rt: HostRuntime) -> Result<(), Fail> {
+    let mut order = Vec::new(rt.alloc());
+    for pair in 0..=LAST_BLOCK / 2 {
+        order.push(2 * pair)?;
+    }
+    for pair in 0..LAST_BLOCK / 2 {
+        order.push(LAST_BLOCK - 1 - 2 * pair)?;
+    }
+    joins_in(&rt, rt.alloc(), &order)
+}
+
+#[test]
+fn blocks_in_random_order(rt: HostRuntime) -> Result<(), Fail> {
+    // a generator whose period is all of 2^13 numbers
+    let mut number: u32 = 815;
+    let mut order = Vec::new(rt.alloc());
+    for _ in 0..8_192 {
+        number = number.wrapping_mul(1_397).wrapping_add(4_051) % 8_192;
+        let block = u16::try_from(number)?;
+        if block <= LAST_BLOCK {
+            order.push(block)?;
+        }
+    }
+    joins_in(&rt, rt.alloc(), &order)
+}
+
+#[test]
+fn a_cursor_is_left_and_found_again(rt: HostRuntime) -> Result<(), Fail> {
+    let mut run = Run::new(rt.alloc());
+    // the first and the last block in turn, with holes between them
+    for block in [8, 2, 6, 0, 8, 4, 0, 8, 1, 7, 3] {
+        let piece = packet(rt.alloc(), 5, block, block != 8, &block_data(block))?;
+        assert!(rt; is_kept(run.put(&rt, None, &piece)));
+    }
+    let rest = packet(rt.alloc(), 5, 5, true, &block_data(5))?;
+    let datagram = joined(&rt, run.put(&rt, None, &rest));
+    let mut expected = Vec::new(rt.alloc());
+    for block in 0..9 {
+        expected.extend_from_slice(&block_data(block))?;
+    }
+    assert!(rt; datagram.payload.as_slice() == expected.as_slice());
+    assert_eq!(rt; datagram.frames, 12);
+    Ok(())
+}
+
+#[test]
+fn old_groups_in_any_order_of_clocks(rt: HostRuntime) -> Result<(), Fail> {
+    let front = |identification: u16| packet(rt.alloc(), identification, 0, true, &block_data(0));
+    // a clock that falls: the second group is too old, and the first isn't
+    let mut run = Run::new(rt.alloc());
+    assert!(rt; is_kept(run.put(&rt, Some(40 * SECOND), &front(1)?)));
+    assert!(rt; is_kept(run.put(&rt, Some(SECOND), &front(2)?)));
+    assert!(rt; is_kept(run.put(&rt, Some(31 * SECOND), &front(3)?)));
+    assert_eq!(rt; run.joiner.open_count(), 3);
+    assert!(rt; is_kept(run.put(&rt, Some(32 * SECOND), &front(4)?)));
+    assert_eq!(rt; run.joiner.open_count(), 3);
+
+    // a group without a clock before groups that grow old one by one
+    let mut late = Run::new(rt.alloc());
+    assert!(rt; is_kept(late.put(&rt, None, &front(1)?)));
+    assert!(rt; is_kept(late.put(&rt, Some(SECOND), &front(2)?)));
+    assert!(rt; is_kept(late.put(&rt, Some(2 * SECOND), &front(3)?)));
+    assert!(rt; is_kept(late.put(&rt, Some(31 * SECOND + 1), &front(4)?)));
+    assert_eq!(rt; late.joiner.open_count(), 3);
+    assert!(rt; is_kept(late.put(&rt, Some(32 * SECOND + 1), &front(4)?)));
+    assert_eq!(rt; late.joiner.open_count(), 2);
+    Ok(())
+}
+
 /// Puts a packet, and once more where memory was refused: the joiner is then as it was.
 fn put_again(rt: &impl Abort, run: &mut Run, clock: u64, packet: &[u8]) -> Result<Put, JoinFault> {
     let open = run.joiner.open_count();
