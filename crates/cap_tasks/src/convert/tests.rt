@@ -178,3 +178,31 @@ fn a_write_that_fails_leaves_a_front(rt: HostRuntime) -> Result<(), Fail> {
     }
     Ok(())
 }
+
+// Each read failing in turn: told with the header, the record or the end that was being read.
+#[test]
+fn a_read_that_fails_is_told_with_its_record(rt: HostRuntime) -> Result<(), Fail> {
+    let wanted = hex::decode(rt.alloc(), CARRY_PCAPNG)?;
+    for failing in 1u64..=45 {
+        let bytes = hex::decode(rt.alloc(), CARRY_PCAP)?;
+        let pieces = Pieces::new(bytes, 1, Some(failing));
+        let mut writer = Room::new(Vec::with_capacity(rt.alloc(), 256)?);
+        let answer = convert_to(
+            rt.alloc(),
+            pieces,
+            Tail::Refuse,
+            Order::Little,
+            Format::Pcapng,
+            &mut writer,
+        );
+        let (offset, taken) = match failing {
+            0..=24 => (0, 0),
+            25..=44 => (24, 0),
+            _ => (44, 96),
+        };
+        assert_eq!(rt; answer, Err(Fault::Read { file: 1, offset }), "{failing}");
+        assert_eq!(rt; writer.bytes().len(), taken);
+        assert!(rt; wanted.as_slice().starts_with(writer.bytes()));
+    }
+    Ok(())
+}

@@ -114,3 +114,32 @@ fn a_refused_growth_leaves_a_front(rt: HostRuntime) -> Result<(), Fail> {
     }
     Ok(())
 }
+
+// Each read failing in turn: told with the header, the record or the end that was being read.
+#[test]
+fn a_read_that_fails_is_told_with_its_record(rt: HostRuntime) -> Result<(), Fail> {
+    let wanted = hex::decode(rt.alloc(), JOINED)?;
+    for failing in 1u64..=201 {
+        let mut sources = Vec::new(rt.alloc());
+        sources.push(Pieces::new(hex::decode(rt.alloc(), FRAGMENTS)?, 1, Some(failing)))?;
+        if sources.len() != 1 {
+            return Ok(());
+        }
+        let mut writer = Room::new(Vec::with_capacity(rt.alloc(), 512)?);
+        let answer = join_to(
+            rt.alloc(),
+            sources,
+            Tail::Refuse,
+            Order::Little,
+            &mut writer,
+        );
+        let offset = if failing <= 24 {
+            0
+        } else {
+            (failing - 25) / 44 * 44 + 24
+        };
+        assert_eq!(rt; answer, Err(Fault::Read { file: 1, offset }), "{failing}");
+        assert!(rt; wanted.as_slice().starts_with(writer.bytes()));
+    }
+    Ok(())
+}

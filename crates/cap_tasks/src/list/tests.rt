@@ -23,6 +23,9 @@ const ABOVE_LINE: &str = "packet 1 offset 24 time 4294967296+500000/1000000 capt
 const LONGEST_LINE: &str = "packet 1 offset 24 time 0+0/1000000 captured 262144 \
     original 262144 link 1 data 00000000000000000000000000000000\n";
 
+const LONG_BLOCK_LINE: &str = "packet 1 offset 524316 time 2+500000/1000000 captured 4 original 4 \
+    link 1 data 01020304\n";
+
 // The same packet at 2 seconds and a half: a pcap file's four magics.
 const SPELLINGS: [(&str, &str); 4] = [
     (
@@ -282,6 +285,33 @@ fn a_read_that_fails_is_told_with_its_record(rt: HostRuntime) -> Result<(), Fail
         assert_eq!(rt; answer, Err(Fault::Read { file: 1, offset }));
         assert_eq!(rt; writer.bytes(), line.as_bytes());
     }
+    Ok(())
+}
+
+// An interface of 524,288 bytes, which are those of its options: the longest block that is held whole.
+#[test]
+fn the_longest_block_is_read(rt: HostRuntime) -> Result<(), Fail> {
+    let mut bytes = hex::decode(
+        rt.alloc(),
+        "0a0d0d0a1c0000004d3c2b1a01000000ffffffffffffffff1c000000\
+        01000000000008000100000000000400",
+    )?;
+    for _ in 0..7 {
+        bytes.extend_from_slice(&[1, 0, 0xfc, 0xff])?;
+        let length = bytes.len().saturating_add(65_532);
+        bytes.resize(length, 0)?;
+    }
+    bytes.extend_from_slice(&[1, 0, 0xe4, 0xff])?;
+    bytes.resize(524_308, 0)?;
+    bytes.extend_from_slice(&[0, 0, 0, 0, 0, 0, 8, 0])?;
+    let packet = hex::decode(
+        rt.alloc(),
+        "06000000240000000000000000000000a025260004000000040000000102030424000000",
+    )?;
+    bytes.extend_from_slice(packet.as_slice())?;
+    let (writer, answer) = list(rt.alloc(), bytes, 4096, Tail::Refuse)?;
+    assert_eq!(rt; answer, Ok(()));
+    assert_eq!(rt; writer.bytes(), LONG_BLOCK_LINE.as_bytes());
     Ok(())
 }
 
