@@ -32,5 +32,10 @@ PY
 (ulimit -s 128 && "$program" join -o "$work/joined.pcapng" "$work/holes.pcap")
 status=$?
 count=$("$program" list "$work/joined.pcapng" | wc -l)
-echo "joined with a stack of 128 KiB: status $status, $count datagrams of 5"
-[ "$status" = 0 ] && [ "$count" = 5 ]
+if [ "$status" = 0 ] && [ "$count" = 5 ]; then
+    echo '1 passed, 0 failed'
+else
+    echo "joined with a stack of 128 KiB: status $status, $count datagrams of 5"
+    echo '0 passed, 1 failed'
+    exit 1
+fi
