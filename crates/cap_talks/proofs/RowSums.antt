@@ -1,11 +1,13 @@
 -- How many rows there are, and what all of them count, with one unit more.
-use Rattle.std.proofs.Common.{◌≡◌, ℕ, suc, ◌+◌, ◌≤◌, ◌<◌, Bool, true, false, cond, not, ◌&&◌, List, [], ◌∷◌, length, refl, sym, ap, ◌∙◌, true≢false, arith, Option, Some, None, Result, Ok, Err, is_some}
+use Rattle.std.proofs.Common.{◌≡◌, ℕ, suc, ◌+◌, ◌≤◌, ◌<◌, Bool, true, false, cond, not, ◌&&◌, List, [], ◌∷◌, length, refl, sym, ap, ◌∙◌, true≢false, arith, Option, Some, None, Result, Ok, Err, is_some, position, slice_get}
 use Rattle.std.specs.Prelude.{OnOk, OnErr, nat_lt, if◌then◌else◌}
-use Rattle.std.specs.Map.{lookup}
+use Rattle.std.specs.Map.{lookup, keys_of, values_of}
 use Rattle.std.proofs.lemmas.Bool.{ltb-true}
 use Rattle.indexmap.specs.IndexMap.{insert_entry}
+use Rattle.indexmap.specs.Layout.{set_value_at}
+use Rattle.indexmap.proofs.MapLemmas.{insert_entry-first, Found-position}
 use Rattle.cap_talks.specs.Talks.{Talk, is_forward, key_of, row_of, same_talk}
-use Rattle.cap_talks.specs.Rows.{is_limit, is_refused, sum_in, frames_of_row, frames_in, bytes_of_row, bytes_in, with_traffic, with_unit, or_empty, row_at, with_talk, open_row}
+use Rattle.cap_talks.specs.Rows.{is_limit, is_refused, sum_in, frames_of_row, frames_in, bytes_of_row, bytes_in, with_traffic, with_unit, or_empty, row_at, row_in, with_talk}
 use Rattle.cap_talks.specs.declared.rows.TalkKey.{TalkKey}
 use Rattle.cap_talks.specs.declared.rows.TalkRow.{TalkRow}
 use Rattle.cap_talks.specs.declared.talks.TalksFault.{TalksFault}
@@ -102,13 +104,22 @@ few-kept limit (Ok x) old new unit more refused kept few =
     omega (arith, within, same)
 few-kept limit (Err e) old new unit more refused kept few = let same = ap length kept in omega (arith, same, few)
 
--- the row that a unit is added to is its conversation's
-pub open_row-is : (limit : ℕ) (rows : List Talk) (key : TalkKey) (row : TalkRow) → Some row ≡ open_row limit rows key → row ≡ row_at key rows
-open_row-is limit rows key row h = by (is_refused limit rows key) h
-  where
-    clash : Some row ≡ None → ⊥
-    clash e = cc
+-- a unit is added to its conversation's row where it stands
+pub there-more : (key : TalkKey) (rows : List Talk) (place : ℕ) (unit : CountedUnit) (new : List Talk) → Some place ≡ position (same_talk key) (keys_of rows)
+    → slice_get (values_of rows) place ≡ lookup (same_talk key) rows → key ≡ key_of unit → new ≡ set_value_at rows place (with_unit (row_in rows place) unit)
+    → new ≡ with_talk rows unit
+there-more key rows place unit new at row same is =
+    let row_is = ap or_empty row in
+    let there = sym (insert_entry-first same_talk key (with_unit (row_in rows place) unit) rows place (Found-position (same_talk key) rows place (sym at)).first) in
+    is ∙ there ∙ (λ i. insert_entry same_talk rows key (with_unit (row_is i) unit)) ∙ ap (λ k. insert_entry same_talk rows k (with_unit (row_at k rows) unit)) same
 
-    by : (t : Bool) → Some row ≡ cond t None (Some (row_at key rows)) → row ≡ row_at key rows
-    by true is = absurd (clash is)
-    by false is = cc
+-- or to an empty row, if it is the first of a conversation
+pub new-more : (key : TalkKey) (rows : List Talk) (unit : CountedUnit) (new : List Talk) → false ≡ is_some (lookup (same_talk key) rows)
+    → key ≡ key_of unit → new ≡ insert_entry same_talk rows key (with_unit (row_of []) unit) → new ≡ with_talk rows unit
+new-more key rows unit new none same is =
+    is ∙ ap (λ row. insert_entry same_talk rows key (with_unit row unit)) (by (lookup (same_talk key) rows) none)
+    ∙ ap (λ k. insert_entry same_talk rows k (with_unit (row_at k rows) unit)) same
+  where
+    by : (o : Option TalkRow) → false ≡ is_some o → row_of [] ≡ or_empty o
+    by None h = refl
+    by (Some row) h = absurd (true≢false (sym h))

@@ -1,6 +1,6 @@
 -- A row, and a table of rows, with one unit more.
-use Rattle.std.specs.Prelude.{◌≡◌, ℕ, List, [], ◌∷◌, Bool, true, false, ◌+◌, ◌≤◌, ◌&&◌, not, length, nat_lt, is_some, if◌then◌else◌, Option, Some, None, Result, Ok, Err}
-use Rattle.std.specs.Map.{lookup}
+use Rattle.std.specs.Prelude.{◌≡◌, ℕ, List, [], ◌∷◌, Bool, true, false, ◌+◌, ◌≤◌, ◌&&◌, not, length, nat_lt, is_some, if◌then◌else◌, slice_get, Option, Some, None, Result, Ok, Err}
+use Rattle.std.specs.Map.{lookup, values_of}
 use Rattle.indexmap.specs.IndexMap.{insert_entry}
 use Rattle.cap_talks.specs.Talks.{Talk, row_of, is_forward, key_of, earlier_frame, later_frame, same_talk, rows_of}
 use Rattle.cap_talks.specs.declared.rows.TalkKey.{TalkKey}
@@ -80,6 +80,6 @@ row_at key rows = or_empty (lookup (same_talk key) rows)
 abbrev pub with_talk : List Talk → CountedUnit → List Talk
 with_talk rows unit = insert_entry same_talk rows (key_of unit) (with_unit (row_at (key_of unit) rows) unit)
 
--- the row to which a unit of a conversation is added, where it can be
-abbrev pub open_row : ℕ → List Talk → TalkKey → Option TalkRow
-open_row limit rows key = if is_refused limit rows key then None else Some (row_at key rows)
+-- the row at a place, that of no unit past the last
+abbrev pub row_in : List Talk → ℕ → TalkRow
+row_in rows place = or_empty (slice_get (values_of rows) place)

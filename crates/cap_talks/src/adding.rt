@@ -112,9 +112,9 @@ pub fn add_unit(talks: &mut Talks, unit: Option<CountedUnit>) -> Result<(), Tall
     ensures limit { LimitBy result (is_over talks.old.rows unit) }
     ensures err { OnErr result (talks.new ≡ talks.old) }
 {
-    match unit {
+    match &unit {
         None => Ok(()),
-        Some(unit) => match talks.add(&unit) {
+        Some(unit) => match talks.add(unit) {
             Ok(()) => Ok(()),
             Err(TalksFault::Limit) => Err(TallyFault::Limit),
             Err(TalksFault::Memory) => Err(TallyFault::Memory),

@@ -1,5 +1,5 @@
 //! Running counts of the packets of one file.
-ghost use Rattle.std.specs.Prelude.{◌≡◌, ◌≤◌, ◌<◌, ◌*◌, ◌^◌, ◌++◌, List, [], ◌∷◌};
+ghost use Rattle.std.specs.Prelude.{◌≡◌, ◌≤◌, ◌<◌, ◌*◌, ◌^◌, ◌++◌, List, [], ◌∷◌, if◌then◌else◌};
 ghost use Rattle.cap_source.specs.declared.packets.Meta.{Meta};
 ghost use Rattle.cap_talks.specs.Counting.{counted, with_packet, earlier, later, time_of};
 
@@ -49,26 +49,28 @@ impl Counts {
         ensures counts { (metas : List Meta) → self.old ≡ counted metas → self.new ≡ counted (metas ++ meta.now ∷ []) }
         ensures one_more { self.new ≡ with_packet self.old meta.now }
     {
-        *self = with_packet(*self, meta);
+        count(self, meta);
     }
 }
 
-// The counts with one packet more.
-pub(crate) fn with_packet(counts: Counts, meta: &Meta) -> Counts
-    requires packets { counts.packets < 2 ^ 45 }
-    requires bytes { counts.bytes ≤ 2 ^ 45 * 2 ^ 32 }
-    requires truncated { counts.truncated < 2 ^ 45 }
-    ensures { result ≡ with_packet counts meta.now }
+// Counts one packet more.
+fn count(counts: &mut Counts, meta: &Meta)
+    requires packets { counts.old.packets < 2 ^ 45 }
+    requires bytes { counts.old.bytes ≤ 2 ^ 45 * 2 ^ 32 }
+    requires truncated { counts.old.truncated < 2 ^ 45 }
+    ensures { counts.new ≡ with_packet counts.old meta.now }
 {
     let time = time_of(meta);
-    Counts {
-        format: Some(meta.format),
-        packets: counts.packets + 1,
-        bytes: counts.bytes + u128::from(meta.original),
-        truncated: counts.truncated + u64::from(meta.captured < meta.original),
-        skipped: meta.skipped,
-        first: earlier(counts.first, time),
-        last: later(counts.last, time),
+    counts.format = Some(meta.format);
+    counts.packets += 1;
+    counts.bytes += u128::from(meta.original);
+    counts.truncated += u64::from(meta.captured < meta.original);
+    counts.skipped = meta.skipped;
+    if is_earlier(&time, &counts.first) {
+        counts.first = time;
+    }
+    if is_later(&time, &counts.last) {
+        counts.last = time;
     }
 }
 
@@ -82,24 +84,24 @@ pub(crate) fn time_of(meta: &Meta) -> Option<Stamp>
     }
 }
 
-// The earlier of two times, of equal ones the first, or the only one.
-fn earlier(a: Option<Stamp>, b: Option<Stamp>) -> Option<Stamp>
-    ensures { result ≡ earlier a b }
+// Whether a time takes the place of the first one so far: it is the earlier one, or the only one.
+fn is_earlier(time: &Option<Stamp>, first: &Option<Stamp>) -> bool
+    ensures { earlier first.now time.now ≡ (if result then time.now else first.now) }
 {
-    match (a, b) {
-        (None, b) => b,
-        (Some(a), None) => Some(a),
-        (Some(a), Some(b)) => Some(if b < a { b } else { a }),
+    match (first, time) {
+        (None, _) => true,
+        (Some(_), None) => false,
+        (Some(first), Some(time)) => time < first,
     }
 }
 
-// The later of two times, of equal ones the first, or the only one.
-fn later(a: Option<Stamp>, b: Option<Stamp>) -> Option<Stamp>
-    ensures { result ≡ later a b }
+// Whether a time takes the place of the last one so far: it is the later one, or the only one.
+fn is_later(time: &Option<Stamp>, last: &Option<Stamp>) -> bool
+    ensures { later last.now time.now ≡ (if result then time.now else last.now) }
 {
-    match (a, b) {
-        (None, b) => b,
-        (Some(a), None) => Some(a),
-        (Some(a), Some(b)) => Some(if a < b { b } else { a }),
+    match (last, time) {
+        (None, _) => true,
+        (Some(_), None) => false,
+        (Some(last), Some(time)) => last < time,
     }
 }

@@ -1,5 +1,5 @@
 //! The row of a conversation: what is counted of its units.
-ghost use Rattle.std.specs.Prelude.{◌≡◌, ◌+◌, ◌<◌, ◌^◌, []};
+ghost use Rattle.std.specs.Prelude.{◌≡◌, ◌+◌, ◌<◌, ◌^◌, [], if◌then◌else◌};
 ghost use Rattle.cap_talks.specs.Talks.{key_of, is_forward, earlier_frame, later_frame, row_of};
 ghost use Rattle.cap_talks.specs.Rows.{with_unit, with_traffic, frames_of_row, bytes_of_row};
 
@@ -79,21 +79,23 @@ impl TalkRow {
         }
     }
 
-    // The row with one unit more.
-    pub(crate) fn with_unit(&self, unit: &CountedUnit) -> TalkRow
-        requires frames { frames_of_row self.now + unit.now.frames < 2 ^ 64 }
-        requires bytes { bytes_of_row self.now + unit.now.bytes < 2 ^ 128 }
-        ensures { result ≡ with_unit self.now unit.now }
+    // Counts one unit more.
+    pub(crate) fn take(&mut self, unit: &CountedUnit)
+        requires frames { frames_of_row self.old + unit.now.frames < 2 ^ 64 }
+        requires bytes { bytes_of_row self.old + unit.now.bytes < 2 ^ 128 }
+        ensures { self.new ≡ with_unit self.old unit.now }
     {
-        let mut row = *self;
         if is_forward(unit) {
-            row.forward = with_traffic(row.forward, unit);
+            self.forward = with_traffic(self.forward, unit);
         } else {
-            row.backward = with_traffic(row.backward, unit);
+            self.backward = with_traffic(self.backward, unit);
         }
-        row.first = earlier_frame(row.first, unit.first);
-        row.last = later_frame(row.last, unit.last);
-        row
+        if is_earlier(&unit.first, &self.first) {
+            self.first = unit.first;
+        }
+        if is_later(&unit.last, &self.last) {
+            self.last = unit.last;
+        }
     }
 }
 
@@ -116,30 +118,34 @@ fn with_traffic(traffic: Traffic, unit: &CountedUnit) -> Traffic
     }
 }
 
-// Of two frames that of the lesser time, of equal times that of the lower place, or the only one.
-fn earlier_frame(a: Option<Stamped>, b: Option<Stamped>) -> Option<Stamped>
-    ensures { result ≡ earlier_frame a b }
+// Whether a frame takes the place of the first one so far: it has the lesser time, of equal times the lower place, or is the
+// only one.
+fn is_earlier(frame: &Option<Stamped>, first: &Option<Stamped>) -> bool
+    ensures { earlier_frame first.now frame.now ≡ (if result then frame.now else first.now) }
 {
-    match (a, b) {
-        (None, b) => b,
-        (Some(a), None) => Some(a),
-        (Some(a), Some(b)) => {
-            let order = b.time.cmp(&a.time).then(b.place.cmp(&a.place));
-            Some(if order.is_lt() { b } else { a })
-        }
+    match (first, frame) {
+        (None, _) => true,
+        (Some(_), None) => false,
+        (Some(first), Some(frame)) => frame
+            .time
+            .cmp(&first.time)
+            .then(frame.place.cmp(&first.place))
+            .is_lt(),
     }
 }
 
-// Of two frames that of the greater time, of equal times that of the lower place, or the only one.
-fn later_frame(a: Option<Stamped>, b: Option<Stamped>) -> Option<Stamped>
-    ensures { result ≡ later_frame a b }
+// Whether a frame takes the place of the last one so far: it has the greater time, of equal times the lower place, or is the
+// only one.
+fn is_later(frame: &Option<Stamped>, last: &Option<Stamped>) -> bool
+    ensures { later_frame last.now frame.now ≡ (if result then frame.now else last.now) }
 {
-    match (a, b) {
-        (None, b) => b,
-        (Some(a), None) => Some(a),
-        (Some(a), Some(b)) => {
-            let order = a.time.cmp(&b.time).then(b.place.cmp(&a.place));
-            Some(if order.is_lt() { b } else { a })
-        }
+    match (last, frame) {
+        (None, _) => true,
+        (Some(_), None) => false,
+        (Some(last), Some(frame)) => last
+            .time
+            .cmp(&frame.time)
+            .then(frame.place.cmp(&last.place))
+            .is_lt(),
     }
 }

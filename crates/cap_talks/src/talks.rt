@@ -1,9 +1,10 @@
 //! The table of conversations.
-ghost use Rattle.std.specs.Prelude.{◌≡◌, ◌+◌, ◌≤◌, ◌<◌, ◌^◌, ◌++◌, List, [], ◌∷◌, length, slice_get, OnOk, OnErr, IfOk};
+ghost use Rattle.std.specs.Prelude.{◌≡◌, ◌+◌, ◌≤◌, ◌<◌, ◌^◌, ◌++◌, List, [], ◌∷◌, length, slice_get, nat_lt, not, OnOk, OnErr, IfOk};
 ghost use Rattle.std.specs.Map.{lookup};
 ghost use Rattle.indexmap.specs.IndexMap.{insert_entry};
+ghost use Rattle.indexmap.specs.Layout.{set_value_at};
 ghost use Rattle.cap_talks.specs.Talks.{key_of, row_of, same_talk};
-ghost use Rattle.cap_talks.specs.Rows.{StandsFor, is_refused, is_limit, talk_limit, frames_in, bytes_in, open_row, with_talk};
+ghost use Rattle.cap_talks.specs.Rows.{StandsFor, is_refused, is_limit, talk_limit, frames_in, bytes_in, frames_of_row, bytes_of_row, row_in, with_unit, with_talk};
 ghost use Rattle.cap_talks.specs.declared.units.CountedUnit.{CountedUnit};
 
 use crate::rows::{TalkKey, TalkRow};
@@ -94,18 +95,39 @@ impl Talks {
     }
 }
 
-// The row of a conversation, which counts no unit where that is a new one; `None` where it is, and as many
-// stand as may.
-fn open_row(rows: &IndexMap<TalkKey, TalkRow>, key: &TalkKey) -> Option<TalkRow>
-    ensures { result ≡ open_row talk_limit rows.now.entries key.now }
+// Counts one unit more in the row at a place.
+fn add_at(rows: &mut IndexMap<TalkKey, TalkRow>, place: usize, unit: &CountedUnit)
+    requires place { place < length rows.old.entries }
+    requires frames { frames_of_row (row_in rows.old.entries place) + unit.now.frames < 2 ^ 64 }
+    requires bytes { bytes_of_row (row_in rows.old.entries place) + unit.now.bytes < 2 ^ 128 }
+    ensures { rows.new.entries ≡ set_value_at rows.old.entries place (with_unit (row_in rows.old.entries place) unit.now) }
 {
-    match rows.get(key) {
-        Some(row) => Some(*row),
-        None => if rows.len() < TALK_LIMIT {
-            Some(TalkRow::new())
-        } else {
-            None
-        },
+    let Some(row) = rows.get_index_mut(place) else {
+        unreachable!();
+    };
+    row.take(unit);
+}
+
+// Adds the row of a new conversation, of one unit.
+fn add_row(
+    rows: &mut IndexMap<TalkKey, TalkRow>,
+    key: TalkKey,
+    unit: &CountedUnit,
+) -> Result<(), TalksFault>
+    requires frames { unit.now.frames < 2 ^ 64 }
+    requires bytes { unit.now.bytes < 2 ^ 128 }
+    ensures entries { OnOk result (rows.new.entries ≡ insert_entry same_talk rows.old.entries key (with_unit (row_of []) unit.now)) }
+    ensures limit { is_limit result ≡ not (nat_lt (length rows.old.entries) talk_limit) }
+    ensures err { OnErr result (rows.new.entries ≡ rows.old.entries) }
+{
+    if rows.len() >= TALK_LIMIT {
+        return Err(TalksFault::Limit);
+    }
+    let mut row = TalkRow::new();
+    row.take(unit);
+    match rows.insert(key, row) {
+        Ok(_) => Ok(()),
+        Err(_) => Err(TalksFault::Memory),
     }
 }
 
@@ -118,11 +140,11 @@ fn add_unit(rows: &mut IndexMap<TalkKey, TalkRow>, unit: &CountedUnit) -> Result
     ensures err { OnErr result (rows.new.entries ≡ rows.old.entries) }
 {
     let key = TalkKey::of(unit);
-    let Some(row) = open_row(rows, &key) else {
-        return Err(TalksFault::Limit);
-    };
-    match rows.insert(key, row.with_unit(unit)) {
-        Ok(_) => Ok(()),
-        Err(_) => Err(TalksFault::Memory),
+    match rows.get_index_of(&key) {
+        Some(place) => {
+            add_at(rows, place, unit);
+            Ok(())
+        }
+        None => add_row(rows, key, unit),
     }
 }

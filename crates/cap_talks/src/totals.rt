@@ -6,7 +6,7 @@ ghost use Rattle.cap_talks.specs.Taken.{Taken};
 ghost use Rattle.cap_talks.specs.Totals.{TotalsStand, is_room};
 ghost use Rattle.cap_time.specs.declared.stamps.Stamp.{Stamp};
 
-use crate::counts::{Counts, with_packet};
+use crate::counts::Counts;
 use arrayvec::ArrayVec;
 use cap_source::Meta;
 use std::marker::Model;
@@ -50,7 +50,7 @@ fn take_at(files: &mut [Counts], place: usize, meta: &Meta)
     requires room { is_room (slice_index_or files.old place (counted [])) ≡ true }
     ensures { files.new ≡ slice_set files.old place (with_packet (slice_index_or files.old place (counted [])) meta.now) }
 {
-    files[place] = with_packet(files[place], meta);
+    files[place].take(meta);
 }
 
 // One, if that is so.

@@ -46,10 +46,11 @@ impl Resolution {
         ensures most { result ≤ 10 ^ 19 }
     {
         let exponent = u32::from(self.code % 128);
-        if self.code < 128 {
-            10u64.pow(exponent)
-        } else {
-            2u64.pow(exponent)
+        match self.code {
+            6 => 1_000_000,
+            9 => 1_000_000_000,
+            0..128 => 10u64.pow(exponent),
+            _ => 2u64.pow(exponent),
         }
     }
 }

@@ -1,18 +1,26 @@
-use Rattle.std.proofs.Common.{◌≡◌, ◌<◌, ◌≤◌, ◌+◌, ◌∙◌, sym, ap, arith}
-use Rattle.cap_talks.specs.Rows.{row_at, frames_of_row, bytes_of_row, talk_limit}
-use Rattle.cap_talks.proofs.RowSums.{frames-within, bytes-within, open_row-is}
+use Rattle.std.proofs.Common.{◌≡◌, ◌<◌, ◌≤◌, ◌+◌, ap, arith}
+use Rattle.cap_talks.specs.Rows.{or_empty, frames_of_row, bytes_of_row}
+use Rattle.cap_talks.proofs.RowSums.{frames-within, bytes-within, on_ok, there-more, new-more}
 use Rattle.cap_talks.proofs.talks.add_unit.Goals as goal
 
-pub with_unit-requires-clause-frames : goal.with_unit-requires-clause-frames
-with_unit-requires-clause-frames c =
-    let row = open_row-is talk_limit c.args.rows.now.entries c.of-key.result c.in-Some.row (sym c.in-Some.is ∙ c.open_row.ensures) in
+pub add_at-requires-clause-frames : goal.add_at-requires-clause-frames
+add_at-requires-clause-frames c =
     let within = frames-within c.of-key.result c.args.rows.now.entries in
-    let same = ap frames_of_row row in
+    let same = ap frames_of_row (ap or_empty c.in-Some.ensures.value) in
     omega (arith, same, within, c.requires.frames)
 
-pub with_unit-requires-clause-bytes : goal.with_unit-requires-clause-bytes
-with_unit-requires-clause-bytes c =
-    let row = open_row-is talk_limit c.args.rows.now.entries c.of-key.result c.in-Some.row (sym c.in-Some.is ∙ c.open_row.ensures) in
+pub add_at-requires-clause-bytes : goal.add_at-requires-clause-bytes
+add_at-requires-clause-bytes c =
     let within = bytes-within c.of-key.result c.args.rows.now.entries in
-    let same = ap bytes_of_row row in
+    let same = ap bytes_of_row (ap or_empty c.in-Some.ensures.value) in
     omega (arith, same, within, c.requires.bytes)
+
+pub returns-in-Some-clause-entries : goal.returns-in-Some-clause-entries
+returns-in-Some-clause-entries c =
+    there-more c.of-key.result c.args.rows.now.entries c.in-Some.place c.args.unit.now c.add_at.new.rows.entries c.in-Some.ensures.index c.in-Some.ensures.value
+    c.of-key.ensures c.add_at.ensures
+
+pub returns-in-None-clause-entries : goal.returns-in-None-clause-entries
+returns-in-None-clause-entries c =
+    on_ok c.add_row.result (new-more c.of-key.result c.args.rows.now.entries c.args.unit.now c.add_row.new.rows.entries c.in-None.ensures.found c.of-key.ensures)
+    c.add_row.ensures.entries

@@ -5,4 +5,4 @@ use Rattle.cap_talks.proofs.counts.Counts.take.Goals as goal
 
 pub returns-clause-counts : goal.returns-clause-counts
 returns-clause-counts c = λ metas is.
-    c.with_packet.ensures ∙ ap (λ w. with_packet w c.args.meta.now) is ∙ sym (counted-more metas c.args.meta.now)
+    c.count.ensures ∙ ap (λ w. with_packet w c.args.meta.now) is ∙ sym (counted-more metas c.args.meta.now)
