@@ -15,3 +15,4 @@ pub mod Most
 pub mod OpenGroups
 pub mod ByPlaces
 pub mod Once
+pub mod EqualClocks

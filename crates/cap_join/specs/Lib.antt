@@ -16,3 +16,4 @@ pub mod Rows
 pub mod Arrivals
 pub mod Fitting
 pub mod Completed
+pub mod EqualClocks

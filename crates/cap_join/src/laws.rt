@@ -1,5 +1,6 @@
 //! Laws of the definitions.
 ghost use Rattle.cap_join.specs.Completed.{CompletedLaw, OnceLaw};
+ghost use Rattle.cap_join.specs.EqualClocks.{EqualClocksLaw};
 ghost use Rattle.cap_join.specs.Places.{PlacesLaw};
 ghost use Rattle.cap_join.specs.Rows.{OpenLimit, OverlapMap, ThirtySeconds};
 
@@ -15,6 +16,13 @@ pub fn places_law()
 pub fn completed_laws()
     ensures completed { CompletedLaw }
     ensures once { OnceLaw }
+{}
+
+/// Clocks count by the order of times alone: the same fragments and keys, at clocks of the same times in whatever
+/// form (5/10 and 512/1024 of a second), complete the same groups, give up as many, and leave the same group to
+/// be joined by one more fragment.
+pub fn equal_clocks()
+    ensures { EqualClocksLaw }
 {}
 
 /// The definitions on small groups: overlapped fragments, the open limit, and 30 seconds.

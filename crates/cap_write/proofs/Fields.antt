@@ -38,10 +38,10 @@ use Rattle.cap_write.specs.Laws.{ItemFits, FieldsFit}
 -- ---- interfaces
 
 -- An interface's fields fit.
-record FitsInterface (i : Interface) : Type 0 where
-  link : i.link < 2 ^ 16
-  snaplen : i.snaplen < 2 ^ 32
-  offset : FitsSigned w64 i.offset
+pub record FitsInterface (i : Interface) : Type 0 where
+  pub link : i.link < 2 ^ 16
+  pub snaplen : i.snaplen < 2 ^ 32
+  pub offset : FitsSigned w64 i.offset
 
 -- a number of four bytes
 of_bytes : (order : Order) (n : ℕ) (body : List ℕ) → AreBytes body → number order 4 (drop n body) < 2 ^ 32
@@ -83,7 +83,7 @@ interface_of-number interfaces k i fit is = subst (λ found. IfSome found FitsIn
     each (i ∷ interfaces) zero fit = fit.0
     each (i ∷ interfaces) (suc k) fit = each interfaces k fit.1
 
-one_more : (interfaces : List Interface) (i : Interface) → AllByRecursion FitsInterface interfaces → FitsInterface i
+pub one_more : (interfaces : List Interface) (i : Interface) → AllByRecursion FitsInterface interfaces → FitsInterface i
     → AllByRecursion FitsInterface (interfaces ++ i ∷ [])
 one_more [] i fit is = (is, tt)
 one_more (j ∷ interfaces) i fit is = (fit.0, one_more interfaces i fit.1 is)
@@ -91,7 +91,7 @@ one_more (j ∷ interfaces) i fit is = (fit.0, one_more interfaces i fit.1 is)
 -- ---- packets of blocks
 
 -- The fields of a block's packet and of its interface fit.
-record FitsPacket (p : Packet) : Type 0 where
+pub record FitsPacket (p : Packet) : Type 0 where
   interface : FitsInterface p.interface
   units : unwrap_or p.units 0 < 2 ^ 64
   original : p.original < 2 ^ 32
@@ -102,7 +102,7 @@ two_words : (high low : ℕ) → high < 2 ^ 32 → low < 2 ^ 32 → high * 2 ^ 3
 two_words high low h l = omega arith
 
 -- What a block says fits, where the section's interfaces do.
-content-fits : (interfaces : List Interface) (kind : ℕ) (order : Order) (body : List ℕ) → AllByRecursion FitsInterface interfaces → AreBytes body
+pub content-fits : (interfaces : List Interface) (kind : ℕ) (order : Order) (body : List ℕ) → AllByRecursion FitsInterface interfaces → AreBytes body
     → IfOk (content_in interfaces kind order body) (OfContent FitsInterface FitsPacket)
 content-fits interfaces kind order body fit are =
     content-holds FitsInterface FitsPacket interfaces kind order body (interface-fits (length interfaces) order body are)
@@ -122,7 +122,7 @@ content-fits interfaces kind order body fit are =
 -- ---- blocks
 
 -- The bodies of a file's blocks are bytes.
-abbrev IsOfBytes : blocks.Item → Type 0
+abbrev pub IsOfBytes : blocks.Item → Type 0
 IsOfBytes (blocks.given block body) = AreBytes body
 IsOfBytes (blocks.stopped stop) = Unit {0}
 
@@ -131,7 +131,7 @@ of_item : (stop : Option BlockStop) (block : Block) (body : List ℕ) (rest : Li
 of_item (Some stop) block body rest are later = (tt, tt)
 of_item None block body rest are later = (are, later)
 
-blocks-bytes : (fuel : ℕ) (section : Option Order) (tail : Tail) (file offset : ℕ) (bytes : List ℕ) → AreBytes bytes
+pub blocks-bytes : (fuel : ℕ) (section : Option Order) (tail : Tail) (file offset : ℕ) (bytes : List ℕ) → AreBytes bytes
     → AllByRecursion IsOfBytes (blocks.items_by fuel section tail file offset bytes)
 unfolding blocks.items_by
 blocks-bytes zero section tail file offset bytes are = tt
@@ -200,7 +200,7 @@ records-fit file i offset (p ∷ ps) stop fits held = (
   records-fit file i (offset + packet_size p) ps stop fits held.3,
 )
 
-header-fits : (bytes : List ℕ) → AreBytes bytes → FitsInterface (interface_of (records.header_at bytes))
+pub header-fits : (bytes : List ℕ) → AreBytes bytes → FitsInterface (interface_of (records.header_at bytes))
 header-fits bytes are = record { link = (below_header bytes are).1; snaplen = (below_header bytes are).0; offset = grind (arith, ints) }
 
 pcap-fits : (tail : Tail) (file : ℕ) (bytes : List ℕ) → AreBytes bytes

@@ -23,18 +23,18 @@ use Rattle.cap_write.proofs.Contents.{OfContent, content-holds}
 use Rattle.cap_write.specs.Laws.{AllAlike, OneInterface}
 
 -- A packet that a block says has the section's interface of its number.
-abbrev HasNumber : List Interface → Packet → Type 0
+abbrev pub HasNumber : List Interface → Packet → Type 0
 HasNumber interfaces p = slice_get interfaces p.number ≡ Some p.interface
 
 -- Of the interface of an interface block nothing is asked.
-abbrev IsAny : Interface → Type 0
+abbrev pub IsAny : Interface → Type 0
 IsAny i = Unit {0}
 
 is_any : (r : Result Interface Rule) → IfOk r IsAny
 is_any (Ok i) = tt
 is_any (Err rule) = tt
 
-content-of : (interfaces : List Interface) (kind : ℕ) (order : Order) (body : List ℕ)
+pub content-of : (interfaces : List Interface) (kind : ℕ) (order : Order) (body : List ℕ)
     → IfOk (content_in interfaces kind order body) (OfContent IsAny (HasNumber interfaces))
 content-of interfaces kind order body =
     content-holds IsAny (HasNumber interfaces) interfaces kind order body (is_any (interface_in (length interfaces) order body)) (λ k i is few. is)

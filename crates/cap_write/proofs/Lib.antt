@@ -7,6 +7,7 @@ mod Feeding
 mod Fields
 mod FileNumbers
 mod Files
+mod FirstInterface
 mod Grouped
 mod Held
 mod Instances
@@ -17,6 +18,7 @@ mod MergedFiles
 mod Numbers
 mod Out
 mod Packed
+mod PcapngAgain
 mod Places
 mod Records
 mod Renaming

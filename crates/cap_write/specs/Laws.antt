@@ -20,7 +20,7 @@ use Rattle.cap_time.specs.declared.stamps.Unit.{Unit as Fraction}
 use Rattle.cap_write.specs.Numbering.{Name, name_of, Numbered, numbered, refusal_in, refusal_at}
 use Rattle.cap_write.specs.Pcap.{pcap_text, pcap_refusal}
 use Rattle.cap_merge.specs.Files.{run_of_files}
-use Rattle.cap_write.specs.Texts.{interface_part, packet_part, count_after, pcapng_text, pcapng_refusal, merged_text}
+use Rattle.cap_write.specs.Texts.{interface_part, packet_part, count_after, first_names, pcapng_text, pcapng_refusal, merged_text}
 
 -- The fields of a packet and of its interface fit in their widths, and so many bytes may be captured.
 pub record Fits (n : Numbered) : Type 0 where
@@ -236,3 +236,17 @@ MergeLaw =
     × (refusal_in [] again ≡ None)
     × (refusal_of again ≡ None)
     × (instances again ≡ numbers (numbered [] again)))
+
+-- What is written of any file as pcapng, where it is at most 2^40 bytes long, has the file's packets, those before a refusal,
+-- in order: both have the same numbered packets behind the first interface, and nothing is refused there.
+abbrev pub PcapngAgain : Type 0
+PcapngAgain =
+    (order : Order) (tail tail_again : Tail) (file file_again : ℕ) (bytes : List ℕ) → AreBytes bytes
+    → (let items = file_items tail file bytes in
+    let first = file_first tail file bytes in
+    let text = pcapng_text order file first items in
+    let again = file_items tail_again file_again text in
+    length text ≤ 2 ^ 40
+    → (numbered (first_names file_again first) again ≡ numbered (first_names file first) items)
+    × (refusal_in (first_names file_again first) again ≡ None)
+    × (refusal_of again ≡ None))

@@ -1,5 +1,5 @@
 //! Laws of written files, each the contract of a function that does nothing.
-ghost use Rattle.cap_write.specs.Laws.{FieldsFit, MergeLaw, MergedAgain, OneInterface, RoundTrip, SameBytes};
+ghost use Rattle.cap_write.specs.Laws.{FieldsFit, MergeLaw, MergedAgain, OneInterface, PcapngAgain, RoundTrip, SameBytes};
 ghost use Rattle.cap_write.specs.Rounds.{ClockLaw, FileRoundsLaw, RoundsLaw};
 
 /// An accepted pcap file, written as pcapng and then as pcap again, comes back: the pcapng file has its
@@ -19,6 +19,13 @@ pub fn round_trip()
 pub fn merged_again()
     ensures files { MergeLaw }
     ensures packets { MergedAgain }
+{}
+
+/// What `to_pcapng` writes of any file, of either format and whatever bytes it holds, where it is at most 2^40
+/// bytes long, has the file's packets, those before a refusal, in order: with the same numbers of interfaces
+/// behind the file's first one, and the same interfaces, times, lengths and bytes.
+pub fn pcapng_again()
+    ensures { PcapngAgain }
 {}
 
 /// In every file, of either format, the packets of one instance have one interface.

@@ -1,0 +1,197 @@
+-- Runs whose packets have clocks of the same times, and the same interfaces, units, lengths and bytes, have the same report, but for the
+-- lines of the files: what is told of files and of places in them may differ.
+use Rattle.std.proofs.Common.{◌≡◌, ℕ, ◌+◌, Bool, true, false, List, [], ◌∷◌, ◌++◌, length, refl, sym, ◌∙◌, ap, subst, true≢false, Option, Some, None}
+use Rattle.std.proofs.lemmas.List.Elements.{length_all_zip}
+use Rattle.std.specs.List.{AllZip}
+use Rattle.std.specs.Option.{option_map, option_map_or}
+use Rattle.std.specs.Prelude.{nat_lt, if◌then◌else◌}
+use Rattle.cap_join.proofs.EqualClocks.{same-groups}
+use Rattle.cap_join.specs.Completed.{if_complete}
+use Rattle.cap_join.specs.EqualClocks.{IsSameTime, IsSameEvent}
+use Rattle.cap_join.specs.Fragments.{Piece}
+use Rattle.cap_join.specs.History.{Event}
+use Rattle.cap_join.specs.Joiners.{open_limit}
+use Rattle.cap_join.specs.declared.datagrams.Stamped.{Stamped}
+use Rattle.cap_link.specs.Links.{network_of, is_whole}
+use Rattle.cap_merge.specs.Run.{Clocked}
+use Rattle.cap_source.specs.Feed.{Item, packet, refused}
+use Rattle.cap_talks.specs.Classes.{class_by, classes, classes_in, groups_of}
+use Rattle.cap_talks.specs.CountedUnits.{first_unit, unit_by, unit_at, listed, units_of, is_limit_at}
+use Rattle.cap_talks.specs.ReportText.{body_text, bytes_of, truncated_of, with_item, taken_after, refusal_at, refusal_here}
+use Rattle.cap_talks.specs.Rows.{is_refused, talk_limit}
+use Rattle.cap_talks.specs.Taken.{Taken, Look, plain, datagram, fragment, look_at, look, stamped_of, events_with, events_of}
+use Rattle.cap_talks.specs.Talks.{key_of, rows_of}
+use Rattle.cap_time.specs.Stamp.{stamp_in}
+use Rattle.cap_time.specs.declared.stamps.Stamp.{Stamp}
+use Rattle.cap_laws.specs.Reports.{Place, place_or, refused_after, SameReport}
+
+-- Two packets are alike.
+pub record IsAlike (x y : Taken) : Type 0 where
+  pub clock : IsSameTime x.clock y.clock
+  pub interface : x.meta.interface ≡ y.meta.interface
+  pub units : x.meta.units ≡ y.meta.units
+  pub original : x.meta.original ≡ y.meta.original
+  pub frame : x.frame ≡ y.frame
+
+abbrev AreAlike : List Taken → List Taken → Type 0
+AreAlike = AllZip IsAlike
+
+-- two items of runs, which have those clocks, are packets that are alike
+abbrev pub AlikeItems : Option Stamp → Option Stamp → Item → Item → Type 0
+AlikeItems c d (packet m f) (packet n g) = IsAlike (record { clock = c; meta = m; frame = f }) (record { clock = d; meta = n; frame = g })
+AlikeItems c d (packet m f) (refused r) = ⊥
+AlikeItems c d (refused q) (packet n g) = ⊥
+AlikeItems c d (refused q) (refused r) = ⊥
+
+abbrev pub RunsAlike : List (Clocked Item) → List (Clocked Item) → Type 0
+RunsAlike = AllZip (λ a b. AlikeItems a.clock b.clock a.item b.item)
+
+-- ---- what each packet is
+
+alike-length : (xs ys : List Taken) → AreAlike xs ys → length xs ≡ length ys
+alike-length = length_all_zip IsAlike
+
+alike-stamped : (n m : ℕ) (x y : Taken) → n ≡ m → IsAlike x y → stamped_of n x.meta ≡ stamped_of m y.meta
+alike-stamped n m x y e h =
+    λ i. record { time = option_map (λ units. stamp_in units (h.interface i)) (h.units i); place = e i; original = h.original i }
+
+alike-look : (n m : ℕ) (x y : Taken) → n ≡ m → IsAlike x y → look n x ≡ look m y
+unfolding look
+alike-look n m x y e h =
+    λ i. look_at (network_of (h.interface i).link (h.frame i) (h.original i)) (is_whole (h.frame i) (h.original i)) (alike-stamped n m x y e h i)
+
+-- ---- the groups of fragments
+
+events-with : (l : Look) (c d : Option Stamp) (es fs : List Event) → IsSameTime c d → AllZip IsSameEvent es fs → AllZip IsSameEvent (events_with l c es) (events_with l d fs)
+events-with (plain k) c d es fs e h = h
+events-with (datagram header captured) c d es fs e h = (refl, h)
+events-with (fragment p) c d es fs e h = ((e, refl), h)
+
+alike-events : (xs ys : List Taken) → AreAlike xs ys → AllZip IsSameEvent (events_of xs) (events_of ys)
+unfolding events_of
+alike-events [] [] h = tt
+alike-events [] (y ∷ ys) h = absurd h
+alike-events (x ∷ xs) [] h = absurd h
+alike-events (x ∷ xs) (y ∷ ys) h =
+    subst (λ (l : Look). AllZip IsSameEvent (events_with (look (length xs) x) x.clock (events_of xs)) (events_with l y.clock (events_of ys)))
+    (alike-look (length xs) (length ys) x y (alike-length xs ys h.1) h.0)
+    (events-with (look (length xs) x) x.clock y.clock (events_of xs) (events_of ys) h.0.clock (alike-events xs ys h.1))
+
+alike-groups : (xs ys : List Taken) → AreAlike xs ys → groups_of xs ≡ groups_of ys
+alike-groups xs ys h = (same-groups open_limit (events_of xs) (events_of ys) (alike-events xs ys h)).completed
+
+-- ---- classes and units
+
+alike-classes_in : (groups : List (List Piece)) (xs ys : List Taken) → AreAlike xs ys → classes_in groups xs ≡ classes_in groups ys
+alike-classes_in groups [] [] h = refl
+alike-classes_in groups [] (y ∷ ys) h = absurd h
+alike-classes_in groups (x ∷ xs) [] h = absurd h
+alike-classes_in groups (x ∷ xs) (y ∷ ys) h =
+    λ i. class_by groups (alike-look (length xs) (length ys) x y (alike-length xs ys h.1) h.0 i) ∷ alike-classes_in groups xs ys h.1 i
+
+alike-classes : (xs ys : List Taken) → AreAlike xs ys → classes xs ≡ classes ys
+unfolding classes
+alike-classes xs ys h = ap (λ groups. classes_in groups xs) (alike-groups xs ys h) ∙ alike-classes_in (groups_of ys) xs ys h
+
+unit-by : (l : Look) (s : Stamped) (c d : Option Stamp) (es fs : List Event) → IsSameTime c d → AllZip IsSameEvent es fs → unit_by l s c es ≡ unit_by l s d fs
+unit-by (plain k) s c d es fs e h = refl
+unit-by (datagram header captured) s c d es fs e h = refl
+unit-by (fragment p) s c d es fs e h = ap (λ (ps : List Piece). first_unit (if_complete ps)) ((same-groups open_limit es fs h).joined c d p e)
+
+alike-unit : (xs ys : List Taken) (x y : Taken) → AreAlike xs ys → IsAlike x y → unit_at xs x ≡ unit_at ys y
+unfolding unit_at
+alike-unit xs ys x y h k =
+    let n = alike-length xs ys h in
+    unit-by (look (length xs) x) (stamped_of (length xs) x.meta) x.clock y.clock (events_of xs) (events_of ys) k.clock (alike-events xs ys h)
+    ∙ (λ i. unit_by (alike-look (length xs) (length ys) x y n k i) (alike-stamped (length xs) (length ys) x y n k i) y.clock (events_of ys))
+
+alike-units : (xs ys : List Taken) → AreAlike xs ys → units_of xs ≡ units_of ys
+unfolding units_of
+alike-units [] [] h = refl
+alike-units [] (y ∷ ys) h = absurd h
+alike-units (x ∷ xs) [] h = absurd h
+alike-units (x ∷ xs) (y ∷ ys) h = λ i. alike-units xs ys h.1 i ++ listed (alike-unit xs ys x y h.1 h.0 i)
+
+-- ---- the lines
+
+alike-bytes : (xs ys : List Taken) → AreAlike xs ys → bytes_of xs ≡ bytes_of ys
+alike-bytes [] [] h = refl
+alike-bytes [] (y ∷ ys) h = absurd h
+alike-bytes (x ∷ xs) [] h = absurd h
+alike-bytes (x ∷ xs) (y ∷ ys) h = λ i. alike-bytes xs ys h.1 i + h.0.original i
+
+alike-truncated : (xs ys : List Taken) → AreAlike xs ys → truncated_of xs ≡ truncated_of ys
+alike-truncated [] [] h = refl
+alike-truncated [] (y ∷ ys) h = absurd h
+alike-truncated (x ∷ xs) [] h = absurd h
+alike-truncated (x ∷ xs) (y ∷ ys) h = λ i. alike-truncated xs ys h.1 i + (if nat_lt (length (h.0.frame i)) (h.0.original i) then 1 else 0)
+
+alike-body : (xs ys : List Taken) → AreAlike xs ys → body_text xs ≡ body_text ys
+unfolding body_text
+alike-body xs ys h =
+    let n = alike-length xs ys h in
+    let b = alike-bytes xs ys h in
+    let t = alike-truncated xs ys h in
+    let k = alike-classes xs ys h in
+    let g = alike-groups xs ys h in
+    let up = (same-groups open_limit (events_of xs) (events_of ys) (alike-events xs ys h)).given_up in
+    let u = alike-units xs ys h in
+    cc
+
+-- ---- refusals
+
+alike-limit : (xs ys : List Taken) (x y : Taken) → AreAlike xs ys → IsAlike x y → is_limit_at xs x ≡ is_limit_at ys y
+alike-limit xs ys x y h k =
+    let u = alike-units xs ys h in
+    let v = alike-unit xs ys x y h k in
+    λ i. option_map_or (λ unit. is_refused talk_limit (rows_of (u i)) (key_of unit)) (v i) false
+
+-- one of the two packets is refused where the other is, by the same rule
+refused-here : (c d : Option Stamp) (a b : Item) (xs ys : List Taken) (p q : Option Place) → AlikeItems c d a b → AreAlike xs ys → p ≡ q
+    → place_or (length xs) (refusal_here xs c a) p ≡ place_or (length ys) (refusal_here ys d b) q
+refused-here c d (packet m f) (packet n g) xs ys p q h k e =
+    by (is_limit_at xs (record { clock = c; meta = m; frame = f })) (is_limit_at ys (record { clock = d; meta = n; frame = g }))
+    (alike-limit xs ys (record { clock = c; meta = m; frame = f }) (record { clock = d; meta = n; frame = g }) k h)
+    (length xs) (length ys) (alike-length xs ys k)
+  where
+    by : (b v : Bool) → b ≡ v → (i j : ℕ) → i ≡ j
+        → place_or i (if b then Some (refusal_at m) else None) p ≡ place_or j (if v then Some (refusal_at n) else None) q
+    by true true o i j w = ap (λ l. Some (record { taken = l; rule = (refusal_at m).rule })) w
+    by true false o i j w = absurd (true≢false o)
+    by false true o i j w = absurd (true≢false (sym o))
+    by false false o i j w = e
+refused-here c d (packet m f) (refused r) xs ys p q h k e = absurd h
+refused-here c d (refused o) (packet n g) xs ys p q h k e = absurd h
+refused-here c d (refused o) (refused r) xs ys p q h k e = absurd h
+
+-- ---- runs
+
+with_alike : (c d : Option Stamp) (a b : Item) (xs ys : List Taken) → AlikeItems c d a b → AreAlike xs ys → AreAlike (with_item c a xs) (with_item d b ys)
+with_alike c d (packet m f) (packet n g) xs ys h k = (h, k)
+with_alike c d (packet m f) (refused r) xs ys h k = absurd h
+with_alike c d (refused q) (packet n g) xs ys h k = absurd h
+with_alike c d (refused q) (refused r) xs ys h k = absurd h
+
+taken-alike : (as_ bs : List (Clocked Item)) (xs ys : List Taken) → RunsAlike as_ bs → AreAlike xs ys → AreAlike (taken_after xs as_) (taken_after ys bs)
+unfolding taken_after
+taken-alike [] [] xs ys h k = k
+taken-alike [] (b ∷ bs) xs ys h k = absurd h
+taken-alike (a ∷ as_) [] xs ys h k = absurd h
+taken-alike (a ∷ as_) (b ∷ bs) xs ys h k =
+    taken-alike as_ bs (with_item a.clock a.item xs) (with_item b.clock b.item ys) h.1 (with_alike a.clock b.clock a.item b.item xs ys h.0 k)
+
+refused-alike : (as_ bs : List (Clocked Item)) (xs ys : List Taken) → RunsAlike as_ bs → AreAlike xs ys → refused_after xs as_ ≡ refused_after ys bs
+unfolding refused_after
+refused-alike [] [] xs ys h k = refl
+refused-alike [] (b ∷ bs) xs ys h k = absurd h
+refused-alike (a ∷ as_) [] xs ys h k = absurd h
+refused-alike (a ∷ as_) (b ∷ bs) xs ys h k =
+    refused-here a.clock b.clock a.item b.item xs ys
+    (refused_after (with_item a.clock a.item xs) as_) (refused_after (with_item b.clock b.item ys) bs) h.0 k
+    (refused-alike as_ bs (with_item a.clock a.item xs) (with_item b.clock b.item ys) h.1 (with_alike a.clock b.clock a.item b.item xs ys h.0 k))
+
+pub same-report : (run again : List (Clocked Item)) → RunsAlike again run → SameReport run again
+same-report run again h = record {
+  lines = alike-body (taken_after [] again) (taken_after [] run) (taken-alike again run [] [] h tt);
+  refused = refused-alike again run [] [] h tt;
+}

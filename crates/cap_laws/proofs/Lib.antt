@@ -1,0 +1,6 @@
+mod Alike
+mod OneFile
+mod Rules
+mod SameRun
+mod Twins
+mod Written

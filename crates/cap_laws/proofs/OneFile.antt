@@ -1,0 +1,38 @@
+-- The run of one file is the file, each item with the greatest time so far.
+use Rattle.std.proofs.Common.{◌≡◌, List, [], ◌∷◌, refl, ◌∙◌, ap, Option, Some, None}
+use Rattle.std.specs.Prelude.{map}
+use Rattle.cap_bytes.specs.declared.faults.Refusal.{Refusal}
+use Rattle.cap_merge.specs.Clock.{later}
+use Rattle.cap_merge.specs.Files.{run_of_lists}
+use Rattle.cap_merge.specs.MergedList.{merged-next, merged-none}
+use Rattle.cap_merge.specs.Parts.{item_time, is_refusal, meta_time}
+use Rattle.cap_merge.specs.Run.{Clocked, merged, through_first}
+use Rattle.cap_source.specs.Feed.{Item, packet, refused, refusal_of}
+use Rattle.cap_time.specs.declared.stamps.Stamp.{Stamp}
+
+-- the items of a file, behind which it has reached a clock, each with its own
+abbrev clocked_from : {A : Type 0} → (A → Option Stamp) → Option Stamp → List A → List (Clocked A)
+clocked_from time clock [] = []
+clocked_from time clock (x ∷ xs) = record { clock = later clock (time x); item = x } ∷ clocked_from time (later clock (time x)) xs
+
+merged-one : {A : Type 0} (time : A → Option Stamp) (clock : Option Stamp) (items : List A)
+    → merged time (record { clock = clock; items = items } ∷ []) ≡ clocked_from time clock items
+merged-one time clock [] = merged-none time (record { clock = clock; items = [] } ∷ []) (refl, tt)
+merged-one time clock (x ∷ xs) =
+    merged-next time [] [] clock x xs (record { below = tt; not_above = tt })
+    ∙ ap (λ l. record { clock = later clock (time x); item = x } ∷ l) (merged-one time (later clock (time x)) xs)
+
+some-none : (r : Refusal) → Some r ≡ None → ⊥
+some-none r e = cc
+
+-- without a refusal, all of them
+all-items : (clock : Option Stamp) (xs : List Item) → refusal_of xs ≡ None → map (λ x. x.item) (through_first (λ x. is_refusal x.item) (clocked_from item_time clock xs)) ≡ xs
+unfolding refusal_of
+all-items clock [] none = refl
+all-items clock (packet meta frame ∷ xs) none = ap (λ l. packet meta frame ∷ l) (all-items (later clock (meta_time meta)) xs none)
+all-items clock (refused r ∷ xs) none = absurd (some-none r none)
+
+-- The run of one file without a refusal has the file's items.
+pub run-one : (items : List Item) → refusal_of items ≡ None → run_of_lists (items ∷ []) ≡ items
+run-one items none =
+    ap (λ xs. map (λ x. x.item) (through_first (λ x. is_refusal x.item) xs)) (merged-one item_time None items) ∙ all-items None items none

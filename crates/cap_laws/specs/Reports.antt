@@ -1,0 +1,61 @@
+-- What stays of the report when the packets of files are written as one file.
+use Rattle.std.specs.Prelude.{◌≡◌, ℕ, ◌≤◌, ◌^◌, List, [], ◌∷◌, length, Option, Some, None, option_map}
+use Rattle.std.specs.List.{AllByRecursion}
+use Rattle.cap_blocks.specs.Split.{AreBytes}
+use Rattle.cap_bytes.specs.declared.faults.Refusal.{Refusal}
+use Rattle.cap_bytes.specs.declared.faults.Rule.{Rule}
+use Rattle.cap_bytes.specs.declared.faults.Tail.{Tail}
+use Rattle.cap_bytes.specs.declared.numbers.Order.{Order}
+use Rattle.cap_merge.specs.Files.{clocked_run, run_of_files}
+use Rattle.cap_merge.specs.Run.{Clocked}
+use Rattle.cap_source.specs.Feed.{Item}
+use Rattle.cap_source.specs.Items.{file_first, file_items}
+use Rattle.cap_talks.specs.ReportText.{body_text, refusal_here, report_refusal, taken_after, with_item}
+use Rattle.cap_talks.specs.Taken.{Taken}
+use Rattle.cap_write.specs.Texts.{merged_text, merged_refusal, pcapng_text, pcapng_refusal}
+
+-- Where a run is refused: behind how many taken packets, and by which rule.
+pub record Place : Type 0 where
+  pub taken : ℕ
+  pub rule : Rule
+
+-- that of a refusal behind so many packets, or else one further on
+abbrev pub place_or : ℕ → Option Refusal → Option Place → Option Place
+place_or taken None later = later
+place_or taken (Some refusal) later = Some (record { taken = taken; rule = refusal.rule })
+
+-- where a run is refused first, behind the packets that were taken
+unfoldable pub refused_after : List Taken → List (Clocked Item) → Option Place
+refused_after xs [] = None
+refused_after xs (x ∷ run) = place_or (length xs) (refusal_here xs x.clock x.item) (refused_after (with_item x.clock x.item xs) run)
+
+abbrev pub refused_at : List (Clocked Item) → Option Place
+refused_at run = refused_after [] run
+
+-- The rule of that place is the rule of the refusal that is answered instead of a report.
+abbrev pub RuleLaw : Type 0
+RuleLaw = (run : List (Clocked Item)) → option_map (λ place. place.rule) (refused_at run) ≡ option_map (λ refusal. refusal.rule) (report_refusal run)
+
+-- The reports of two runs have the same lines, but for those of the files, or are refused at the same place by the same rule.
+pub record SameReport (run again : List (Clocked Item)) : Type 0 where
+  pub lines : body_text (taken_after [] again) ≡ body_text (taken_after [] run)
+  pub refused : refused_at again ≡ refused_at run
+
+-- The file that a merge of some files writes, where nothing is refused and it is at most 2^40 bytes long, has the report of the files.
+abbrev pub MergedReport : Type 0
+MergedReport =
+    (order : Order) (tail tail_again : Tail) (files : List (List ℕ)) → AllByRecursion AreBytes files
+    → (let items = run_of_files tail files in
+    let text = merged_text order items in
+    merged_refusal items ≡ None → length text ≤ 2 ^ 40
+    → SameReport (clocked_run tail files) (clocked_run tail_again (text ∷ [])))
+
+-- So has the pcapng file that is written of one file.
+abbrev pub PcapngReport : Type 0
+PcapngReport =
+    (order : Order) (tail tail_again : Tail) (bytes : List ℕ) → AreBytes bytes
+    → (let items = file_items tail 1 bytes in
+    let first = file_first tail 1 bytes in
+    let text = pcapng_text order 1 first items in
+    pcapng_refusal 1 first items ≡ None → length text ≤ 2 ^ 40
+    → SameReport (clocked_run tail (bytes ∷ [])) (clocked_run tail_again (text ∷ [])))

@@ -1,0 +1,28 @@
+//! Laws, each the contract of a function that does nothing.
+ghost use Rattle.cap_laws.specs.Reports.{MergedReport, PcapngReport, RuleLaw};
+
+use cap_write::laws::{merged_again, pcapng_again};
+
+/// Where `write_merged` writes the run of some files, whatever bytes these hold, with no refusal and in at most
+/// 2^40 bytes, the report over the one file that it wrote has the lines of the report over those files, byte for
+/// byte, but for the lines of the files: `total`, `frames`, `joined`, `talks` and each `talk` line. Or both are
+/// refused, by the same rule, behind as many packets of the run. This holds also where clocks run back.
+pub fn merged_report()
+    ensures { MergedReport }
+{
+    merged_again();
+}
+
+/// The same holds of the one file that `to_pcapng` writes, with no refusal and in at most 2^40 bytes, and the
+/// file that it was written of.
+pub fn pcapng_report()
+    ensures { PcapngReport }
+{
+    pcapng_again();
+}
+
+/// What `merged_report` tells of a refusal by its place in the run is the refusal that `report` answers: one
+/// comes where the other does, by the same rule.
+pub fn refusal_rule()
+    ensures { RuleLaw }
+{}

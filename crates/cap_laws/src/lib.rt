@@ -1,0 +1,6 @@
+//! Laws over several crates: what stays of the report when packets are written and read again.
+#![tactic(auto)]
+
+mod laws;
+
+pub use crate::laws::{merged_report, pcapng_report, refusal_rule};

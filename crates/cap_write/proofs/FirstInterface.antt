@@ -1,0 +1,191 @@
+-- The first interface of a file is that of the packets of instance 0, and its fields fit in their widths.
+use Rattle.std.proofs.Common.{◌≡◌, ℕ, suc, ◌+◌, List, [], ◌∷◌, ◌++◌, length, slice_get, Bool, true, false, Option, Some, None, Result, Ok, Err, IfOk, IfSome, refl, sym, ap, ◌∙◌, subst, arith, if◌then◌else◌}
+use Rattle.std.specs.List.{AllByRecursion}
+use Rattle.cap_blocks.specs.Split as blocks
+use Rattle.cap_blocks.specs.Split.{AreBytes}
+use Rattle.cap_blocks.specs.declared.blocks.Block.{Block}
+use Rattle.cap_blocks.specs.declared.blocks.Stop.{Stop as BlockStop}
+use Rattle.cap_blocks.specs.declared.blocks.Stop.TheVariants as block_stops
+use Rattle.cap_bytes.specs.declared.faults.Rule.{Rule}
+use Rattle.cap_bytes.specs.declared.faults.Tail.{Tail}
+use Rattle.cap_pcap.specs.Split as records
+use Rattle.cap_pcap.specs.declared.records.Stop.TheVariants as record_stops
+use Rattle.cap_source.specs.Contents.{content_in}
+use Rattle.cap_source.specs.Feed.{Item, packet, refused}
+use Rattle.cap_source.specs.Items.{Progress, fresh, behind, first_or, first_in, first_from, unless_item, unless_refused, items_at, items_in, items_of_stop, items_from, is_pcapng, pcap_items, interface_of, file_items, file_first}
+use Rattle.cap_source.specs.declared.contents.Content.{Content}
+use Rattle.cap_source.specs.declared.contents.Content.TheVariants as contents
+use Rattle.cap_source.specs.declared.contents.Packet.{Packet}
+use Rattle.cap_time.specs.declared.resolutions.Interface.{Interface}
+use Rattle.cap_write.proofs.Contents.{OfContent}
+use Rattle.cap_write.proofs.Fields.{FitsInterface, FitsPacket, one_more, content-fits, IsOfBytes, blocks-bytes, header-fits}
+use Rattle.cap_write.proofs.Instances.{HasNumber, IsAny, content-of}
+
+-- A packet of instance 0 has that interface.
+abbrev pub IsFirst : Interface → Item → Type 0
+IsFirst i (packet meta frame) = meta.instance ≡ 0 → meta.interface ≡ i
+IsFirst i (refused refusal) = Unit {0}
+
+-- ---- the packets of instance 0
+
+-- How far a file was read: as long as no section ended, the first interface is the first of the section.
+abbrev KnowsFirst : Progress → Type 0
+KnowsFirst progress = progress.base ≡ 0 → progress.first ≡ slice_get progress.interfaces 0
+
+section_ends : (base : ℕ) (interfaces : List Interface) (first : Option Interface) → (base ≡ 0 → first ≡ slice_get interfaces 0)
+    → base + length interfaces ≡ 0 → first ≡ None
+section_ends base [] first knows zero = knows (omega (arith, zero))
+section_ends base (j ∷ interfaces) first knows zero = absurd (omega (arith, zero))
+
+interface_comes : (interfaces : List Interface) (first : Option Interface) (j : Interface) → first ≡ slice_get interfaces 0
+    → Some (first_or first j) ≡ slice_get (interfaces ++ j ∷ []) 0
+interface_comes [] first j is = ap (λ f. Some (first_or f j)) is
+interface_comes (k ∷ interfaces) first j is = ap (λ f. Some (first_or f j)) is
+
+knows-behind : (progress : Progress) (content : Result Content Rule) → KnowsFirst progress → KnowsFirst (behind progress content)
+knows-behind progress (Ok contents.Section) knows = section_ends progress.base progress.interfaces progress.first knows
+knows-behind progress (Ok (contents.Interface j)) knows = λ zero. interface_comes progress.interfaces progress.first j (knows zero)
+knows-behind progress (Ok (contents.Packet p)) knows = knows
+knows-behind progress (Ok contents.Other) knows = knows
+knows-behind progress (Err rule) knows = knows
+
+same_interface : (i j : Interface) → Some i ≡ Some j → i ≡ j
+same_interface i j e = cc
+
+-- the packet of a block, where the first interface was read before
+own_interface : (progress : Progress) (p : Packet) (i : Interface) → HasNumber progress.interfaces p → KnowsFirst progress → progress.first ≡ Some i
+    → progress.base + p.number ≡ 0 → p.interface ≡ i
+own_interface progress p i of knows is zero =
+    let base : progress.base ≡ 0 = omega (arith, zero) in
+    let number : p.number ≡ 0 = omega (arith, zero) in
+    same_interface p.interface i (sym (subst (λ k. slice_get progress.interfaces k ≡ Some p.interface) number of) ∙ (sym (knows base) ∙ is))
+
+stop-first : (i : Interface) (stop : BlockStop) → AllByRecursion (IsFirst i) (items_of_stop stop)
+stop-first i block_stops.End = tt
+stop-first i block_stops.Cut = tt
+stop-first i (block_stops.Refused refusal) = (tt, tt)
+
+block-known : (file : ℕ) (i : Interface) (progress : Progress) (block : Block) (body : List ℕ) (content : Result Content Rule) (items : List Item)
+    → IfOk content (OfContent IsAny (HasNumber progress.interfaces)) → KnowsFirst progress → progress.first ≡ Some i
+    → (KnowsFirst (behind progress content) → (behind progress content).first ≡ Some i → AllByRecursion (IsFirst i) items)
+    → AllByRecursion (IsFirst i) (items_at file progress block body content items)
+block-known file i progress block body (Ok contents.Section) items of knows is rest = rest (knows-behind progress (Ok contents.Section) knows) is
+block-known file i progress block body (Ok (contents.Interface j)) items of knows is rest =
+    rest (knows-behind progress (Ok (contents.Interface j)) knows) (ap (λ f. Some (first_or f j)) is)
+block-known file i progress block body (Ok (contents.Packet p)) items of knows is rest = (own_interface progress p i of knows is, rest knows is)
+block-known file i progress block body (Ok contents.Other) items of knows is rest = rest knows is
+block-known file i progress block body (Err rule) items of knows is rest = (tt, tt)
+
+-- behind the first interface
+blocks-known : (file : ℕ) (i : Interface) (progress : Progress) (items : List blocks.Item) → KnowsFirst progress → progress.first ≡ Some i
+    → AllByRecursion (IsFirst i) (items_in file progress items)
+unfolding items_in
+blocks-known file i progress [] knows is = tt
+blocks-known file i progress (blocks.stopped stop ∷ rest) knows is = stop-first i stop
+blocks-known file i progress (blocks.given block body ∷ rest) knows is =
+    let content = content_in progress.interfaces block.kind block.order body in
+    block-known file i progress block body content (items_in file (behind progress content) rest)
+    (content-of progress.interfaces block.kind block.order body) knows is
+    (λ knows is. blocks-known file i (behind progress content) rest knows is)
+
+block-first : (file : ℕ) (i : Interface) (progress : Progress) (block : Block) (body : List ℕ) (content : Result Content Rule) (first : Option Interface) (items : List Item)
+    → IfOk content (OfContent IsAny (HasNumber progress.interfaces)) → KnowsFirst progress → unless_item content progress.first first ≡ Some i
+    → (KnowsFirst (behind progress content) → first ≡ Some i → AllByRecursion (IsFirst i) items)
+    → (KnowsFirst (behind progress content) → (behind progress content).first ≡ Some i → AllByRecursion (IsFirst i) items)
+    → AllByRecursion (IsFirst i) (items_at file progress block body content items)
+block-first file i progress block body (Ok contents.Section) first items of knows is later known = later (knows-behind progress (Ok contents.Section) knows) is
+block-first file i progress block body (Ok (contents.Interface j)) first items of knows is later known =
+    later (knows-behind progress (Ok (contents.Interface j)) knows) is
+block-first file i progress block body (Ok (contents.Packet p)) first items of knows is later known = (own_interface progress p i of knows is, known knows is)
+block-first file i progress block body (Ok contents.Other) first items of knows is later known = later knows is
+block-first file i progress block body (Err rule) first items of knows is later known = (tt, tt)
+
+-- before it
+blocks-first : (file : ℕ) (i : Interface) (progress : Progress) (items : List blocks.Item) → KnowsFirst progress → first_in progress items ≡ Some i
+    → AllByRecursion (IsFirst i) (items_in file progress items)
+unfolding items_in first_in
+blocks-first file i progress [] knows is = tt
+blocks-first file i progress (blocks.stopped stop ∷ rest) knows is = stop-first i stop
+blocks-first file i progress (blocks.given block body ∷ rest) knows is =
+    let content = content_in progress.interfaces block.kind block.order body in
+    block-first file i progress block body content (first_in (behind progress content) rest) (items_in file (behind progress content) rest)
+    (content-of progress.interfaces block.kind block.order body) knows is
+    (λ knows is. blocks-first file i (behind progress content) rest knows is)
+    (λ knows is. blocks-known file i (behind progress content) rest knows is)
+
+-- a pcap file has one interface
+records-first : (file : ℕ) (i : Interface) (items : List records.Item) → AllByRecursion (IsFirst i) (pcap_items file i items)
+unfolding pcap_items
+records-first file i [] = tt
+records-first file i (records.stopped record_stops.End ∷ rest) = tt
+records-first file i (records.stopped record_stops.Cut ∷ rest) = tt
+records-first file i (records.stopped (record_stops.Refused refusal) ∷ rest) = (tt, tt)
+records-first file i (records.given r frame ∷ rest) = (λ zero. refl, records-first file i rest)
+
+-- ---- its fields
+
+first_or-fits : (first : Option Interface) (j : Interface) → IfSome first FitsInterface → FitsInterface j → FitsInterface (first_or first j)
+first_or-fits None j fits new = new
+first_or-fits (Some i) j fits new = fits
+
+block-first_fits : (progress : Progress) (content : Result Content Rule) (first : Option Interface) → IfOk content (OfContent FitsInterface FitsPacket)
+    → AllByRecursion FitsInterface progress.interfaces → IfSome progress.first FitsInterface
+    → (AllByRecursion FitsInterface (behind progress content).interfaces → IfSome (behind progress content).first FitsInterface → IfSome first FitsInterface)
+    → IfSome (unless_item content progress.first first) FitsInterface
+block-first_fits progress (Ok contents.Section) first of all fits later = later tt fits
+block-first_fits progress (Ok (contents.Interface j)) first of all fits later =
+    later (one_more progress.interfaces j all of) (first_or-fits progress.first j fits of)
+block-first_fits progress (Ok (contents.Packet p)) first of all fits later = fits
+block-first_fits progress (Ok contents.Other) first of all fits later = later all fits
+block-first_fits progress (Err rule) first of all fits later = fits
+
+blocks-first_fits : (progress : Progress) (items : List blocks.Item) → AllByRecursion FitsInterface progress.interfaces → IfSome progress.first FitsInterface
+    → AllByRecursion IsOfBytes items → IfSome (first_in progress items) FitsInterface
+unfolding first_in
+blocks-first_fits progress [] all fits are = fits
+blocks-first_fits progress (blocks.stopped stop ∷ rest) all fits are = fits
+blocks-first_fits progress (blocks.given block body ∷ rest) all fits are =
+    let content = content_in progress.interfaces block.kind block.order body in
+    block-first_fits progress content (first_in (behind progress content) rest) (content-fits progress.interfaces block.kind block.order body all are.0) all fits
+    (λ all fits. blocks-first_fits (behind progress content) rest all fits are.1)
+
+-- ---- the file
+
+-- What is known of the first interface of a file.
+pub record IsFirstOf (items : List Item) (i : Interface) : Type 0 where
+  pub fits : FitsInterface i
+  pub packets : AllByRecursion (IsFirst i) items
+
+of_blocks : (file : ℕ) (i : Interface) (items : List blocks.Item) → AllByRecursion IsOfBytes items → first_in fresh items ≡ Some i
+    → IsFirstOf (items_in file fresh items) i
+of_blocks file i items are is = record {
+  fits = subst (λ (f : Option Interface). IfSome f FitsInterface) is (blocks-first_fits fresh items tt tt are);
+  packets = blocks-first file i fresh items (λ zero. refl) is;
+}
+
+of_records : (file : ℕ) (i own : Interface) (fault : Option Rule) (items : List records.Item) → FitsInterface own → unless_refused fault own ≡ Some i
+    → IsFirstOf (pcap_items file own items) i
+of_records file i own (Some rule) items fits is = absurd (none_some i is)
+  where
+    none_some : (i : Interface) → None ≡ Some i → ⊥
+    none_some i e = cc
+of_records file i own None items fits is =
+    let same = same_interface own i is in
+    record {
+      fits = subst FitsInterface same fits;
+      packets = subst (λ (j : Interface). AllByRecursion (IsFirst j) (pcap_items file own items)) same (records-first file own items);
+    }
+
+pub first-of : (tail : Tail) (file : ℕ) (bytes : List ℕ) (i : Interface) → AreBytes bytes → file_first tail file bytes ≡ Some i
+    → IsFirstOf (file_items tail file bytes) i
+unfolding items_from first_from blocks.items_from
+first-of tail file bytes i are is = by (is_pcapng bytes) is
+  where
+    by : (pcapng : Bool)
+        → (if pcapng then first_in fresh (blocks.items_from None tail file 0 bytes)
+        else unless_refused (records.header_fault 0 bytes) (interface_of (records.header_at bytes))) ≡ Some i
+        → IsFirstOf (if pcapng then items_in file fresh (blocks.items_from None tail file 0 bytes)
+        else pcap_items file (interface_of (records.header_at bytes)) (records.file_items tail file 0 bytes)) i
+    by true is = of_blocks file i (blocks.items_from None tail file 0 bytes) (blocks-bytes (suc (length bytes)) None tail file 0 bytes are) is
+    by false is =
+        of_records file i (interface_of (records.header_at bytes)) (records.header_fault 0 bytes) (records.file_items tail file 0 bytes) (header-fits bytes are) is

@@ -1,0 +1,103 @@
+-- A file of either format, written as pcapng and read again.
+use Rattle.std.proofs.Common.{◌≡◌, ◌==◌, ℕ, ◌+◌, ◌≤◌, ◌^◌, List, [], ◌∷◌, ◌++◌, length, Bool, true, false, Option, Some, None, refl, sym, ap, ◌∙◌, subst, arith, append-nil, if◌then◌else◌}
+use Rattle.std.proofs.lemmas.Bool.{eqb-true}
+use Rattle.std.specs.List.{AllByRecursion}
+use Rattle.cap_blocks.specs.Split.{AreBytes}
+use Rattle.cap_blocks.specs.Grammar.{section_text, interface_text}
+use Rattle.cap_bytes.specs.declared.faults.Tail.{Tail}
+use Rattle.cap_bytes.specs.declared.numbers.Order.{Order}
+use Rattle.cap_source.specs.Feed.{Item, packet, refused, refusal_of}
+use Rattle.cap_source.specs.Items.{file_items, file_first}
+use Rattle.cap_time.specs.declared.resolutions.Interface.{Interface}
+use Rattle.cap_write.proofs.Fields.{fields_fit-law}
+use Rattle.cap_write.proofs.Files.{pcapng-again}
+use Rattle.cap_write.proofs.FirstInterface.{IsFirst, first-of}
+use Rattle.cap_write.proofs.Instances.{one_interface-law}
+use Rattle.cap_write.proofs.MergedAgain.{IsNumbered-given, AllFit-given, all_described-given}
+use Rattle.cap_write.proofs.Renumbered.{numbered-again, refusal-again, refusal_of-again, InOrder-numbered, merged_again-law}
+use Rattle.cap_write.specs.Laws.{AllAlike, AllHave, ItemFits, PcapngAgain}
+use Rattle.cap_write.specs.Numbering.{Name, numbered, refusal_in}
+use Rattle.cap_write.specs.Texts.{first_names, packets_text, pcapng_text, merged_text}
+
+-- the interfaces of a file by their names
+abbrev of_instance : (ℕ → Interface) → Name → Interface
+of_instance given name = given name.1
+
+have_all : (file : ℕ) (given : ℕ → Interface) (items : List Item) → AllAlike file given items → AllByRecursion ItemFits items → AllHave (of_instance given) items
+have_all file given [] alike fit = tt
+have_all file given (refused refusal ∷ items) alike fit = tt
+have_all file given (packet meta frame ∷ items) alike fit =
+    (record { interface = alike.1; fits = fit.0 }, have_all file given items alike.2 fit.1)
+
+-- the same, the first of them known
+abbrev with_first : Interface → (ℕ → Interface) → Name → Interface
+with_first i given name = if name.1 == 0 then i else given name.1
+
+have_first : (file : ℕ) (i : Interface) (given : ℕ → Interface) (items : List Item) → AllAlike file given items → AllByRecursion (IsFirst i) items
+    → AllByRecursion ItemFits items → AllHave (with_first i given) items
+have_first file i given [] alike first fit = tt
+have_first file i given (refused refusal ∷ items) alike first fit = tt
+have_first file i given (packet meta frame ∷ items) alike first fit =
+    (record { interface = by (meta.instance == 0) refl; fits = fit.0 }, have_first file i given items alike.2 first.1 fit.1)
+  where
+    by : (zero : Bool) → (meta.instance == 0) ≡ zero → meta.interface ≡ (if zero then i else given meta.instance)
+    by true is = first.0 (eqb-true meta.instance 0 is)
+    by false is = alike.1
+
+-- What is read again of some packets that were numbered behind some names.
+record IsReadAgain (names others : List Name) (items again : List Item) : Type 0 where
+  packets : numbered others again ≡ numbered names items
+  unrefused : refusal_in others again ≡ None
+  complete : refusal_of again ≡ None
+
+without_first : (order : Order) (tail tail_again : Tail) (file file_again : ℕ) (bytes : List ℕ) → AreBytes bytes
+    → length (pcapng_text order file None (file_items tail file bytes)) ≤ 2 ^ 40
+    → IsReadAgain [] [] (file_items tail file bytes) (file_items tail_again file_again (pcapng_text order file None (file_items tail file bytes)))
+without_first order tail tail_again file file_again bytes are limit =
+    let items = file_items tail file bytes in
+    let alike = one_interface-law tail file bytes in
+    let same : pcapng_text order file None items ≡ merged_text order items =
+    ap (λ front. front ++ packets_text order 0 (numbered [] items)) (append-nil (section_text order)) in
+    let law = merged_again-law order tail_again file_again (of_instance alike.0) items (have_all file alike.0 items alike.1 (fields_fit-law tail file bytes are))
+    (subst (λ t. length t ≤ 2 ^ 40) same limit) in
+    subst (λ t. IsReadAgain [] [] items (file_items tail_again file_again t)) (sym same) (record { packets = law.0; unrefused = law.1; complete = law.2 })
+
+behind_first : (order : Order) (tail tail_again : Tail) (file file_again : ℕ) (bytes : List ℕ) (i : Interface) → AreBytes bytes → file_first tail file bytes ≡ Some i
+    → length (pcapng_text order file (Some i) (file_items tail file bytes)) ≤ 2 ^ 40
+    → IsReadAgain (first_names file (Some i)) (first_names file_again (Some i)) (file_items tail file bytes)
+    (file_items tail_again file_again (pcapng_text order file (Some i) (file_items tail file bytes)))
+behind_first order tail tail_again file file_again bytes i are is limit =
+    let items = file_items tail file bytes in
+    let alike = one_interface-law tail file bytes in
+    let first = first-of tail file bytes i are is in
+    let given = with_first i alike.0 in
+    let have = have_first file i alike.0 items alike.1 first.packets (fields_fit-law tail file bytes are) in
+    let names = first_names file (Some i) in
+    let ns = numbered names items in
+    let in_order = InOrder-numbered names items in
+    let place = 28 + length (interface_text order i) in
+    let read = (pcapng-again order tail_again file_again i ns first.fits.link first.fits.snaplen first.fits.offset
+    (IsNumbered-given given names items have) (AllFit-given given names items have) (all_described-given given names items have (omega arith)) limit).0 in
+    record {
+      packets = ap (numbered (first_names file_again (Some i))) read ∙ numbered-again order file_again place 1 ns in_order;
+      unrefused = ap (refusal_in (first_names file_again (Some i))) read ∙ refusal-again order file_again place 1 ns in_order;
+      complete = ap refusal_of read ∙ refusal_of-again order file_again place 1 ns;
+    }
+
+pub pcapng_again-law : PcapngAgain
+pcapng_again-law order tail tail_again file file_again bytes are = by (file_first tail file bytes) refl
+  where
+    by : (first : Option Interface) → file_first tail file bytes ≡ first
+        → (let items = file_items tail file bytes in
+        let text = pcapng_text order file first items in
+        let again = file_items tail_again file_again text in
+        length text ≤ 2 ^ 40
+        → (numbered (first_names file_again first) again ≡ numbered (first_names file first) items)
+        × (refusal_in (first_names file_again first) again ≡ None)
+        × (refusal_of again ≡ None))
+    by None is limit =
+        let read = without_first order tail tail_again file file_again bytes are limit in
+        (read.packets, read.unrefused, read.complete)
+    by (Some i) is limit =
+        let read = behind_first order tail tail_again file file_again bytes i are is limit in
+        (read.packets, read.unrefused, read.complete)
