@@ -12,11 +12,15 @@ mod file_lines;
 #[cfg(test)]
 mod files;
 #[cfg(test)]
+mod limits;
+#[cfg(test)]
 mod merge;
 #[cfg(test)]
 mod report;
 #[cfg(test)]
 mod steps;
+#[cfg(test)]
+mod two_files;
 #[cfg(test)]
 mod vectors;
 #[cfg(test)]
