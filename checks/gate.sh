@@ -33,7 +33,7 @@ counted 'rt ci' rt ci
 counted 'checks/program.sh' checks/program.sh
 counted 'checks/stack.sh' checks/stack.sh
 if [ "${1:-}" = --long ]; then
-    for crate in cap_bytes cap_source cap_join cap_talks cap_tasks; do
+    for crate in cap_bytes cap_input_tests cap_output_tests cap_tasks; do
         counted "checks/refused.sh $crate" checks/refused.sh "$crate"
     done
 else

@@ -14,6 +14,3 @@ pub use crate::blocks::{Block, Stop};
 pub use crate::options::Options;
 pub use crate::readers::BlockReader;
 pub use crate::writing::{put_interface, put_packet, put_section};
-
-#[cfg(test)]
-mod tests;

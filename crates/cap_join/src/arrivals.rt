@@ -91,6 +91,3 @@ fn take_datagram<'a>(
         Put::Joined(datagram) => Ok(Arrived::Joined(datagram)),
     }
 }
-
-#[cfg(test)]
-mod tests;

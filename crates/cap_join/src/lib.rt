@@ -15,6 +15,3 @@ pub use crate::arrivals::Arrived;
 pub use crate::datagrams::{Datagram, JoinFault, Put, Stamped};
 pub use crate::joiners::Joiner;
 pub use crate::laws::{completed_laws, equal_clocks, places_law, worked_rows};
-
-#[cfg(test)]
-mod tests;

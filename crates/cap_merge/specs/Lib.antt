@@ -13,7 +13,6 @@ pub mod Sound
 pub mod Coming
 pub mod Lawful
 pub mod View
-pub mod Listed
 pub mod Lists
 pub mod Files
 pub mod Readers

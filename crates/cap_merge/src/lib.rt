@@ -9,6 +9,3 @@ mod walks;
 pub use crate::files::merge_files;
 pub use crate::merging::Merged;
 pub use crate::walks::next_of;
-
-#[cfg(test)]
-mod tests;

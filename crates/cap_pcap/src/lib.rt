@@ -9,6 +9,3 @@ mod records;
 pub use crate::headers::{PcapHeader, put_header};
 pub use crate::readers::PcapReader;
 pub use crate::records::{Record, put_record};
-
-#[cfg(test)]
-mod tests;

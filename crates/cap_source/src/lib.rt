@@ -18,6 +18,3 @@ pub use crate::listed::Listed;
 pub use crate::listings::Listing;
 pub use crate::packets::{Format, Meta};
 pub use crate::walks::next_packet;
-
-#[cfg(test)]
-mod tests;

@@ -22,6 +22,3 @@ pub use crate::files::file_lines;
 pub use crate::laws::{one_class, talk_laws, worked_report, worked_talks};
 pub use crate::reports::report;
 pub use crate::tables::{Held, Step, Table};
-
-#[cfg(test)]
-mod tests;

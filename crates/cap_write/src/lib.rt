@@ -14,6 +14,3 @@ pub use crate::joined::write_joined;
 pub use crate::merged::write_merged;
 pub use crate::pcap::to_pcap;
 pub use crate::pcapng::to_pcapng;
-
-#[cfg(test)]
-mod tests;

@@ -1,14 +1,14 @@
 //! The table step by step.
 ghost use Rattle.std.specs.Prelude.{◌≤◌};
 
-use crate::tests::report::{
-    BINARY, BINARY_REPORT, FRAGMENT_FRAMES, FRAGMENT_REPORT, File, RAW, TAGGED_FRAMES,
-    TAGGED_REPORT, TENTHS, UNTIMED_THEN_TIMED,
+use crate::report::{
+    BINARY, BINARY_REPORT, FRAGMENT_REPORT, TAGGED_REPORT, TENTHS, UNTIMED_THEN_TIMED,
 };
-use crate::{Step, Table};
+use crate::vectors::{AT_1, AT_31, FIRST, FRAGMENT_FRAMES, File, LAST, RAW, TAGGED_FRAMES};
 use cap_bytes::{Fault, Pieces, Room, Tail};
 use cap_merge::merge_files;
 use cap_source::{Capture, PacketFeed};
+use cap_talks::{Step, Table};
 use std::alloc::Global;
 use std::process::Abort;
 use std::test::Fail;
@@ -28,13 +28,7 @@ const AFTER_TWO: &str = "files 1\n\
     talks 0\n";
 
 // Two fragments of one datagram, at 1 and at 31 seconds.
-const THIRTY_SECONDS: File = &[
-    RAW,
-    "01000000000000001c0000001c000000",
-    "4500001c00090001401100000a0000010a000002a0a1a2a3a4a5a6a7",
-    "1f000000000000001c0000001c000000",
-    "4500001c00092000401100000a0000010a00000203e807d000100000",
-];
+const THIRTY_SECONDS: File = &[RAW, AT_1, LAST, AT_31, FIRST];
 
 const THIRTY_REPORT: &str = "files 1\n\
     file 1 pcap packets 2 bytes 56 truncated 0 skipped 0 first 1+0/1000000 last 31+0/1000000\n\

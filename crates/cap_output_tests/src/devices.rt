@@ -1,18 +1,12 @@
 //! Reports where a reader or a writer fails.
-ghost use Rattle.std.specs.Prelude.{◌≤◌};
 
-use crate::tests::report::{ETHERNET, File, TAGGED_FRAMES, TAGGED_REPORT, report_of, sources_of};
+use crate::files::{report_of, sources_of};
+use crate::report::TAGGED_REPORT;
+use crate::vectors::{RUNS_BACK, TAGGED_FRAMES};
 use cap_bytes::{Fault, Room, Tail, Tracked};
 use std::io;
 use std::io::Write;
 use std::test::Fail;
-
-// Packets of no bytes at 5 and then at 1 second: records at 24 and 40 of 56 bytes.
-const RUNS_BACK: File = &[
-    ETHERNET,
-    "05000000000000000000000000000000",
-    "01000000000000000000000000000000",
-];
 
 /// A writer of the standard library that takes 0 bytes once it has taken so many.
 #[derive(Drop)]

@@ -1,20 +1,15 @@
-//! Whole files, by one byte a read and by many. The files and what they give are worked out by hand from
-//! draft-ietf-opsawg-pcap.
+//! The records of whole pcap files, by one byte a read and by many. The files and what they give are worked out by
+//! hand from draft-ietf-opsawg-pcap.
 ghost use Rattle.std.specs.Prelude.{◌≤◌};
 
-use crate::{PcapHeader, PcapReader, Record, put_header, put_record};
-use cap_bytes::{Device, Fault, Order, Pieces, Refusal, Room, Rule, Source, Tail, Window};
+use crate::vectors::{CARRY_PCAP, last_of, refused};
+use cap_bytes::{Device, Fault, Order, Pieces, Room, Rule, Source, Tail, Window};
+use cap_pcap::{PcapHeader, PcapReader, Record, put_header, put_record};
 use cap_time::Unit;
 use std::alloc::{AllocError, Global};
 use std::test::Fail;
 
-// One packet of 4 bytes, at 1 second and 1,500,000 microseconds.
-const CARRY: [u8; 44] = [
-    0xd4, 0xc3, 0xb2, 0xa1, 2, 0, 4, 0, 0, 0, 0, 0, 0, 0, 0, 0, 0, 0, 4, 0, 1, 0, 0, 0, //
-    1, 0, 0, 0, 0x60, 0xe3, 0x16, 0, 4, 0, 0, 0, 4, 0, 0, 0, 1, 2, 3, 4,
-];
-
-// The same packet as it is written, at 2 seconds and 500,000 microseconds.
+// The packet of CARRY_PCAP as it is written, at 2 seconds and 500,000 microseconds.
 const CARRIED: [u8; 44] = [
     0xd4, 0xc3, 0xb2, 0xa1, 2, 0, 4, 0, 0, 0, 0, 0, 0, 0, 0, 0, 0, 0, 4, 0, 1, 0, 0, 0, //
     2, 0, 0, 0, 0x20, 0xa1, 0x07, 0, 4, 0, 0, 0, 4, 0, 0, 0, 1, 2, 3, 4,
@@ -64,52 +59,43 @@ fn read<R: Source>(
     Ok((header, first, reader.was_cut()))
 }
 
-fn refused(offset: u64, rule: Rule) -> Fault {
-    Fault::Refused(Refusal {
-        file: 7,
-        offset,
-        rule,
-    })
-}
+// Each file with one packet of 4 bytes: its order, unit and link, and the packet's units and length.
+const SPELLINGS: [([u8; 44], Order, Unit, u16, u64, u32); 6] = [
+    (CARRY_PCAP, Order::Little, Unit::Micro, 1, 2_500_000, 4),
+    (CARRIED, Order::Little, Unit::Micro, 1, 2_500_000, 4),
+    (BIG_MICRO, Order::Big, Unit::Micro, 1, 2_500_000, 4),
+    (LITTLE_NANO, Order::Little, Unit::Nano, 1, 2_500_000_000, 4),
+    (BIG_NANO, Order::Big, Unit::Nano, 1, 2_500_000_000, 4),
+    (
+        LATE,
+        Order::Little,
+        Unit::Micro,
+        101,
+        4_294_967_296_500_000,
+        9,
+    ),
+];
 
 #[test]
-fn four_spellings(rt: HostRuntime) -> Result<(), Fail> {
-    let files = [
-        (CARRY, Order::Little, Unit::Micro, 2_500_000, 1, 4),
-        (CARRIED, Order::Little, Unit::Micro, 2_500_000, 1, 4),
-        (BIG_MICRO, Order::Big, Unit::Micro, 2_500_000, 1, 4),
-        (LITTLE_NANO, Order::Little, Unit::Nano, 2_500_000_000, 1, 4),
-        (BIG_NANO, Order::Big, Unit::Nano, 2_500_000_000, 1, 4),
-        (
-            LATE,
-            Order::Little,
-            Unit::Micro,
-            4_294_967_296_500_000,
-            101,
-            9,
-        ),
-    ];
-    for (bytes, order, unit, units, link, original) in files {
+fn six_spellings(rt: HostRuntime) -> Result<(), Fail> {
+    for (bytes, order, unit, link, units, original) in SPELLINGS {
+        let wanted = PcapHeader {
+            order,
+            unit,
+            snaplen: 262_144,
+            link,
+        };
+        let record = Record {
+            offset: 24,
+            units,
+            captured: 4,
+            original,
+        };
         for piece in [1, 4_096] {
             let mut reader = reader(rt.alloc(), &bytes, piece, None, Tail::Refuse)?;
-            let header = reader.header()?;
-            assert_eq!(rt;
-                header,
-                PcapHeader {
-                    order,
-                    unit,
-                    snaplen: 262_144,
-                    link
-                }
-            );
-            let record = Record {
-                offset: 24,
-                units,
-                captured: 4,
-                original,
-            };
+            assert_eq!(rt; reader.header()?, wanted);
             assert_eq!(rt; reader.next_record()?, Some(record));
-            assert_eq!(rt; reader.header()?, header);
+            assert_eq!(rt; reader.header()?, wanted);
             assert_eq!(rt; reader.next_record()?, None);
             assert_eq!(rt; reader.next_record()?, None);
             assert!(rt; !reader.was_cut());
@@ -121,7 +107,7 @@ fn four_spellings(rt: HostRuntime) -> Result<(), Fail> {
 // Two records, and the first 12 bytes of a third.
 #[test]
 fn records_in_order(rt: HostRuntime) -> Result<(), Fail> {
-    let mut bytes = CARRY.to_vec(rt.alloc())?;
+    let mut bytes = CARRY_PCAP.to_vec(rt.alloc())?;
     bytes.extend_from_slice(&[3, 0, 0, 0, 5, 0, 0, 0, 2, 0, 0, 0, 60, 0, 0, 0, 0xfe, 0xff])?;
     bytes.extend_from_slice(CARRIED.split_at(12).0)?;
     for piece in [1, 4_096] {
@@ -153,7 +139,7 @@ fn records_in_order(rt: HostRuntime) -> Result<(), Fail> {
 #[test]
 fn cut_files(rt: HostRuntime) -> Result<(), Fail> {
     for n in 0..44 {
-        let (bytes, _) = CARRY.split_at(n);
+        let (bytes, _) = CARRY_PCAP.split_at(n);
         for piece in [1, 4_096] {
             let offset = if n < 24 { 0 } else { 24 };
             let cut = Err(refused(offset, Rule::Cut));
@@ -174,10 +160,10 @@ fn cut_files(rt: HostRuntime) -> Result<(), Fail> {
 
 #[test]
 fn refused_files(rt: HostRuntime) -> Result<(), Fail> {
-    let (cut_header, _) = CARRY.split_at(20);
-    let mut version = CARRY;
+    let (cut_header, _) = CARRY_PCAP.split_at(20);
+    let mut version = CARRY_PCAP;
     version[6] = 3;
-    let mut long = CARRY;
+    let mut long = CARRY_PCAP;
     long[32] = 1;
     long[34] = 4;
     let (long, _) = long.split_at(40);
@@ -206,7 +192,7 @@ fn refused_files(rt: HostRuntime) -> Result<(), Fail> {
 
 #[test]
 fn the_longest_packet(rt: HostRuntime) -> Result<(), Fail> {
-    let mut long = CARRY;
+    let mut long = CARRY_PCAP;
     long[32] = 0;
     long[34] = 4;
     let (head, _) = long.split_at(40);
@@ -227,15 +213,9 @@ fn the_longest_packet(rt: HostRuntime) -> Result<(), Fail> {
 #[test]
 fn failing_reads(rt: HostRuntime) -> Result<(), Fail> {
     for k in 1..46 {
-        let offset = if k <= 24 {
-            0
-        } else if k <= 44 {
-            24
-        } else {
-            44
-        };
+        let offset = last_of(&[0, 24, 44], k - 1) as u64;
         let fault = Err(Fault::Read { file: 7, offset });
-        let mut reader = reader(rt.alloc(), &CARRY, 1, Some(k), Tail::Accept)?;
+        let mut reader = reader(rt.alloc(), &CARRY_PCAP, 1, Some(k as u64), Tail::Accept)?;
         assert_eq!(rt; read(&mut reader), fault, "{k}");
         assert_eq!(rt; read(&mut reader), fault, "{k}");
         assert!(rt; reader.window().failed());

@@ -1,26 +1,13 @@
 //! Reports of worked captures.
-ghost use Rattle.std.specs.Prelude.{◌≤◌};
 
-use crate::report;
-use cap_bytes::{Fault, Pieces, Refusal, Room, Rule, Sink, Tail};
-use std::alloc::Global;
+use crate::files::{report_of, sources_of};
+use crate::vectors::{
+    CUT_PCAP, EARLY, EMPTY, FRAGMENT_FRAMES, File, HEADER_ONLY, LATE, SECTION, TAGGED_FRAMES,
+};
+use cap_bytes::{Fault, Refusal, Room, Rule, Tail};
 use std::test::Fail;
 
-/// A file: texts in hex, one after the other.
-pub type File = &'static [&'static str];
-
-// The header of a pcap file of Ethernet, and of one of IP alone.
-pub const ETHERNET: &str = "d4c3b2a10200040000000000000000000000040001000000";
-
-pub const RAW: &str = "d4c3b2a10200040000000000000000000000040065000000";
-
-const HEADER_ONLY: File = &[ETHERNET];
-
-const EMPTY: File = &[];
-
-// A section, and an interface of IP alone.
-const SECTION: &str = "0a0d0d0a1c0000004d3c2b1a01000000ffffffffffffffff1c000000";
-
+// An interface of IP alone.
 const INTERFACE: &str = "0100000014000000650000000000000014000000";
 
 // A datagram from 10.0.0.1:1000 to 10.0.0.2:2000 in a simple packet, and in an enhanced one at 5,000,000 units.
@@ -29,33 +16,6 @@ const SIMPLE: &str = "03000000300000001e000000\
 
 const AT_FIVE: &str = "06000000400000000000000000000000404b4c001e0000001e000000\
     4500001e00010000401100000a0000010a00000203e807d0000a00006869000040000000";
-
-// Two datagrams, there and back, and one whose UDP length reaches into the padding, each of two tags.
-pub const TAGGED_FRAMES: File = &[
-    ETHERNET,
-    "01000000000000003c0000003c000000",
-    "02000000000202000000000188a800648100000a08004500001e00010000401100000a0000010a00000203e807d0000a\
-    000068690000000000000000",
-    "02000000000000003c0000003c000000",
-    "02000000000102000000000288a800648100000a08004500001e00020000401100000a0000020a00000107d003e8000a\
-    000068690000000000000000",
-    "03000000000000003c0000003c000000",
-    "02000000000202000000000188a800648100000a08004500001e00030000401100000a0000010a00000203e807d0000c\
-    000068690000000000000000",
-];
-
-// Four fragments of one datagram, of which the third overwrites the second.
-pub const FRAGMENT_FRAMES: File = &[
-    RAW,
-    "01000000000000001c0000001c000000",
-    "4500001c00070002401100000a0000010a000002b0b1b2b3b4b5b6b7",
-    "02000000000000001c0000001c000000",
-    "4500001c00072000401100000a0000010a00000203e807d000180000",
-    "03000000000000001c0000001c000000",
-    "4500001c00072000401100000a0000010a00000203e907d100180000",
-    "04000000000000001c0000001c000000",
-    "4500001c00072001401100000a0000010a000002a0a1a2a3a4a5a6a7",
-];
 
 // 512 units of 1/1024, and 5 units of 1/10.
 pub const BINARY: File = &[
@@ -77,22 +37,6 @@ const UNTIMED: File = &[SECTION, INTERFACE, SIMPLE];
 pub const UNTIMED_THEN_TIMED: File = &[SECTION, INTERFACE, SIMPLE, AT_FIVE];
 
 const TIMED_THEN_UNTIMED: File = &[SECTION, INTERFACE, AT_FIVE, SIMPLE];
-
-// A record without its last byte.
-const CUT: File = &[ETHERNET, "01000000000000000400000004000000", "010203"];
-
-// A packet of 0 bytes at 5 seconds, and at 1 second, and 8 bytes of the next record.
-const LATE: File = &[
-    ETHERNET,
-    "05000000000000000000000000000000",
-    "0000000000000000",
-];
-
-const EARLY: File = &[
-    ETHERNET,
-    "01000000000000000000000000000000",
-    "0000000000000000",
-];
 
 const HEADER_REPORT: &str = "files 1\n\
     file 1 pcap packets 0 bytes 0 truncated 0 skipped 0 first - last -\n\
@@ -163,7 +107,7 @@ const TIMED_REPORT: &str = "files 1\n\
 // Files, whether a cut end is dropped, and their report.
 const REPORTED: [(&[File], Tail, &str); 9] = [
     (&[HEADER_ONLY], Tail::Refuse, HEADER_REPORT),
-    (&[CUT], Tail::Accept, CUT_REPORT),
+    (&[CUT_PCAP], Tail::Accept, CUT_REPORT),
     (&[TAGGED_FRAMES], Tail::Refuse, TAGGED_REPORT),
     (&[FRAGMENT_FRAMES], Tail::Refuse, FRAGMENT_REPORT),
     (&[BINARY, TENTHS], Tail::Refuse, BINARY_REPORT),
@@ -177,53 +121,11 @@ const REPORTED: [(&[File], Tail, &str); 9] = [
 const REFUSED: [(&[File], Tail, (u32, u64, Rule)); 6] = [
     (&[LATE, EARLY], Tail::Refuse, (2, 40, Rule::Cut)),
     (&[EARLY, LATE], Tail::Refuse, (1, 40, Rule::Cut)),
-    (&[CUT], Tail::Refuse, (1, 24, Rule::Cut)),
+    (&[CUT_PCAP], Tail::Refuse, (1, 24, Rule::Cut)),
     (&[EMPTY], Tail::Refuse, (1, 0, Rule::Cut)),
     (&[EMPTY], Tail::Accept, (1, 0, Rule::Cut)),
     (&[TAGGED_FRAMES, EMPTY], Tail::Accept, (2, 0, Rule::Cut)),
 ];
-
-/// The bytes of a file.
-pub fn bytes_of(alloc: Global, file: File) -> Result<Vec<u8>, Fail> {
-    let mut bytes = Vec::new(alloc);
-    for part in file {
-        bytes.extend_from_slice(hex::decode(alloc, *part)?.as_slice())?;
-    }
-    Ok(bytes)
-}
-
-/// Readers of files by `piece` bytes at a time; if one is named, its read of that number fails.
-pub fn sources_of(
-    alloc: Global,
-    files: &[File],
-    piece: usize,
-    failing: Option<(usize, u64)>,
-) -> Result<Vec<Pieces>, Fail>
-    requires { 1 ≤ piece }
-{
-    let mut sources = Vec::new(alloc);
-    for (place, file) in files.iter().enumerate() {
-        let failing = match failing {
-            Some((named, read)) => if named == place { Some(read) } else { None },
-            None => None,
-        };
-        sources.push(Pieces::new(bytes_of(alloc, *file)?, piece, failing))?;
-    }
-    Ok(sources)
-}
-
-/// Reports of some readers.
-pub fn report_of<W: Sink>(
-    alloc: Global,
-    sources: Vec<Pieces>,
-    tail: Tail,
-    writer: &mut W,
-) -> Result<(), Fault> {
-    if sources.is_empty() || sources.len() > 32 {
-        return Ok(());
-    }
-    report(alloc, sources, tail, writer)
-}
 
 #[test]
 fn always_memory_worked_files_are_reported(rt: HostRuntime) -> Result<(), Fail> {

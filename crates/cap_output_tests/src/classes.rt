@@ -1,38 +1,10 @@
 //! The class of each packet: worked frames of each link type, fragments, and groups that are given up.
-ghost use Rattle.std.specs.Prelude.{◌≤◌};
 
-use crate::tests::report::{File, RAW, bytes_of, report_of};
-use cap_bytes::{Pieces, Room, Tail};
-use std::alloc::Global;
+use crate::files::{bytes_of, told};
+use crate::vectors::{
+    AFTER_31, AT_1, AT_2, AT_3, AT_4, AT_31, FIRST, File, ICMP, LAST, PCAP, RAW, UDP, WHOLE,
+};
 use std::test::Fail;
-
-// The header of a pcap file before its link type.
-const PCAP: &str = "d4c3b2a102000400000000000000000000000400";
-
-// A record of 28 bytes at 1 second, at 2, at 3, at 4, at 31, and a millionth later.
-const AT_1: &str = "01000000000000001c0000001c000000";
-
-const AT_2: &str = "02000000000000001c0000001c000000";
-
-const AT_3: &str = "03000000000000001c0000001c000000";
-
-const AT_4: &str = "04000000000000001c0000001c000000";
-
-const AT_31: &str = "1f000000000000001c0000001c000000";
-
-const AFTER_31: &str = "1f000000010000001c0000001c000000";
-
-// A datagram of UDP with 2 bytes, from 10.0.0.1:1000 to 10.0.0.2:2000, and of ICMP.
-const UDP: &str = "4500001e00010000401100000a0000010a00000203e807d0000a00006869";
-
-const ICMP: &str = "4500001e00010000400100000a0000010a00000203e807d0000a00006869";
-
-// The last 8 bytes of a datagram of 16, its first 8, and a whole datagram of the same key.
-const LAST: &str = "4500001c00090001401100000a0000010a000002a0a1a2a3a4a5a6a7";
-
-const FIRST: &str = "4500001c00092000401100000a0000010a00000203e807d000100000";
-
-const WHOLE: &str = "4500001c00090000401100000a0000010a00000203e807d000080000";
 
 // A frame of 1,514 bytes, of which 54 and 53 were captured, and its first 53 bytes.
 const CAPTURED_54: &str = "010000000000000036000000ea050000";
@@ -242,15 +214,6 @@ const GROUPS: [(u16, File, &str); 5] = [
         "frames other-link 0 not-ipv4 0 short 0 cut 0 bad 0 unjoined 1025 counted 0\njoined 0 given-up 0\ntalks 0\n",
     ),
 ];
-
-// The report of one file.
-fn told(alloc: Global, file: Vec<u8>) -> Result<Room, Fail> {
-    let mut sources = Vec::new(alloc);
-    sources.push(Pieces::new(file, 4096, None))?;
-    let mut writer = Room::new(Vec::with_capacity(alloc, 1024)?);
-    report_of(alloc, sources, Tail::Refuse, &mut writer)?;
-    Ok(writer)
-}
 
 #[test]
 fn each_packet_has_its_class(rt: HostRuntime) -> Result<(), Fail> {

@@ -1,53 +1,20 @@
-//! Whole files, by one byte a read and by many. The files and what they give are worked out by hand from
+//! The packets of whole files, by one byte a read and by many. The files and what they give are worked out by hand from
 //! draft-ietf-opsawg-pcap and draft-ietf-opsawg-pcapng.
-ghost use Rattle.std.specs.Prelude.{◌≡◌, ◌≤◌, [], ◌∷◌, false, None, Some};
+ghost use Rattle.std.specs.Prelude.{◌≡◌, ◌≤◌, [], ◌∷◌, Some};
 
-use crate::{Capture, Ending, Format, Head, Listed, Listing, Meta, PacketFeed, next_packet};
-use cap_bytes::{Broken, Device, Fault, Pieces, Refusal, Rule, Source, Tail};
+use crate::making::Making;
+use crate::vectors::{CARRY_PCAP, INTERFACE, OPTIONS_PCAPNG, PACKET, SECTION, last_of};
+use cap_bytes::{Fault, Pieces, Refusal, Rule, Tail};
+use cap_source::{Capture, Ending, Format, Head, Listed, Listing, Meta, PacketFeed, next_packet};
 use cap_time::{Interface, Resolution};
 use std::alloc::{AllocError, Global};
-use std::cmp::min;
 use std::process::Abort;
 use std::test::Fail;
 
-// One packet of 4 bytes, at 1 second and 1,500,000 microseconds.
-const CARRY_PCAP: [u8; 44] = [
-    0xd4, 0xc3, 0xb2, 0xa1, 2, 0, 4, 0, 0, 0, 0, 0, 0, 0, 0, 0, 0, 0, 4, 0, 1, 0, 0, 0, //
-    1, 0, 0, 0, 0x60, 0xe3, 0x16, 0, 4, 0, 0, 0, 4, 0, 0, 0, 1, 2, 3, 4,
-];
-
-// A section of version 1.0, little-endian.
-const SECTION: [u8; 28] = [
-    0x0a, 0x0d, 0x0d, 0x0a, 28, 0, 0, 0, 0x4d, 0x3c, 0x2b, 0x1a, 1, 0, 0, 0, //
-    0xff, 0xff, 0xff, 0xff, 0xff, 0xff, 0xff, 0xff, 28, 0, 0, 0,
-];
-
-// An interface of link 1 without options, of snaplen 262,144.
-const INTERFACE: [u8; 20] = [1, 0, 0, 0, 20, 0, 0, 0, 1, 0, 0, 0, 0, 0, 4, 0, 20, 0, 0, 0];
-
-// A packet of 4 bytes on interface 0, at 2,500,000 units.
-const PACKET: [u8; 36] = [
-    6, 0, 0, 0, 36, 0, 0, 0, 0, 0, 0, 0, 0, 0, 0, 0, 0xa0, 0x25, 0x26, 0, 4, 0, 0, 0, 4, 0, 0, 0,
-    1, 2, 3, 4, 36, 0, 0, 0,
-];
-
-// The same as an obsolete packet.
+// PACKET as an obsolete packet.
 const OBSOLETE: [u8; 36] = [
     2, 0, 0, 0, 36, 0, 0, 0, 0, 0, 0xff, 0xff, 0, 0, 0, 0, 0xa0, 0x25, 0x26, 0, 4, 0, 0, 0, 4, 0,
     0, 0, 1, 2, 3, 4, 36, 0, 0, 0,
-];
-
-// Section options 4; interface options 2, 9, 12; packet option 2; a block of type 5.
-const OPTIONS_PCAPNG: [u8; 168] = [
-    0x0a, 0x0d, 0x0d, 0x0a, 0x2c, 0, 0, 0, 0x4d, 0x3c, 0x2b, 0x1a, 1, 0, 0, 0, //
-    0xff, 0xff, 0xff, 0xff, 0xff, 0xff, 0xff, 0xff, //
-    4, 0, 7, 0, 0x44, 0x75, 0x6d, 0x70, 0x63, 0x61, 0x70, 0, 0, 0, 0, 0, 0x2c, 0, 0, 0, //
-    1, 0, 0, 0, 0x34, 0, 0, 0, 1, 0, 0, 0, 0, 0, 4, 0, 2, 0, 4, 0, 0x65, 0x74, 0x68, 0x30, //
-    9, 0, 1, 0, 6, 0, 0, 0, 0x0c, 0, 5, 0, 0x4c, 0x69, 0x6e, 0x75, 0x78, 0, 0, 0, 0, 0, 0, 0, //
-    0x34, 0, 0, 0, //
-    6, 0, 0, 0, 0x30, 0, 0, 0, 0, 0, 0, 0, 0, 0, 0, 0, 0xa0, 0x25, 0x26, 0, 4, 0, 0, 0, 4, 0, 0, 0,
-    1, 2, 3, 4, 2, 0, 4, 0, 1, 0, 0, 0, 0, 0, 0, 0, 0x30, 0, 0, 0, //
-    5, 0, 0, 0, 0x18, 0, 0, 0, 0, 0, 0, 0, 0, 0, 0, 0, 0xa0, 0x25, 0x26, 0, 0x18, 0, 0, 0,
 ];
 
 fn capture(
@@ -111,7 +78,7 @@ fn takes<F: PacketFeed>(
 }
 
 // How the file ended, which is the only one.
-#[tactic(auto, using(crate::specs::Laws::has_file_alone))]
+#[tactic(auto, using(cap_source::specs::Laws::has_file_alone))]
 fn ended<F: PacketFeed>(feed: &F) -> Ending
     requires end { (F.feed feed.now).known ≡ Some Head.End }
     requires files { (F.feed feed.now).files ≡ 7 ∷ [] }
@@ -279,42 +246,65 @@ fn obsolete_packet(rt: HostRuntime) -> Result<(), Fail> {
     Ok(())
 }
 
-// What is refused behind a section header, and where.
+// What stands behind a section header, and where and by which rule it is refused: an option of a resolution of two
+// bytes, resolutions past the finest, an option past the end, packets of an unknown interface or of too many bytes.
+const REFUSED: [(&[u8], u64, Rule); 7] = [
+    (
+        &[
+            1, 0, 0, 0, 28, 0, 0, 0, 1, 0, 0, 0, 0, 0, 0, 0, 9, 0, 2, 0, 6, 0, 0, 0, 28, 0, 0, 0,
+        ],
+        28,
+        Rule::OptionLength,
+    ),
+    (
+        &[
+            1, 0, 0, 0, 28, 0, 0, 0, 1, 0, 0, 0, 0, 0, 0, 0, 9, 0, 1, 0, 0x14, 0, 0, 0, 28, 0, 0, 0,
+        ],
+        28,
+        Rule::Resolution,
+    ),
+    (
+        &[
+            1, 0, 0, 0, 28, 0, 0, 0, 1, 0, 0, 0, 0, 0, 0, 0, 9, 0, 1, 0, 0xc0, 0, 0, 0, 28, 0, 0, 0,
+        ],
+        28,
+        Rule::Resolution,
+    ),
+    (
+        &[
+            1, 0, 0, 0, 28, 0, 0, 0, 1, 0, 0, 0, 0, 0, 0, 0, 2, 0, 9, 0, 0, 0, 0, 0, 28, 0, 0, 0,
+        ],
+        28,
+        Rule::OptionEnd,
+    ),
+    (
+        &[
+            1, 0, 0, 0, 20, 0, 0, 0, 1, 0, 0, 0, 0, 0, 0, 0, 20, 0, 0, 0, //
+            6, 0, 0, 0, 32, 0, 0, 0, 1, 0, 0, 0, 0, 0, 0, 0, 0, 0, 0, 0, 0, 0, 0, 0, 0, 0, 0, 0, //
+            32, 0, 0, 0,
+        ],
+        48,
+        Rule::InterfaceUnknown,
+    ),
+    (
+        &[
+            1, 0, 0, 0, 20, 0, 0, 0, 1, 0, 0, 0, 0, 0, 0, 0, 20, 0, 0, 0, //
+            6, 0, 0, 0, 36, 0, 0, 0, 0, 0, 0, 0, 0, 0, 0, 0, 0, 0, 0, 0, 5, 0, 0, 0, 5, 0, 0, 0, //
+            1, 2, 3, 4, 36, 0, 0, 0,
+        ],
+        48,
+        Rule::Captured,
+    ),
+    (
+        &[3, 0, 0, 0, 16, 0, 0, 0, 0, 0, 0, 0, 16, 0, 0, 0],
+        28,
+        Rule::InterfaceUnknown,
+    ),
+];
+
 #[test]
 fn refused_files(rt: HostRuntime) -> Result<(), Fail> {
-    let long_code: [u8; 28] = [
-        1, 0, 0, 0, 28, 0, 0, 0, 1, 0, 0, 0, 0, 0, 0, 0, 9, 0, 2, 0, 6, 0, 0, 0, 28, 0, 0, 0,
-    ];
-    let fine_code: [u8; 28] = [
-        1, 0, 0, 0, 28, 0, 0, 0, 1, 0, 0, 0, 0, 0, 0, 0, 9, 0, 1, 0, 0x14, 0, 0, 0, 28, 0, 0, 0,
-    ];
-    let binary_code: [u8; 28] = [
-        1, 0, 0, 0, 28, 0, 0, 0, 1, 0, 0, 0, 0, 0, 0, 0, 9, 0, 1, 0, 0xc0, 0, 0, 0, 28, 0, 0, 0,
-    ];
-    let past_end: [u8; 28] = [
-        1, 0, 0, 0, 28, 0, 0, 0, 1, 0, 0, 0, 0, 0, 0, 0, 2, 0, 9, 0, 0, 0, 0, 0, 28, 0, 0, 0,
-    ];
-    let other_interface: [u8; 52] = [
-        1, 0, 0, 0, 20, 0, 0, 0, 1, 0, 0, 0, 0, 0, 0, 0, 20, 0, 0, 0, //
-        6, 0, 0, 0, 32, 0, 0, 0, 1, 0, 0, 0, 0, 0, 0, 0, 0, 0, 0, 0, 0, 0, 0, 0, 0, 0, 0, 0, //
-        32, 0, 0, 0,
-    ];
-    let five: [u8; 56] = [
-        1, 0, 0, 0, 20, 0, 0, 0, 1, 0, 0, 0, 0, 0, 0, 0, 20, 0, 0, 0, //
-        6, 0, 0, 0, 36, 0, 0, 0, 0, 0, 0, 0, 0, 0, 0, 0, 0, 0, 0, 0, 5, 0, 0, 0, 5, 0, 0, 0, //
-        1, 2, 3, 4, 36, 0, 0, 0,
-    ];
-    let alone: [u8; 16] = [3, 0, 0, 0, 16, 0, 0, 0, 0, 0, 0, 0, 16, 0, 0, 0];
-    let rows = [
-        (long_code.as_slice(), 28, Rule::OptionLength),
-        (fine_code.as_slice(), 28, Rule::Resolution),
-        (binary_code.as_slice(), 28, Rule::Resolution),
-        (past_end.as_slice(), 28, Rule::OptionEnd),
-        (other_interface.as_slice(), 48, Rule::InterfaceUnknown),
-        (five.as_slice(), 48, Rule::Captured),
-        (alone.as_slice(), 28, Rule::InterfaceUnknown),
-    ];
-    for (block, offset, rule) in rows {
+    for (block, offset, rule) in REFUSED {
         let bytes = in_section(rt.alloc(), &[block])?;
         begins(&rt, rt.alloc(), &bytes, refused(offset, rule))?;
     }
@@ -360,26 +350,11 @@ fn cut_rest(rt: HostRuntime) -> Result<(), Fail> {
     Ok(())
 }
 
-// Where the block begins that a read of so many bytes is in, of OPTIONS_PCAPNG.
-fn block_of(read: u64) -> u64 {
-    if read <= 44 {
-        0
-    } else if read <= 96 {
-        44
-    } else if read <= 144 {
-        96
-    } else if read <= 168 {
-        144
-    } else {
-        168
-    }
-}
-
 // Each read failing in turn: the fault comes again. Nothing is read behind a packet before it is passed.
 #[test]
 fn failing_reads(rt: HostRuntime) -> Result<(), Fail> {
     for call in 1..=169 {
-        let pieces = Pieces::new(OPTIONS_PCAPNG.to_vec(rt.alloc())?, 1, Some(call));
+        let pieces = Pieces::new(OPTIONS_PCAPNG.to_vec(rt.alloc())?, 1, Some(call as u64));
         let mut feed = Capture::new(rt.alloc(), pieces, 7, Tail::Refuse);
         if call > 144 {
             takes(
@@ -389,7 +364,7 @@ fn failing_reads(rt: HostRuntime) -> Result<(), Fail> {
                 &[1, 2, 3, 4],
             )?;
         }
-        let offset = block_of(call);
+        let offset = last_of(&[0, 44, 96, 144, 168], call - 1) as u64;
         let fault = Err(Fault::Read { file: 7, offset });
         assert_eq!(rt; feed.head(), fault, "{call}");
         assert_eq!(rt; feed.head(), fault, "{call}");
@@ -402,7 +377,7 @@ fn failing_reads(rt: HostRuntime) -> Result<(), Fail> {
 #[test]
 fn failing_reads_of_pcap(rt: HostRuntime) -> Result<(), Fail> {
     for call in 1..=45 {
-        let pieces = Pieces::new(CARRY_PCAP.to_vec(rt.alloc())?, 1, Some(call));
+        let pieces = Pieces::new(CARRY_PCAP.to_vec(rt.alloc())?, 1, Some(call as u64));
         let mut feed = Capture::new(rt.alloc(), pieces, 7, Tail::Refuse);
         if call > 44 {
             takes(
@@ -412,13 +387,7 @@ fn failing_reads_of_pcap(rt: HostRuntime) -> Result<(), Fail> {
                 &[1, 2, 3, 4],
             )?;
         }
-        let offset = if call <= 24 {
-            0
-        } else if call <= 44 {
-            24
-        } else {
-            44
-        };
+        let offset = last_of(&[0, 24, 44], call - 1) as u64;
         let fault = Err(Fault::Read { file: 7, offset });
         assert_eq!(rt; feed.head(), fault, "{call}");
         assert_eq!(rt; feed.head(), fault, "{call}");
@@ -477,82 +446,14 @@ fn a_refused_growth(rt: HostRuntime) -> Result<(), Fail> {
     Ok(())
 }
 
-// A section, a block of kind 40000001 of 67,108,864 bytes, and then an interface and a packet. The bytes
-// are made as they are asked for.
-#[derive(Drop)]
-struct Making {
-    at: u64,
-}
-
-const SKIPPED: u64 = 0x400_0000;
-
-impl Making {
-    fn byte(&self) -> u8 {
-        if self.at < 28 {
-            return SECTION.get(self.at as usize).copied().unwrap_or(0);
-        }
-        let head = [1, 0, 0, 0x40, 0, 0, 0, 4];
-        if self.at < 36 {
-            return head.get(self.at as usize - 28).copied().unwrap_or(0);
-        }
-        let place = self.at.saturating_sub(SKIPPED.saturating_add(24)) as usize;
-        if place < 4 {
-            return head.get(place.saturating_add(4)).copied().unwrap_or(0);
-        }
-        if place < 24 {
-            return INTERFACE.get(place - 4).copied().unwrap_or(0);
-        }
-        PACKET.get(place - 24).copied().unwrap_or(0)
-    }
-}
-
-impl Device for Making {
-    ghost has_failed = { λ _. false };
-
-    ghost can_fail = { λ _. false };
-
-    fn failed(&self) -> bool {
-        false
-    }
-}
-
-impl Source for Making {
-    ghost tells_coming = { λ _. false };
-
-    ghost coming = { λ _. [] };
-
-    ghost most = { λ _. None };
-
-    fn take(&mut self, buffer: &mut [u8]) -> Result<usize, Broken> {
-        let body = if self.at < 36 {
-            0
-        } else {
-            SKIPPED.saturating_add(24).saturating_sub(self.at)
-        };
-        let count = min(buffer.len() as u64, body) as usize;
-        if count > 0 {
-            self.at = self.at.saturating_add(count as u64);
-            return Ok(count);
-        }
-        let Some(slot) = buffer.first_mut() else {
-            return Ok(0);
-        };
-        if self.at >= SKIPPED.saturating_add(84) {
-            return Ok(0);
-        }
-        *slot = self.byte();
-        self.at = self.at.saturating_add(1);
-        Ok(1)
-    }
-}
-
 // A long block is skipped in pieces: no more than a window is held.
 #[test]
 fn a_long_block(rt: HostRuntime) -> Result<(), Fail> {
-    let mut feed = Capture::new(rt.alloc(), Making { at: 0 }, 7, Tail::Refuse);
+    let making = Making::new(0x400_0000, 0x400_0000);
+    let mut feed = Capture::new(rt.alloc(), making, 7, Tail::Refuse);
     let meta = Meta {
         skipped: 1,
-        ..carried(&rt, 67_108_912, Format::Pcapng)
+        ..carried(&rt, 67_108_924, Format::Pcapng)
     };
     assert_eq!(rt; feed.head()?, Head::Packet(meta));
     assert!(rt; feed.feed_held().window <= 524_288);

@@ -1,42 +1,16 @@
-//! Whole files, by one byte a read and by many. The files and what they give are worked out by hand from
-//! draft-ietf-opsawg-pcapng.
-ghost use Rattle.std.specs.Prelude.{◌≤◌, ◌≡◌, [], None, false};
+//! The blocks of whole pcapng files, by one byte a read and by many. The files and what they give are worked out by
+//! hand from draft-ietf-opsawg-pcapng.
+ghost use Rattle.std.specs.Prelude.{◌≤◌, ◌≡◌};
+ghost use Rattle.cap_blocks.specs.Grammar.{is_known};
 
-use crate::blocks::is_known;
-use crate::{Block, BlockReader, Options, put_interface, put_packet, put_section};
-use cap_bytes::{
-    Broken, Device, Fault, Order, Pieces, Refusal, Room, Rule, Sink, Source, Tail, Window,
-};
+use crate::making::Making;
+use crate::vectors::{CARRY_PCAPNG, OPTIONS_PCAPNG, last_of, refused};
+use cap_blocks::{Block, BlockReader, Options, put_interface, put_packet, put_section};
+use cap_bytes::{Device, Fault, Order, Pieces, Room, Rule, Sink, Source, Tail, Window};
 use cap_time::{Interface, Resolution};
 use std::alloc::{AllocError, Global};
 use std::cmp::min;
 use std::test::Fail;
-
-// One packet of 4 bytes at 2 seconds and a half, as it is written: a section header of 28 bytes, an
-// interface of 32 and the packet of 36.
-const CARRY: [u8; 96] = [
-    0x0a, 0x0d, 0x0d, 0x0a, 0x1c, 0, 0, 0, 0x4d, 0x3c, 0x2b, 0x1a, 1, 0, 0, 0, //
-    0xff, 0xff, 0xff, 0xff, 0xff, 0xff, 0xff, 0xff, 0x1c, 0, 0, 0, 1, 0, 0, 0, //
-    0x20, 0, 0, 0, 1, 0, 0, 0, 0, 0, 4, 0, 9, 0, 1, 0, //
-    6, 0, 0, 0, 0, 0, 0, 0, 0x20, 0, 0, 0, 6, 0, 0, 0, //
-    0x24, 0, 0, 0, 0, 0, 0, 0, 0, 0, 0, 0, 0xa0, 0x25, 0x26, 0, //
-    4, 0, 0, 0, 4, 0, 0, 0, 1, 2, 3, 4, 0x24, 0, 0, 0, //
-];
-
-// The same with options in each block, and a statistics block behind: 44, 52, 48 and 24 bytes.
-const OPTIONS: [u8; 168] = [
-    0x0a, 0x0d, 0x0d, 0x0a, 0x2c, 0, 0, 0, 0x4d, 0x3c, 0x2b, 0x1a, 1, 0, 0, 0, //
-    0xff, 0xff, 0xff, 0xff, 0xff, 0xff, 0xff, 0xff, 4, 0, 7, 0, 0x44, 0x75, 0x6d, 0x70, //
-    0x63, 0x61, 0x70, 0, 0, 0, 0, 0, 0x2c, 0, 0, 0, 1, 0, 0, 0, //
-    0x34, 0, 0, 0, 1, 0, 0, 0, 0, 0, 4, 0, 2, 0, 4, 0, //
-    0x65, 0x74, 0x68, 0x30, 9, 0, 1, 0, 6, 0, 0, 0, 0x0c, 0, 5, 0, //
-    0x4c, 0x69, 0x6e, 0x75, 0x78, 0, 0, 0, 0, 0, 0, 0, 0x34, 0, 0, 0, //
-    6, 0, 0, 0, 0x30, 0, 0, 0, 0, 0, 0, 0, 0, 0, 0, 0, //
-    0xa0, 0x25, 0x26, 0, 4, 0, 0, 0, 4, 0, 0, 0, 1, 2, 3, 4, //
-    2, 0, 4, 0, 1, 0, 0, 0, 0, 0, 0, 0, 0x30, 0, 0, 0, //
-    5, 0, 0, 0, 0x18, 0, 0, 0, 0, 0, 0, 0, 0, 0, 0, 0, //
-    0xa0, 0x25, 0x26, 0, 0x18, 0, 0, 0, //
-];
 
 // A little-endian section and a big-endian one, each of 28, 20 and 36 bytes.
 const TWO_SECTIONS: [u8; 168] = [
@@ -91,14 +65,6 @@ fn block(kind: u32, offset: u64, total: u32, order: Order) -> Block {
     }
 }
 
-fn refused(offset: u64, rule: Rule) -> Fault {
-    Fault::Refused(Refusal {
-        file: 7,
-        offset,
-        rule,
-    })
-}
-
 // The blocks of a file of at most six, counted, and whether a rest was dropped.
 fn count<R: Source>(reader: &mut BlockReader<R>) -> Result<(u32, bool), Fault> {
     for blocks in 0..7 {
@@ -107,17 +73,6 @@ fn count<R: Source>(reader: &mut BlockReader<R>) -> Result<(u32, bool), Fault> {
         }
     }
     Ok((7, reader.was_cut()))
-}
-
-// The last of the places that isn't above n, or 0.
-fn last_of(places: &[usize], n: usize) -> usize {
-    let mut last = 0;
-    for place in places {
-        if *place <= n {
-            last = *place;
-        }
-    }
-    last
 }
 
 #[test]
@@ -138,7 +93,7 @@ fn blocks_in_order(rt: HostRuntime) -> Result<(), Fail> {
         block(6, 132, 36, big),
     ];
     for (file, blocks) in [
-        (OPTIONS.as_slice(), options.as_slice()),
+        (OPTIONS_PCAPNG.as_slice(), options.as_slice()),
         (TWO_SECTIONS.as_slice(), two_sections.as_slice()),
     ] {
         for piece in [1, 4_096] {
@@ -155,16 +110,23 @@ fn blocks_in_order(rt: HostRuntime) -> Result<(), Fail> {
     Ok(())
 }
 
+// Whether a block of that kind has its body lent.
+fn is_lent(kind: u32) -> bool
+    ensures { result ≡ is_known kind }
+{
+    matches!(kind, SECTION | 1 | 2 | 3 | 6)
+}
+
 // The bodies are lent as they stand in the file.
 #[test]
 fn bodies(rt: HostRuntime) -> Result<(), Fail> {
-    let mut rest = CARRY.as_slice();
-    let mut reader = reader(rt.alloc(), &CARRY, 1, None, Tail::Refuse)?;
+    let mut rest = CARRY_PCAPNG.as_slice();
+    let mut reader = reader(rt.alloc(), &CARRY_PCAPNG, 1, None, Tail::Refuse)?;
     for size in [16, 20, 24] {
         let Some(block) = reader.next_block()? else {
             break;
         };
-        if !is_known(block.kind) || rest.len() < size + 12 {
+        if !is_lent(block.kind) || rest.len() < size + 12 {
             break;
         }
         assert_eq!(rt; reader.body(), rest.split_at(8).1.split_at(size).0);
@@ -178,8 +140,8 @@ fn bodies(rt: HostRuntime) -> Result<(), Fail> {
 #[test]
 fn cut_files(rt: HostRuntime) -> Result<(), Fail> {
     for (file, ends) in [
-        (CARRY.as_slice(), [28, 60, 96, 96].as_slice()),
-        (OPTIONS.as_slice(), [44, 96, 144, 168].as_slice()),
+        (CARRY_PCAPNG.as_slice(), [28, 60, 96, 96].as_slice()),
+        (OPTIONS_PCAPNG.as_slice(), [44, 96, 144, 168].as_slice()),
     ] {
         for n in 0..file.len() {
             let last = last_of(ends, n);
@@ -207,90 +169,91 @@ fn failing_reads(rt: HostRuntime) -> Result<(), Fail> {
     for k in 1..170 {
         let offset = last_of(&[0, 44, 96, 144, 168], k - 1) as u64;
         let fault = Err(Fault::Read { file: 7, offset });
-        let mut reader = reader(rt.alloc(), &OPTIONS, 1, Some(k as u64), Tail::Accept)?;
+        let mut reader = reader(rt.alloc(), &OPTIONS_PCAPNG, 1, Some(k as u64), Tail::Accept)?;
         assert_eq!(rt; count(&mut reader), fault, "{k}");
         assert_eq!(rt; count(&mut reader), fault, "{k}");
         assert!(rt; reader.window().failed());
     }
-    let mut reader = reader(rt.alloc(), &OPTIONS, 1, Some(170), Tail::Accept)?;
+    let mut reader = reader(rt.alloc(), &OPTIONS_PCAPNG, 1, Some(170), Tail::Accept)?;
     assert_eq!(rt; count(&mut reader), Ok((4, false)));
     Ok(())
 }
 
-// What stands behind the first n bytes of a file, and what it is refused by.
+// How many bytes of CARRY_PCAPNG stand in front, what stands behind them, and where and by which rule that is refused.
+const REFUSED: [(usize, &[u8], u64, Rule); 15] = [
+    (0, &[], 0, Rule::Cut),
+    (0, &[0x0a, 0x0d, 0x0d], 0, Rule::Cut),
+    (0, &[0xd4, 0xc3, 0xb2, 0xa1], 0, Rule::Magic),
+    (4, &[30, 0, 0, 0], 0, Rule::Cut),
+    // neither the order magic nor the length is right
+    (4, &[30, 0, 0, 0, 0, 0, 0, 0], 0, Rule::OrderMagic),
+    (
+        4,
+        &[24, 0, 0, 0, 0x4d, 0x3c, 0x2b, 0x1a],
+        0,
+        Rule::BlockLength,
+    ),
+    (
+        12,
+        &[1, 0, 1, 0, 0, 0, 0, 0, 0, 0, 0, 0, 28, 0, 0, 0],
+        0,
+        Rule::Version,
+    ),
+    (
+        28,
+        &[5, 0, 0, 0, 0, 0, 0, 0, 0, 0, 0, 0],
+        28,
+        Rule::BlockLength,
+    ),
+    (
+        28,
+        &[5, 0, 0, 0, 30, 0, 0, 0, 0, 0, 0, 0],
+        28,
+        Rule::BlockLength,
+    ),
+    (
+        28,
+        &[6, 0, 0, 0, 0xff, 0xff, 0xff, 0xff, 0, 0, 0, 0],
+        28,
+        Rule::BlockLength,
+    ),
+    (
+        28,
+        &[6, 0, 0, 0, 4, 0, 8, 0, 0, 0, 0, 0],
+        28,
+        Rule::BlockLength,
+    ),
+    (
+        28,
+        &[2, 0, 0, 0, 28, 0, 0, 0, 0, 0, 0, 0],
+        28,
+        Rule::BlockLength,
+    ),
+    (
+        28,
+        &[5, 0, 0, 0, 0xfc, 0xff, 0xff, 0xff, 0, 0, 0, 0],
+        28,
+        Rule::Cut,
+    ),
+    (
+        28,
+        &[5, 0, 0, 0, 16, 0, 0, 0, 1, 2, 3, 4, 12, 0, 0, 0],
+        28,
+        Rule::BlockTrailer,
+    ),
+    (
+        28,
+        &[3, 0, 0, 0, 16, 0, 0, 0, 1, 2, 3, 4, 12, 0, 0, 0],
+        28,
+        Rule::BlockTrailer,
+    ),
+];
+
 #[test]
 fn refused_blocks(rt: HostRuntime) -> Result<(), Fail> {
-    let rows = [
-        (0, [].as_slice(), 0, Rule::Cut),
-        (0, [0x0a, 0x0d, 0x0d].as_slice(), 0, Rule::Cut),
-        (0, [0xd4, 0xc3, 0xb2, 0xa1].as_slice(), 0, Rule::Magic),
-        (4, [30, 0, 0, 0].as_slice(), 0, Rule::Cut),
-        // neither the order magic nor the length is right
-        (4, [30, 0, 0, 0, 0, 0, 0, 0].as_slice(), 0, Rule::OrderMagic),
-        (
-            4,
-            [24, 0, 0, 0, 0x4d, 0x3c, 0x2b, 0x1a].as_slice(),
-            0,
-            Rule::BlockLength,
-        ),
-        (
-            12,
-            [1, 0, 1, 0, 0, 0, 0, 0, 0, 0, 0, 0, 28, 0, 0, 0].as_slice(),
-            0,
-            Rule::Version,
-        ),
-        (
-            28,
-            [5, 0, 0, 0, 0, 0, 0, 0, 0, 0, 0, 0].as_slice(),
-            28,
-            Rule::BlockLength,
-        ),
-        (
-            28,
-            [5, 0, 0, 0, 30, 0, 0, 0, 0, 0, 0, 0].as_slice(),
-            28,
-            Rule::BlockLength,
-        ),
-        (
-            28,
-            [6, 0, 0, 0, 0xff, 0xff, 0xff, 0xff, 0, 0, 0, 0].as_slice(),
-            28,
-            Rule::BlockLength,
-        ),
-        (
-            28,
-            [6, 0, 0, 0, 4, 0, 8, 0, 0, 0, 0, 0].as_slice(),
-            28,
-            Rule::BlockLength,
-        ),
-        (
-            28,
-            [2, 0, 0, 0, 28, 0, 0, 0, 0, 0, 0, 0].as_slice(),
-            28,
-            Rule::BlockLength,
-        ),
-        (
-            28,
-            [5, 0, 0, 0, 0xfc, 0xff, 0xff, 0xff, 0, 0, 0, 0].as_slice(),
-            28,
-            Rule::Cut,
-        ),
-        (
-            28,
-            [5, 0, 0, 0, 16, 0, 0, 0, 1, 2, 3, 4, 12, 0, 0, 0].as_slice(),
-            28,
-            Rule::BlockTrailer,
-        ),
-        (
-            28,
-            [3, 0, 0, 0, 16, 0, 0, 0, 1, 2, 3, 4, 12, 0, 0, 0].as_slice(),
-            28,
-            Rule::BlockTrailer,
-        ),
-    ];
-    for (n, behind, offset, rule) in rows {
+    for (n, behind, offset, rule) in REFUSED {
         for piece in [1, 4_096] {
-            let mut bytes = CARRY.split_at(min(n, 28)).0.to_vec(rt.alloc())?;
+            let mut bytes = CARRY_PCAPNG.split_at(min(n, 28)).0.to_vec(rt.alloc())?;
             bytes.extend_from_slice(behind)?;
             let mut reader = reader(rt.alloc(), &bytes, piece, None, Tail::Refuse)?;
             let fault = Err(refused(offset, rule));
@@ -302,86 +265,12 @@ fn refused_blocks(rt: HostRuntime) -> Result<(), Fail> {
     Ok(())
 }
 
-// A section header, a block of kind 40000001 with that total length and trailer, and then CARRY's
-// interface and packet. The bytes are made as they are asked for; those of the block's body are what
-// the buffer holds.
-#[derive(Drop)]
-struct Making {
-    at: u64,
-    total: u32,
-    trailer: u32,
-}
-
-impl Making {
-    fn byte(&self) -> u8 {
-        let trailer = u64::from(self.total).saturating_add(24);
-        if self.at < 28 {
-            return CARRY.get(self.at as usize).copied().unwrap_or(0);
-        }
-        if self.at < 36 {
-            let total = self.total.to_le_bytes();
-            let head = [1, 0, 0, 0x40, total[0], total[1], total[2], total[3]];
-            return head.get(self.at as usize - 28).copied().unwrap_or(0);
-        }
-        let place = self.at.saturating_sub(trailer) as usize;
-        if place < 4 {
-            return self.trailer.to_le_bytes().get(place).copied().unwrap_or(0);
-        }
-        CARRY.get(place.saturating_add(24)).copied().unwrap_or(0)
-    }
-}
-
-impl Device for Making {
-    ghost has_failed = { λ _. false };
-
-    ghost can_fail = { λ _. false };
-
-    fn failed(&self) -> bool {
-        false
-    }
-}
-
-impl Source for Making {
-    ghost tells_coming = { λ _. false };
-
-    ghost coming = { λ _. [] };
-
-    ghost most = { λ _. None };
-
-    fn take(&mut self, buffer: &mut [u8]) -> Result<usize, Broken> {
-        let trailer = u64::from(self.total).saturating_add(24);
-        let body = if self.at < 36 {
-            0
-        } else {
-            trailer.saturating_sub(self.at)
-        };
-        let count = min(buffer.len() as u64, body) as usize;
-        if count > 0 {
-            self.at = self.at.saturating_add(count as u64);
-            return Ok(count);
-        }
-        let Some(slot) = buffer.first_mut() else {
-            return Ok(0);
-        };
-        if self.at >= trailer.saturating_add(72) {
-            return Ok(0);
-        }
-        *slot = self.byte();
-        self.at = self.at.saturating_add(1);
-        Ok(1)
-    }
-}
-
 // A long block of another kind is skipped in pieces, and its trailer looked at.
 #[test]
 fn skipped_blocks(rt: HostRuntime) -> Result<(), Fail> {
     for (total, trailer) in [(0x20_0000, 0x1F_FFFC), (0x400_0000, 0x400_0000)] {
-        let making = Making {
-            at: 0,
-            total,
-            trailer,
-        };
-        let mut reader = BlockReader::new(Window::new(rt.alloc(), making, 7), Tail::Refuse);
+        let window = Window::new(rt.alloc(), Making::new(total, trailer), 7);
+        let mut reader = BlockReader::new(window, Tail::Refuse);
         let mut ended = Ok(());
         let mut offset = 0;
         for _ in 0..5 {
@@ -406,7 +295,7 @@ fn skipped_blocks(rt: HostRuntime) -> Result<(), Fail> {
 fn the_longest_known_block(rt: HostRuntime) -> Result<(), Fail> {
     let longer = Err(refused(28, Rule::BlockLength));
     for (total, wanted) in [(524_288_u32, Ok((2, false))), (524_292, longer)] {
-        let mut bytes = CARRY.split_at(28).0.to_vec(rt.alloc())?;
+        let mut bytes = CARRY_PCAPNG.split_at(28).0.to_vec(rt.alloc())?;
         bytes.extend_from_slice(&[1, 0, 0, 0])?;
         bytes.extend_from_slice(&total.to_le_bytes())?;
         bytes.resize((total as usize).saturating_add(24), 0)?;
@@ -417,7 +306,7 @@ fn the_longest_known_block(rt: HostRuntime) -> Result<(), Fail> {
     Ok(())
 }
 
-// Writes CARRY.
+// Writes CARRY_PCAPNG.
 fn put_carry<W: Sink>(writer: &mut W, resolution: Resolution) -> Result<(), Fault> {
     put_section(writer, Order::Little)?;
     let interface = Interface {
@@ -438,7 +327,7 @@ fn written_blocks(rt: HostRuntime) -> Result<(), Fail> {
         let wanted = if room < 96 { Err(Fault::Write) } else { Ok(()) };
         assert_eq!(rt; put_carry(&mut writer, resolution), wanted);
         assert_eq!(rt; writer.bytes().len(), room);
-        assert!(rt; CARRY.starts_with(writer.bytes()));
+        assert!(rt; CARRY_PCAPNG.starts_with(writer.bytes()));
     }
     let resolution = Resolution::from_code(0x8a).expect(&rt, "a 1,024th of a second");
     let interface = Interface {
@@ -465,7 +354,7 @@ fn written_blocks(rt: HostRuntime) -> Result<(), Fail> {
 
 #[test]
 fn options_in_order(rt: HostRuntime) {
-    let (_, behind) = OPTIONS.split_at(60);
+    let (_, behind) = OPTIONS_PCAPNG.split_at(60);
     let (bytes, _) = behind.split_at(32);
     let mut options = Options::new(Order::Little, bytes);
     assert_eq!(rt; options.next(), Some(Ok((2, b"eth0".as_slice()))));

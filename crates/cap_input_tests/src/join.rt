@@ -1,39 +1,11 @@
 //! Fragments of one datagram and of many, made by hand from the fields of their headers.
-ghost use Rattle.std.specs.Prelude.{◌≤◌, ◌<ℤ◌, ◌^◌, pos, IfSome};
-ghost use Rattle.cap_time.specs.Stamp.{seconds_of};
 
-use crate::{Datagram, JoinFault, Joiner, Put, Stamped, places_law, worked_rows};
-use cap_ip::{Header, HeaderOr, Key};
-use cap_time::{Interface, Resolution, Stamp};
+use crate::runs::{DATA, FRAGMENTS, Run};
+use cap_ip::Key;
+use cap_join::{Datagram, JoinFault, Put, places_law, worked_rows};
 use std::alloc::Global;
 use std::process::Abort;
 use std::test::Fail;
-
-/// The time of a number of microseconds.
-fn at(rt: &impl Abort, microseconds: u64) -> Stamp
-    ensures { seconds_of result <ℤ pos (2 ^ 65) }
-{
-    let Some(resolution) = Resolution::from_code(6) else {
-        panic!(rt; "no resolution");
-    };
-    let interface = Interface {
-        link: 101,
-        snaplen: 0,
-        resolution,
-        offset: 0,
-    };
-    Stamp::new(microseconds, &interface)
-}
-
-/// The time of a number of microseconds, where there is one.
-fn time_at(rt: &impl Abort, clock: Option<u64>) -> Option<Stamp>
-    ensures { IfSome result (λ c. seconds_of c <ℤ pos (2 ^ 65)) }
-{
-    match clock {
-        Some(microseconds) => Some(at(rt, microseconds)),
-        None => None,
-    }
-}
 
 /// A fragment's packet: its identification, in blocks of 8 bytes where its data begins, whether more
 /// follow, and its data.
@@ -63,49 +35,6 @@ fn key(identification: u16) -> Key {
         destination: 0x0a00_0002,
         protocol: 17,
         identification,
-    }
-}
-
-/// A joiner, and the place of the next packet.
-#[derive(Drop)]
-struct Run {
-    joiner: Joiner,
-    place: u64,
-    ghost ordered: { joiner.next ≤ place },
-}
-
-impl Run {
-    fn new(alloc: Global) -> Run {
-        Run {
-            joiner: Joiner::new(alloc),
-            place: 0,
-        }
-    }
-
-    /// Puts a packet at a clock of so many microseconds, which is its frame's own time too.
-    fn put(
-        &mut self,
-        rt: &impl Abort,
-        clock: Option<u64>,
-        packet: &[u8],
-    ) -> Result<Put, JoinFault> {
-        let HeaderOr::Header(header, held) = Header::read(packet, true) else {
-            panic!(rt; "no header");
-        };
-        let Some(_) = header.fragment() else {
-            panic!(rt; "no fragment");
-        };
-        assert!(rt; self.place < 1_000_000);
-        assert!(rt; packet.len() < 100_000);
-        let time = time_at(rt, clock);
-        let stamped = Stamped {
-            time,
-            place: self.place,
-            original: packet.len() as u32,
-        };
-        let put = self.joiner.put(time, &header, held, stamped)?;
-        self.place += 1;
-        Ok(put)
     }
 }
 
@@ -175,43 +104,12 @@ fn overlap_map(rt: HostRuntime) -> Result<(), Fail> {
 #[test]
 fn overlapped_fragments(rt: HostRuntime) -> Result<(), Fail> {
     let mut run = Run::new(rt.alloc());
-    let last = packet(
-        rt.alloc(),
-        7,
-        2,
-        false,
-        &[0xb0, 0xb1, 0xb2, 0xb3, 0xb4, 0xb5, 0xb6, 0xb7],
-    )?;
-    let front = packet(
-        rt.alloc(),
-        7,
-        0,
-        true,
-        &[0x03, 0xe8, 0x07, 0xd0, 0, 0x18, 0, 0],
-    )?;
-    let again = packet(
-        rt.alloc(),
-        7,
-        0,
-        true,
-        &[0x03, 0xe9, 0x07, 0xd1, 0, 0x18, 0, 0],
-    )?;
-    let middle = packet(
-        rt.alloc(),
-        7,
-        1,
-        true,
-        &[0xa0, 0xa1, 0xa2, 0xa3, 0xa4, 0xa5, 0xa6, 0xa7],
-    )?;
+    let [last, front, again, middle] = FRAGMENTS;
     assert!(rt; is_kept(run.put(&rt, Some(SECOND), &last)));
     assert!(rt; is_kept(run.put(&rt, Some(2 * SECOND), &front)));
     assert!(rt; is_kept(run.put(&rt, Some(3 * SECOND), &again)));
     let datagram = joined(&rt, run.put(&rt, Some(4 * SECOND), &middle));
-    let expected = [
-        0x03, 0xe9, 0x07, 0xd1, 0, 0x18, 0, 0, 0xa0, 0xa1, 0xa2, 0xa3, 0xa4, 0xa5, 0xa6, 0xa7,
-        0xb0, 0xb1, 0xb2, 0xb3, 0xb4, 0xb5, 0xb6, 0xb7,
-    ];
-    assert!(rt; datagram.payload.as_slice() == expected.as_slice());
+    assert!(rt; datagram.payload.as_slice() == DATA.as_slice());
     assert_eq!(rt; datagram.header.key(), key(7));
     assert_eq!(rt; datagram.frames, 4);
     assert_eq!(rt; datagram.bytes, 112);

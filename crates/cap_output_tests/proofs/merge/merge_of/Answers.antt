@@ -1,8 +1,8 @@
-use Rattle.std.proofs.Common.{◌≡◌, ◌++◌, ◌∷◌, [], refl, sym, ap, subst, List}
+use Rattle.std.proofs.Common.{◌≡◌, ◌++◌, ◌∷◌, [], refl, sym, subst, List}
 use Rattle.cap_source.specs.Feed.{Feed, HasFile}
+use Rattle.cap_source.specs.Listings.{list_feed}
 use Rattle.cap_merge.specs.Parts.{feed_of, new_parts}
-use Rattle.cap_merge.specs.Listed.{listed_feed}
-use Rattle.cap_merge.proofs.tests.merge_of.Goals as goal
+use Rattle.cap_output_tests.proofs.merge.merge_of.Goals as goal
 
 two_files : (one two : Feed) → one.files ≡ 1 ∷ [] → two.files ≡ 2 ∷ [] → HasFile (feed_of (new_parts (one ∷ (two ∷ [])))).files 2
 unfolding feed_of
@@ -13,5 +13,5 @@ returns c =
     let a = c.args.first in
     let b = c.args.second in
     rw (c.new.ensures.parts, c.in_ok-push-2.ensures.items, c.in_ok-push.ensures.items, c.new-feeds.ensures.items)
-    (two_files (listed_feed a.file a.interface a.times.items a.broken a.place a.known) (listed_feed b.file b.interface b.times.items b.broken b.place b.known)
-    (ap (λ n. n ∷ []) c.requires.first) (ap (λ n. n ∷ []) c.requires.second))
+    (two_files (list_feed a.file a.packets.items a.end a.place a.asked) (list_feed b.file b.packets.items b.end b.place b.asked)
+    c.requires.first c.requires.second)
