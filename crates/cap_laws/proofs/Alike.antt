@@ -3,7 +3,7 @@
 use Rattle.std.proofs.Common.{◌≡◌, ℕ, ◌+◌, Bool, true, false, List, [], ◌∷◌, ◌++◌, length, refl, sym, ◌∙◌, ap, subst, true≢false, Option, Some, None}
 use Rattle.std.proofs.lemmas.List.Elements.{length_all_zip}
 use Rattle.std.specs.List.{AllZip}
-use Rattle.std.specs.Option.{option_map, option_map_or}
+use Rattle.std.specs.Option.{option_map}
 use Rattle.std.specs.Prelude.{nat_lt, if◌then◌else◌}
 use Rattle.cap_join.proofs.EqualClocks.{same-groups}
 use Rattle.cap_join.specs.Completed.{if_complete}
@@ -18,9 +18,7 @@ use Rattle.cap_source.specs.Feed.{Item, packet, refused}
 use Rattle.cap_talks.specs.Classes.{class_by, classes, classes_in, groups_of}
 use Rattle.cap_talks.specs.CountedUnits.{first_unit, unit_by, unit_at, listed, units_of, is_limit_at}
 use Rattle.cap_talks.specs.ReportText.{body_text, bytes_of, truncated_of, with_item, taken_after, refusal_at, refusal_here}
-use Rattle.cap_talks.specs.Rows.{is_refused, talk_limit}
 use Rattle.cap_talks.specs.Taken.{Taken, Look, plain, datagram, fragment, look_at, look, stamped_of, events_with, events_of}
-use Rattle.cap_talks.specs.Talks.{key_of, rows_of}
 use Rattle.cap_time.specs.Stamp.{stamp_in}
 use Rattle.cap_time.specs.declared.stamps.Stamp.{Stamp}
 use Rattle.cap_laws.specs.Reports.{Place, place_or, refused_after, SameReport}
@@ -144,7 +142,7 @@ alike-limit : (xs ys : List Taken) (x y : Taken) → AreAlike xs ys → IsAlike 
 alike-limit xs ys x y h k =
     let u = alike-units xs ys h in
     let v = alike-unit xs ys x y h k in
-    λ i. option_map_or (λ unit. is_refused talk_limit (rows_of (u i)) (key_of unit)) (v i) false
+    rw (u, v) refl
 
 -- one of the two packets is refused where the other is, by the same rule
 refused-here : (c d : Option Stamp) (a b : Item) (xs ys : List Taken) (p q : Option Place) → AlikeItems c d a b → AreAlike xs ys → p ≡ q

@@ -18,6 +18,7 @@ mod MergedFiles
 mod Numbers
 mod Out
 mod Packed
+mod PcapAgain
 mod PcapngAgain
 mod Places
 mod Records

@@ -281,32 +281,38 @@ round_trip-law bytes tail file are plain none order back tail_again tail_last fi
       ap refusal_of last ∙ refusal_of-packets file_last i 24 (early h.unit ps) stops.End,
     )
 
--- a file in the written form is accepted
+-- what comes of a file in the written form
+pub items-written : (tail : Tail) (file : ℕ) (h : PcapHeader) (ps : List Packet) → h.snaplen < 2 ^ 32 → h.link < 2 ^ 16 → AllWritten h.unit ps
+    → length (header_text h ++ records_form h.order h.unit ps) ≤ 2 ^ 40
+    → file_items tail file (header_text h ++ records_form h.order h.unit ps) ≡ pcap_items file (interface_of h) (items_with 24 ps stops.End)
+items-written tail file h ps snaplen link w limit =
+    let rest = records_form h.order h.unit ps in
+    let whole = early-written h.unit ps w in
+    let size = (header_again-law h snaplen link).0.size in
+    let room : 24 + length (records_form h.order h.unit (early h.unit ps)) ≤ 2 ^ 40 =
+    omega (arith, limit, length-append (header_text h) rest, size, ap (λ l. length (records_form h.order h.unit l)) whole) in
+    ap (λ l. file_items tail file (header_text h ++ records_form h.order h.unit l)) (sym whole)
+    ∙ (out_items h.order h tail file ps snaplen link (held-written h.unit ps w) room
+    ∙ ap (λ l. pcap_items file (interface_of h) (items_with 24 l stops.End)) whole)
+
+-- it is accepted
 accepted-written : (tail : Tail) (file : ℕ) (h : PcapHeader) (ps : List Packet) → h.snaplen < 2 ^ 32 → h.link < 2 ^ 16 → AllWritten h.unit ps
     → length (header_text h ++ records_form h.order h.unit ps) ≤ 2 ^ 40
     → Accepted tail file (header_text h ++ records_form h.order h.unit ps) h
 accepted-written tail file h ps snaplen link w limit =
     let rest = records_form h.order h.unit ps in
     let bytes = header_text h ++ rest in
-    let held = held-written h.unit ps w in
-    let whole = early-written h.unit ps w in
-    let size = (header_again-law h snaplen link).0.size in
-    let room : 24 + length (records_form h.order h.unit (early h.unit ps)) ≤ 2 ^ 40 =
-    omega (arith, limit, length-append (header_text h) rest, size, ap (λ l. length (records_form h.order h.unit l)) whole) in
     let read = header_at-text h rest snaplen link in
     record {
       packets = ps;
       stop = stops.End;
-      items =
-          ap (λ l. file_items tail file (header_text h ++ records_form h.order h.unit l)) (sym whole)
-          ∙ (out_items h.order h tail file ps snaplen link held room
-          ∙ ap (λ l. pcap_items file (interface_of h) (items_with 24 l stops.End)) whole);
+      items = items-written tail file h ps snaplen link w limit;
       first =
           first_only tail file bytes (is_pcapng-header h rest snaplen link)
           ∙ (ap (λ f. unless_refused f (interface_of (records.header_at bytes))) read.0
           ∙ ap (λ x. Some (interface_of x)) read.1);
       unrefused = refl;
-      held = held;
+      held = held-written h.unit ps w;
       snaplen = snaplen;
       link = link;
     }

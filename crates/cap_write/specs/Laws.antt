@@ -8,7 +8,8 @@ use Rattle.cap_bytes.specs.declared.faults.Tail.{Tail}
 use Rattle.cap_blocks.specs.Split.{AreBytes}
 use Rattle.cap_pcap.specs.Grammar.{Packet, header_text, record_text}
 use Rattle.cap_pcap.specs.declared.headers.PcapHeader.{PcapHeader}
-use Rattle.std.specs.List.{AllByRecursion}
+use Rattle.std.specs.List.{AllByRecursion, AllZip}
+use Rattle.std.specs.declared.cmp.Ordering.TheVariants.{Equal}
 use Rattle.cap_source.specs.Feed.{Item, packet, refused, refusal_of}
 use Rattle.cap_source.specs.Items.{is_pcapng, file_items, file_first}
 use Rattle.cap_source.specs.declared.packets.Format.TheVariants.{Pcapng}
@@ -19,7 +20,9 @@ use Rattle.cap_time.specs.Unit.{in_second}
 use Rattle.cap_time.specs.declared.stamps.Unit.{Unit as Fraction}
 use Rattle.cap_write.specs.Numbering.{Name, name_of, Numbered, numbered, refusal_in, refusal_at}
 use Rattle.cap_write.specs.Pcap.{pcap_text, pcap_refusal}
+use Rattle.cap_merge.specs.Clock.{clock_cmp}
 use Rattle.cap_merge.specs.Files.{run_of_files}
+use Rattle.cap_merge.specs.Parts.{meta_time}
 use Rattle.cap_write.specs.Texts.{interface_part, packet_part, count_after, first_names, pcapng_text, pcapng_refusal, merged_text}
 
 -- The fields of a packet and of its interface fit in their widths, and so many bytes may be captured.
@@ -250,3 +253,25 @@ PcapngAgain =
     → (numbered (first_names file_again first) again ≡ numbered (first_names file first) items)
     × (refusal_in (first_names file_again first) again ≡ None)
     × (refusal_of again ≡ None))
+
+-- A packet of a file and one that was written for it have the same link, length and bytes, and the same time, maybe in another form.
+pub record IsSamePacket (meta again : Meta) (bytes bytes_again : List ℕ) : Type 0 where
+  pub link : meta.interface.link ≡ again.interface.link
+  pub time : clock_cmp (meta_time meta) (meta_time again) ≡ Equal
+  pub original : meta.original ≡ again.original
+  pub frame : bytes ≡ bytes_again
+
+abbrev pub SamePackets : Item → Item → Type 0
+SamePackets (packet meta frame) (packet again frame_again) = IsSamePacket meta again frame frame_again
+SamePackets (packet meta frame) (refused refusal) = ⊥
+SamePackets (refused refusal) again = ⊥
+
+-- What is written of any file as pcap, where nothing is refused and it is at most 2^40 bytes long, has the file's packets, in order.
+abbrev pub PcapAgain : Type 0
+PcapAgain =
+    (order : Order) (tail tail_again : Tail) (file file_again : ℕ) (bytes : List ℕ) → AreBytes bytes
+    → (let items = file_items tail file bytes in
+    let first = file_first tail file bytes in
+    let text = pcap_text order first items in
+    pcap_refusal file first items ≡ None → length text ≤ 2 ^ 40
+    → AllZip SamePackets items (file_items tail_again file_again text))

@@ -1,5 +1,5 @@
 //! Laws of written files, each the contract of a function that does nothing.
-ghost use Rattle.cap_write.specs.Laws.{FieldsFit, MergeLaw, MergedAgain, OneInterface, PcapngAgain, RoundTrip, SameBytes};
+ghost use Rattle.cap_write.specs.Laws.{FieldsFit, MergeLaw, MergedAgain, OneInterface, PcapAgain, PcapngAgain, RoundTrip, SameBytes};
 ghost use Rattle.cap_write.specs.Rounds.{ClockLaw, FileRoundsLaw, RoundsLaw};
 
 /// An accepted pcap file, written as pcapng and then as pcap again, comes back: the pcapng file has its
@@ -26,6 +26,13 @@ pub fn merged_again()
 /// behind the file's first one, and the same interfaces, times, lengths and bytes.
 pub fn pcapng_again()
     ensures { PcapngAgain }
+{}
+
+/// What `to_pcap` writes of any file, of either format and whatever bytes it holds, where it refuses nothing and
+/// is at most 2^40 bytes long, has the file's packets, in order: with the same link, length and bytes, and the
+/// same time, which may have another form.
+pub fn pcap_again()
+    ensures { PcapAgain }
 {}
 
 /// In every file, of either format, the packets of one instance have one interface.
