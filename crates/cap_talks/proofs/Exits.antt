@@ -19,8 +19,9 @@ use Rattle.cap_join.specs.declared.datagrams.Stamped.{Stamped}
 use Rattle.cap_talks.specs.Rows.{TalksState, frames_in, bytes_in, is_refused, talk_limit}
 use Rattle.cap_talks.specs.Rows as talks
 use Rattle.cap_talks.specs.Talks.{frames_of, bytes_of, key_of, rows_of}
-use Rattle.cap_talks.specs.Units.{ends_of}
+use Rattle.cap_talks.specs.Units.{ends_of, timed_frame}
 use Rattle.cap_talks.specs.declared.units.CountedUnit.{CountedUnit}
+use Rattle.cap_talks.specs.declared.units.TimedFrame.{TimedFrame}
 use Rattle.cap_talks.proofs.RowSums.{frames_in-more}
 use Rattle.cap_time.specs.declared.stamps.Stamp.{Stamp}
 use Rattle.cap_talks.proofs.Frames.{frames-counted}
@@ -197,7 +198,7 @@ module _ (t : TallyState) (x : Taken) (none : t.waiting ≡ None) where
 
 -- ---- numbers of a whole datagram
 
-whole_numbers : (protocol bytes source destination : ℕ) (first last : Option Stamped) (t : Transport) → bytes < 2 ^ 32
+whole_numbers : (protocol bytes source destination : ℕ) (first last : Option TimedFrame) (t : Transport) → bytes < 2 ^ 32
     → (frames_of (listed (option_map (unit_of protocol 1 bytes first last) (ends_of source destination t))) ≤ 1)
     × (bytes_of (listed (option_map (unit_of protocol 1 bytes first last) (ends_of source destination t)))
     ≤ frames_of (listed (option_map (unit_of protocol 1 bytes first last) (ends_of source destination t))) * 2 ^ 32)
@@ -254,7 +255,7 @@ counted-few limit (flushes key ∷ es) = omega (arith, counted-few limit es)
 pub joined-taken : (t : TallyState) (xs : List Taken) (next : Option Taken) → Stands t xs next → t.joined ≤ t.place
 joined-taken t xs next h = omega (arith, h.joined, h.place, counted-few open_limit (events_of xs), events-taken xs)
 
-unit_numbers : (protocol frames bytes source destination : ℕ) (first last : Option Stamped) (t : Transport) → bytes ≤ frames * 2 ^ 32
+unit_numbers : (protocol frames bytes source destination : ℕ) (first last : Option TimedFrame) (t : Transport) → bytes ≤ frames * 2 ^ 32
     → (frames_of (listed (option_map (unit_of protocol frames bytes first last) (ends_of source destination t))) ≤ frames)
     × (bytes_of (listed (option_map (unit_of protocol frames bytes first last) (ends_of source destination t)))
     ≤ frames_of (listed (option_map (unit_of protocol frames bytes first last) (ends_of source destination t))) * 2 ^ 32)
@@ -267,7 +268,7 @@ pub numbers-joined : (d : Datagram) → d.bytes ≤ d.frames * 2 ^ 32
     → (frames_of (listed (datagram_unit d)) ≤ d.frames) × (bytes_of (listed (datagram_unit d)) ≤ frames_of (listed (datagram_unit d)) * 2 ^ 32)
 unfolding datagram_unit
 numbers-joined d h =
-    unit_numbers d.header.key.protocol d.frames d.bytes d.header.key.source d.header.key.destination d.first d.last
+    unit_numbers d.header.key.protocol d.frames d.bytes d.header.key.source d.header.key.destination (timed_frame d.first) (timed_frame d.last)
     (transport_of d.header.key.protocol d.payload.items (length d.payload.items)) h
 
 pub waiting-state : (t : TallyState) (d : Datagram) (xs : List Taken) (next : Option Taken) → t.waiting ≡ Some d → Stands t xs next

@@ -4,7 +4,7 @@ use Rattle.std.specs.Cmp.{IsTotalOrder}
 use Rattle.std.specs.List.{AllByRecursion}
 use Rattle.std.specs.Ordering.{is_lt, ordering_reverse}
 use Rattle.std.proofs.lemmas.List.Elements.{Contains-get_or, Contains-append_right}
-use Rattle.cap_join.specs.declared.datagrams.Stamped.{Stamped}
+use Rattle.cap_talks.specs.declared.units.TimedFrame.{TimedFrame}
 use Rattle.cap_talks.proofs.Chosen.{chosen, not_trans}
 use Rattle.cap_talks.proofs.FrameOrder.{by_time_total, by_time_down_total, earlier_is, later_is}
 use Rattle.cap_talks.specs.TalkLaws.{with_frame, firsts, lasts, IsFirstIn, FrameLaw}
@@ -28,15 +28,15 @@ not_turned r Less e h = ap is_lt e
 not_turned r Equal e h = absurd (true≢false (sym h))
 not_turned r Greater e h = absurd (true≢false (sym h))
 
-module _ (cmp : Stamped → Stamped → Ordering) (total : IsTotalOrder cmp) where
-  here : (x : Stamped) (fs : List Stamped) → Contains (x ∷ fs) x
+module _ (cmp : TimedFrame → TimedFrame → Ordering) (total : IsTotalOrder cmp) where
+  here : (x : TimedFrame) (fs : List TimedFrame) → Contains (x ∷ fs) x
   here x fs = Contains-get_or (x ∷ fs) 0 x (omega arith)
 
-  itself : (x : Stamped) → is_lt (cmp x x) ≡ false
+  itself : (x : TimedFrame) → is_lt (cmp x x) ≡ false
   itself x = not_below_itself (cmp x x) (total.antisymm x x)
 
   -- one frame more, or none
-  first-more : (a : Option Stamped) (fs : List Stamped) (r : Option Stamped) → IsFirstIn cmp fs r → IsFirstIn cmp (with_frame a fs) (chosen cmp a r)
+  first-more : (a : Option TimedFrame) (fs : List TimedFrame) (r : Option TimedFrame) → IsFirstIn cmp fs r → IsFirstIn cmp (with_frame a fs) (chosen cmp a r)
   first-more None fs r h = h
   first-more (Some x) fs None h = (here x fs, (itself x, subst (λ l. AllByRecursion (λ o. is_lt (cmp o x) ≡ false) l) (sym h) tt))
   first-more (Some x) fs (Some y) h = by (is_lt (cmp y x)) refl

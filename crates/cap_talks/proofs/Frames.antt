@@ -13,8 +13,9 @@ use Rattle.cap_join.specs.History.{joined_pieces, state_of}
 use Rattle.cap_join.specs.Joiners.{open_limit}
 use Rattle.cap_join.specs.declared.datagrams.Stamped.{Stamped}
 use Rattle.cap_talks.specs.Talks.{frames_of}
-use Rattle.cap_talks.specs.Units.{ends_of}
+use Rattle.cap_talks.specs.Units.{ends_of, timed_frame}
 use Rattle.cap_talks.specs.declared.units.CountedUnit.{CountedUnit}
+use Rattle.cap_talks.specs.declared.units.TimedFrame.{TimedFrame}
 use Rattle.cap_talks.proofs.Recount.{some_of}
 use Rattle.cap_talks.proofs.Steps.{classes-plain, classes-datagram, classes-kept, classes-completed}
 use Rattle.cap_talks.specs.Classes.{class_of, classes, group_class, joined_transport, times}
@@ -25,7 +26,7 @@ use Rattle.cap_talks.specs.declared.classes.Class.{Class}
 use Rattle.cap_talks.specs.declared.classes.Class.TheVariants as class
 
 -- a datagram is a unit where its class is that of those that count
-frames_by : (protocol frames bytes source destination : ℕ) (first last : Option Stamped) (t : Transport)
+frames_by : (protocol frames bytes source destination : ℕ) (first last : Option TimedFrame) (t : Transport)
     → frames_of (listed (option_map (unit_of protocol frames bytes first last) (ends_of source destination t))) ≡ some_of class.Counted (class_of t) frames
 frames_by protocol frames bytes source destination first last (transport.Ports a b) = omega arith
 frames_by protocol frames bytes source destination first last transport.NoPorts = omega arith
@@ -42,7 +43,7 @@ frames_in : (ps : List Piece) (o : Option HeaderFields) → header_of ps ≡ o
 unfolding group_unit group_class
 frames_in ps None is = rw is refl
 frames_in ps (Some h) is =
-    rw is (frames_by h.key.protocol (length ps) (original_bytes ps) h.key.source h.key.destination (first_frame ps) (last_frame ps)
+    rw is (frames_by h.key.protocol (length ps) (original_bytes ps) h.key.source h.key.destination (timed_frame (first_frame ps)) (timed_frame (last_frame ps))
     (transport_of h.key.protocol (data_of ps) (length (data_of ps))))
 
 frames_of-more : (us vs : List CountedUnit) → frames_of (us ++ vs) ≡ frames_of us + frames_of vs

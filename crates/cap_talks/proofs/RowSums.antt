@@ -7,7 +7,7 @@ use Rattle.indexmap.specs.IndexMap.{insert_entry}
 use Rattle.indexmap.specs.Layout.{set_value_at}
 use Rattle.indexmap.proofs.MapLemmas.{insert_entry-first, Found-position}
 use Rattle.cap_talks.specs.Talks.{Talk, is_forward, key_of, row_of, same_talk}
-use Rattle.cap_talks.specs.Rows.{is_limit, is_refused, sum_in, frames_of_row, frames_in, bytes_of_row, bytes_in, with_traffic, with_unit, or_empty, row_at, row_in, with_talk}
+use Rattle.cap_talks.specs.Rows.{is_limit, is_refused, sum_in, frames_of_row, frames_in, bytes_of_row, bytes_in, with_unit, or_empty, row_at, row_in, with_talk}
 use Rattle.cap_talks.specs.declared.rows.TalkKey.{TalkKey}
 use Rattle.cap_talks.specs.declared.rows.TalkRow.{TalkRow}
 use Rattle.cap_talks.specs.declared.talks.TalksFault.{TalksFault}
@@ -45,16 +45,16 @@ module _ (count : TalkRow → ℕ) (empty : count (row_of []) ≡ 0) where
 frames_with : (row : TalkRow) (unit : CountedUnit) → frames_of_row (with_unit row unit) ≡ frames_of_row row + unit.frames
 frames_with row unit = by (is_forward unit)
   where
-    by : (t : Bool) → (cond t (with_traffic row.forward unit) row.forward).frames + (cond t row.backward (with_traffic row.backward unit)).frames
-        ≡ (row.forward.frames + row.backward.frames) + unit.frames
+    by : (t : Bool) → cond t (row.forward_frames + unit.frames) row.forward_frames + cond t row.backward_frames (row.backward_frames + unit.frames)
+        ≡ (row.forward_frames + row.backward_frames) + unit.frames
     by true = omega arith
     by false = omega arith
 
 bytes_with : (row : TalkRow) (unit : CountedUnit) → bytes_of_row (with_unit row unit) ≡ bytes_of_row row + unit.bytes
 bytes_with row unit = by (is_forward unit)
   where
-    by : (t : Bool) → (cond t (with_traffic row.forward unit) row.forward).bytes + (cond t row.backward (with_traffic row.backward unit)).bytes
-        ≡ (row.forward.bytes + row.backward.bytes) + unit.bytes
+    by : (t : Bool) → cond t (row.forward_bytes + unit.bytes) row.forward_bytes + cond t row.backward_bytes (row.backward_bytes + unit.bytes)
+        ≡ (row.forward_bytes + row.backward_bytes) + unit.bytes
     by true = omega arith
     by false = omega arith
 

@@ -6,11 +6,12 @@ use Rattle.std.specs.Map.{lookup}
 use Rattle.indexmap.specs.IndexMap.{insert_entry}
 use Rattle.std.proofs.lemmas.Bool.{eqb-true, eq-eqb}
 use Rattle.cap_talks.proofs.FrameOrder.{least-more, greatest-more}
-use Rattle.cap_talks.specs.Talks.{Talk, is_forward, key_of, frames_of, bytes_of, traffic_of, row_of, same_end, same_talk, units_of, keys_of, rows_of}
-use Rattle.cap_talks.specs.Rows.{with_traffic, with_unit, or_empty, row_at, with_talk}
+use Rattle.cap_talks.specs.Talks.{Talk, is_forward, backward, by_time, by_time_down, earlier_frame, later_frame, least_frame, greatest_frame, frame_time, place_or, key_of, frames_of, bytes_of, row_of, same_end, same_talk, units_of, keys_of, rows_of}
+use Rattle.cap_talks.specs.Rows.{frame_of, with_unit, or_empty, row_at, with_talk}
 use Rattle.cap_talks.specs.declared.rows.TalkKey.{TalkKey}
 use Rattle.cap_talks.specs.declared.rows.TalkRow.{TalkRow}
-use Rattle.cap_talks.specs.declared.rows.Traffic.{Traffic}
+use Rattle.cap_talks.specs.declared.units.TimedFrame.{TimedFrame}
+use Rattle.std.specs.Ordering.{is_lt}
 use Rattle.cap_talks.specs.declared.units.CountedUnit.{CountedUnit}
 use Rattle.cap_talks.specs.declared.units.End.{End}
 
@@ -198,32 +199,71 @@ pub bytes-more : (units : List CountedUnit) (u : CountedUnit) → bytes_of (unit
 bytes-more [] u = omega arith
 bytes-more (x ∷ units) u = let e = bytes-more units u in omega (arith, e)
 
-traffic-more : (units : List CountedUnit) (u : CountedUnit) → traffic_of (units ++ u ∷ []) ≡ with_traffic (traffic_of units) u
-traffic-more units u = λ i. record { frames = frames-more units u i; bytes = bytes-more units u i }
-
--- the units that pass a test, with one more
-tested-more : (test : CountedUnit → Bool) (units : List CountedUnit) (u : CountedUnit)
-    → traffic_of (filter test (units ++ u ∷ [])) ≡ cond (test u) (with_traffic (traffic_of (filter test units)) u) (traffic_of (filter test units))
-tested-more test units u = ap traffic_of (filter-more test units u) ∙ by (test u)
+-- what is counted of the units that pass a test, with one more
+tested-more : (count : List CountedUnit → ℕ) (one : CountedUnit → ℕ) → ((units : List CountedUnit) (u : CountedUnit) → count (units ++ u ∷ []) ≡ count units + one u)
+    → (test : CountedUnit → Bool) (units : List CountedUnit) (u : CountedUnit)
+    → count (filter test (units ++ u ∷ [])) ≡ cond (test u) (count (filter test units) + one u) (count (filter test units))
+tested-more count one more test units u = ap count (filter-more test units u) ∙ by (test u)
   where
-    by : (t : Bool) → traffic_of (filter test units ++ cond t (u ∷ []) []) ≡ cond t (with_traffic (traffic_of (filter test units)) u) (traffic_of (filter test units))
-    by true = traffic-more (filter test units) u
-    by false = ap traffic_of (append-nil (filter test units))
+    by : (t : Bool) → count (filter test units ++ cond t (u ∷ []) []) ≡ cond t (count (filter test units) + one u) (count (filter test units))
+    by true = more (filter test units) u
+    by false = ap count (append-nil (filter test units))
 
 turned : {X : Type 0} (t : Bool) (a b : X) → cond (not t) a b ≡ cond t b a
 turned true a b = refl
 turned false a b = refl
 
+-- of the units that go back
+back-more : (count : List CountedUnit → ℕ) (one : CountedUnit → ℕ) → ((units : List CountedUnit) (u : CountedUnit) → count (units ++ u ∷ []) ≡ count units + one u)
+    → (units : List CountedUnit) (u : CountedUnit)
+    → count (backward (units ++ u ∷ [])) ≡ cond (is_forward u) (count (backward units)) (count (backward units) + one u)
+back-more count one more units u =
+    tested-more count one more (λ unit. not (is_forward unit)) units u ∙ turned (is_forward u) (count (backward units) + one u) (count (backward units))
+
+-- a row keeps its frames' times and places
+kept : (f : Option TimedFrame) → frame_of (frame_time f) (place_or f 0) ≡ f
+kept None = refl
+kept (Some frame) = refl
+
+earlier-place : (f g : Option TimedFrame) → place_or (earlier_frame f g) 0 ≡ place_or (earlier_frame f g) (place_or f 0)
+earlier-place None g = refl
+earlier-place (Some a) None = refl
+earlier-place (Some a) (Some b) = by (is_lt (by_time b a))
+  where
+    by : (t : Bool) → place_or (cond t (Some b) (Some a)) 0 ≡ place_or (cond t (Some b) (Some a)) a.place
+    by true = refl
+    by false = refl
+
+later-place : (f g : Option TimedFrame) → place_or (later_frame f g) 0 ≡ place_or (later_frame f g) (place_or f 0)
+later-place None g = refl
+later-place (Some a) None = refl
+later-place (Some a) (Some b) = by (is_lt (by_time_down b a))
+  where
+    by : (t : Bool) → place_or (cond t (Some b) (Some a)) 0 ≡ place_or (cond t (Some b) (Some a)) a.place
+    by true = refl
+    by false = refl
+
 row-more : (units : List CountedUnit) (u : CountedUnit) → row_of (units ++ u ∷ []) ≡ with_unit (row_of units) u
 row-more units u =
-    let backward =
-    tested-more (λ unit. not (is_forward unit)) units u
-    ∙ turned (is_forward u) (with_traffic (traffic_of (filter (λ unit. not (is_forward unit)) units)) u) (traffic_of (filter (λ unit. not (is_forward unit)) units)) in
+    let least = least-more units u in
+    let greatest = greatest-more units u in
+    let first = least ∙ ap (λ f. earlier_frame f u.first) (sym (kept (least_frame units))) in
+    let last = greatest ∙ ap (λ f. later_frame f u.last) (sym (kept (greatest_frame units))) in
+    let first_place =
+    ap (λ f. place_or f 0) least ∙ earlier-place (least_frame units) u.first
+    ∙ ap (λ f. place_or (earlier_frame f u.first) (place_or (least_frame units) 0)) (sym (kept (least_frame units))) in
+    let last_place =
+    ap (λ f. place_or f 0) greatest ∙ later-place (greatest_frame units) u.last
+    ∙ ap (λ f. place_or (later_frame f u.last) (place_or (greatest_frame units) 0)) (sym (kept (greatest_frame units))) in
     λ i. record {
-      forward = tested-more is_forward units u i;
-      backward = backward i;
-      first = least-more units u i;
-      last = greatest-more units u i;
+      forward_bytes = tested-more bytes_of (λ unit. unit.bytes) bytes-more is_forward units u i;
+      backward_bytes = back-more bytes_of (λ unit. unit.bytes) bytes-more units u i;
+      first = frame_time (first i);
+      last = frame_time (last i);
+      forward_frames = tested-more frames_of (λ unit. unit.frames) frames-more is_forward units u i;
+      backward_frames = back-more frames_of (λ unit. unit.frames) frames-more units u i;
+      first_place = first_place i;
+      last_place = last_place i;
     }
 
 -- the row of the unit's own conversation

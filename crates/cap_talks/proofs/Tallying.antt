@@ -18,7 +18,7 @@ use Rattle.cap_join.specs.declared.datagrams.Stamped.{Stamped}
 use Rattle.cap_talks.specs.Rows.{TalksState, is_refused, talk_limit}
 use Rattle.cap_talks.specs.Rows as talks
 use Rattle.cap_talks.specs.Talks.{key_of, rows_of}
-use Rattle.cap_talks.specs.Units.{ends_of}
+use Rattle.cap_talks.specs.Units.{ends_of, timed_frame}
 use Rattle.cap_talks.specs.declared.units.CountedUnit.{CountedUnit}
 use Rattle.cap_talks.proofs.Recount.{some_of}
 use Rattle.cap_talks.proofs.Steps.{classes-plain, classes-datagram, classes-kept, classes-completed}
@@ -180,9 +180,9 @@ module _ (place joined : ℕ) (counts : ClassCounts) (t : TalksState) (j : Joine
 pub unit-of-group : (ps : List Piece) (d : Datagram) → IsDatagramOf d ps → group_unit ps ≡ datagram_unit d
 unfolding group_unit datagram_unit
 unit-of-group ps d is =
-    ap (option_and_then (λ h. option_map (unit_of h.key.protocol (length ps) (original_bytes ps) (first_frame ps) (last_frame ps))
+    ap (option_and_then (λ h. option_map (unit_of h.key.protocol (length ps) (original_bytes ps) (timed_frame (first_frame ps)) (timed_frame (last_frame ps)))
     (ends_of h.key.source h.key.destination (transport_of h.key.protocol (data_of ps) (length (data_of ps)))))) is.header
-    ∙ sym (λ i. option_map (unit_of d.header.key.protocol (is.frames i) (is.bytes i) (is.first i) (is.last i))
+    ∙ sym (λ i. option_map (unit_of d.header.key.protocol (is.frames i) (is.bytes i) (timed_frame (is.first i)) (timed_frame (is.last i)))
     (ends_of d.header.key.source d.header.key.destination (transport_of d.header.key.protocol (is.payload i) (length (is.payload i)))))
 
 pub class-of-group : (ps : List Piece) (d : Datagram) → IsDatagramOf d ps → group_class ps ≡ datagram_class d

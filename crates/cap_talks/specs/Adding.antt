@@ -5,7 +5,7 @@ use Rattle.cap_ip.specs.Transport.{transport_of}
 use Rattle.cap_join.specs.declared.datagrams.Datagram.{Datagram}
 use Rattle.cap_talks.specs.Rows.{is_refused, talk_limit}
 use Rattle.cap_talks.specs.Talks.{Talk, key_of}
-use Rattle.cap_talks.specs.Units.{ends_of}
+use Rattle.cap_talks.specs.Units.{ends_of, timed_frame}
 use Rattle.cap_talks.specs.declared.units.CountedUnit.{CountedUnit}
 use Rattle.cap_talks.specs.Classes.{class_of}
 use Rattle.cap_talks.specs.CountedUnits.{unit_of}
@@ -14,7 +14,7 @@ use Rattle.cap_talks.specs.declared.classes.Class.{Class}
 -- the unit that a joined datagram is, and its class
 unfoldable pub datagram_unit : Datagram → Option CountedUnit
 datagram_unit d =
-    option_map (unit_of d.header.key.protocol d.frames d.bytes d.first d.last)
+    option_map (unit_of d.header.key.protocol d.frames d.bytes (timed_frame d.first) (timed_frame d.last))
     (ends_of d.header.key.source d.header.key.destination (transport_of d.header.key.protocol d.payload.items (length d.payload.items)))
 
 unfoldable pub datagram_class : Datagram → Class

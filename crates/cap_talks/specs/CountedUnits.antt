@@ -6,15 +6,16 @@ use Rattle.cap_ip.specs.Header.{HeaderFields}
 use Rattle.cap_ip.specs.Transport.{transport_of}
 use Rattle.cap_join.specs.ByteMap.{header_of, data_of}
 use Rattle.cap_join.specs.Fragments.{Piece}
-use Rattle.cap_join.specs.Frames.{original_bytes, first_frame, last_frame, timed}
+use Rattle.cap_join.specs.Frames.{original_bytes, first_frame, last_frame}
 use Rattle.cap_join.specs.History.{Event, joined_pieces, state_of}
 use Rattle.cap_join.specs.Joiners.{open_limit}
 use Rattle.cap_join.specs.declared.datagrams.Stamped.{Stamped}
 use Rattle.cap_talks.specs.Rows.{is_refused, talk_limit}
 use Rattle.cap_talks.specs.Talks.{key_of, rows_of}
-use Rattle.cap_talks.specs.Units.{ends_of}
+use Rattle.cap_talks.specs.Units.{ends_of, timed_frame}
 use Rattle.cap_talks.specs.declared.units.CountedUnit.{CountedUnit}
 use Rattle.cap_talks.specs.declared.units.End.{End}
+use Rattle.cap_talks.specs.declared.units.TimedFrame.{TimedFrame}
 use Rattle.cap_time.specs.declared.stamps.Stamp.{Stamp}
 use Rattle.cap_talks.specs.Classes.{group_class, groups_of, joined_transport, is_class}
 use Rattle.cap_join.specs.Completed.{if_complete}
@@ -22,20 +23,20 @@ use Rattle.cap_talks.specs.Taken.{Taken, Look, plain, datagram, fragment, look, 
 use Rattle.cap_talks.specs.declared.classes.Class.TheVariants as class
 
 -- a unit between two ends, with the number of its frames, their bytes, and the first and the last of those that have a time
-abbrev pub unit_of : ℕ → ℕ → ℕ → Option Stamped → Option Stamped → End × End → CountedUnit
+abbrev pub unit_of : ℕ → ℕ → ℕ → Option TimedFrame → Option TimedFrame → End × End → CountedUnit
 unit_of protocol frames bytes first last ends =
     record { protocol = protocol; source = ends.0; destination = ends.1; frames = frames; bytes = bytes; first = first; last = last }
 
 -- a whole datagram, which came in one frame
 abbrev pub whole_unit : HeaderFields → List ℕ → Stamped → Option CountedUnit
 whole_unit header captured stamped =
-    option_map (unit_of header.key.protocol 1 stamped.original (timed stamped stamped.time) (timed stamped stamped.time))
+    option_map (unit_of header.key.protocol 1 stamped.original (timed_frame (Some stamped)) (timed_frame (Some stamped)))
     (ends_of header.key.source header.key.destination (transport_of header.key.protocol captured header.data_length))
 
 -- a joined datagram
 unfoldable pub group_unit : List Piece → Option CountedUnit
 group_unit pieces =
-    option_and_then (λ h. option_map (unit_of h.key.protocol (length pieces) (original_bytes pieces) (first_frame pieces) (last_frame pieces))
+    option_and_then (λ h. option_map (unit_of h.key.protocol (length pieces) (original_bytes pieces) (timed_frame (first_frame pieces)) (timed_frame (last_frame pieces)))
     (ends_of h.key.source h.key.destination (transport_of h.key.protocol (data_of pieces) (length (data_of pieces)))))
     (header_of pieces)
 

@@ -1,14 +1,16 @@
 -- A row, and a table of rows, with one unit more.
 use Rattle.std.specs.Prelude.{◌≡◌, ℕ, List, [], ◌∷◌, Bool, true, false, ◌+◌, ◌≤◌, ◌&&◌, not, length, nat_lt, is_some, if◌then◌else◌, slice_get, Option, Some, None, Result, Ok, Err}
 use Rattle.std.specs.Map.{lookup, values_of}
+use Rattle.std.specs.Ordering.{is_lt}
 use Rattle.indexmap.specs.IndexMap.{insert_entry}
-use Rattle.cap_talks.specs.Talks.{Talk, row_of, is_forward, key_of, earlier_frame, later_frame, same_talk, rows_of}
+use Rattle.cap_talks.specs.Talks.{Talk, row_of, is_forward, key_of, by_time, by_time_down, earlier_frame, later_frame, frame_time, place_or, same_talk, rows_of}
 use Rattle.cap_talks.specs.declared.rows.TalkKey.{TalkKey}
 use Rattle.cap_talks.specs.declared.rows.TalkRow.{TalkRow}
-use Rattle.cap_talks.specs.declared.rows.Traffic.{Traffic}
 use Rattle.cap_talks.specs.declared.talks.TalksFault.{TalksFault}
 use Rattle.cap_talks.specs.declared.talks.TalksFault.TheVariants.{Limit, Memory}
 use Rattle.cap_talks.specs.declared.units.CountedUnit.{CountedUnit}
+use Rattle.cap_talks.specs.declared.units.TimedFrame.{TimedFrame}
+use Rattle.cap_time.specs.declared.stamps.Stamp.{Stamp}
 
 -- The rows of the conversations, by the place of the first unit of each.
 pub record TalksState : Type 0 where
@@ -37,10 +39,10 @@ is_limit (Err Memory) = false
 
 -- how many frames a row counts, and how many bytes
 abbrev pub frames_of_row : TalkRow → ℕ
-frames_of_row row = row.forward.frames + row.backward.frames
+frames_of_row row = row.forward_frames + row.backward_frames
 
 abbrev pub bytes_of_row : TalkRow → ℕ
-bytes_of_row row = row.forward.bytes + row.backward.bytes
+bytes_of_row row = row.forward_bytes + row.backward_bytes
 
 -- the sum over all rows of what is counted of each
 abbrev pub sum_in : (TalkRow → ℕ) → List Talk → ℕ
@@ -54,18 +56,32 @@ frames_in talks = sum_in frames_of_row talks
 abbrev pub bytes_in : List Talk → ℕ
 bytes_in talks = sum_in bytes_of_row talks
 
--- one way's counts with one unit more
-abbrev pub with_traffic : Traffic → CountedUnit → Traffic
-with_traffic traffic unit = record { frames = traffic.frames + unit.frames; bytes = traffic.bytes + unit.bytes }
+-- the frame of a row's least or greatest time
+abbrev pub frame_of : Option Stamp → ℕ → Option TimedFrame
+frame_of None place = None
+frame_of (Some time) place = Some (record { time = time; place = place })
+
+-- a frame comes before the first one so far, or after the last one, or is the only one
+abbrev pub is_earlier : TimedFrame → Option TimedFrame → Bool
+is_earlier frame None = true
+is_earlier frame (Some first) = is_lt (by_time frame first)
+
+abbrev pub is_later : TimedFrame → Option TimedFrame → Bool
+is_later frame None = true
+is_later frame (Some last) = is_lt (by_time_down frame last)
 
 -- a row with one unit of its conversation more
 abbrev pub with_unit : TalkRow → CountedUnit → TalkRow
 with_unit row unit =
     record {
-      forward = if is_forward unit then with_traffic row.forward unit else row.forward;
-      backward = if is_forward unit then row.backward else with_traffic row.backward unit;
-      first = earlier_frame row.first unit.first;
-      last = later_frame row.last unit.last;
+      forward_bytes = if is_forward unit then row.forward_bytes + unit.bytes else row.forward_bytes;
+      backward_bytes = if is_forward unit then row.backward_bytes else row.backward_bytes + unit.bytes;
+      first = frame_time (earlier_frame (frame_of row.first row.first_place) unit.first);
+      last = frame_time (later_frame (frame_of row.last row.last_place) unit.last);
+      forward_frames = if is_forward unit then row.forward_frames + unit.frames else row.forward_frames;
+      backward_frames = if is_forward unit then row.backward_frames else row.backward_frames + unit.frames;
+      first_place = place_or (earlier_frame (frame_of row.first row.first_place) unit.first) row.first_place;
+      last_place = place_or (later_frame (frame_of row.last row.last_place) unit.last) row.last_place;
     }
 
 abbrev pub or_empty : Option TalkRow → TalkRow

@@ -3,7 +3,7 @@ use Rattle.std.specs.Prelude.{◌≡◌, ℕ, List, [], ◌∷◌, Bool, false, 
 use Rattle.std.specs.List.{AllByRecursion}
 use Rattle.std.specs.Ordering.{is_lt}
 use Rattle.std.specs.declared.cmp.Ordering.{Ordering}
-use Rattle.cap_join.specs.declared.datagrams.Stamped.{Stamped}
+use Rattle.cap_talks.specs.declared.units.TimedFrame.{TimedFrame}
 use Rattle.cap_talks.specs.Rows.{frames_in, bytes_in}
 use Rattle.cap_talks.specs.Talks.{key_of, same_end, same_talk, by_time, by_time_down, least_frame, greatest_frame, frames_of, bytes_of, rows_of}
 use Rattle.cap_talks.specs.declared.units.CountedUnit.{CountedUnit}
@@ -20,20 +20,20 @@ abbrev pub KeyLaw : Type 0
 KeyLaw = (a b : CountedUnit) → same_talk (key_of a) (key_of b) ≡ ((a.protocol == b.protocol) && (goes_along a b || goes_back a b))
 
 -- the frames of some units that have the least times of each, and those that have the greatest
-abbrev pub with_frame : Option Stamped → List Stamped → List Stamped
+abbrev pub with_frame : Option TimedFrame → List TimedFrame → List TimedFrame
 with_frame None frames = frames
 with_frame (Some frame) frames = frame ∷ frames
 
-abbrev pub firsts : List CountedUnit → List Stamped
+abbrev pub firsts : List CountedUnit → List TimedFrame
 firsts [] = []
 firsts (unit ∷ units) = with_frame unit.first (firsts units)
 
-abbrev pub lasts : List CountedUnit → List Stamped
+abbrev pub lasts : List CountedUnit → List TimedFrame
 lasts [] = []
 lasts (unit ∷ units) = with_frame unit.last (lasts units)
 
 -- It is one of the frames, and none of them stands before it in the order; where there is none they are none.
-abbrev pub IsFirstIn : (Stamped → Stamped → Ordering) → List Stamped → Option Stamped → Type 0
+abbrev pub IsFirstIn : (TimedFrame → TimedFrame → Ordering) → List TimedFrame → Option TimedFrame → Type 0
 IsFirstIn cmp frames None = frames ≡ []
 IsFirstIn cmp frames (Some frame) = Contains frames frame × AllByRecursion (λ other. is_lt (cmp other frame) ≡ false) frames
 

@@ -1,14 +1,11 @@
 -- The lines of conversations, as `report` prints them.
 use Rattle.std.specs.Prelude.{ℕ, ◌/◌, ◌%◌, ◌^◌, ◌==◌, List, [], ◌∷◌, ◌++◌, codes, decimal, Option, Some, None, option_map, slice_get, if◌then◌else◌}
 use Rattle.std.specs.Option.{option_map_or}
-use Rattle.cap_join.specs.declared.datagrams.Stamped.{Stamped}
 use Rattle.cap_print.specs.Lines.{time_text}
 use Rattle.cap_time.specs.Stamp.{printed_of}
-use Rattle.cap_time.specs.declared.stamps.Stamp.{Stamp}
 use Rattle.cap_talks.specs.Talks.{Talk}
 use Rattle.cap_talks.specs.declared.rows.TalkKey.{TalkKey}
 use Rattle.cap_talks.specs.declared.rows.TalkRow.{TalkRow}
-use Rattle.cap_talks.specs.declared.rows.Traffic.{Traffic}
 use Rattle.cap_talks.specs.declared.units.End.{End}
 
 -- a protocol by its number (IANA)
@@ -34,21 +31,16 @@ abbrev pub end_text : End → List ℕ
 end_text at = address_text at.address ++ port_text at.port
 
 -- what went one way: packets and bytes
-abbrev pub traffic_text : Traffic → List ℕ
-traffic_text traffic = decimal traffic.frames ++ codes " " ++ decimal traffic.bytes
-
--- the time of a frame, where there is one that has one
-abbrev pub frame_time : Option Stamped → Option Stamp
-frame_time None = None
-frame_time (Some frame) = frame.time
+abbrev pub traffic_text : ℕ → ℕ → List ℕ
+traffic_text frames bytes = decimal frames ++ codes " " ++ decimal bytes
 
 -- the line of a conversation
 abbrev pub talk_text : TalkKey → TalkRow → List ℕ
 talk_text key row =
     codes "talk " ++ protocol_text key.protocol ++ codes " " ++ end_text key.lesser ++ codes " " ++ end_text key.greater
-    ++ codes " forward " ++ traffic_text row.forward ++ codes " backward " ++ traffic_text row.backward
-    ++ codes " first " ++ time_text (option_map printed_of (frame_time row.first))
-    ++ codes " last " ++ time_text (option_map printed_of (frame_time row.last)) ++ codes "\n"
+    ++ codes " forward " ++ traffic_text row.forward_frames row.forward_bytes ++ codes " backward " ++ traffic_text row.backward_frames row.backward_bytes
+    ++ codes " first " ++ time_text (option_map printed_of row.first)
+    ++ codes " last " ++ time_text (option_map printed_of row.last) ++ codes "\n"
 
 -- the lines of all of them, by the place of the first unit of each
 abbrev pub talk_texts : List Talk → List ℕ

@@ -3,7 +3,7 @@ use Rattle.std.specs.Prelude.{◌≡◌, ℕ, List, [], ◌∷◌, Bool, true, f
 use Rattle.std.proofs.Common.{lit<}
 use Rattle.cap_ip.specs.declared.transports.Transport.{Transport}
 use Rattle.cap_ip.specs.declared.transports.Transport.TheVariants.{Ports, NoPorts, Bad, Cut}
-use Rattle.cap_join.specs.declared.datagrams.Stamped.{Stamped}
+use Rattle.cap_talks.specs.declared.units.TimedFrame.{TimedFrame}
 use Rattle.cap_time.specs.declared.stamps.Stamp.{Stamp}
 use Rattle.cap_talks.specs.Rows.{is_refused}
 use Rattle.cap_talks.specs.TalkText.{talk_texts}
@@ -22,8 +22,8 @@ half_binary = record { seconds = pos 0; numerator = 512; denominator = 1024; fra
 abbrev pub half_tenths : Stamp
 half_tenths = record { seconds = pos 0; numerator = 5; denominator = 10; fraction = lit< tt }
 
-abbrev pub frame_at : ℕ → Stamp → Option Stamped
-frame_at place time = Some (record { time = Some time; place = place; original = 60 })
+abbrev pub frame_at : ℕ → Stamp → Option TimedFrame
+frame_at place time = Some (record { time = time; place = place })
 
 -- 10.0.0.1 and 10.0.0.2, with a port
 abbrev pub one : ℕ → End
@@ -33,7 +33,7 @@ abbrev pub two : ℕ → End
 two port = end_at 167772162 (Some port)
 
 -- a UDP datagram of that many frames and bytes
-abbrev pub unit_of : End → End → ℕ → ℕ → Option Stamped → Option Stamped → CountedUnit
+abbrev pub unit_of : End → End → ℕ → ℕ → Option TimedFrame → Option TimedFrame → CountedUnit
 unit_of source destination frames bytes first last =
     record { protocol = 17; source = source; destination = destination; frames = frames; bytes = bytes; first = first; last = last }
 

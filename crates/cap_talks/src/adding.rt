@@ -1,7 +1,6 @@
 //! Units that packets complete, and how they are added to the conversations.
 ghost use Rattle.std.specs.Prelude.{◌≡◌, ◌+◌, ◌++◌, ◌<◌, ◌≤◌, ◌^◌, List, length, OnOk, OnErr};
 ghost use Rattle.cap_ip.specs.Transport.{transport_of};
-ghost use Rattle.cap_join.specs.Frames.{timed};
 ghost use Rattle.cap_talks.specs.Rows.{StandsFor, frames_in, bytes_in};
 ghost use Rattle.cap_talks.specs.Talks.{frames_of, bytes_of};
 ghost use Rattle.cap_talks.specs.declared.units.CountedUnit.{CountedUnit};
@@ -15,7 +14,7 @@ use crate::classes::Class;
 use crate::counts::time_of;
 use crate::talks::{Talks, TalksFault};
 use crate::tallies::TallyFault;
-use crate::units::{CountedUnit, ends_of};
+use crate::units::{CountedUnit, ends_of, timed_frame};
 use cap_ip::{Header, Transport, transport};
 use cap_join::{Datagram, Stamped};
 use cap_source::Meta;
@@ -28,16 +27,6 @@ pub fn stamped_of(place: u64, meta: &Meta) -> Stamped
         time: time_of(meta),
         place,
         original: meta.original,
-    }
-}
-
-// A frame, if it has a time.
-fn timed(stamped: Stamped) -> Option<Stamped>
-    ensures { result ≡ timed stamped stamped.time }
-{
-    match stamped.time {
-        None => None,
-        Some(_) => Some(stamped),
     }
 }
 
@@ -66,8 +55,8 @@ pub fn whole_unit(header: &Header, captured: &[u8], stamped: Stamped) -> Option<
         destination,
         frames: 1,
         bytes: u128::from(stamped.original),
-        first: timed(stamped),
-        last: timed(stamped),
+        first: timed_frame(Some(stamped)),
+        last: timed_frame(Some(stamped)),
     })
 }
 
@@ -87,8 +76,8 @@ pub fn joined_unit(datagram: &Datagram) -> Option<CountedUnit>
         destination,
         frames: datagram.frames,
         bytes: datagram.bytes,
-        first: datagram.first,
-        last: datagram.last,
+        first: timed_frame(datagram.first),
+        last: timed_frame(datagram.last),
     })
 }
 

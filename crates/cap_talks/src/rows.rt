@@ -1,10 +1,10 @@
 //! The row of a conversation: what is counted of its units.
-ghost use Rattle.std.specs.Prelude.{◌≡◌, ◌+◌, ◌<◌, ◌^◌, [], if◌then◌else◌};
-ghost use Rattle.cap_talks.specs.Talks.{key_of, is_forward, earlier_frame, later_frame, row_of};
-ghost use Rattle.cap_talks.specs.Rows.{with_unit, with_traffic, frames_of_row, bytes_of_row};
+ghost use Rattle.std.specs.Prelude.{◌≡◌, ◌+◌, ◌<◌, ◌^◌, []};
+ghost use Rattle.cap_talks.specs.Talks.{key_of, is_forward, earlier_frame, later_frame, frame_time, place_or, row_of};
+ghost use Rattle.cap_talks.specs.Rows.{with_unit, frames_of_row, bytes_of_row, frame_of, is_earlier, is_later};
 
-use crate::units::{CountedUnit, End};
-use cap_join::Stamped;
+use crate::units::{CountedUnit, End, TimedFrame};
+use cap_time::Stamp;
 
 /// What names a conversation: a protocol and two ends, whichever of them is the source.
 #[derive(Clone, Copy, Debug, PartialEq, Eq, Hash)]
@@ -38,28 +38,26 @@ impl TalkKey {
     }
 }
 
-/// What is counted of the units that went one way.
-#[derive(Clone, Copy, Debug)]
-pub struct Traffic {
-    /// How many frames they came in.
-    pub frames: u64,
-    /// The sum of the frames' original lengths, in bytes.
-    pub bytes: u128,
-}
-
-/// What is counted of the units of a conversation.
+/// What is counted of the units of a conversation. The wide fields stand first, so that a row takes no more room than it needs.
 #[derive(Clone, Copy, Debug)]
 pub struct TalkRow {
-    /// The units from the lesser end, so also those from an end to itself.
-    pub forward: Traffic,
-    /// The units from the greater end.
-    pub backward: Traffic,
-    /// The frame of the least time, of equal times that of the lowest place; `None` where no frame has a
-    /// time.
-    pub first: Option<Stamped>,
-    /// The frame of the greatest time, of equal times that of the lowest place; `None` where no frame has
-    /// a time.
-    pub last: Option<Stamped>,
+    /// The sum of the original lengths, in bytes, of the frames of units from the lesser end, so also of those from an end to
+    /// itself.
+    pub forward_bytes: u128,
+    /// The same of the units from the greater end.
+    pub backward_bytes: u128,
+    /// The least time of their frames; `None` where no frame has a time.
+    pub first: Option<Stamp>,
+    /// The greatest time of their frames.
+    pub last: Option<Stamp>,
+    /// In how many frames the units from the lesser end came.
+    pub forward_frames: u64,
+    /// The same of the units from the greater end.
+    pub backward_frames: u64,
+    /// The place of the frame of the least time, of equal times the lowest; 0 where no frame has a time.
+    pub first_place: u64,
+    /// The place of the frame of the greatest time, of equal times the lowest.
+    pub last_place: u64,
 }
 
 impl TalkRow {
@@ -67,15 +65,15 @@ impl TalkRow {
     pub(crate) fn new() -> TalkRow
         ensures { result ≡ row_of [] }
     {
-        let none = Traffic {
-            frames: 0,
-            bytes: 0,
-        };
         TalkRow {
-            forward: none,
-            backward: none,
+            forward_bytes: 0,
+            backward_bytes: 0,
             first: None,
             last: None,
+            forward_frames: 0,
+            backward_frames: 0,
+            first_place: 0,
+            last_place: 0,
         }
     }
 
@@ -86,16 +84,14 @@ impl TalkRow {
         ensures { self.new ≡ with_unit self.old unit.now }
     {
         if is_forward(unit) {
-            self.forward = with_traffic(self.forward, unit);
+            self.forward_frames += unit.frames;
+            self.forward_bytes += unit.bytes;
         } else {
-            self.backward = with_traffic(self.backward, unit);
+            self.backward_frames += unit.frames;
+            self.backward_bytes += unit.bytes;
         }
-        if is_earlier(&unit.first, &self.first) {
-            self.first = unit.first;
-        }
-        if is_later(&unit.last, &self.last) {
-            self.last = unit.last;
-        }
+        take_first(&mut self.first, &mut self.first_place, &unit.first);
+        take_last(&mut self.last, &mut self.last_place, &unit.last);
     }
 }
 
@@ -106,46 +102,48 @@ fn is_forward(unit: &CountedUnit) -> bool
     unit.source <= unit.destination
 }
 
-// One way's counts with one unit more.
-fn with_traffic(traffic: Traffic, unit: &CountedUnit) -> Traffic
-    requires frames { traffic.frames + unit.now.frames < 2 ^ 64 }
-    requires bytes { traffic.bytes + unit.now.bytes < 2 ^ 128 }
-    ensures { result ≡ with_traffic traffic unit.now }
+// Whether a frame comes before the first one so far: it has the lesser time, of equal times the lower place, or is the only one.
+fn is_earlier(frame: &TimedFrame, first: &Option<Stamp>, place: u64) -> bool
+    ensures { result ≡ is_earlier frame.now (frame_of first.now place) }
 {
-    Traffic {
-        frames: traffic.frames + unit.frames,
-        bytes: traffic.bytes + unit.bytes,
+    match first {
+        None => true,
+        Some(first) => frame.time.cmp(first).then(frame.place.cmp(&place)).is_lt(),
     }
 }
 
-// Whether a frame takes the place of the first one so far: it has the lesser time, of equal times the lower place, or is the
-// only one.
-fn is_earlier(frame: &Option<Stamped>, first: &Option<Stamped>) -> bool
-    ensures { earlier_frame first.now frame.now ≡ (if result then frame.now else first.now) }
+// Whether a frame comes after the last one so far: it has the greater time, of equal times the lower place, or is the only one.
+fn is_later(frame: &TimedFrame, last: &Option<Stamp>, place: u64) -> bool
+    ensures { result ≡ is_later frame.now (frame_of last.now place) }
 {
-    match (first, frame) {
-        (None, _) => true,
-        (Some(_), None) => false,
-        (Some(first), Some(frame)) => frame
-            .time
-            .cmp(&first.time)
-            .then(frame.place.cmp(&first.place))
-            .is_lt(),
+    match last {
+        None => true,
+        Some(last) => last.cmp(&frame.time).then(frame.place.cmp(&place)).is_lt(),
     }
 }
 
-// Whether a frame takes the place of the last one so far: it has the greater time, of equal times the lower place, or is the
-// only one.
-fn is_later(frame: &Option<Stamped>, last: &Option<Stamped>) -> bool
-    ensures { later_frame last.now frame.now ≡ (if result then frame.now else last.now) }
+// Takes a frame, where there is one, into the least time so far.
+fn take_first(first: &mut Option<Stamp>, place: &mut u64, frame: &Option<TimedFrame>)
+    ensures time { first.new ≡ frame_time (earlier_frame (frame_of first.old place.old) frame.now) }
+    ensures place { place.new ≡ place_or (earlier_frame (frame_of first.old place.old) frame.now) place.old }
 {
-    match (last, frame) {
-        (None, _) => true,
-        (Some(_), None) => false,
-        (Some(last), Some(frame)) => last
-            .time
-            .cmp(&frame.time)
-            .then(frame.place.cmp(&last.place))
-            .is_lt(),
+    if let Some(frame) = frame {
+        if is_earlier(frame, first, *place) {
+            *first = Some(frame.time);
+            *place = frame.place;
+        }
+    }
+}
+
+// Takes a frame, where there is one, into the greatest time so far.
+fn take_last(last: &mut Option<Stamp>, place: &mut u64, frame: &Option<TimedFrame>)
+    ensures time { last.new ≡ frame_time (later_frame (frame_of last.old place.old) frame.now) }
+    ensures place { place.new ≡ place_or (later_frame (frame_of last.old place.old) frame.now) place.old }
+{
+    if let Some(frame) = frame {
+        if is_later(frame, last, *place) {
+            *last = Some(frame.time);
+            *place = frame.place;
+        }
     }
 }

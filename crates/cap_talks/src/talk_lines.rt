@@ -3,13 +3,12 @@ ghost use Rattle.std.specs.Prelude.{◌≡◌, ◌+◌, ◌≤◌, ◌<◌, ◌+
 ghost use Rattle.cap_bytes.specs.Device.{WriterKeeps, writer_of};
 ghost use Rattle.cap_bytes.specs.Printing.{Prints, is_write};
 ghost use Rattle.arrayvec.specs.ArrayVec.{array_vec_len};
-ghost use Rattle.cap_talks.specs.TalkText.{protocol_text, address_text, end_text, traffic_text, frame_time, talk_text, talk_texts, talks_text, line_at};
+ghost use Rattle.cap_talks.specs.TalkText.{protocol_text, address_text, end_text, traffic_text, talk_text, talk_texts, talks_text, line_at};
 
-use crate::rows::{TalkKey, TalkRow, Traffic};
+use crate::rows::{TalkKey, TalkRow};
 use crate::talks::Talks;
 use crate::units::End;
 use cap_bytes::{Fault, Sink, put_all};
-use cap_join::Stamped;
 use cap_print::{Line, put_field, put_text, put_time};
 use cap_time::Stamp;
 use itoa::Buffer;
@@ -81,23 +80,13 @@ fn put_end(line: &mut Line, end: End)
 }
 
 // Appends a label, and what went one way.
-fn put_traffic(line: &mut Line, label: &[u8], traffic: Traffic)
+fn put_traffic(line: &mut Line, label: &[u8], frames: u64, bytes: u128)
     requires { array_vec_len line.old + length label.now + 81 ≤ 512 }
-    ensures items { line.new.items ≡ line.old.items ++ label.now ++ traffic_text traffic }
+    ensures items { line.new.items ≡ line.old.items ++ label.now ++ traffic_text frames bytes }
     ensures len { array_vec_len line.new ≤ array_vec_len line.old + length label.now + 81 }
 {
-    put_field(line, label, traffic.frames);
-    put_field(line, b" ", traffic.bytes);
-}
-
-// The time of a frame, where there is one that has one.
-fn frame_time(frame: Option<Stamped>) -> Option<Stamp>
-    ensures { result ≡ frame_time frame }
-{
-    match frame {
-        None => None,
-        Some(frame) => frame.time,
-    }
+    put_field(line, label, frames);
+    put_field(line, b" ", bytes);
 }
 
 /// The line of a conversation: `talk PROTO A B forward P BYTES backward P BYTES first T last T`. The protocol
@@ -113,10 +102,20 @@ pub fn talk_line(key: &TalkKey, row: &TalkRow) -> Line
     put_end(&mut line, key.lesser);
     put_text(&mut line, b" ");
     put_end(&mut line, key.greater);
-    put_traffic(&mut line, b" forward ", row.forward);
-    put_traffic(&mut line, b" backward ", row.backward);
-    put_time(&mut line, b" first ", frame_time(row.first));
-    put_time(&mut line, b" last ", frame_time(row.last));
+    put_traffic(
+        &mut line,
+        b" forward ",
+        row.forward_frames,
+        row.forward_bytes,
+    );
+    put_traffic(
+        &mut line,
+        b" backward ",
+        row.backward_frames,
+        row.backward_bytes,
+    );
+    put_time(&mut line, b" first ", row.first);
+    put_time(&mut line, b" last ", row.last);
     put_text(&mut line, b"\n");
     line
 }

@@ -1,9 +1,10 @@
 //! Counted units: whole datagrams, with the ends between which they went.
 ghost use Rattle.std.specs.Prelude.{◌≡◌};
-ghost use Rattle.cap_talks.specs.Units.{ends_of};
+ghost use Rattle.cap_talks.specs.Units.{ends_of, timed_frame};
 
 use cap_ip::Transport;
 use cap_join::Stamped;
+use cap_time::Stamp;
 
 /// An end of a conversation: an IPv4 address (RFC 791, 3.1), and a port where the protocol has ports
 /// (RFC 768; RFC 9293, 3.1). Ends compare as pairs of numbers, by address and then by port.
@@ -37,6 +38,26 @@ pub fn ends_of(source: u32, destination: u32, transport: Transport) -> Option<(E
     ))
 }
 
+/// A frame that has a time.
+#[derive(Clone, Copy, Debug)]
+pub struct TimedFrame {
+    /// Its own time.
+    pub time: Stamp,
+    /// Its place in the list of packets, counted from 0.
+    pub place: u64,
+}
+
+/// A frame, if it has a time.
+pub fn timed_frame(frame: Option<Stamped>) -> Option<TimedFrame>
+    ensures { result ≡ timed_frame frame }
+{
+    let frame = frame?;
+    Some(TimedFrame {
+        time: frame.time?,
+        place: frame.place,
+    })
+}
+
 /// An IPv4 datagram that counts in a conversation: one that came whole, or one that was joined.
 #[derive(Clone, Copy, Debug)]
 pub struct CountedUnit {
@@ -52,8 +73,8 @@ pub struct CountedUnit {
     pub bytes: u128,
     /// Its frame of the least time, of equal times that of the lowest place; `None` where no frame has a
     /// time.
-    pub first: Option<Stamped>,
+    pub first: Option<TimedFrame>,
     /// Its frame of the greatest time, of equal times that of the lowest place; `None` where no frame has
     /// a time.
-    pub last: Option<Stamped>,
+    pub last: Option<TimedFrame>,
 }
