@@ -224,6 +224,3 @@ pub fn parse<'a, S: AsStr>(alloc: Global, words: &'a [S]) -> Result<Job<'a>, Lin
         Err(error) => Err(fault_by(error.kind())),
     }
 }
-
-#[cfg(test)]
-mod tests;

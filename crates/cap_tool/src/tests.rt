@@ -1,4 +1,7 @@
-//! The opening of files, and of the output.
+//! Command lines; the opening of files, and of the output.
+
+mod command_lines;
+
 use crate::streams::{create_output, open_all};
 use cap_tasks::Outcome;
 

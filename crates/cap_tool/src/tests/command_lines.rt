@@ -1,7 +1,6 @@
 //! Command lines with their jobs and faults.
-use crate::faults::LineFault;
-use crate::job::{Format, Task, parse};
 use cap_bytes::Order;
+use cap_line::{Format, LineFault, Task, parse};
 use std::alloc::Global;
 
 // A job's task, its first file, how many it has, and whether a cut end is dropped.
