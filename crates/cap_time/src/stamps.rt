@@ -1,5 +1,5 @@
 //! Stamps: exact times, which keep the form in which their interface counted them.
-ghost use Rattle.std.specs.Prelude.{◌≡◌, ◌<◌, ◌≤ℤ◌, ◌<ℤ◌, ◌^◌, ◌/◌, ◌%◌, pos, neg_ℤ, IfSome, IfNone};
+ghost use Rattle.std.specs.Prelude.{◌≡◌, ◌<◌, ◌≤ℤ◌, ◌<ℤ◌, ◌^◌, pos, neg_ℤ, IfSome, IfNone};
 
 mod order;
 
@@ -40,18 +40,6 @@ pub struct Stamp {
     ghost fraction: { numerator < denominator },
 }
 
-// A quotient and its remainder. Division by a constant is faster, so the common resolutions have arms of their own.
-fn divided(units: u64, denominator: u64) -> (u64, u64)
-    requires { 0 < denominator }
-    ensures { result ≡ (units / denominator, units % denominator) }
-{
-    match denominator {
-        1_000_000 => (units / 1_000_000, units % 1_000_000),
-        1_000_000_000 => (units / 1_000_000_000, units % 1_000_000_000),
-        _ => (units / denominator, units % denominator),
-    }
-}
-
 impl Stamp {
     ghost use Rattle.cap_time.specs.Stamp.{seconds_of, numerator_of, denominator_of, printed_of};
     ghost use Rattle.cap_time.specs.Stamp.{time_of, time_in, stamp_in, stamp_plus, whole_of};
@@ -69,10 +57,9 @@ impl Stamp {
         ensures most { seconds_of result <ℤ pos (2 ^ 65) }
     {
         let denominator = interface.resolution.units();
-        let (seconds, numerator) = divided(units, denominator);
         Stamp {
-            seconds: i128::from(interface.offset) + i128::from(seconds),
-            numerator,
+            seconds: i128::from(interface.offset) + i128::from(units / denominator),
+            numerator: units % denominator,
             denominator,
         }
     }

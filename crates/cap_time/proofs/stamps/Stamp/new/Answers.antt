@@ -1,4 +1,4 @@
-use Rattle.std.proofs.Common.{ℕ, ◌≡◌, ◌%◌, ◌/◌, ◌∙◌, ap, arith}
+use Rattle.std.proofs.Common.{ℕ, ◌≡◌, ◌%◌, ◌/◌, ap, arith}
 use Rattle.std.proofs.lemmas.Int.{ints}
 use Rattle.cap_time.specs.Resolution.{units_of}
 use Rattle.cap_time.specs.Stamp.{stamp_in}
@@ -10,18 +10,11 @@ pub returns-clause-stamp : goal.returns-clause-stamp
 unfolding stamp_in
 returns-clause-stamp c =
     let same : c.units-denominator.result ≡ units_of c.args.interface.now.resolution = c.units-denominator.ensures.value in
-    let seconds = ap (λ (d : ℕ × ℕ). d.0) c.divided-seconds.ensures in
     let whole : c.args.units / c.units-denominator.result ≡ c.args.units / units_of c.args.interface.now.resolution = ap (λ (d : ℕ). c.args.units / d) same in
-    same_stamp _ _ _ _ _ _ _ _ (omega (arith, ints, seconds)) (ap (λ (d : ℕ × ℕ). d.1) c.divided-seconds.ensures ∙ ap (λ (d : ℕ). c.args.units % d) same) same
+    same_stamp _ _ _ _ _ _ _ _ (omega (arith, ints)) (ap (λ (d : ℕ). c.args.units % d) same) same
 
 pub returns-clause-time : goal.returns-clause-time
-returns-clause-time c =
-    let seconds = ap (λ (d : ℕ × ℕ). d.0) c.divided-seconds.ensures in
-    rw c.divided-seconds.ensures
-    (time_at-stamped c.args.interface.now.offset _ c.args.units c.units-denominator.result (units_of c.args.interface.now.resolution) c.units-denominator.ensures.value (omega (arith, ints, seconds)))
+returns-clause-time c = time_at-stamped c.args.interface.now.offset _ c.args.units c.units-denominator.result (units_of c.args.interface.now.resolution) c.units-denominator.ensures.value (omega (arith, ints))
 
 pub returns-clause-printed : goal.returns-clause-printed
-returns-clause-printed c =
-    let seconds = ap (λ (d : ℕ × ℕ). d.0) c.divided-seconds.ensures in
-    rw c.divided-seconds.ensures
-    (printed_form-stamped c.args.interface.now.offset _ c.args.units c.units-denominator.result (units_of c.args.interface.now.resolution) c.units-denominator.ensures.positive c.units-denominator.ensures.value (omega (arith, ints, seconds)))
+returns-clause-printed c = printed_form-stamped c.args.interface.now.offset _ c.args.units c.units-denominator.result (units_of c.args.interface.now.resolution) c.units-denominator.ensures.positive c.units-denominator.ensures.value (omega (arith, ints))
