@@ -1,5 +1,7 @@
 mod Alike
+mod FileNumbers
 mod OneFile
+mod Rounds
 mod Rules
 mod SameRun
 mod Twins

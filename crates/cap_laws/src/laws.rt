@@ -1,7 +1,8 @@
 //! Laws, each the contract of a function that does nothing.
 ghost use Rattle.cap_laws.specs.Reports.{MergedReport, PcapngReport, RuleLaw};
+ghost use Rattle.cap_laws.specs.Rounds.{RoundsInBytes};
 
-use cap_write::laws::{merged_again, pcapng_again};
+use cap_write::laws::{merged_again, pcapng_again, rounds_law};
 
 /// Where `write_merged` writes the run of some files, whatever bytes these hold, with no refusal and in at most
 /// 2^40 bytes, the report over the one file that it wrote has the lines of the report over those files, byte for
@@ -26,3 +27,14 @@ pub fn pcapng_report()
 pub fn refusal_rule()
     ensures { RuleLaw }
 {}
+
+/// Files, whatever bytes they hold, are split, in their order, into neighbouring groups, and each group is merged, in a
+/// byte order of its own. Where no group is refused, and each writes at most 2^40 bytes, the merge of the written files,
+/// in the groups' order, writes byte for byte what the merge of all files at once writes, in the same byte order; and
+/// one of the two is refused where the other is, behind these packets, by the same rule.
+pub fn rounds_bytes()
+    ensures { RoundsInBytes }
+{
+    merged_again();
+    rounds_law();
+}

@@ -3,4 +3,4 @@
 
 mod laws;
 
-pub use crate::laws::{merged_report, pcapng_report, refusal_rule};
+pub use crate::laws::{merged_report, pcapng_report, refusal_rule, rounds_bytes};
