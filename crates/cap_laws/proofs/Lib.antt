@@ -1,5 +1,6 @@
 mod Alike
 mod FileNumbers
+mod Measured
 mod OneFile
 mod Rounds
 mod Rules

@@ -1,6 +1,7 @@
 //! Laws, each the contract of a function that does nothing.
 ghost use Rattle.cap_laws.specs.Reports.{MergedReport, PcapngReport, RuleLaw};
 ghost use Rattle.cap_laws.specs.Rounds.{RoundsInBytes};
+ghost use Rattle.cap_laws.specs.Runs.{MergedRun, PcapngRun};
 
 use cap_write::laws::{merged_again, pcapng_again, rounds_law};
 
@@ -37,4 +38,22 @@ pub fn rounds_bytes()
 {
     merged_again();
     rounds_law();
+}
+
+/// Where `write_merged` writes the run of some files, whatever bytes these hold, with no refusal and in at most
+/// 2^40 bytes, the run of the one file that it wrote is, item by item, the run of those files: the same
+/// interface, units, captured and original lengths and bytes, and clocks that are equal by the order. Which file
+/// an item is of and where it begins there are others. This holds also where clocks run back.
+pub fn merged_run()
+    ensures { MergedRun }
+{
+    merged_again();
+}
+
+/// The same holds of the one file that `to_pcapng` writes, with no refusal and in at most 2^40 bytes, and the
+/// file that it was written of.
+pub fn pcapng_run()
+    ensures { PcapngRun }
+{
+    pcapng_again();
 }

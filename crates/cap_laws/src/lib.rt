@@ -3,4 +3,4 @@
 
 mod laws;
 
-pub use crate::laws::{merged_report, pcapng_report, refusal_rule, rounds_bytes};
+pub use crate::laws::{merged_report, merged_run, pcapng_report, pcapng_run, refusal_rule, rounds_bytes};
