@@ -1,24 +1,21 @@
 -- Merging the files that merges of groups wrote gives the bytes of one merge.
-use Rattle.std.proofs.Common.{◌≡◌, ℕ, suc, ◌+◌, List, [], ◌∷◌, ◌++◌, refl, sym, ◌∙◌, ap, subst, arith, Option, Some, None, Bool, false, true}
+use Rattle.std.proofs.Common.{◌≡◌, ℕ, suc, ◌+◌, List, [], ◌∷◌, ◌++◌, refl, sym, ◌∙◌, ap, subst, arith, Option, Some, None, false}
 use Rattle.std.specs.List.{AllZip, AllByRecursion, flat_map}
-use Rattle.std.specs.Option.{option_map}
 use Rattle.std.specs.Prelude.{map, is_none, unwrap_or}
 use Rattle.cap_blocks.specs.Grammar.{section_text}
 use Rattle.cap_bytes.specs.declared.faults.Refusal.{Refusal}
-use Rattle.cap_bytes.specs.declared.faults.Rule.{Rule}
 use Rattle.cap_bytes.specs.declared.faults.Tail.{Tail}
-use Rattle.cap_bytes.specs.declared.numbers.Order.{Order}
 use Rattle.cap_merge.specs.Files.{items_of_files, run_of_lists, run_of_files}
 use Rattle.cap_merge.specs.Lists.{map-both}
 use Rattle.cap_source.specs.Feed.{Item, packet, refused}
 use Rattle.cap_source.specs.Items.{file_items}
 use Rattle.cap_write.specs.Laws.{MergeLaw, instances, numbers}
 use Rattle.cap_write.specs.Numbering.{Name, Numbered, numbered, numbered_of, refusal_in, with_name}
-use Rattle.cap_write.specs.Rounds.{FileRoundsLaw, IsItemOf, IsMergeOf, merged_packets, merged_rule, numbered_files, run_of}
+use Rattle.cap_write.specs.Rounds.{FileRoundsLaw, IsItemOf, IsMergeOf, numbered_files, run_of}
 use Rattle.cap_write.specs.Texts.{packets_text}
 use Rattle.cap_laws.proofs.FileNumbers.{file-numbered}
 use Rattle.cap_laws.proofs.Twins.{goes, refuses}
-use Rattle.cap_laws.specs.Rounds.{Group, IsMerged, group_run, group_text, refused_by, RoundsInBytes}
+use Rattle.cap_laws.specs.Rounds.{Group, IsMerged, group_text, refused_by, RoundsInBytes}
 
 -- the items of files of those bytes, each numbered as the first
 abbrev items_each : Tail → List (List ℕ) → List (List Item)

@@ -3,4 +3,6 @@
 
 mod laws;
 
-pub use crate::laws::{merged_report, merged_run, pcapng_report, pcapng_run, refusal_rule, rounds_bytes};
+pub use crate::laws::{
+    merged_report, merged_run, pcapng_report, pcapng_run, refusal_rule, rounds_bytes,
+};
