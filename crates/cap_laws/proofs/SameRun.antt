@@ -20,7 +20,7 @@ use Rattle.cap_laws.proofs.Twins.{TwinItems, twins}
 use Rattle.cap_laws.specs.Reports.{SameReport}
 
 -- two clocks that are told by equal times
-told_twice : (t u a b : Option Stamp) → clock_cmp t u ≡ Equal → clock_cmp t a ≡ Equal → clock_cmp u b ≡ Equal → clock_cmp a b ≡ Equal
+pub told_twice : (t u a b : Option Stamp) → clock_cmp t u ≡ Equal → clock_cmp t a ≡ Equal → clock_cmp u b ≡ Equal → clock_cmp a b ≡ Equal
 told_twice t u a b e f g =
     let back = tied_back clock_total t a f in
     clock_total.congr a t b back ∙ clock_total.congr t u b e ∙ g

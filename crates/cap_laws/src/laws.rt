@@ -1,9 +1,10 @@
 //! Laws, each the contract of a function that does nothing.
+ghost use Rattle.cap_laws.specs.Forms.{BodyParts, PcapReport};
 ghost use Rattle.cap_laws.specs.Reports.{MergedReport, PcapngReport, RuleLaw};
 ghost use Rattle.cap_laws.specs.Rounds.{RoundsInBytes};
 ghost use Rattle.cap_laws.specs.Runs.{MergedRun, PcapngRun};
 
-use cap_write::laws::{merged_again, pcapng_again, rounds_law};
+use cap_write::laws::{merged_again, pcap_again, pcapng_again, rounds_law};
 
 /// Where `write_merged` writes the run of some files, whatever bytes these hold, with no refusal and in at most
 /// 2^40 bytes, the report over the one file that it wrote has the lines of the report over those files, byte for
@@ -21,6 +22,18 @@ pub fn pcapng_report()
     ensures { PcapngReport }
 {
     pcapng_again();
+}
+
+/// The report over the one file that `to_pcap` writes, with no refusal and in at most 2^40 bytes, has the lines
+/// `total`, `frames`, `joined` and `talks` of the report over the file that it was written of, byte for byte, and
+/// its `talk` lines, one by one, have the same protocol, ends, frames and bytes each way, and the same times, which
+/// may have another form. Or both are refused, by the same rule, behind as many packets of the run. A report has no
+/// other lines but those of the files.
+pub fn pcap_report()
+    ensures report { PcapReport }
+    ensures lines { BodyParts }
+{
+    pcap_again();
 }
 
 /// What `merged_report` tells of a refusal by its place in the run is the refusal that `report` answers: one

@@ -4,5 +4,5 @@
 mod laws;
 
 pub use crate::laws::{
-    merged_report, merged_run, pcapng_report, pcapng_run, refusal_rule, rounds_bytes,
+    merged_report, merged_run, pcap_report, pcapng_report, pcapng_run, refusal_rule, rounds_bytes,
 };
