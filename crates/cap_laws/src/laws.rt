@@ -54,9 +54,9 @@ pub fn rounds_bytes()
 }
 
 /// Where `write_merged` writes the run of some files, whatever bytes these hold, with no refusal and in at most
-/// 2^40 bytes, the run of the one file that it wrote is, item by item, the run of those files: the same
+/// 2^40 bytes, the run of the one file that it wrote is, packet by packet, the run of those files: the same
 /// interface, units, captured and original lengths and bytes, and clocks that are equal by the order. Which file
-/// an item is of and where it begins there are others. This holds also where clocks run back.
+/// a packet is of, and where it begins there, may differ. This holds also where clocks run back.
 pub fn merged_run()
     ensures { MergedRun }
 {

@@ -1,4 +1,5 @@
-//! Laws over several crates: what stays of the report when packets are written and read again.
+//! Laws over several crates: what stays of the report and of the run when packets are written and read again, and merging in
+//! rounds.
 #![tactic(auto)]
 
 mod laws;
