@@ -1,9 +1,10 @@
 -- Runs whose packets have clocks of the same times, and the same interfaces, units, lengths and bytes, have the same report, but for the
 -- lines of the files: what is told of files and of places in them may differ.
-use Rattle.std.proofs.Common.{◌≡◌, ℕ, ◌+◌, Bool, true, false, List, [], ◌∷◌, ◌++◌, length, refl, sym, ◌∙◌, ap, subst, true≢false, Option, Some, None}
+use Rattle.std.proofs.Common.{◌≡◌, ℕ, ◌+◌, List, [], ◌∷◌, ◌++◌, length, refl, sym, ◌∙◌, ap, subst, Option}
 use Rattle.std.proofs.lemmas.List.Elements.{length_all_zip}
 use Rattle.std.specs.List.{AllZip}
 use Rattle.std.specs.Option.{option_map}
+use Rattle.std.specs.Cmp.{tied_itself}
 use Rattle.std.specs.Prelude.{nat_lt, if◌then◌else◌}
 use Rattle.cap_join.proofs.EqualClocks.{same-groups}
 use Rattle.cap_join.specs.Completed.{if_complete}
@@ -13,15 +14,20 @@ use Rattle.cap_join.specs.History.{Event}
 use Rattle.cap_join.specs.Joiners.{open_limit}
 use Rattle.cap_join.specs.declared.datagrams.Stamped.{Stamped}
 use Rattle.cap_link.specs.Links.{network_of, is_whole}
+use Rattle.cap_merge.specs.Clock.{clock_cmp}
+use Rattle.cap_merge.specs.Clocks.{clock_total}
+use Rattle.cap_merge.specs.Parts.{meta_time}
 use Rattle.cap_merge.specs.Run.{Clocked}
 use Rattle.cap_source.specs.Feed.{Item, packet, refused}
 use Rattle.cap_talks.specs.Classes.{class_by, classes, classes_in, groups_of}
-use Rattle.cap_talks.specs.CountedUnits.{first_unit, unit_by, unit_at, listed, units_of, is_limit_at}
-use Rattle.cap_talks.specs.ReportText.{body_text, bytes_of, truncated_of, with_item, taken_after, refusal_at, refusal_here}
+use Rattle.cap_talks.specs.CountedUnits.{first_unit, unit_by, unit_at, listed, units_of}
+use Rattle.cap_talks.specs.ReportText.{body_text, bytes_of, truncated_of, with_item, taken_after}
 use Rattle.cap_talks.specs.Taken.{Taken, Look, plain, datagram, fragment, look_at, look, stamped_of, events_with, events_of}
 use Rattle.cap_time.specs.Stamp.{stamp_in}
 use Rattle.cap_time.specs.declared.stamps.Stamp.{Stamp}
-use Rattle.cap_laws.specs.Reports.{Place, place_or, refused_after, SameReport}
+use Rattle.cap_time.specs.declared.resolutions.Interface.{Interface}
+use Rattle.cap_laws.proofs.LikeReports.{LikeItems, RunsLike, refusals-like}
+use Rattle.cap_laws.specs.Reports.{SameReport}
 
 -- Two packets are alike.
 pub record IsAlike (x y : Taken) : Type 0 where
@@ -136,32 +142,6 @@ alike-body xs ys h =
     let u = alike-units xs ys h in
     cc
 
--- ---- refusals
-
-alike-limit : (xs ys : List Taken) (x y : Taken) → AreAlike xs ys → IsAlike x y → is_limit_at xs x ≡ is_limit_at ys y
-alike-limit xs ys x y h k =
-    let u = alike-units xs ys h in
-    let v = alike-unit xs ys x y h k in
-    rw (u, v) refl
-
--- one of the two packets is refused where the other is, by the same rule
-refused-here : (c d : Option Stamp) (a b : Item) (xs ys : List Taken) (p q : Option Place) → AlikeItems c d a b → AreAlike xs ys → p ≡ q
-    → place_or (length xs) (refusal_here xs c a) p ≡ place_or (length ys) (refusal_here ys d b) q
-refused-here c d (packet m f) (packet n g) xs ys p q h k e =
-    by (is_limit_at xs (record { clock = c; meta = m; frame = f })) (is_limit_at ys (record { clock = d; meta = n; frame = g }))
-    (alike-limit xs ys (record { clock = c; meta = m; frame = f }) (record { clock = d; meta = n; frame = g }) k h)
-    (length xs) (length ys) (alike-length xs ys k)
-  where
-    by : (b v : Bool) → b ≡ v → (i j : ℕ) → i ≡ j
-        → place_or i (if b then Some (refusal_at m) else None) p ≡ place_or j (if v then Some (refusal_at n) else None) q
-    by true true o i j w = ap (λ l. Some (record { taken = l; rule = (refusal_at m).rule })) w
-    by true false o i j w = absurd (true≢false o)
-    by false true o i j w = absurd (true≢false (sym o))
-    by false false o i j w = e
-refused-here c d (packet m f) (refused r) xs ys p q h k e = absurd h
-refused-here c d (refused o) (packet n g) xs ys p q h k e = absurd h
-refused-here c d (refused o) (refused r) xs ys p q h k e = absurd h
-
 -- ---- runs
 
 with_alike : (c d : Option Stamp) (a b : Item) (xs ys : List Taken) → AlikeItems c d a b → AreAlike xs ys → AreAlike (with_item c a xs) (with_item d b ys)
@@ -178,18 +158,29 @@ taken-alike (a ∷ as_) [] xs ys h k = absurd h
 taken-alike (a ∷ as_) (b ∷ bs) xs ys h k =
     taken-alike as_ bs (with_item a.clock a.item xs) (with_item b.clock b.item ys) h.1 (with_alike a.clock b.clock a.item b.item xs ys h.0 k)
 
-refused-alike : (as_ bs : List (Clocked Item)) (xs ys : List Taken) → RunsAlike as_ bs → AreAlike xs ys → refused_after xs as_ ≡ refused_after ys bs
-unfolding refused_after
-refused-alike [] [] xs ys h k = refl
-refused-alike [] (b ∷ bs) xs ys h k = absurd h
-refused-alike (a ∷ as_) [] xs ys h k = absurd h
-refused-alike (a ∷ as_) (b ∷ bs) xs ys h k =
-    refused-here a.clock b.clock a.item b.item xs ys
-    (refused_after (with_item a.clock a.item xs) as_) (refused_after (with_item b.clock b.item ys) bs) h.0 k
-    (refused-alike as_ bs (with_item a.clock a.item xs) (with_item b.clock b.item ys) h.1 (with_alike a.clock b.clock a.item b.item xs ys h.0 k))
+-- such packets are like each other also where times may take other forms, on which refusals do not depend
+like-items : (c d : Option Stamp) (a b : Item) → AlikeItems c d a b → LikeItems c d a b
+like-items c d (packet m f) (packet n g) h =
+    let same : meta_time m ≡ meta_time n = λ i. option_map (λ units. stamp_in units (h.interface i)) (h.units i) in
+    record {
+      clock = h.clock;
+      link = ap (λ (interface : Interface). interface.link) h.interface;
+      time = sym (ap (clock_cmp (meta_time m)) same) ∙ tied_itself clock_total (meta_time m);
+      original = h.original;
+      frame = h.frame;
+    }
+like-items c d (packet m f) (refused r) h = absurd h
+like-items c d (refused q) (packet n g) h = absurd h
+like-items c d (refused q) (refused r) h = absurd h
+
+runs-like : (as_ bs : List (Clocked Item)) → RunsAlike as_ bs → RunsLike as_ bs
+runs-like [] [] h = tt
+runs-like [] (b ∷ bs) h = absurd h
+runs-like (a ∷ as_) [] h = absurd h
+runs-like (a ∷ as_) (b ∷ bs) h = (like-items a.clock b.clock a.item b.item h.0, runs-like as_ bs h.1)
 
 pub same-report : (run again : List (Clocked Item)) → RunsAlike again run → SameReport run again
 same-report run again h = record {
   lines = alike-body (taken_after [] again) (taken_after [] run) (taken-alike again run [] [] h tt);
-  refused = refused-alike again run [] [] h tt;
+  refused = refusals-like again run [] [] (runs-like again run h) tt;
 }

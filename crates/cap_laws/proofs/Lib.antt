@@ -1,5 +1,13 @@
 mod Alike
+mod FileNumbers
+mod LikeGroups
+mod LikePieces
+mod LikeReports
+mod LikeUnits
+mod Measured
 mod OneFile
+mod PcapWritten
+mod Rounds
 mod Rules
 mod SameRun
 mod Twins

@@ -20,7 +20,7 @@ use Rattle.cap_laws.proofs.Twins.{TwinItems, twins}
 use Rattle.cap_laws.specs.Reports.{SameReport}
 
 -- two clocks that are told by equal times
-told_twice : (t u a b : Option Stamp) → clock_cmp t u ≡ Equal → clock_cmp t a ≡ Equal → clock_cmp u b ≡ Equal → clock_cmp a b ≡ Equal
+pub told_twice : (t u a b : Option Stamp) → clock_cmp t u ≡ Equal → clock_cmp t a ≡ Equal → clock_cmp u b ≡ Equal → clock_cmp a b ≡ Equal
 told_twice t u a b e f g =
     let back = tied_back clock_total t a f in
     clock_total.congr a t b back ∙ clock_total.congr t u b e ∙ g
@@ -60,14 +60,27 @@ runs-alike t u (a ∷ as_) (b ∷ bs) e h k w =
       runs-alike (later t (item_time a.item)) (later u (item_time b.item)) as_ bs now h.1 k.1 w.1,
     )
 
--- The runs of two lists of files, of which the same packets are written and none is refused, have the same report.
-pub same-run : (names others : List Name) (files again : List (List Item))
-    → refusal_in names (run_of_lists files) ≡ None → refusal_in others (run_of_lists again) ≡ None
-    → numbered others (run_of_lists again) ≡ numbered names (run_of_lists files)
-    → SameReport (run item_time is_refusal (map opened files)) (run item_time is_refusal (map opened again))
-same-run names others files again none same_none packets =
+-- Of the runs of two lists of files the same packets are written, behind those interfaces, and none is refused.
+pub record IsRewritten (names others : List Name) (files again : List (List Item)) : Type 0 where
+  pub accepted : refusal_in names (run_of_lists files) ≡ None
+  pub accepted_again : refusal_in others (run_of_lists again) ≡ None
+  pub packets : numbered others (run_of_lists again) ≡ numbered names (run_of_lists files)
+
+back_again : (names others : List Name) (files again : List (List Item)) → IsRewritten names others files again → IsRewritten others names again files
+back_again names others files again is = record { accepted = is.accepted_again; accepted_again = is.accepted; packets = sym is.packets }
+
+-- Such runs are alike,
+pub rewritten-alike : (names others : List Name) (files again : List (List Item)) → IsRewritten names others files again
+    → RunsAlike (run item_time is_refusal (map opened files)) (run item_time is_refusal (map opened again))
+rewritten-alike names others files again is =
     let run_now = run item_time is_refusal (map opened files) in
     let run_again = run item_time is_refusal (map opened again) in
-    same-report run_now run_again
-    (runs-alike None None run_again run_now refl (run-clocks item_time is_refusal again) (run-clocks item_time is_refusal files)
-    (twins others names (run_of_lists again) (run_of_lists files) same_none none packets))
+    runs-alike None None run_now run_again refl (run-clocks item_time is_refusal files) (run-clocks item_time is_refusal again)
+    (twins names others (run_of_lists files) (run_of_lists again) is.accepted is.accepted_again (sym is.packets))
+
+-- and have the same report.
+pub same-run : (names others : List Name) (files again : List (List Item)) → IsRewritten names others files again
+    → SameReport (run item_time is_refusal (map opened files)) (run item_time is_refusal (map opened again))
+same-run names others files again is =
+    same-report (run item_time is_refusal (map opened files)) (run item_time is_refusal (map opened again))
+    (rewritten-alike others names again files (back_again names others files again is))

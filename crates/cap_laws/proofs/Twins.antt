@@ -32,10 +32,10 @@ true-false : true ≡ false → ⊥
 true-false e = cc
 
 -- a packet that isn't refused: it has a time, and is the next of those that are written
-record Goes (names : List Name) (meta : Meta) (frame : List ℕ) (items : List Item) : Type 0 where
-  timed : is_none meta.units ≡ false
-  packets : numbered names (packet meta frame ∷ items) ≡ numbered_of names meta frame ∷ numbered (with_name names meta) items
-  rest : refusal_in (with_name names meta) items ≡ None
+pub record Goes (names : List Name) (meta : Meta) (frame : List ℕ) (items : List Item) : Type 0 where
+  pub timed : is_none meta.units ≡ false
+  pub packets : numbered names (packet meta frame ∷ items) ≡ numbered_of names meta frame ∷ numbered (with_name names meta) items
+  pub rest : refusal_in (with_name names meta) items ≡ None
 
 timed_by : (b full : Bool) → (if b then Some NoTime else (if full then Some InterfaceLimit else None)) ≡ None → b ≡ false
 timed_by true full e = absurd (some-none NoTime e)
@@ -45,7 +45,7 @@ time_of : (names : List Name) (meta : Meta) → write_fault names meta ≡ None 
 unfolding write_fault
 time_of names meta e = timed_by (is_none meta.units) (is_full names meta) e
 
-goes : (names : List Name) (meta : Meta) (frame : List ℕ) (items : List Item) → refusal_in names (packet meta frame ∷ items) ≡ None → Goes names meta frame items
+pub goes : (names : List Name) (meta : Meta) (frame : List ℕ) (items : List Item) → refusal_in names (packet meta frame ∷ items) ≡ None → Goes names meta frame items
 unfolding numbered refusal_in
 goes names meta frame items none = by (write_fault names meta) refl none
   where
@@ -72,7 +72,7 @@ nothing : (names : List Name) → numbered names [] ≡ []
 unfolding numbered
 nothing names = refl
 
-refuses : (names : List Name) (r : Refusal) (items : List Item) → refusal_in names (refused r ∷ items) ≡ Some r
+pub refuses : (names : List Name) (r : Refusal) (items : List Item) → refusal_in names (refused r ∷ items) ≡ Some r
 unfolding refusal_in
 refuses names r items = refl
 

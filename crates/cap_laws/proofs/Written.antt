@@ -1,26 +1,49 @@
--- The report over the file that a merge writes, and over a file that is written as pcapng.
-use Rattle.std.proofs.Common.{◌≡◌, List, [], ◌∷◌, refl, sym, ◌∙◌, ap, Option, Some, None}
+-- The report and the run of the file that a merge writes, and of a file that is written as pcapng.
+use Rattle.std.proofs.Common.{◌≡◌, ℕ, ◌≤◌, ◌^◌, List, [], ◌∷◌, length, refl, sym, ◌∙◌, ap, Option, Some, None}
+use Rattle.std.specs.List.{AllByRecursion}
+use Rattle.cap_blocks.specs.Split.{AreBytes}
 use Rattle.cap_bytes.specs.declared.faults.Refusal.{Refusal}
 use Rattle.cap_bytes.specs.declared.faults.Rule.{Rule}
-use Rattle.cap_merge.specs.Files.{items_of_files, run_of_lists, run_of_files}
+use Rattle.cap_bytes.specs.declared.faults.Tail.{Tail}
+use Rattle.cap_bytes.specs.declared.numbers.Order.{Order}
+use Rattle.cap_merge.specs.Files.{clocked_run, items_of_files, run_of_lists, run_of_files}
+use Rattle.cap_merge.specs.Run.{Clocked}
 use Rattle.cap_source.specs.Feed.{Item, packet, refused, refusal_of}
 use Rattle.cap_source.specs.Items.{file_first, file_items}
+use Rattle.cap_time.specs.declared.stamps.Stamp.{Stamp}
 use Rattle.cap_write.specs.Laws.{MergeLaw, PcapngAgain}
 use Rattle.cap_write.specs.Numbering.{Name, numbered, refusal_at, refusal_in, refusal_or, with_name, write_fault}
-use Rattle.cap_write.specs.Texts.{first_names, merged_text, pcapng_text}
+use Rattle.cap_write.specs.Texts.{first_names, merged_refusal, merged_text, pcapng_refusal, pcapng_text}
 use Rattle.cap_laws.proofs.OneFile.{run-one}
-use Rattle.cap_laws.proofs.SameRun.{same-run}
+use Rattle.cap_laws.proofs.Alike.{AlikeItems, RunsAlike}
+use Rattle.cap_laws.proofs.Measured.{AreMeasured, IsMeasured, files-measured, run-measured}
+use Rattle.cap_laws.proofs.SameRun.{IsRewritten, rewritten-alike, same-run}
 use Rattle.cap_laws.specs.Reports.{MergedReport, PcapngReport}
+use Rattle.cap_laws.specs.Runs.{MergedRun, PcapngRun, SameItems, SameRun}
 
-pub merged-report : MergeLaw → MergedReport
-unfolding run_of_files
-merged-report merge-law order tail tail_again files bytes none short =
-    let lists = items_of_files tail 1 files in
-    let items = run_of_lists lists in
-    let again = file_items tail_again 1 (merged_text order items) in
+-- ---- a merge
+
+-- what is written of a merge, as the items of a file
+merged_items : (order : Order) (tail tail_again : Tail) (files : List (List ℕ)) → List Item
+merged_items order tail tail_again files = file_items tail_again 1 (merged_text order (run_of_files tail files))
+
+merged-rewritten : MergeLaw → (order : Order) (tail tail_again : Tail) (files : List (List ℕ)) → AllByRecursion AreBytes files
+    → merged_refusal (run_of_files tail files) ≡ None → length (merged_text order (run_of_files tail files)) ≤ 2 ^ 40
+    → IsRewritten [] [] (items_of_files tail 1 files) (merged_items order tail tail_again files ∷ [])
+unfolding run_of_files merged_items
+merged-rewritten merge-law order tail tail_again files bytes none short =
+    let again = file_items tail_again 1 (merged_text order (run_of_files tail files)) in
     let law = merge-law order tail tail_again 1 files bytes short in
     let same : run_of_lists (again ∷ []) ≡ again = run-one again law.2 in
-    same-run [] [] lists (again ∷ []) none (ap (refusal_in []) same ∙ law.1) (ap (numbered []) same ∙ law.0)
+    record { accepted = none; accepted_again = ap (refusal_in []) same ∙ law.1; packets = ap (numbered []) same ∙ law.0 }
+
+pub merged-report : MergeLaw → MergedReport
+unfolding merged_items
+merged-report merge-law order tail tail_again files bytes none short =
+    same-run [] [] (items_of_files tail 1 files) (merged_items order tail tail_again files ∷ [])
+    (merged-rewritten merge-law order tail tail_again files bytes none short)
+
+-- ---- a file as pcapng
 
 some-none : (r : Refusal) → Some r ≡ None → ⊥
 some-none r e = cc
@@ -37,8 +60,16 @@ unrefused names (packet meta frame ∷ items) none = by (write_fault names meta)
     by (Some rule) none later = absurd (some-none (refusal_at meta rule) none)
     by None none later = later none
 
-pub pcapng-report : PcapngAgain → PcapngReport
-pcapng-report again-law order tail tail_again bytes are none short =
+pcapng_items : (order : Order) (tail tail_again : Tail) (bytes : List ℕ) → List Item
+pcapng_items order tail tail_again bytes = file_items tail_again 1 (pcapng_text order 1 (file_first tail 1 bytes) (file_items tail 1 bytes))
+
+pcapng-rewritten : PcapngAgain → (order : Order) (tail tail_again : Tail) (bytes : List ℕ) → AreBytes bytes
+    → pcapng_refusal 1 (file_first tail 1 bytes) (file_items tail 1 bytes) ≡ None
+    → length (pcapng_text order 1 (file_first tail 1 bytes) (file_items tail 1 bytes)) ≤ 2 ^ 40
+    → IsRewritten (first_names 1 (file_first tail 1 bytes)) (first_names 1 (file_first tail 1 bytes)) (file_items tail 1 bytes ∷ [])
+    (pcapng_items order tail tail_again bytes ∷ [])
+unfolding pcapng_items
+pcapng-rewritten again-law order tail tail_again bytes are none short =
     let items = file_items tail 1 bytes in
     let first = file_first tail 1 bytes in
     let names = first_names 1 first in
@@ -46,5 +77,54 @@ pcapng-report again-law order tail tail_again bytes are none short =
     let law = again-law order tail tail_again 1 1 bytes are short in
     let same : run_of_lists (again ∷ []) ≡ again = run-one again law.2 in
     let whole : run_of_lists (items ∷ []) ≡ items = run-one items (unrefused names items none) in
-    same-run names names (items ∷ []) (again ∷ []) (ap (refusal_in names) whole ∙ none) (ap (refusal_in names) same ∙ law.1)
-    (ap (numbered names) same ∙ (law.0 ∙ sym (ap (numbered names) whole)))
+    record {
+      accepted = ap (refusal_in names) whole ∙ none;
+      accepted_again = ap (refusal_in names) same ∙ law.1;
+      packets = ap (numbered names) same ∙ (law.0 ∙ sym (ap (numbered names) whole));
+    }
+
+pub pcapng-report : PcapngAgain → PcapngReport
+unfolding pcapng_items
+pcapng-report again-law order tail tail_again bytes are none short =
+    let names = first_names 1 (file_first tail 1 bytes) in
+    same-run names names (file_items tail 1 bytes ∷ []) (pcapng_items order tail tail_again bytes ∷ [])
+    (pcapng-rewritten again-law order tail tail_again bytes are none short)
+
+-- ---- runs
+
+same-items : (c d : Option Stamp) (x y : Item) → AlikeItems c d x y → IsMeasured x → IsMeasured y → SameItems c d x y
+same-items c d (packet m f) (packet n g) h one other =
+    record { clocks = h.clock; interface = h.interface; units = h.units; captured = one ∙ ap length h.frame ∙ sym other; original = h.original; frame = h.frame }
+same-items c d (packet m f) (refused r) h one other = absurd h
+same-items c d (refused q) (packet n g) h one other = absurd h
+same-items c d (refused q) (refused r) h one other = absurd h
+
+same-runs : (xs ys : List (Clocked Item)) → RunsAlike xs ys → AreMeasured xs → AreMeasured ys → SameRun xs ys
+same-runs [] [] h one other = tt
+same-runs [] (y ∷ ys) h one other = absurd h
+same-runs (x ∷ xs) [] h one other = absurd h
+same-runs (x ∷ xs) (y ∷ ys) h one other = (same-items x.clock y.clock x.item y.item h.0 one.0 other.0, same-runs xs ys h.1 one.1 other.1)
+
+-- the run of files of some bytes, and that of a file of which the same packets are written
+run-again : (tail tail_again : Tail) (names others : List Name) (files : List (List ℕ)) (text : List ℕ)
+    → IsRewritten names others (items_of_files tail 1 files) (file_items tail_again 1 text ∷ [])
+    → SameRun (clocked_run tail files) (clocked_run tail_again (text ∷ []))
+run-again tail tail_again names others files text is =
+    same-runs (clocked_run tail files) (clocked_run tail_again (text ∷ []))
+    (rewritten-alike names others (items_of_files tail 1 files) (file_items tail_again 1 text ∷ []) is)
+    (run-measured (items_of_files tail 1 files) (files-measured tail 1 files))
+    (run-measured (items_of_files tail_again 1 (text ∷ [])) (files-measured tail_again 1 (text ∷ [])))
+
+pub merged-run : MergeLaw → MergedRun
+unfolding merged_items
+merged-run merge-law order tail tail_again files bytes none short =
+    run-again tail tail_again [] [] files (merged_text order (run_of_files tail files))
+    (merged-rewritten merge-law order tail tail_again files bytes none short)
+
+pub pcapng-run : PcapngAgain → PcapngRun
+unfolding pcapng_items
+pcapng-run again-law order tail tail_again bytes are none short =
+    let first = file_first tail 1 bytes in
+    let names = first_names 1 first in
+    run-again tail tail_again names names (bytes ∷ []) (pcapng_text order 1 first (file_items tail 1 bytes))
+    (pcapng-rewritten again-law order tail tail_again bytes are none short)

@@ -1,1 +1,4 @@
+pub mod Forms
 pub mod Reports
+pub mod Rounds
+pub mod Runs

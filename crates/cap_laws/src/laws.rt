@@ -1,7 +1,10 @@
 //! Laws, each the contract of a function that does nothing.
+ghost use Rattle.cap_laws.specs.Forms.{BodyParts, PcapReport};
 ghost use Rattle.cap_laws.specs.Reports.{MergedReport, PcapngReport, RuleLaw};
+ghost use Rattle.cap_laws.specs.Rounds.{RoundsInBytes};
+ghost use Rattle.cap_laws.specs.Runs.{MergedRun, PcapngRun};
 
-use cap_write::laws::{merged_again, pcapng_again};
+use cap_write::laws::{merged_again, pcap_again, pcapng_again, rounds_law};
 
 /// Where `write_merged` writes the run of some files, whatever bytes these hold, with no refusal and in at most
 /// 2^40 bytes, the report over the one file that it wrote has the lines of the report over those files, byte for
@@ -21,8 +24,49 @@ pub fn pcapng_report()
     pcapng_again();
 }
 
+/// The report over the one file that `to_pcap` writes, with no refusal and in at most 2^40 bytes, has the lines
+/// `total`, `frames`, `joined` and `talks` of the report over the file that it was written of, byte for byte, and
+/// its `talk` lines, one by one, have the same protocol, ends, frames and bytes each way, and the same times, which
+/// may have another form. Or both are refused, by the same rule, behind as many packets of the run. A report has no
+/// other lines but those of the files.
+pub fn pcap_report()
+    ensures report { PcapReport }
+    ensures lines { BodyParts }
+{
+    pcap_again();
+}
+
 /// What `merged_report` tells of a refusal by its place in the run is the refusal that `report` answers: one
 /// comes where the other does, by the same rule.
 pub fn refusal_rule()
     ensures { RuleLaw }
 {}
+
+/// Files, whatever bytes they hold, are split, in their order, into neighbouring groups, and each group is merged, in a
+/// byte order of its own. Where no group is refused, and each writes at most 2^40 bytes, the merge of the written files,
+/// in the groups' order, writes byte for byte what the merge of all files at once writes, in the same byte order; and
+/// one of the two is refused where the other is, behind these packets, by the same rule.
+pub fn rounds_bytes()
+    ensures { RoundsInBytes }
+{
+    merged_again();
+    rounds_law();
+}
+
+/// Where `write_merged` writes the run of some files, whatever bytes these hold, with no refusal and in at most
+/// 2^40 bytes, the run of the one file that it wrote is, packet by packet, the run of those files: the same
+/// interface, units, captured and original lengths and bytes, and clocks that are equal by the order. Which file
+/// a packet is of, and where it begins there, may differ. This holds also where clocks run back.
+pub fn merged_run()
+    ensures { MergedRun }
+{
+    merged_again();
+}
+
+/// The same holds of the one file that `to_pcapng` writes, with no refusal and in at most 2^40 bytes, and the
+/// file that it was written of.
+pub fn pcapng_run()
+    ensures { PcapngRun }
+{
+    pcapng_again();
+}

@@ -1,6 +1,9 @@
-//! Laws over several crates: what stays of the report when packets are written and read again.
+//! Laws over several crates: what stays of the report and of the run when packets are written and read again, and merging in
+//! rounds.
 #![tactic(auto)]
 
 mod laws;
 
-pub use crate::laws::{merged_report, pcapng_report, refusal_rule};
+pub use crate::laws::{
+    merged_report, merged_run, pcap_report, pcapng_report, pcapng_run, refusal_rule, rounds_bytes,
+};

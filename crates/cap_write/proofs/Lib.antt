@@ -5,7 +5,6 @@ mod Completed
 mod Contents
 mod Feeding
 mod Fields
-mod FileNumbers
 mod Files
 mod FirstInterface
 mod Grouped

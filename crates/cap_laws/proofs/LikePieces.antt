@@ -1,0 +1,160 @@
+-- What is made of fragments whose frames have the same times, maybe in other forms.
+use Rattle.std.proofs.Common.{◌≡◌, ℕ, zero, suc, ◌+◌, ◌-◌, ◌*◌, Bool, true, false, List, [], ◌∷◌, length, refl, sym, ◌∙◌, ap, true≢false, Option, Some, None, ◌||◌, ◌&&◌}
+use Rattle.std.specs.Cmp.{alike_right}
+use Rattle.std.specs.List.{AllZip, range_with_len}
+use Rattle.std.specs.Option.{option_map_or}
+use Rattle.std.specs.Ordering.{is_lt, is_gt}
+use Rattle.std.specs.Prelude.{◌==◌, map, slice_index, if◌then◌else◌}
+use Rattle.cap_join.proofs.OpenGroups.{total}
+use Rattle.cap_join.specs.ByteMap.{is_covered, covers_below, total_of, header_of, byte_at, blocks, completes, data_of}
+use Rattle.cap_join.specs.EqualClocks.{IsSameTime}
+use Rattle.cap_join.specs.Fragments.{Piece}
+use Rattle.cap_join.specs.Frames.{is_before, original_bytes, timed, earlier, later, first_frame, last_frame}
+use Rattle.cap_join.specs.Holes.{is_within}
+use Rattle.cap_join.specs.declared.datagrams.Stamped.{Stamped}
+use Rattle.cap_merge.specs.Clock.{clock_cmp}
+use Rattle.cap_talks.specs.Classes.{has_place}
+use Rattle.cap_time.specs.declared.stamps.Stamp.{Stamp}
+
+-- ---- times
+
+pub cmp-same : (a b c d : Option Stamp) → IsSameTime a b → IsSameTime c d → clock_cmp a c ≡ clock_cmp b d
+cmp-same a b c d e f = total.congr a b c e ∙ alike_right total c d b f
+
+pub before-same : (a b c d : Option Stamp) → IsSameTime a b → IsSameTime c d → is_before a c ≡ is_before b d
+before-same a b c d e f = ap is_lt (cmp-same a b c d e f)
+
+pub none-some : (b : Stamp) → IsSameTime None (Some b) → ⊥
+none-some b e = true≢false (ap is_lt e)
+
+pub some-none : (b : Stamp) → IsSameTime (Some b) None → ⊥
+some-none b e = true≢false (ap is_gt e)
+
+-- ---- frames
+
+-- Two frames have the same place and length, and the same time, maybe in another form.
+pub record IsLikeFrame (s t : Stamped) : Type 0 where
+  pub time : IsSameTime s.time t.time
+  pub place : s.place ≡ t.place
+  pub original : s.original ≡ t.original
+
+abbrev pub LikeFrames : Option Stamped → Option Stamped → Type 0
+LikeFrames None None = Unit {0}
+LikeFrames None (Some t) = ⊥
+LikeFrames (Some s) None = ⊥
+LikeFrames (Some s) (Some t) = IsLikeFrame s t
+
+one-of : (s t x y : Stamped) → IsLikeFrame s t → IsLikeFrame x y → (b c : Bool) → b ≡ c → LikeFrames (if b then Some s else Some x) (if c then Some t else Some y)
+one-of s t x y h k true true e = h
+one-of s t x y h k true false e = absurd (true≢false e)
+one-of s t x y h k false true e = absurd (true≢false (sym e))
+one-of s t x y h k false false e = k
+
+earlier-like : (a b c d : Option Stamped) → LikeFrames a b → LikeFrames c d → LikeFrames (earlier a c) (earlier b d)
+earlier-like None None None None h k = tt
+earlier-like (Some x) (Some y) None None h k = h
+earlier-like None (Some y) c d h k = absurd h
+earlier-like (Some x) None c d h k = absurd h
+earlier-like a b None (Some t) h k = absurd k
+earlier-like a b (Some s) None h k = absurd k
+earlier-like None None (Some s) (Some t) h k = k
+earlier-like (Some x) (Some y) (Some s) (Some t) h k =
+    one-of s t x y k h (is_before s.time x.time) (is_before t.time y.time) (before-same s.time t.time x.time y.time k.time h.time)
+
+later-like : (a b c d : Option Stamped) → LikeFrames a b → LikeFrames c d → LikeFrames (later a c) (later b d)
+later-like None None None None h k = tt
+later-like (Some x) (Some y) None None h k = h
+later-like None (Some y) c d h k = absurd h
+later-like (Some x) None c d h k = absurd h
+later-like a b None (Some t) h k = absurd k
+later-like a b (Some s) None h k = absurd k
+later-like None None (Some s) (Some t) h k = k
+later-like (Some x) (Some y) (Some s) (Some t) h k =
+    one-of s t x y k h (is_before x.time s.time) (is_before y.time t.time) (before-same x.time y.time s.time t.time h.time k.time)
+
+timed-like : (s t : Stamped) → IsLikeFrame s t → (a b : Option Stamp) → IsSameTime a b → LikeFrames (timed s a) (timed t b)
+timed-like s t h None None e = tt
+timed-like s t h None (Some b) e = absurd (none-some b e)
+timed-like s t h (Some a) None e = absurd (some-none a e)
+timed-like s t h (Some a) (Some b) e = h
+
+-- ---- fragments
+
+-- Two fragments are the same but for their frames.
+pub record IsLike (p q : Piece) : Type 0 where
+  pub header : p.header ≡ q.header
+  pub start : p.start ≡ q.start
+  pub more : p.more ≡ q.more
+  pub bytes : p.bytes ≡ q.bytes
+  pub stamped : IsLikeFrame p.stamped q.stamped
+
+abbrev pub Like : List Piece → List Piece → Type 0
+Like = AllZip IsLike
+
+first-like : (ps qs : List Piece) → Like ps qs → LikeFrames (first_frame ps) (first_frame qs)
+first-like [] [] h = tt
+first-like [] (q ∷ qs) h = absurd h
+first-like (p ∷ ps) [] h = absurd h
+first-like (p ∷ ps) (q ∷ qs) h =
+    earlier-like (first_frame ps) (first_frame qs) (timed p.stamped p.stamped.time) (timed q.stamped q.stamped.time) (first-like ps qs h.1)
+    (timed-like p.stamped q.stamped h.0.stamped p.stamped.time q.stamped.time h.0.stamped.time)
+
+last-like : (ps qs : List Piece) → Like ps qs → LikeFrames (last_frame ps) (last_frame qs)
+last-like [] [] h = tt
+last-like [] (q ∷ qs) h = absurd h
+last-like (p ∷ ps) [] h = absurd h
+last-like (p ∷ ps) (q ∷ qs) h =
+    later-like (last_frame ps) (last_frame qs) (timed p.stamped p.stamped.time) (timed q.stamped q.stamped.time) (last-like ps qs h.1)
+    (timed-like p.stamped q.stamped h.0.stamped p.stamped.time q.stamped.time h.0.stamped.time)
+
+covered-like : (ps qs : List Piece) → Like ps qs → (k : ℕ) → is_covered ps k ≡ is_covered qs k
+covered-like [] [] h k = refl
+covered-like [] (q ∷ qs) h k = absurd h
+covered-like (p ∷ ps) [] h k = absurd h
+covered-like (p ∷ ps) (q ∷ qs) h k = λ i. is_within (h.0.start i) (h.0.start i + length (h.0.bytes i)) (8 * k) || covered-like ps qs h.1 k i
+
+covers-like : (ps qs : List Piece) → Like ps qs → (n : ℕ) → covers_below ps n ≡ covers_below qs n
+covers-like ps qs h zero = refl
+covers-like ps qs h (suc n) = λ i. covered-like ps qs h n i && covers-like ps qs h n i
+
+total-like : (ps qs : List Piece) → Like ps qs → total_of ps ≡ total_of qs
+total-like [] [] h = refl
+total-like [] (q ∷ qs) h = absurd h
+total-like (p ∷ ps) [] h = absurd h
+total-like (p ∷ ps) (q ∷ qs) h = λ i. if h.0.more i then total-like ps qs h.1 i else Some (h.0.start i + length (h.0.bytes i))
+
+pub header-like : (ps qs : List Piece) → Like ps qs → header_of ps ≡ header_of qs
+header-like [] [] h = refl
+header-like [] (q ∷ qs) h = absurd h
+header-like (p ∷ ps) [] h = absurd h
+header-like (p ∷ ps) (q ∷ qs) h = λ i. if h.0.start i == 0 then Some (h.0.header i) else header-like ps qs h.1 i
+
+byte-like : (ps qs : List Piece) → Like ps qs → (k : ℕ) → byte_at ps k ≡ byte_at qs k
+byte-like [] [] h k = refl
+byte-like [] (q ∷ qs) h k = absurd h
+byte-like (p ∷ ps) [] h k = absurd h
+byte-like (p ∷ ps) (q ∷ qs) h k =
+    λ i. if is_within (h.0.start i) (h.0.start i + length (h.0.bytes i)) k then slice_index (h.0.bytes i) (k - h.0.start i) else byte-like ps qs h.1 k i
+
+pub completes-like : (ps qs : List Piece) → Like ps qs → completes ps ≡ completes qs
+unfolding completes
+completes-like ps qs h = λ i. option_map_or (λ n. covers-like ps qs h (blocks n) i) (total-like ps qs h i) false
+
+pub data-like : (ps qs : List Piece) → Like ps qs → data_of ps ≡ data_of qs
+unfolding data_of
+data-like ps qs h = λ i. option_map_or (λ n. map (λ k. byte-like ps qs h k i) (range_with_len 0 n)) (total-like ps qs h i) []
+
+pub original-like : (ps qs : List Piece) → Like ps qs → original_bytes ps ≡ original_bytes qs
+original-like [] [] h = refl
+original-like [] (q ∷ qs) h = absurd h
+original-like (p ∷ ps) [] h = absurd h
+original-like (p ∷ ps) (q ∷ qs) h = λ i. original-like ps qs h.1 i + h.0.stamped.original i
+
+pub place-like : (n m : ℕ) (ps qs : List Piece) → n ≡ m → Like ps qs → has_place n ps ≡ has_place m qs
+place-like n m [] [] e h = refl
+place-like n m [] (q ∷ qs) e h = absurd h
+place-like n m (p ∷ ps) [] e h = absurd h
+place-like n m (p ∷ ps) (q ∷ qs) e h = λ i. (h.0.stamped.place i == e i) || place-like n m ps qs e h.1 i
+
+pub frames-like : (ps qs : List Piece) → Like ps qs → LikeFrames (first_frame ps) (first_frame qs) × LikeFrames (last_frame ps) (last_frame qs)
+frames-like ps qs h = (first-like ps qs h, last-like ps qs h)

@@ -1,0 +1,86 @@
+-- The report over a file that is written as pcap.
+use Rattle.std.proofs.Common.{◌≡◌, Bool, true, false, List, [], ◌∷◌, refl, sym, ap, subst, true≢false, Option, None, Equal}
+use Rattle.std.specs.List.{AllZip}
+use Rattle.std.specs.Ordering.{is_lt}
+use Rattle.std.specs.Prelude.{map, if◌then◌else◌}
+use Rattle.cap_merge.proofs.RunLaws.{ClocksAreTold, run-clocks}
+use Rattle.cap_merge.specs.Clock.{clock_cmp, later}
+use Rattle.cap_merge.specs.Files.{clocked_run, run_of_lists}
+use Rattle.cap_merge.specs.Parts.{item_time, is_refusal}
+use Rattle.cap_merge.specs.Run.{Clocked, opened, run}
+use Rattle.cap_source.specs.Feed.{Item, packet, refused, refusal_of}
+use Rattle.cap_source.specs.Items.{file_first, file_items}
+use Rattle.cap_time.specs.declared.stamps.Stamp.{Stamp}
+use Rattle.cap_write.specs.Laws.{PcapAgain, SamePackets}
+use Rattle.cap_write.specs.Pcap.{pcap_text}
+use Rattle.cap_laws.proofs.LikePieces.{cmp-same}
+use Rattle.cap_laws.proofs.LikeReports.{LikeItems, RunsLike, same-but-forms}
+use Rattle.cap_laws.proofs.OneFile.{run-one}
+use Rattle.cap_laws.proofs.SameRun.{told_twice}
+use Rattle.cap_laws.specs.Forms.{PcapReport}
+
+-- neither of two lists of such packets has a refusal
+never-first : (items again : List Item) → AllZip SamePackets items again → refusal_of items ≡ None
+unfolding refusal_of
+never-first [] [] h = refl
+never-first [] (b ∷ bs) h = absurd h
+never-first (a ∷ as_) [] h = absurd h
+never-first (packet m f ∷ as_) (packet n g ∷ bs) h = never-first as_ bs h.1
+never-first (packet m f ∷ as_) (refused r ∷ bs) h = absurd h.0
+never-first (refused q ∷ as_) (b ∷ bs) h = absurd h.0
+
+never-again : (items again : List Item) → AllZip SamePackets items again → refusal_of again ≡ None
+unfolding refusal_of
+never-again [] [] h = refl
+never-again [] (b ∷ bs) h = absurd h
+never-again (a ∷ as_) [] h = absurd h
+never-again (packet m f ∷ as_) (packet n g ∷ bs) h = never-again as_ bs h.1
+never-again (packet m f ∷ as_) (refused r ∷ bs) h = absurd h.0
+never-again (refused q ∷ as_) (b ∷ bs) h = absurd h.0
+
+-- ---- clocks
+
+later_by : (t u x y : Option Stamp) (b c : Bool) → b ≡ c → clock_cmp t u ≡ Equal → clock_cmp x y ≡ Equal
+    → clock_cmp (if b then x else t) (if c then y else u) ≡ Equal
+later_by t u x y true true e h k = k
+later_by t u x y true false e h k = absurd (true≢false e)
+later_by t u x y false true e h k = absurd (true≢false (sym e))
+later_by t u x y false false e h k = h
+
+later-same : (t u x y : Option Stamp) → clock_cmp t u ≡ Equal → clock_cmp x y ≡ Equal → clock_cmp (later t x) (later u y) ≡ Equal
+later-same t u x y h k = later_by t u x y (is_lt (clock_cmp t x)) (is_lt (clock_cmp u y)) (ap is_lt (cmp-same t u x y h k)) h k
+
+times : (a b : Item) → SamePackets a b → clock_cmp (item_time a) (item_time b) ≡ Equal
+times (packet m f) (packet n g) h = h.time
+times (packet m f) (refused r) h = absurd h
+times (refused q) b h = absurd h
+
+items-like : (c d : Option Stamp) (a b : Item) → clock_cmp c d ≡ Equal → SamePackets a b → LikeItems c d a b
+items-like c d (packet m f) (packet n g) e h = record { clock = e; link = h.link; time = h.time; original = h.original; frame = h.frame }
+items-like c d (packet m f) (refused r) e h = absurd h
+items-like c d (refused q) b e h = absurd h
+
+runs-like : (t u : Option Stamp) (as_ bs : List (Clocked Item)) → clock_cmp t u ≡ Equal → ClocksAreTold item_time t as_ → ClocksAreTold item_time u bs
+    → AllZip SamePackets (map (λ x. x.item) as_) (map (λ x. x.item) bs) → RunsLike as_ bs
+runs-like t u [] [] e h k w = tt
+runs-like t u [] (b ∷ bs) e h k w = absurd w
+runs-like t u (a ∷ as_) [] e h k w = absurd w
+runs-like t u (a ∷ as_) (b ∷ bs) e h k w =
+    let now = later-same t u (item_time a.item) (item_time b.item) e (times a.item b.item w.0) in
+    let clocks = told_twice (later t (item_time a.item)) (later u (item_time b.item)) a.clock b.clock now h.0 k.0 in (
+      items-like a.clock b.clock a.item b.item clocks w.0,
+      runs-like (later t (item_time a.item)) (later u (item_time b.item)) as_ bs now h.1 k.1 w.1,
+    )
+
+pub pcap-report : PcapAgain → PcapReport
+pcap-report again-law order tail tail_again bytes are none short =
+    let items = file_items tail 1 bytes in
+    let again = file_items tail_again 1 (pcap_text order (file_first tail 1 bytes) items) in
+    let same = again-law order tail tail_again 1 1 bytes are none short in
+    let one : run_of_lists (items ∷ []) ≡ items = run-one items (never-first items again same) in
+    let other : run_of_lists (again ∷ []) ≡ again = run-one again (never-again items again same) in
+    let both : AllZip SamePackets (run_of_lists (items ∷ [])) (run_of_lists (again ∷ [])) =
+    subst (λ (xs : List Item). AllZip SamePackets xs (run_of_lists (again ∷ []))) (sym one) (subst (λ (ys : List Item). AllZip SamePackets items ys) (sym other) same) in
+    same-but-forms (clocked_run tail (bytes ∷ [])) (run item_time is_refusal (map opened (again ∷ [])))
+    (runs-like None None (run item_time is_refusal (map opened (items ∷ []))) (run item_time is_refusal (map opened (again ∷ []))) refl
+    (run-clocks item_time is_refusal (items ∷ [])) (run-clocks item_time is_refusal (again ∷ [])) both)

@@ -1,0 +1,60 @@
+-- What stays of the report when packets are written with their times in another form.
+use Rattle.std.specs.Prelude.{◌≡◌, ℕ, ◌≤◌, ◌^◌, List, [], ◌∷◌, ◌++◌, length, None}
+use Rattle.std.specs.List.{AllZip}
+use Rattle.std.specs.declared.cmp.Ordering.TheVariants.{Equal}
+use Rattle.cap_blocks.specs.Split.{AreBytes}
+use Rattle.cap_bytes.specs.declared.faults.Tail.{Tail}
+use Rattle.cap_bytes.specs.declared.numbers.Order.{Order}
+use Rattle.cap_merge.specs.Clock.{clock_cmp}
+use Rattle.cap_merge.specs.Files.{clocked_run}
+use Rattle.cap_merge.specs.Run.{Clocked}
+use Rattle.cap_source.specs.Feed.{Item}
+use Rattle.cap_source.specs.Items.{file_first, file_items}
+use Rattle.cap_talks.specs.Classes.{classes, counts_of}
+use Rattle.cap_talks.specs.CountedUnits.{units_of, joined_in, given_up_in}
+use Rattle.cap_talks.specs.ReportText.{body_text, bytes_of, truncated_of, total_text, frames_text, joined_text, taken_after}
+use Rattle.cap_talks.specs.TalkText.{talk_texts, talks_text}
+use Rattle.cap_talks.specs.Taken.{Taken}
+use Rattle.cap_talks.specs.Talks.{Talk, rows_of}
+use Rattle.cap_write.specs.Pcap.{pcap_text, pcap_refusal}
+use Rattle.cap_laws.specs.Reports.{refused_at}
+
+-- Two rows of conversations have the same protocol and ends, the same counts and places, and the same times, maybe in another form.
+pub record IsSameTalk (talk again : Talk) : Type 0 where
+  pub key : talk.0 ≡ again.0
+  pub forward_frames : talk.1.forward_frames ≡ again.1.forward_frames
+  pub forward_bytes : talk.1.forward_bytes ≡ again.1.forward_bytes
+  pub backward_frames : talk.1.backward_frames ≡ again.1.backward_frames
+  pub backward_bytes : talk.1.backward_bytes ≡ again.1.backward_bytes
+  pub first : clock_cmp talk.1.first again.1.first ≡ Equal
+  pub first_place : talk.1.first_place ≡ again.1.first_place
+  pub last : clock_cmp talk.1.last again.1.last ≡ Equal
+  pub last_place : talk.1.last_place ≡ again.1.last_place
+
+-- the lines `total`, `frames`, `joined` and `talks` of a report
+abbrev pub counts_text : List Taken → List ℕ
+counts_text xs =
+    total_text (length xs) (bytes_of xs) (truncated_of xs) ++ frames_text (counts_of (classes xs)) ++ joined_text (joined_in xs) (given_up_in xs)
+    ++ talks_text (length (rows_of (units_of xs)))
+
+-- All lines but those of the files are these, and then those of the conversations.
+abbrev pub BodyParts : Type 0
+BodyParts = (xs : List Taken) → body_text xs ≡ counts_text xs ++ talk_texts (rows_of (units_of xs))
+
+-- The reports of two runs have the same such lines, and `talk` lines of the same conversations, one by one, or are refused at the same
+-- place by the same rule.
+pub record SameButForms (run again : List (Clocked Item)) : Type 0 where
+  pub lines : counts_text (taken_after [] again) ≡ counts_text (taken_after [] run)
+  pub talks : AllZip IsSameTalk (rows_of (units_of (taken_after [] run))) (rows_of (units_of (taken_after [] again)))
+  pub refused : refused_at again ≡ refused_at run
+
+-- The pcap file that is written of one file, where nothing is refused and it is at most 2^40 bytes long, has the file's report, but for
+-- the forms of times.
+abbrev pub PcapReport : Type 0
+PcapReport =
+    (order : Order) (tail tail_again : Tail) (bytes : List ℕ) → AreBytes bytes
+    → (let items = file_items tail 1 bytes in
+    let first = file_first tail 1 bytes in
+    let text = pcap_text order first items in
+    pcap_refusal 1 first items ≡ None → length text ≤ 2 ^ 40
+    → SameButForms (clocked_run tail (bytes ∷ [])) (clocked_run tail_again (text ∷ [])))

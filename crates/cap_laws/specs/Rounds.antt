@@ -1,0 +1,42 @@
+-- Merging in rounds gives the bytes of merging at once.
+use Rattle.std.specs.Prelude.{◌≡◌, ℕ, ◌≤◌, ◌^◌, List, length, map, Option, None, option_map}
+use Rattle.std.specs.List.{AllByRecursion, flat_map}
+use Rattle.cap_blocks.specs.Split.{AreBytes}
+use Rattle.cap_bytes.specs.declared.faults.Rule.{Rule}
+use Rattle.cap_bytes.specs.declared.faults.Tail.{Tail}
+use Rattle.cap_bytes.specs.declared.numbers.Order.{Order}
+use Rattle.cap_merge.specs.Files.{run_of_files}
+use Rattle.cap_source.specs.Feed.{Item}
+use Rattle.cap_write.specs.Texts.{merged_text, merged_refusal}
+
+-- Some files, by their bytes, that are merged, and the byte order that is asked for.
+pub record Group : Type 0 where
+  pub order : Order
+  pub files : List (List ℕ)
+
+-- the packets of its run, and the file that its merge writes
+abbrev pub group_run : Tail → Group → List Item
+group_run tail group = run_of_files tail group.files
+
+abbrev pub group_text : Tail → Group → List ℕ
+group_text tail group = merged_text group.order (group_run tail group)
+
+-- Its merge refuses nothing, and writes at most 2^40 bytes.
+pub record IsMerged (tail : Tail) (group : Group) : Type 0 where
+  pub bytes : AllByRecursion AreBytes group.files
+  pub accepted : merged_refusal (group_run tail group) ≡ None
+  pub size : length (group_text tail group) ≤ 2 ^ 40
+
+-- the rule by which a merge of those packets is refused, if it is
+abbrev pub refused_by : List Item → Option Rule
+refused_by items = option_map (λ refusal. refusal.rule) (merged_refusal items)
+
+-- Files are split, in their order, into neighbouring groups, and each group is merged, in its own byte order. Then the merge of the
+-- written files writes, byte for byte, what the merge of all files writes, and is refused where that is, by the same rule.
+abbrev pub RoundsInBytes : Type 0
+RoundsInBytes =
+    (order : Order) (tail tail_again : Tail) (groups : List Group) → AllByRecursion (IsMerged tail) groups
+    → (let at_once = run_of_files tail (flat_map (λ group. group.files) groups) in
+    let in_rounds = run_of_files tail_again (map (group_text tail) groups) in
+    (merged_text order in_rounds ≡ merged_text order at_once)
+    × (refused_by in_rounds ≡ refused_by at_once))
