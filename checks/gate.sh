@@ -3,7 +3,7 @@
 # if nothing failed.
 #
 # Use: checks/gate.sh [--long]     (the scripts take some three minutes; with --long, every growth is refused, in each crate
-# that has tests for it, which takes a quarter of an hour more)
+# that has tests for it, which takes some half an hour more)
 set -u
 cd "$(dirname "$0")/.."
 passed=0

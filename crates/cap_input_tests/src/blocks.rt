@@ -179,7 +179,7 @@ fn failing_reads(rt: HostRuntime) -> Result<(), Fail> {
     Ok(())
 }
 
-// How many bytes of CARRY_PCAPNG stand in front, what stands behind them, and where and by which rule that is refused.
+// How many bytes of CARRY_PCAPNG come first, what follows them, and where and by which rule that is refused.
 const REFUSED: [(usize, &[u8], u64, Rule); 15] = [
     (0, &[], 0, Rule::Cut),
     (0, &[0x0a, 0x0d, 0x0d], 0, Rule::Cut),

@@ -9,14 +9,14 @@ use std::cmp::min;
 // interface and packet. The bytes are made as they are asked for; those of the block's body are what
 // the buffer holds.
 #[derive(Drop)]
-pub struct Making {
+pub(crate) struct Making {
     at: u64,
     total: u32,
     trailer: u32,
 }
 
 impl Making {
-    pub fn new(total: u32, trailer: u32) -> Making {
+    pub(crate) fn new(total: u32, trailer: u32) -> Making {
         Making {
             at: 0,
             total,

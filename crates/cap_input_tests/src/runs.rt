@@ -9,7 +9,7 @@ use std::alloc::Global;
 use std::process::Abort;
 
 // Four packets from 10.0.0.1 to 10.0.0.2 of identification 7: data from 16 on, the last; data from 0 on, twice; data from 8 on.
-pub const FRAGMENTS: [[u8; 28]; 4] = [
+pub(crate) const FRAGMENTS: [[u8; 28]; 4] = [
     [
         0x45, 0, 0, 0x1c, 0, 7, 0, 2, 0x40, 0x11, 0, 0, 10, 0, 0, 1, 10, 0, 0, 2, 0xb0, 0xb1, 0xb2,
         0xb3, 0xb4, 0xb5, 0xb6, 0xb7,
@@ -29,7 +29,7 @@ pub const FRAGMENTS: [[u8; 28]; 4] = [
 ];
 
 // What they join to: the later bytes from 0 on.
-pub const DATA: [u8; 24] = [
+pub(crate) const DATA: [u8; 24] = [
     0x03, 0xe9, 0x07, 0xd1, 0, 0x18, 0, 0, 0xa0, 0xa1, 0xa2, 0xa3, 0xa4, 0xa5, 0xa6, 0xa7, 0xb0,
     0xb1, 0xb2, 0xb3, 0xb4, 0xb5, 0xb6, 0xb7,
 ];
@@ -62,22 +62,22 @@ fn time_at(rt: &impl Abort, clock: Option<u64>) -> Option<Stamp>
 
 /// A joiner, and the place of the next packet.
 #[derive(Drop)]
-pub struct Run {
+pub(crate) struct Run {
     pub joiner: Joiner,
     pub place: u64,
     ghost ordered: { joiner.next ≤ place },
 }
 
 impl Run {
-    pub fn new(alloc: Global) -> Run {
+    pub(crate) fn new(alloc: Global) -> Run {
         Run {
             joiner: Joiner::new(alloc),
             place: 0,
         }
     }
 
-    /// Puts a packet at a clock of so many microseconds, which is its frame's own time too.
-    pub fn put(
+    /// Puts a packet at a clock of that many microseconds, which is its frame's own time too.
+    pub(crate) fn put(
         &mut self,
         rt: &impl Abort,
         clock: Option<u64>,
@@ -103,7 +103,12 @@ impl Run {
     }
 
     /// Takes a packet without a time.
-    pub fn take<'a>(&mut self, rt: &impl Abort, bytes: &'a [u8], whole: bool) -> Arrived<'a> {
+    pub(crate) fn take<'a>(
+        &mut self,
+        rt: &impl Abort,
+        bytes: &'a [u8],
+        whole: bool,
+    ) -> Arrived<'a> {
         assert!(rt; self.place < 1_000);
         let stamped = Stamped {
             time: None,

@@ -246,7 +246,7 @@ fn obsolete_packet(rt: HostRuntime) -> Result<(), Fail> {
     Ok(())
 }
 
-// What stands behind a section header, and where and by which rule it is refused: an option of a resolution of two
+// What follows a section header, and where and by which rule it is refused: an option of a resolution of two
 // bytes, resolutions past the finest, an option past the end, packets of an unknown interface or of too many bytes.
 const REFUSED: [(&[u8], u64, Rule); 7] = [
     (

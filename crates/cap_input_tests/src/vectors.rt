@@ -3,14 +3,14 @@
 use cap_bytes::{Fault, Refusal, Rule};
 
 // One packet of 4 bytes, at 1 second and 1,500,000 microseconds.
-pub const CARRY_PCAP: [u8; 44] = [
+pub(crate) const CARRY_PCAP: [u8; 44] = [
     0xd4, 0xc3, 0xb2, 0xa1, 2, 0, 4, 0, 0, 0, 0, 0, 0, 0, 0, 0, 0, 0, 4, 0, 1, 0, 0, 0, //
     1, 0, 0, 0, 0x60, 0xe3, 0x16, 0, 4, 0, 0, 0, 4, 0, 0, 0, 1, 2, 3, 4,
 ];
 
 // One packet of 4 bytes at 2 seconds and a half, as it is written: a section header of 28 bytes, an
 // interface of 32 and the packet of 36.
-pub const CARRY_PCAPNG: [u8; 96] = [
+pub(crate) const CARRY_PCAPNG: [u8; 96] = [
     0x0a, 0x0d, 0x0d, 0x0a, 0x1c, 0, 0, 0, 0x4d, 0x3c, 0x2b, 0x1a, 1, 0, 0, 0, //
     0xff, 0xff, 0xff, 0xff, 0xff, 0xff, 0xff, 0xff, 0x1c, 0, 0, 0, 1, 0, 0, 0, //
     0x20, 0, 0, 0, 1, 0, 0, 0, 0, 0, 4, 0, 9, 0, 1, 0, //
@@ -20,7 +20,7 @@ pub const CARRY_PCAPNG: [u8; 96] = [
 ];
 
 // The same with options in each block, and a statistics block behind: 44, 52, 48 and 24 bytes.
-pub const OPTIONS_PCAPNG: [u8; 168] = [
+pub(crate) const OPTIONS_PCAPNG: [u8; 168] = [
     0x0a, 0x0d, 0x0d, 0x0a, 0x2c, 0, 0, 0, 0x4d, 0x3c, 0x2b, 0x1a, 1, 0, 0, 0, //
     0xff, 0xff, 0xff, 0xff, 0xff, 0xff, 0xff, 0xff, 4, 0, 7, 0, 0x44, 0x75, 0x6d, 0x70, //
     0x63, 0x61, 0x70, 0, 0, 0, 0, 0, 0x2c, 0, 0, 0, 1, 0, 0, 0, //
@@ -35,22 +35,24 @@ pub const OPTIONS_PCAPNG: [u8; 168] = [
 ];
 
 // A section of version 1.0, little-endian.
-pub const SECTION: [u8; 28] = [
+pub(crate) const SECTION: [u8; 28] = [
     0x0a, 0x0d, 0x0d, 0x0a, 28, 0, 0, 0, 0x4d, 0x3c, 0x2b, 0x1a, 1, 0, 0, 0, //
     0xff, 0xff, 0xff, 0xff, 0xff, 0xff, 0xff, 0xff, 28, 0, 0, 0,
 ];
 
 // An interface of link 1 without options, of snaplen 262,144.
-pub const INTERFACE: [u8; 20] = [1, 0, 0, 0, 20, 0, 0, 0, 1, 0, 0, 0, 0, 0, 4, 0, 20, 0, 0, 0];
+pub(crate) const INTERFACE: [u8; 20] = [
+    1, 0, 0, 0, 20, 0, 0, 0, 1, 0, 0, 0, 0, 0, 4, 0, 20, 0, 0, 0,
+];
 
 // A packet of 4 bytes on interface 0, at 2,500,000 units.
-pub const PACKET: [u8; 36] = [
+pub(crate) const PACKET: [u8; 36] = [
     6, 0, 0, 0, 36, 0, 0, 0, 0, 0, 0, 0, 0, 0, 0, 0, 0xa0, 0x25, 0x26, 0, 4, 0, 0, 0, 4, 0, 0, 0,
     1, 2, 3, 4, 36, 0, 0, 0,
 ];
 
 // A refusal of file 7.
-pub fn refused(offset: u64, rule: Rule) -> Fault {
+pub(crate) fn refused(offset: u64, rule: Rule) -> Fault {
     Fault::Refused(Refusal {
         file: 7,
         offset,
@@ -59,7 +61,7 @@ pub fn refused(offset: u64, rule: Rule) -> Fault {
 }
 
 // The last of the places that isn't above n, or 0.
-pub fn last_of(places: &[usize], n: usize) -> usize {
+pub(crate) fn last_of(places: &[usize], n: usize) -> usize {
     let mut last = 0;
     for place in places {
         if *place <= n {

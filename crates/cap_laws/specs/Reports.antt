@@ -14,17 +14,17 @@ use Rattle.cap_talks.specs.ReportText.{body_text, refusal_here, report_refusal, 
 use Rattle.cap_talks.specs.Taken.{Taken}
 use Rattle.cap_write.specs.Texts.{merged_text, merged_refusal, pcapng_text, pcapng_refusal}
 
--- Where a run is refused: behind how many taken packets, and by which rule.
+-- Where a run is refused: after how many taken packets, and by which rule.
 pub record Place : Type 0 where
   pub taken : ℕ
   pub rule : Rule
 
--- that of a refusal behind so many packets, or else one further on
+-- that of a refusal after that many packets, or else one further on
 abbrev pub place_or : ℕ → Option Refusal → Option Place → Option Place
 place_or taken None later = later
 place_or taken (Some refusal) later = Some (record { taken = taken; rule = refusal.rule })
 
--- where a run is refused first, behind the packets that were taken
+-- where a run is refused first, after the packets that were taken
 unfoldable pub refused_after : List Taken → List (Clocked Item) → Option Place
 refused_after xs [] = None
 refused_after xs (x ∷ run) = place_or (length xs) (refusal_here xs x.clock x.item) (refused_after (with_item x.clock x.item xs) run)

@@ -9,7 +9,7 @@ use cap_write::laws::{merged_again, pcap_again, pcapng_again, rounds_law};
 /// Where `write_merged` writes the run of some files, whatever bytes these hold, with no refusal and in at most
 /// 2^40 bytes, the report over the one file that it wrote has the lines of the report over those files, byte for
 /// byte, but for the lines of the files: `total`, `frames`, `joined`, `talks` and each `talk` line. Or both are
-/// refused, by the same rule, behind as many packets of the run. This holds also where clocks run back.
+/// refused, by the same rule, after as many packets of the run. This holds also where clocks run back.
 pub fn merged_report()
     ensures { MergedReport }
 {
@@ -27,7 +27,7 @@ pub fn pcapng_report()
 /// The report over the one file that `to_pcap` writes, with no refusal and in at most 2^40 bytes, has the lines
 /// `total`, `frames`, `joined` and `talks` of the report over the file that it was written of, byte for byte, and
 /// its `talk` lines, one by one, have the same protocol, ends, frames and bytes each way, and the same times, which
-/// may have another form. Or both are refused, by the same rule, behind as many packets of the run. A report has no
+/// may have another form. Or both are refused, by the same rule, after as many packets of the run. A report has no
 /// other lines but those of the files.
 pub fn pcap_report()
     ensures report { PcapReport }
@@ -45,7 +45,7 @@ pub fn refusal_rule()
 /// Files, whatever bytes they hold, are split, in their order, into neighbouring groups, and each group is merged, in a
 /// byte order of its own. Where no group is refused, and each writes at most 2^40 bytes, the merge of the written files,
 /// in the groups' order, writes byte for byte what the merge of all files at once writes, in the same byte order; and
-/// one of the two is refused where the other is, behind these packets, by the same rule.
+/// one of the two is refused where the other is, after these packets, by the same rule.
 pub fn rounds_bytes()
     ensures { RoundsInBytes }
 {

@@ -10,7 +10,7 @@ use std::alloc::Global;
 use std::test::Fail;
 
 /// The bytes of a file.
-pub fn bytes_of(alloc: Global, file: File) -> Result<Vec<u8>, Fail> {
+pub(crate) fn bytes_of(alloc: Global, file: File) -> Result<Vec<u8>, Fail> {
     let mut bytes = Vec::new(alloc);
     for part in file {
         bytes.extend_from_slice(hex::decode(alloc, *part)?.as_slice())?;
@@ -19,7 +19,7 @@ pub fn bytes_of(alloc: Global, file: File) -> Result<Vec<u8>, Fail> {
 }
 
 /// Readers of files by `piece` bytes at a time; if one is named, its read of that number fails.
-pub fn sources_of(
+pub(crate) fn sources_of(
     alloc: Global,
     files: &[File],
     piece: usize,
@@ -39,7 +39,10 @@ pub fn sources_of(
 }
 
 /// The run of 1 to 32 readers.
-pub fn merged_of(alloc: Global, sources: Vec<Pieces>) -> Result<Merged<Capture<Pieces>>, Fail> {
+pub(crate) fn merged_of(
+    alloc: Global,
+    sources: Vec<Pieces>,
+) -> Result<Merged<Capture<Pieces>>, Fail> {
     if sources.is_empty() || sources.len() > 32 {
         return Err(Fail::from("1 to 32 files"));
     }
@@ -47,7 +50,7 @@ pub fn merged_of(alloc: Global, sources: Vec<Pieces>) -> Result<Merged<Capture<P
 }
 
 /// Reports of some readers.
-pub fn report_of<W: Sink>(
+pub(crate) fn report_of<W: Sink>(
     alloc: Global,
     sources: Vec<Pieces>,
     tail: Tail,
@@ -60,7 +63,7 @@ pub fn report_of<W: Sink>(
 }
 
 /// The report of one file.
-pub fn told(alloc: Global, file: Vec<u8>) -> Result<Room, Fail> {
+pub(crate) fn told(alloc: Global, file: Vec<u8>) -> Result<Room, Fail> {
     let mut sources = Vec::new(alloc);
     sources.push(Pieces::new(file, 4096, None))?;
     let mut writer = Room::new(Vec::with_capacity(alloc, 1024)?);

@@ -32,7 +32,7 @@ fn push_section(alloc: Global, bytes: &mut Vec<u8>, interfaces: u32) -> Result<(
     Ok(())
 }
 
-// A file of sections of so many interfaces.
+// A file of sections with these numbers of interfaces.
 fn file_of(alloc: Global, sections: &[u32]) -> Result<Vec<u8>, Fail> {
     let mut bytes = Vec::new(alloc);
     for interfaces in sections {
@@ -78,7 +78,7 @@ fn too_many(file: u32, offset: u64) -> Result<(), Fault> {
     }))
 }
 
-// A section of 600 interfaces takes 28 + 600 * 20 + 600 * 32 = 31,228 bytes. In the one behind it, packets begin at
+// A section of 600 interfaces takes 28 + 600 * 20 + 600 * 32 = 31,228 bytes. In the one after it, packets begin at
 // 31,228 + 28 + 600 * 20 = 43,256, and the packet of the 425th interface at 43,256 + 424 * 32 = 56,824.
 #[test]
 fn interfaces_of_two_sections(rt: HostRuntime) -> Result<(), Fail> {

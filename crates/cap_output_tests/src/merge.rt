@@ -13,7 +13,7 @@ use cap_time::{Interface, Resolution, Stamp};
 use std::alloc::Global;
 use std::test::Fail;
 
-// A file of that number of packets without bytes, whose clock counts as the code says, with a cut behind them if it
+// A file of that number of packets without bytes, whose clock counts as the code says, with a cut after them if it
 // is broken.
 fn make_listed(
     alloc: Global,

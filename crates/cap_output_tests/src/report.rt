@@ -18,14 +18,14 @@ const AT_FIVE: &str = "06000000400000000000000000000000404b4c001e0000001e000000\
     4500001e00010000401100000a0000010a00000203e807d0000a00006869000040000000";
 
 // 512 units of 1/1024, and 5 units of 1/10.
-pub const BINARY: File = &[
+pub(crate) const BINARY: File = &[
     SECTION,
     "010000001c0000006500000000000400090001008a0000001c000000",
     "06000000400000000000000000000000000200001e0000001e0000004500001e00010000401100000a0000010a000002\
     03e807d0000a00006869000040000000",
 ];
 
-pub const TENTHS: File = &[
+pub(crate) const TENTHS: File = &[
     SECTION,
     "010000001c000000650000000000040009000100010000001c000000",
     "06000000400000000000000000000000050000001e0000001e0000004500001e00010000401100000a0000010a000002\
@@ -34,7 +34,7 @@ pub const TENTHS: File = &[
 
 const UNTIMED: File = &[SECTION, INTERFACE, SIMPLE];
 
-pub const UNTIMED_THEN_TIMED: File = &[SECTION, INTERFACE, SIMPLE, AT_FIVE];
+pub(crate) const UNTIMED_THEN_TIMED: File = &[SECTION, INTERFACE, SIMPLE, AT_FIVE];
 
 const TIMED_THEN_UNTIMED: File = &[SECTION, INTERFACE, AT_FIVE, SIMPLE];
 
@@ -52,7 +52,7 @@ const CUT_REPORT: &str = "files 1\n\
     joined 0 given-up 0\n\
     talks 0\n";
 
-pub const TAGGED_REPORT: &str = "files 1\n\
+pub(crate) const TAGGED_REPORT: &str = "files 1\n\
     file 1 pcap packets 3 bytes 180 truncated 0 skipped 0 first 1+0/1000000 last 3+0/1000000\n\
     total packets 3 bytes 180 truncated 0\n\
     frames other-link 0 not-ipv4 0 short 0 cut 0 bad 1 unjoined 0 counted 2\n\
@@ -60,7 +60,7 @@ pub const TAGGED_REPORT: &str = "files 1\n\
     talks 1\n\
     talk udp 10.0.0.1:1000 10.0.0.2:2000 forward 1 60 backward 1 60 first 1+0/1000000 last 2+0/1000000\n";
 
-pub const FRAGMENT_REPORT: &str = "files 1\n\
+pub(crate) const FRAGMENT_REPORT: &str = "files 1\n\
     file 1 pcap packets 4 bytes 112 truncated 0 skipped 0 first 1+0/1000000 last 4+0/1000000\n\
     total packets 4 bytes 112 truncated 0\n\
     frames other-link 0 not-ipv4 0 short 0 cut 0 bad 0 unjoined 0 counted 4\n\
@@ -69,7 +69,7 @@ pub const FRAGMENT_REPORT: &str = "files 1\n\
     talk udp 10.0.0.1:1001 10.0.0.2:2001 forward 4 112 backward 0 0 first 1+0/1000000 last 4+0/1000000\n";
 
 // Equal times: the form of the lower file.
-pub const BINARY_REPORT: &str = "files 2\n\
+pub(crate) const BINARY_REPORT: &str = "files 2\n\
     file 1 pcapng packets 1 bytes 30 truncated 0 skipped 0 first 0+512/1024 last 0+512/1024\n\
     file 2 pcapng packets 1 bytes 30 truncated 0 skipped 0 first 0+5/10 last 0+5/10\n\
     total packets 2 bytes 60 truncated 0\n\

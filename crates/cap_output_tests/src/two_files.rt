@@ -14,7 +14,7 @@ const FILES: [File; 2] = [RUNS_BACK, OPTIONS_PCAPNG];
 // Their packets in the order of clocks: the file, and where in it the packet begins.
 const PACKETS: [(u32, u64); 3] = [(2, 96), (1, 24), (1, 40)];
 
-// What is written of them, and how much of it for so many packets.
+// What is written of them, and how much of it for each number of packets.
 const TEXT: File = &[
     SECTION,
     INTERFACE,
@@ -64,7 +64,7 @@ fn walk<F: PacketFeed>(feed: &mut F) -> (usize, Option<Fault>) {
     (PACKETS.len(), feed.head().err())
 }
 
-// A failed read is told by file and offset, and again, behind the packets before it.
+// A failed read is told by file and offset, and again, after the packets before it.
 #[test]
 fn each_read_of_two_files(rt: HostRuntime) -> Result<(), Fail> {
     for (named, first, last, offset, packets) in FAILING {
@@ -119,7 +119,7 @@ fn each_read_of_two_files_that_are_written(rt: HostRuntime) -> Result<(), Fail> 
     Ok(())
 }
 
-// A writer that fails after so many bytes has just these.
+// A writer that fails after some bytes has just these.
 #[test]
 fn each_write_of_two_files(rt: HostRuntime) -> Result<(), Fail> {
     let text = bytes_of(rt.alloc(), TEXT)?;

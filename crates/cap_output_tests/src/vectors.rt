@@ -2,54 +2,56 @@
 //! draft-ietf-opsawg-pcapng.
 
 /// A file: texts in hex, one after the other.
-pub type File = &'static [&'static str];
+pub(crate) type File = &'static [&'static str];
 
 // The header of a pcap file before its link type, of one of Ethernet, and of one of IP alone.
-pub const PCAP: &str = "d4c3b2a102000400000000000000000000000400";
+pub(crate) const PCAP: &str = "d4c3b2a102000400000000000000000000000400";
 
-pub const ETHERNET: &str = "d4c3b2a10200040000000000000000000000040001000000";
+pub(crate) const ETHERNET: &str = "d4c3b2a10200040000000000000000000000040001000000";
 
-pub const RAW: &str = "d4c3b2a10200040000000000000000000000040065000000";
+pub(crate) const RAW: &str = "d4c3b2a10200040000000000000000000000040065000000";
 
-pub const HEADER_ONLY: File = &[ETHERNET];
+pub(crate) const HEADER_ONLY: File = &[ETHERNET];
 
-pub const EMPTY: File = &[];
+pub(crate) const EMPTY: File = &[];
 
 // Records without bytes, at 1 second, at 2 and at 5.
-pub const EMPTY_AT_1: &str = "01000000000000000000000000000000";
+pub(crate) const EMPTY_AT_1: &str = "01000000000000000000000000000000";
 
-pub const EMPTY_AT_2: &str = "02000000000000000000000000000000";
+pub(crate) const EMPTY_AT_2: &str = "02000000000000000000000000000000";
 
-pub const EMPTY_AT_5: &str = "05000000000000000000000000000000";
+pub(crate) const EMPTY_AT_5: &str = "05000000000000000000000000000000";
 
 // Records at 5 seconds and then at 1 second, at 24 and 40 of 56 bytes, and at 2 and at 5 seconds.
-pub const RUNS_BACK: File = &[ETHERNET, EMPTY_AT_5, EMPTY_AT_1];
+pub(crate) const RUNS_BACK: File = &[ETHERNET, EMPTY_AT_5, EMPTY_AT_1];
 
-pub const RUNS_ON: File = &[ETHERNET, EMPTY_AT_2, EMPTY_AT_5];
+pub(crate) const RUNS_ON: File = &[ETHERNET, EMPTY_AT_2, EMPTY_AT_5];
 
 // A packet of 4 bytes, at 1 second and 1,500,000 microseconds.
-pub const CARRY_PCAP: File = &[ETHERNET, "0100000060e316000400000004000000", "01020304"];
+pub(crate) const CARRY_PCAP: File = &[ETHERNET, "0100000060e316000400000004000000", "01020304"];
 
 // It without its last byte.
-pub const CUT_PCAP: File = &[ETHERNET, "0100000060e316000400000004000000", "010203"];
+pub(crate) const CUT_PCAP: File = &[ETHERNET, "0100000060e316000400000004000000", "010203"];
 
 // A packet at 5 seconds, or at 1 second, and 8 bytes of the next record.
-pub const LATE: File = &[ETHERNET, EMPTY_AT_5, "0000000000000000"];
+pub(crate) const LATE: File = &[ETHERNET, EMPTY_AT_5, "0000000000000000"];
 
-pub const EARLY: File = &[ETHERNET, EMPTY_AT_1, "0000000000000000"];
+pub(crate) const EARLY: File = &[ETHERNET, EMPTY_AT_1, "0000000000000000"];
 
 // A section, and an interface of Ethernet as it is written.
-pub const SECTION: &str = "0a0d0d0a1c0000004d3c2b1a01000000ffffffffffffffff1c000000";
+pub(crate) const SECTION: &str = "0a0d0d0a1c0000004d3c2b1a01000000ffffffffffffffff1c000000";
 
-pub const INTERFACE: &str = "0100000020000000010000000000040009000100060000000000000020000000";
+pub(crate) const INTERFACE: &str =
+    "0100000020000000010000000000040009000100060000000000000020000000";
 
 // The packet of CARRY_PCAP on interface 0, and the file of it.
-pub const PACKET: &str = "06000000240000000000000000000000a025260004000000040000000102030424000000";
+pub(crate) const PACKET: &str =
+    "06000000240000000000000000000000a025260004000000040000000102030424000000";
 
-pub const CARRY_PCAPNG: File = &[SECTION, INTERFACE, PACKET];
+pub(crate) const CARRY_PCAPNG: File = &[SECTION, INTERFACE, PACKET];
 
 // A section of 44 bytes, an interface of 52 and a packet of 48, each with options, and a statistics block of 24.
-pub const OPTIONS_PCAPNG: File = &[
+pub(crate) const OPTIONS_PCAPNG: File = &[
     "0a0d0d0a2c0000004d3c2b1a01000000ffffffffffffffff0400070044756d7063617000000000002c000000",
     "010000003400000001000000000004000200040065746830\
     09000100060000000c0005004c696e75780000000000000034000000",
@@ -58,14 +60,14 @@ pub const OPTIONS_PCAPNG: File = &[
 ];
 
 // An interface of Ethernet and snaplen 4, and a simple packet on it that had 10 bytes.
-pub const SNAPLEN_4: &str = "0100000014000000010000000400000014000000";
+pub(crate) const SNAPLEN_4: &str = "0100000014000000010000000400000014000000";
 
-pub const SIMPLE: &str = "03000000140000000a0000000102030414000000";
+pub(crate) const SIMPLE: &str = "03000000140000000a0000000102030414000000";
 
-pub const SIMPLE_PACKET: File = &[SECTION, SNAPLEN_4, SIMPLE];
+pub(crate) const SIMPLE_PACKET: File = &[SECTION, SNAPLEN_4, SIMPLE];
 
 // Two datagrams of UDP, there and back, and one whose UDP length reaches into the padding, each of two tags.
-pub const TAGGED_FRAMES: File = &[
+pub(crate) const TAGGED_FRAMES: File = &[
     ETHERNET,
     "01000000000000003c0000003c000000",
     "02000000000202000000000188a800648100000a08004500001e00010000401100000a0000010a00000203e807d0000a\
@@ -79,20 +81,20 @@ pub const TAGGED_FRAMES: File = &[
 ];
 
 // A record of 28 bytes at 1 second, at 2, at 3, at 4, at 31, and a millionth later.
-pub const AT_1: &str = "01000000000000001c0000001c000000";
+pub(crate) const AT_1: &str = "01000000000000001c0000001c000000";
 
-pub const AT_2: &str = "02000000000000001c0000001c000000";
+pub(crate) const AT_2: &str = "02000000000000001c0000001c000000";
 
-pub const AT_3: &str = "03000000000000001c0000001c000000";
+pub(crate) const AT_3: &str = "03000000000000001c0000001c000000";
 
-pub const AT_4: &str = "04000000000000001c0000001c000000";
+pub(crate) const AT_4: &str = "04000000000000001c0000001c000000";
 
-pub const AT_31: &str = "1f000000000000001c0000001c000000";
+pub(crate) const AT_31: &str = "1f000000000000001c0000001c000000";
 
-pub const AFTER_31: &str = "1f000000010000001c0000001c000000";
+pub(crate) const AFTER_31: &str = "1f000000010000001c0000001c000000";
 
 // Four fragments of one datagram, of which the third overwrites the second.
-pub const FRAGMENT_FRAMES: File = &[
+pub(crate) const FRAGMENT_FRAMES: File = &[
     RAW,
     AT_1,
     "4500001c00070002401100000a0000010a000002b0b1b2b3b4b5b6b7",
@@ -105,14 +107,14 @@ pub const FRAGMENT_FRAMES: File = &[
 ];
 
 // The last 8 bytes of a datagram of 16, its first 8, and a whole datagram of the same key.
-pub const LAST: &str = "4500001c00090001401100000a0000010a000002a0a1a2a3a4a5a6a7";
+pub(crate) const LAST: &str = "4500001c00090001401100000a0000010a000002a0a1a2a3a4a5a6a7";
 
-pub const FIRST: &str = "4500001c00092000401100000a0000010a00000203e807d000100000";
+pub(crate) const FIRST: &str = "4500001c00092000401100000a0000010a00000203e807d000100000";
 
-pub const WHOLE: &str = "4500001c00090000401100000a0000010a00000203e807d000080000";
+pub(crate) const WHOLE: &str = "4500001c00090000401100000a0000010a00000203e807d000080000";
 
 // A datagram of UDP with 2 bytes, from 10.0.0.1:1000 to 10.0.0.2:2000.
-pub const UDP: &str = "4500001e00010000401100000a0000010a00000203e807d0000a00006869";
+pub(crate) const UDP: &str = "4500001e00010000401100000a0000010a00000203e807d0000a00006869";
 
 // The same bytes as of ICMP.
-pub const ICMP: &str = "4500001e00010000400100000a0000010a00000203e807d0000a00006869";
+pub(crate) const ICMP: &str = "4500001e00010000400100000a0000010a00000203e807d0000a00006869";

@@ -80,7 +80,7 @@ fn call_of<R: Source, W: Sink>(
     }
 }
 
-// What a call answers and writes, of a file that is read one byte at a time, where so many bytes are
+// What a call answers and writes, of a file that is read one byte at a time, where that many bytes are
 // taken.
 fn written(
     alloc: Global,
@@ -237,7 +237,7 @@ const BY_CLOCK: File = &[
     "06000000200000000000000000000000404b4c00000000000000000020000000",
 ];
 
-// They in a file, and then CARRY_PCAP: its packet at 2.5 seconds comes behind the one at 2 seconds.
+// They in a file, and then CARRY_PCAP: its packet at 2.5 seconds comes after the one at 2 seconds.
 const IN_ROUNDS: File = &[
     SECTION,
     INTERFACE,
@@ -303,7 +303,7 @@ const TAGGED_JOINED: File = &[
     "40000000",
 ];
 
-// An Ethernet frame of 1,514 bytes, of which 54 were captured: the TCP header with no data behind it.
+// An Ethernet frame of 1,514 bytes, of which 54 were captured: the TCP header with no data after it.
 const CUT_SHORT: File = &[
     ETHERNET,
     "010000000000000036000000ea050000",
@@ -312,7 +312,7 @@ const CUT_SHORT: File = &[
     "0050c35000000001000000025010ffff00000000",
 ];
 
-// What is joined of a file that is read one byte at a time, where so many bytes are taken.
+// What is joined of a file that is read one byte at a time, where that many bytes are taken.
 fn joined_file(alloc: Global, file: File, room: usize) -> Result<(Result<(), Fault>, Room), Fail> {
     let mut merged = merged_of(alloc, sources_of(alloc, &[file], 1, None)?)?;
     let mut writer = Room::new(Vec::with_capacity(alloc, room)?);

@@ -76,7 +76,7 @@ block-known file i progress block body (Ok (contents.Packet p)) items of knows i
 block-known file i progress block body (Ok contents.Other) items of knows is rest = rest knows is
 block-known file i progress block body (Err rule) items of knows is rest = (tt, tt)
 
--- behind the first interface
+-- after the first interface
 blocks-known : (file : ℕ) (i : Interface) (progress : Progress) (items : List blocks.Item) → KnowsFirst progress → progress.first ≡ Some i
     → AllByRecursion (IsFirst i) (items_in file progress items)
 unfolding items_in

@@ -83,7 +83,7 @@ whole first meta t =
     subst (λ (w : Option (ℤ × ℕ)). MatchOption w (IsNeverWhole d (time_of a)) (λ w. IsWhole d (time_of a) w.0 w.1)) t.time
     (whole_of_pair d a (in_second_positive (fraction_of first)))
 
--- it is the time of so many units
+-- it is the time of that many units
 none_before : (n : ℕ) → 0 + n ≡ n
 none_before n = omega arith
 
@@ -133,7 +133,7 @@ line_is order first meta frame t =
     ap (λ w. time_text order w meta.original frame) (written_is first meta t)
     ∙ (λ i. record_text order (sym quotient i) (sym remainder i) meta.original frame)
 
--- a packet that isn't refused, and those behind it
+-- a packet that isn't refused, and those after it
 record Goes (first : Interface) (meta : Meta) (items : List Item) : Type 0 where
   unrefused : record_fault first meta ≡ None
   rest : records_refusal first items ≡ None

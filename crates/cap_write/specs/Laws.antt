@@ -241,7 +241,7 @@ MergeLaw =
     × (instances again ≡ numbers (numbered [] again)))
 
 -- What is written of any file as pcapng, where it is at most 2^40 bytes long, has the file's packets, those before a refusal,
--- in order: both have the same numbered packets behind the first interface, and nothing is refused there.
+-- in order: both have the same numbered packets after the first interface, and nothing is refused there.
 abbrev pub PcapngAgain : Type 0
 PcapngAgain =
     (order : Order) (tail tail_again : Tail) (file file_again : ℕ) (bytes : List ℕ) → AreBytes bytes

@@ -23,7 +23,7 @@ pub fn merged_again()
 
 /// What `to_pcapng` writes of any file, of either format and whatever bytes it holds, where it is at most 2^40
 /// bytes long, has the file's packets, those before a refusal, in order: with the same numbers of interfaces
-/// behind the file's first one, and the same interfaces, times, lengths and bytes.
+/// after the file's first one, and the same interfaces, times, lengths and bytes.
 pub fn pcapng_again()
     ensures { PcapngAgain }
 {}
