@@ -214,6 +214,7 @@ fn found(lanes: &[Lane], known: Option<usize>) -> Option<usize>
 }
 
 /// Which lane's item comes first, and its clock; its place may be known.
+#[inline]
 pub(crate) fn first_of(lanes: &[Lane], known: Option<usize>) -> Option<First>
     requires { IsFound lanes.now known }
     ensures { IsFirstLane lanes.now result }

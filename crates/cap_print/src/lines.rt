@@ -15,6 +15,7 @@ pub const LINE: usize = 512;
 pub type Line = ArrayVec<u8, LINE>;
 
 /// Appends a text.
+#[inline(always)]
 pub fn put_text(line: &mut Line, text: &[u8])
     requires { array_vec_len line.old + length text.now ≤ 512 }
     ensures items { line.new.items ≡ line.old.items ++ text.now }
@@ -24,6 +25,7 @@ pub fn put_text(line: &mut Line, text: &[u8])
 }
 
 /// Appends a label and a whole number, in decimal.
+#[inline(always)]
 pub fn put_field<I: Integer>(line: &mut Line, label: &[u8], number: I)
     requires { array_vec_len line.old + length label.now + 40 ≤ 512 }
     ensures items { line.new.items ≡ line.old.items ++ label.now ++ I.text number }
@@ -35,6 +37,7 @@ pub fn put_field<I: Integer>(line: &mut Line, label: &[u8], number: I)
 }
 
 /// Appends a label and a time as `SEC+NUM/DEN`, or `-` where there is none.
+#[inline(always)]
 pub fn put_time(line: &mut Line, label: &[u8], time: Option<Stamp>)
     requires { array_vec_len line.old + length label.now + 122 ≤ 512 }
     ensures items { line.new.items ≡ line.old.items ++ label.now ++ time_text (option_map printed_of time) }

@@ -86,12 +86,12 @@ impl<R: Source> PacketFeed for Capture<R> {
     ghost feed = { λ c. feed_of (lane_of c.reader (progress_of c.reached)) c.next };
 
     fn head(&mut self) -> Result<Head, Fault> {
-        let next = learn(&mut self.reader, &mut self.reached, &mut self.next)?;
-        Ok(head_of(next))
+        learn(&mut self.reader, &mut self.reached, &mut self.next)?;
+        Ok(head_of(&self.next))
     }
 
     fn frame(&self) -> &[u8] {
-        part_of(&self.reader, self.next)
+        part_of(&self.reader, &self.next)
     }
 
     fn pass(&mut self) {

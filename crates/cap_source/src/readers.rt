@@ -49,14 +49,16 @@ pub enum Reader<R: Source> {
     Moved,
 }
 
-/// What is told of it as a head.
-pub fn head_of(next: Next) -> Head
-    ensures { result ≡ head_of next }
+/// What is told of it as a head, once it is known.
+pub fn head_of(next: &Option<Next>) -> Head
+    requires { IsSome next.now }
+    ensures { head_by next.now ≡ Some result }
 {
     match next {
-        Next::Packet(meta, _) => Head::Packet(meta),
-        Next::Refused(refusal, _) => Head::Refused(refusal),
-        Next::End(_) => Head::End,
+        Some(Next::Packet(meta, _)) => Head::Packet(*meta),
+        Some(Next::Refused(refusal, _)) => Head::Refused(*refusal),
+        Some(Next::End(_)) => Head::End,
+        None => unreachable!(),
     }
 }
 
@@ -424,14 +426,14 @@ fn lent_of<R: Source>(reader: &Reader<R>) -> &[u8]
 }
 
 /// The captured bytes of a packet that comes next.
-pub fn part_of<R: Source>(reader: &Reader<R>, next: Option<Next>) -> &[u8]
-    requires packet { IsPacket (head_by next) }
-    requires lent { end_of next ≤ size_of (lent_of reader.now) }
-    ensures { result.now ≡ frame_of next (lent_of reader.now) }
+pub fn part_of<'a, R: Source>(reader: &'a Reader<R>, next: &Option<Next>) -> &'a [u8]
+    requires packet { IsPacket (head_by next.now) }
+    requires lent { end_of next.now ≤ size_of (lent_of reader.now) }
+    ensures { result.now ≡ frame_of next.now (lent_of reader.entry.now) }
 {
     match next {
         Some(Next::Packet(meta, place)) => {
-            let (_, behind) = lent_of(reader).split_at(place as usize);
+            let (_, behind) = lent_of(reader).split_at(*place as usize);
             behind.split_at(meta.captured as usize).0
         }
         _ => unreachable!(),

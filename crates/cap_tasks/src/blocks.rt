@@ -5,9 +5,10 @@ ghost use Rattle.cap_tasks.specs.BlockText.{block_lines, block_list, block_refus
 ghost use Rattle.cap_bytes.specs.Device.{WriterKeeps, writer_of};
 ghost use Rattle.cap_bytes.specs.Printing.{Prints, IsRead, is_write};
 
-use crate::lines::block_line;
+use crate::lines::write_block;
 use cap_blocks::BlockReader;
 use cap_bytes::{Fault, Sink, Source, Tail, Window, put_all};
+use cap_print::Line;
 use std::alloc::Global;
 
 // Prints the blocks that a reader still gives, the first of which has the number 1.
@@ -21,9 +22,10 @@ fn print_blocks<R: Source, W: Sink>(
     ensures writer { WriterKeeps (writer_of W.Sink writer.old) (is_write result) (writer_of W.Sink writer.new) }
     ensures read { IsRead result → IsTrue reader.old.can_fail }
 {
+    let mut line = Line::new();
     let mut n = 1u64;
     while let Some(block) = reader.next_block()? {
-        let line = block_line(n, &block);
+        write_block(&mut line, n, &block);
         put_all(writer, line.as_slice())?;
         n += 1;
     }

@@ -14,7 +14,6 @@ mod tests;
 pub use crate::blocks::blocks_to;
 pub use crate::convert::convert_to;
 pub use crate::join::join_to;
-pub use crate::lines::{block_line, packet_line};
 pub use crate::list::list_to;
 pub use crate::merge::merge_to;
 pub use crate::outcomes::{Outcome, USAGE, end_of, outcome_line, status_of, tell};

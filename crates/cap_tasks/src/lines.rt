@@ -41,21 +41,20 @@ fn stamp_of(meta: &Meta) -> Option<Stamp>
     }
 }
 
-/// The line of the packet number n, from 1:
+/// Makes a line that of the packet number n, from 1:
 /// `packet N offset O time T captured C original G link L data X`.
-pub fn packet_line(n: u64, meta: &Meta, bytes: &[u8]) -> Line
-    ensures { result.items ≡ packet_text n meta.now bytes.now }
+pub(crate) fn write_packet(line: &mut Line, n: u64, meta: &Meta, bytes: &[u8])
+    ensures { line.new.items ≡ packet_text n meta.now bytes.now }
 {
-    let mut line = Line::new();
-    put_field(&mut line, b"packet ", n);
-    put_field(&mut line, b" offset ", meta.offset);
-    put_time(&mut line, b" time ", stamp_of(meta));
-    put_field(&mut line, b" captured ", meta.captured);
-    put_field(&mut line, b" original ", meta.original);
-    put_field(&mut line, b" link ", meta.interface.link);
-    put_data(&mut line, b" data ", bytes);
-    put_text(&mut line, b"\n");
-    line
+    line.clear();
+    put_field(line, b"packet ", n);
+    put_field(line, b" offset ", meta.offset);
+    put_time(line, b" time ", stamp_of(meta));
+    put_field(line, b" captured ", meta.captured);
+    put_field(line, b" original ", meta.original);
+    put_field(line, b" link ", meta.interface.link);
+    put_data(line, b" data ", bytes);
+    put_text(line, b"\n");
 }
 
 // Appends the order of a block's numbers.
@@ -84,17 +83,16 @@ fn put_kind(line: &mut Line, label: &[u8], kind: u32)
     put_text(line, &digits);
 }
 
-/// The line of the block number n, from 1:
+/// Makes a line that of the block number n, from 1:
 /// `block N offset O order little kind 0a0d0d0a total T`, or `order big`.
-pub fn block_line(n: u64, block: &Block) -> Line
-    ensures { result.items ≡ block_text n block.now }
+pub(crate) fn write_block(line: &mut Line, n: u64, block: &Block)
+    ensures { line.new.items ≡ block_text n block.now }
 {
-    let mut line = Line::new();
-    put_field(&mut line, b"block ", n);
-    put_field(&mut line, b" offset ", block.offset);
-    put_order(&mut line, b" order ", block.order);
-    put_kind(&mut line, b" kind ", block.kind);
-    put_field(&mut line, b" total ", block.total);
-    put_text(&mut line, b"\n");
-    line
+    line.clear();
+    put_field(line, b"block ", n);
+    put_field(line, b" offset ", block.offset);
+    put_order(line, b" order ", block.order);
+    put_kind(line, b" kind ", block.kind);
+    put_field(line, b" total ", block.total);
+    put_text(line, b"\n");
 }

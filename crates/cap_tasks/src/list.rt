@@ -5,8 +5,9 @@ ghost use Rattle.cap_bytes.specs.Device.{WriterKeeps, writer_of};
 ghost use Rattle.cap_bytes.specs.Printing.{Prints, IsRead, is_write};
 ghost use Rattle.cap_source.specs.Feed.{refusal_of};
 
-use crate::lines::packet_line;
+use crate::lines::write_packet;
 use cap_bytes::{Fault, Sink, Source, Tail, put_all};
+use cap_print::Line;
 use cap_source::{Capture, PacketFeed, next_packet};
 use std::alloc::Global;
 
@@ -19,9 +20,10 @@ fn list_packets<F: PacketFeed, W: Sink>(feed: &mut F, writer: &mut W) -> Result<
     ensures writer { WriterKeeps (writer_of W.Sink writer.old) (is_write result) (writer_of W.Sink writer.new) }
     ensures read { IsRead result → IsTrue (F.feed feed.old).can_fail }
 {
+    let mut line = Line::new();
     let mut n = 1u64;
     while let Some(meta) = next_packet(feed)? {
-        let line = packet_line(n, &meta, feed.frame());
+        write_packet(&mut line, n, &meta, feed.frame());
         put_all(writer, line.as_slice())?;
         feed.pass();
         n += 1;

@@ -21,7 +21,7 @@ returns-in_err-put_all-clause-text g c = λ t w.
     let i = c.loop-block.invariant in
     let old = c.loop-block.reader in
     let new = c.next_block.new.self in
-    let line_is : c.as_slice.result.now ≡ block_text c.loop-block.n c.in-Some.block = c.as_slice.ensures.value ∙ c.block_line-line.ensures in
+    let line_is : c.as_slice.result.now ≡ block_text c.loop-block.n c.in-Some.block = c.as_slice.ensures.value ∙ c.write_block.ensures in
     let items : TakesItem old (Ok (Some c.in-Some.block)) new = rw c.in-Some.is at (c.in_ok-block.ensures.items (i.told t)) in
     let behind = block_lines (c.loop-block.n + 1) (items_of new) in
     let split : block_lines c.loop-block.n (items_of old) ≡ c.as_slice.result.now ++ behind =
@@ -41,7 +41,7 @@ loop-block-preserved g c =
     Printing-more c.args.reader.now old new _ _ _ _ _ _ c.loop-block.n c.in-Some.block _ c.as_slice.result.now
     i gives c.in_ok-block.ensures.keeps
     (λ t. rw c.in-Some.is at (c.in_ok-block.ensures.items t))
-    (c.as_slice.ensures.value ∙ c.block_line-line.ensures)
+    (c.as_slice.ensures.value ∙ c.write_block.ensures)
     e.bytes e.writer.told e.writer.cannot (search rules)
 
 pub returns-clause-text : goal.returns-clause-text

@@ -25,7 +25,7 @@ returns-in_err-put_all-clause-text g c = λ t w.
     let meta = c.in-Some.meta in
     let shows : ShowsItem mid (Ok (Some meta)) shown = rw c.in-Some.is at (c.in_ok-meta.ensures.items (i.told t)) in
     let line_is : c.as_slice.result.now ≡ packet_text n meta shown.frame =
-    c.as_slice.ensures.value ∙ (c.packet_line-line.ensures ∙ ap (packet_text n meta) c.frame.ensures.frame) in
+    c.as_slice.ensures.value ∙ (c.write_packet.ensures ∙ ap (packet_text n meta) c.frame.ensures.frame) in
     let behind = list_lines (n + 1) (drop 1 mid.items) in
     let split : list_lines n mid.items ≡ c.as_slice.result.now ++ behind =
     ap (list_lines n) shows.1 ∙ ((plan_of-next n meta shown.frame).text (drop 1 mid.items) ∙ ap (λ l. l ++ behind) (sym line_is)) in
@@ -43,7 +43,7 @@ loop-meta-preserved g c =
     let meta = c.in-Some.meta in
     let e = c.in_ok-put_all.ensures in
     let line_is : c.as_slice.result.now ≡ packet_text n meta shown.frame =
-    c.as_slice.ensures.value ∙ (c.packet_line-line.ensures ∙ ap (packet_text n meta) c.frame.ensures.frame) in
+    c.as_slice.ensures.value ∙ (c.write_packet.ensures ∙ ap (packet_text n meta) c.frame.ensures.frame) in
     record {
       number = omega (arith, i.number, c.in_ok-meta.ensures.keeps.left, c.pass.ensures.passes.left);
       walk =
