@@ -1,0 +1,13 @@
+//! Packet captures, read, put in order, joined, written and reported: the library of `capt` by subject. Each name is that of the
+//! crate behind it, where its contract stands.
+#![tactic(auto)]
+
+pub mod bytes;
+pub mod join;
+pub mod order;
+pub mod read;
+pub mod report;
+#[cfg(test)]
+mod tests;
+pub mod time;
+pub mod write;
