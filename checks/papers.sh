@@ -1,0 +1,68 @@
+#!/usr/bin/env bash
+# What the papers show is so: each line that begins with `$ ` in a block of README.md is run over a copy of examples/, and
+# what stands under it must be what it prints, on both streams; the captures are made anew by examples/make.py; docs/RULES.md has
+# the numbers and names of the rules; each file that a page links to is there; the manual page and the completions
+# are read without a complaint, if the programs for that are there.
+#
+# Use: checks/papers.sh [PROGRAM]
+set -u
+top=$(cd "$(dirname "$0")/.." && pwd)
+program=$(realpath "${1:-$top/crates/cap_tool/out/cap_tool}")
+work=$(mktemp -d)
+trap 'rm -rf "$work"' EXIT
+mkdir "$work/bin" "$work/files"
+ln -s "$program" "$work/bin/capt"
+python3 "$top/examples/make.py" "$work/files"
+
+PATH="$work/bin:$PATH" python3 - "$top" "$work/files" <<'PY'
+import os, re, shutil, subprocess, sys
+
+top, folder = sys.argv[1], sys.argv[2]
+passed = failed = 0
+
+def judged(name, is_so, told=""):
+    global passed, failed
+    if is_so:
+        passed += 1
+    else:
+        failed += 1
+        print(f"{name}: {told}")
+
+for name in sorted(os.listdir(folder)):
+    with open(f"{folder}/{name}", "rb") as made, open(f"{top}/examples/{name}", "rb") as kept:
+        judged(f"examples/{name}", made.read() == kept.read(), "isn't what examples/make.py makes")
+
+def text_of(name):
+    with open(f"{top}/{name}", encoding="utf-8") as file:
+        return file.read()
+
+for block in re.findall(r"^```\w*\n(.*?)^```$", text_of("README.md"), re.M | re.S):
+    for example in re.findall(r"^\$ (.*\n(?:(?!\$ ).*\n)*)", block, re.M):
+        line, wanted = example.split("\n", 1)
+        ran = subprocess.run(["bash", "-c", line], cwd=folder, capture_output=True, text=True, timeout=60)
+        judged(line, ran.stdout + ran.stderr == wanted, f"status {ran.returncode}, printed:\n{ran.stdout}{ran.stderr}")
+
+kept = text_of("crates/cap_bytes/src/faults.rt")
+numbers = dict(re.findall(r"Rule::(\w+) => (\d+),", kept))
+names = dict(re.findall(r'Rule::(\w+) => "([\w-]+)",', kept))
+rules = {(int(numbers[rule]), names[rule]) for rule in numbers}
+told = {(int(number), name) for number, name in re.findall(r"^\| (\d+) `([\w-]+)` \|", text_of("docs/RULES.md"), re.M)}
+judged("docs/RULES.md", len(rules) == 21 and told == rules, f"other rules: {sorted(told ^ rules)}")
+
+pages = ["README.md", "CHANGELOG.md"] + [f"docs/{name}" for name in sorted(os.listdir(f"{top}/docs"))]
+for page in pages:
+    links = re.findall(r"\]\(([^)#:]+)(?:#[^)]*)?\)", text_of(page))
+    lost = [link for link in links if not os.path.exists(os.path.join(top, os.path.dirname(page), link))]
+    judged(page, not lost, f"links to nothing: {lost}")
+
+for tool, words in [
+    ("man", ["man", "--warnings", "-l", "man/capt.1"]),
+    ("bash", ["bash", "-n", "completions/capt.bash"]),
+    ("fish", ["fish", "--no-execute", "completions/capt.fish"]),
+]:
+    if shutil.which(tool):
+        ran = subprocess.run(words, cwd=top, stdout=subprocess.DEVNULL, stderr=subprocess.PIPE, text=True)
+        judged(words[-1], ran.returncode == 0 and not ran.stderr, ran.stderr)
+print(f"{passed} passed, {failed} failed")
+sys.exit(failed != 0)
+PY

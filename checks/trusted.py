@@ -1,0 +1,118 @@
+#!/usr/bin/env python3
+"""Which definitions must be read to trust a command: those that its text and its refusal are defined by.
+
+Prints, for each command, how many definitions and lines these are, by crate; with a command's name, the definitions themselves,
+what stands on nothing first. Words of the toolchain's library and the fields of the types in src/ aren't listed.
+
+Use: checks/trusted.py [COMMAND]
+"""
+import pathlib, re, sys
+
+TOP = pathlib.Path(__file__).resolve().parent.parent
+ROOTS = {
+    "list": ["cap_tasks.ListText.list_text", "cap_tasks.ListText.list_refusal"],
+    "blocks": ["cap_tasks.BlockText.block_list", "cap_tasks.BlockText.block_refusal"],
+    "info": ["cap_talks.FileText.files_text", "cap_talks.FileText.lines_from", "cap_source.Items.file_items", "cap_source.Items.file_ending"],
+    "report": [
+        "cap_talks.ReportText.report_text", "cap_talks.ReportText.report_refusal", "cap_merge.Files.clocked_run",
+        "cap_merge.Files.endings_of_files",
+    ],
+    "convert": ["cap_tasks.Converted.convert_text", "cap_tasks.Converted.convert_refusal"],
+    "merge": ["cap_tasks.MergeText.merge_text", "cap_tasks.MergeText.merge_refusal"],
+    "join": ["cap_tasks.JoinText.join_text", "cap_tasks.JoinText.join_refusal"],
+}
+
+
+def parsed(path):
+    """A file's imports (name to its full name) and its definitions (name to its lines, comment first)."""
+    text = path.read_text(encoding="utf-8")
+    module = f"{path.parts[-3]}.{path.stem}"
+    imports, wide = {}, {}
+    for crate, inner, names in re.findall(r"^use Rattle\.(\w+)\.specs\.([\w.]+)\.\{([^}]*)\}", text, re.M):
+        for name in re.split(r",\s*", names):
+            imports[name.strip()] = f"{crate}.{inner}.{name.strip()}"
+    for crate, inner, name in re.findall(r"^use Rattle\.(\w+)\.specs\.([\w.]+) as (\w+)", text, re.M):
+        wide[name] = f"{crate}.{inner}"
+    definitions = {}
+    for part in re.split(r"\n\s*\n", text):
+        lines = part.strip("\n").split("\n")
+        code = [line for line in lines if not line.startswith("--")]
+        head = next((line for line in code if re.match(r"(?:(?:abbrev|unfoldable|pub|data|record|ghost) )*([^\s:]+) ?[:(]|(?:pub )?(?:record|data) (\S+)", line)), "")
+        if not head or head.startswith("use "):
+            continue
+        name = re.match(r"(?:(?:abbrev|unfoldable|pub|ghost) )*(?:record |data )?([^\s:(]+)", head)[1]
+        definitions[f"{module}.{name}"] = lines
+        # the cases of a data type and the fields of a record belong to it
+        if re.search(r"\b(record|data) ", head):
+            for case in re.findall(r"^  (?:pub )?([\w-]+) :", part, re.M):
+                definitions.setdefault(f"{module}.{case}", lines)
+    return module, imports, wide, definitions
+
+
+def closure(roots, files):
+    """The definitions that some stand on, by file, files that stand on no other first, in each in its order."""
+    done, order = set(), []
+
+    def visit(name):
+        crate_module, _, word = name.rpartition(".")
+        if name in done or crate_module not in files or name not in files[crate_module][2]:
+            return
+        done.add(name)
+        imports, wide, definitions = files[crate_module]
+        body = "\n".join(line for line in definitions[name] if not line.startswith("--"))
+        for used in re.findall(r"[\w◌≡≤<>&|+*/-]*\w[\w◌-]*(?:\.\w+)?", body):
+            first, _, rest = used.partition(".")
+            within = f"{wide[first]}.{rest}" if first in wide else None
+            for target in (within, imports.get(used), imports.get(first), f"{crate_module}.{used}", f"{crate_module}.{first}"):
+                if target and target != name:
+                    visit(target)
+        order.append(name)
+
+    for root in roots:
+        if root.rpartition(".")[0] not in files or root not in files[root.rpartition(".")[0]][2]:
+            sys.exit(f"no definition {root}")
+        visit(root)
+    modules = []
+
+    def place(module):
+        if module in modules or module in on_the_way:
+            return
+        on_the_way.add(module)
+        imports, wide, _ = files[module]
+        for target in [*(name.rpartition(".")[0] for name in imports.values()), *wide.values()]:
+            if target in reached:
+                place(target)
+        modules.append(module)
+
+    on_the_way, reached = set(), {name.rpartition(".")[0] for name in done}
+    for module in sorted(reached):
+        place(module)
+    return [name for module in modules for name in files[module][2] if name in done]
+
+
+files = {}
+for path in sorted(TOP.glob("crates/*/specs/*.antt")):
+    module, imports, wide, definitions = parsed(path)
+    files[module] = imports, wide, definitions
+
+for command, roots in ROOTS.items():
+    order = closure(roots, files)
+    parts = {}
+    for name in order:
+        module = name.rpartition(".")[0]
+        parts.setdefault(tuple(files[module][2][name]), (module, name))
+    if len(sys.argv) > 1:
+        if sys.argv[1] == command:
+            module = ""
+            for lines, (where, _) in parts.items():
+                if where != module:
+                    crate, _, stem = where.partition(".")
+                    print(f"\n-- crates/{crate}/specs/{stem}.antt\n")
+                    module = where
+                print("\n".join(lines) + "\n")
+        continue
+    crates = {}
+    for lines, (where, _) in parts.items():
+        crates[where.split(".")[0]] = crates.get(where.split(".")[0], 0) + len(lines)
+    told = ", ".join(f"{crate} {count}" for crate, count in crates.items())
+    print(f"{command}: {len(parts)} definitions, {sum(crates.values())} lines ({told})")
