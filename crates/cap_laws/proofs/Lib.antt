@@ -4,7 +4,6 @@ mod LikeGroups
 mod LikePieces
 mod LikeReports
 mod LikeUnits
-mod Measured
 mod OneFile
 mod PcapWritten
 mod Rounds

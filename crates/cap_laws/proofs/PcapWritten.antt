@@ -76,7 +76,7 @@ pub pcap-report : PcapAgain → PcapReport
 pcap-report again-law order tail tail_again bytes are none short =
     let items = file_items tail 1 bytes in
     let again = file_items tail_again 1 (pcap_text order (file_first tail 1 bytes) items) in
-    let same = again-law order tail tail_again 1 1 bytes are none short in
+    let same = (again-law order tail tail_again 1 1 bytes are).1 none short in
     let one : run_of_lists (items ∷ []) ≡ items = run-one items (never-first items again same) in
     let other : run_of_lists (again ∷ []) ≡ again = run-one again (never-again items again same) in
     let both : AllZip SamePackets (run_of_lists (items ∷ [])) (run_of_lists (again ∷ [])) =

@@ -1,5 +1,6 @@
 pub mod Blocks
 pub mod Bodies
+pub mod Fields
 pub mod Firsts
 pub mod Going
 pub mod Lists
@@ -8,4 +9,5 @@ pub mod Onward
 pub mod Options
 pub mod Pcaps
 pub mod Resolutions
+pub mod Saying
 pub mod Walking
