@@ -1,6 +1,5 @@
 mod Alike
 mod FileNumbers
-mod LikeGroups
 mod LikePieces
 mod LikeReports
 mod LikeUnits
