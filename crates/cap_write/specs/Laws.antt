@@ -183,13 +183,14 @@ instances [] = []
 instances (packet meta frame ∷ items) = meta.instance ∷ instances items
 instances (refused refusal ∷ items) = []
 
--- a packet as it is read again: as many bytes were captured of it as it has
+-- a packet as it is read again: its captured length is the number of its bytes
 abbrev pub measured : Numbered → Numbered
 measured n = record n { captured = length n.frame }
 
 -- What is written of a list in which the packets of one instance have one interface, and which is at most
 -- 2^40 bytes long, has the packets of the list, those before a refusal, in order: both have the same
--- numbered packets, where as many bytes were captured as are told, and a packet's instance is its number there.
+-- numbered packets, but that the captured length which is read again is the number of a packet's bytes, and a
+-- packet's instance is its number there.
 abbrev pub MergedAgain : Type 0
 MergedAgain =
     (order : Order) (tail : Tail) (file : ℕ) (given : Name → Interface) (items : List Item) → AllHave given items

@@ -4,11 +4,11 @@ ghost use Rattle.cap_write.specs.Rounds.{ClockLaw, FileRoundsLaw, RoundsLaw};
 
 pub use cap_source::laws::fields_fit;
 
-/// An accepted pcap file, written as pcapng and then as pcap again, comes back: the pcapng file has its first
-/// interface and its packets, in order, with link, snaplen, exact time, lengths and bytes, and the pcap file has
-/// the same first interface, also where there is no packet (so the header's link, snaplen and unit), and the packets
-/// before the first with a time of 2^32 seconds or more, which is refused (rule 20, time-range); nothing else is. A
-/// file in the written form comes back byte for byte in the same order.
+/// An accepted pcap file whose pcapng text is at most 2^40 bytes long, written as pcapng and then as pcap again,
+/// comes back: the pcapng file has its interface, also where there is no packet, and its packets, in order, with
+/// link, snaplen, exact time, lengths and bytes. The pcap file has the same interface (the link, the snaplen and the
+/// unit of its header) and the packets before the first with a time of 2^32 seconds or more, which is refused (rule
+/// 20, time-range); nothing else is. A file in the written form comes back byte for byte in the same order.
 pub fn round_trip()
     ensures packets { RoundTrip }
     ensures bytes { SameBytes }
@@ -25,18 +25,18 @@ pub fn merged_again()
 {}
 
 /// What `to_pcapng` writes of any file, of either format and whatever bytes it holds, where it is at most 2^40
-/// bytes long, has the file's first interface, or none where the file has none before its first packet, and the
-/// file's packets, those before a refusal, in order: with the same numbers of interfaces after the file's first
-/// one, and the same interfaces, times, lengths and bytes.
+/// bytes long, has the file's first interface, also where there is no packet (or none, where the file has none before
+/// its first packet), and the file's packets, those before a refusal, in order: with the same numbers of interfaces
+/// after the file's first one, and the same interfaces, times, lengths and bytes.
 pub fn pcapng_again()
     ensures { PcapngAgain }
 {}
 
 /// What `to_pcap` writes of any file, of either format and whatever bytes it holds, has the link and the snaplen of
-/// the file's first interface, and counts in microseconds where each unit of that is a whole number of them, else in
-/// nanoseconds; it has no interface where the file has none before its first packet. Where it refuses nothing and is
-/// at most 2^40 bytes long, it has the file's packets, in order: with the same link, lengths and bytes, and the same
-/// time, which may have another form.
+/// the file's first interface, also where there is no packet, and counts in microseconds where each of that
+/// interface's units is a whole number of them, else in nanoseconds; where the file has no interface before its first
+/// packet, neither has the text. Where nothing is refused and the text is at most 2^40 bytes long, it has the file's
+/// packets, in order: with the same link, lengths and bytes, and the same time, which may have another form.
 pub fn pcap_again()
     ensures { PcapAgain }
 {}
