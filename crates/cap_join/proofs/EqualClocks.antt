@@ -1,5 +1,5 @@
 -- What fragments make of the open groups depends on clocks by the order of times alone: fragments that are equal are alike.
-use Rattle.std.proofs.Common.{◌≡◌, ℕ, List, [], ◌∷◌, refl, ap, Option}
+use Rattle.std.proofs.Common.{◌≡◌, List, [], ◌∷◌, refl, ap}
 use Rattle.std.specs.List.{AllZip}
 use Rattle.cap_join.specs.ByteMap.{completes}
 use Rattle.cap_join.specs.Completed.{completed_of}
