@@ -1,7 +1,7 @@
 -- The fields of every file's packets fit in their widths, and as many bytes were captured of each as are told.
-use Rattle.std.proofs.Common.{◌≡◌, ◌==◌, ◌*◌, ℕ, zero, suc, ◌+◌, ◌-◌, ◌^◌, ◌≤◌, ◌<◌, nat_le, List, [], ◌∷◌, ◌++◌, length, length-drop, take, drop, get_or, slice_get, mod-lt, Bool, true, false, Option, Some, None, Result, Ok, Err, IfOk, IfSome, unwrap_or, refl, ◌∙◌, subst, sym, arith, if◌then◌else◌}
+use Rattle.std.proofs.Common.{◌≡◌, ◌==◌, ◌*◌, ℕ, zero, suc, ◌+◌, ◌-◌, ◌^◌, ◌≤◌, ◌<◌, nat_le, List, [], ◌∷◌, ◌++◌, length, take, drop, get_or, slice_get, mod-lt, Bool, true, false, Option, Some, None, Result, Ok, Err, IfOk, IfSome, unwrap_or, refl, ◌∙◌, subst, sym, arith, if◌then◌else◌}
 use Rattle.std.proofs.lemmas.Int.{ints}
-use Rattle.std.proofs.lemmas.List.{get_or-drop, length-take-le}
+use Rattle.std.proofs.lemmas.List.{get_or-drop}
 use Rattle.std.specs.Int.{w64, cast_signed}
 use Rattle.std.specs.List.{AllByRecursion}
 use Rattle.std.specs.Prelude.{FitsSigned, pos}
@@ -24,12 +24,13 @@ use Rattle.cap_pcap.specs.Split.{Splits}
 use Rattle.cap_pcap.specs.declared.records.Stop.{Stop as RecordStop}
 use Rattle.cap_pcap.specs.declared.records.Stop.TheVariants as record_stops
 use Rattle.cap_source.proofs.Blocks.{IsFit, content_fit}
+use Rattle.cap_source.proofs.Frames.{block-frame, read_header}
 use Rattle.cap_source.proofs.Saying.{OfContent, content-holds}
 use Rattle.cap_source.specs.Clocks.{interface_in, interface_or, interface_at, options_fault, offset_in, given_or, read_or, value_of}
 use Rattle.cap_source.specs.Contents.{content_in}
 use Rattle.cap_source.specs.Feed.{Item}
 use Rattle.cap_source.specs.Fields.{FitsInterface, ItemFits, FieldsFit}
-use Rattle.cap_source.specs.Items.{Progress, fresh, behind, frame_in, items_at, items_in, items_of_stop, items_from, is_pcapng, pcap_items, interface_of}
+use Rattle.cap_source.specs.Items.{Progress, fresh, behind, items_at, items_in, items_of_stop, items_from, is_pcapng, pcap_items, interface_of}
 use Rattle.cap_source.specs.declared.contents.Content.{Content}
 use Rattle.cap_source.specs.declared.contents.Content.TheVariants as contents
 use Rattle.cap_source.specs.declared.contents.Packet.{Packet}
@@ -151,10 +152,6 @@ blocks-bytes (suc fuel) section tail file offset bytes are =
     (AreBytes-take (total - 12) (drop 8 bytes) (AreBytes-drop 8 bytes are))
     (blocks-bytes fuel (Some order) tail file (offset + total) (drop total bytes) (AreBytes-drop total bytes are))
 
--- the captured bytes of a packet that is within its body
-length-frame : (p : Packet) (body : List ℕ) → p.place + p.captured ≤ length body → length (frame_in p body) ≡ p.captured
-length-frame p body within = length-take-le p.captured (drop p.place body) (omega (arith, within, length-drop p.place body))
-
 block-fits : (file few : ℕ) (progress : Progress) (block : Block) (body : List ℕ) (content : Result Content Rule) (items : List Item)
     → IfOk content (OfContent FitsInterface FitsPacket) → IsFit few body content → AllByRecursion FitsInterface progress.interfaces
     → (AllByRecursion FitsInterface (behind progress content).interfaces → AllByRecursion ItemFits items)
@@ -166,8 +163,7 @@ block-fits file few progress block body (Ok (contents.Packet p)) items fits with
     interface = fits.interface;
     units = fits.units;
     original = fits.original;
-    captured = length-frame p body within.0;
-    limit = within.1;
+    frame = block-frame file progress block p body within;
   },
   rest all,
 )
@@ -220,11 +216,6 @@ held-splits order unit offset bytes (p ∷ ps) rest are s =
     let here = held-spelled order unit p (take (packet_size p) bytes) (AreBytes-take (packet_size p) bytes are) s.0 in
     (here.0, here.1, here.2, held-splits order unit (offset + packet_size p) (drop (packet_size p) bytes) ps rest (AreBytes-drop (packet_size p) bytes are) s.2)
 
-pub read_header : (tail : Tail) (file : ℕ) (bytes : List ℕ) → records.header_fault 0 bytes ≡ None
-    → records.file_items tail file 0 bytes ≡ records.items_from (records.header_at bytes) tail file 24 (drop 24 bytes)
-unfolding records.file_items
-read_header tail file bytes is = rw is refl
-
 pub below_header : (bytes : List ℕ) → AreBytes bytes → ((records.header_at bytes).snaplen < 2 ^ 32) × ((records.header_at bytes).link < 2 ^ 16)
 unfolding records.header_at
 below_header bytes are =
@@ -238,7 +229,7 @@ records-fit file i offset [] record_stops.End fits held = tt
 records-fit file i offset [] record_stops.Cut fits held = tt
 records-fit file i offset [] (record_stops.Refused refusal) fits held = (tt, tt)
 records-fit file i offset (p ∷ ps) stop fits held = (
-  record { interface = fits; units = held.0; original = held.1; captured = refl; limit = held.2 },
+  record { interface = fits; units = held.0; original = held.1; frame = record { captured = refl; limit = held.2 } },
   records-fit file i (offset + packet_size p) ps stop fits held.3,
 )
 

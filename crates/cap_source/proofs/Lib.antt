@@ -2,6 +2,7 @@ pub mod Blocks
 pub mod Bodies
 pub mod Fields
 pub mod Firsts
+pub mod Frames
 pub mod Going
 pub mod Lists
 pub mod Looks

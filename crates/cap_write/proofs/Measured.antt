@@ -1,24 +1,15 @@
--- Of the packets that are written of a file as many bytes were captured as are told.
+-- Packets that have as many captured bytes as are told are numbered the same when they are read again.
 use Rattle.std.proofs.Common.{◌≡◌, ℕ, List, [], ◌∷◌, length, refl, Option, Some, None}
 use Rattle.std.specs.List.{AllByRecursion}
 use Rattle.std.specs.Prelude.{map, unwrap_or}
 use Rattle.cap_bytes.specs.declared.faults.Rule.{Rule}
 use Rattle.cap_source.specs.Feed.{Item, packet, refused}
-use Rattle.cap_source.specs.Fields.{ItemFits}
+use Rattle.cap_source.specs.Fields.{HasFrame}
 use Rattle.cap_source.specs.declared.packets.Meta.{Meta}
 use Rattle.cap_write.specs.Laws.{measured}
 use Rattle.cap_write.specs.Numbering.{Name, with_name, number_of, numbered, numbered_of, numbered_or, write_fault}
 
-abbrev pub IsMeasured : Item → Type 0
-IsMeasured (packet meta frame) = length frame ≡ meta.captured
-IsMeasured (refused refusal) = Unit {0}
-
-pub measured-fields : (items : List Item) → AllByRecursion ItemFits items → AllByRecursion IsMeasured items
-measured-fields [] fit = tt
-measured-fields (packet meta frame ∷ items) fit = (fit.0.captured, measured-fields items fit.1)
-measured-fields (refused refusal ∷ items) fit = (tt, measured-fields items fit.1)
-
--- such a packet is read again as it was
+-- a packet with its captured bytes is read again as it was
 same-packet : (names : List Name) (meta : Meta) (frame : List ℕ) → length frame ≡ meta.captured → measured (numbered_of names meta frame) ≡ numbered_of names meta frame
 same-packet names meta frame is =
     λ i. record {
@@ -30,7 +21,7 @@ same-packet names meta frame is =
       frame = frame;
     }
 
-pub numbered-measured : (names : List Name) (items : List Item) → AllByRecursion IsMeasured items → map measured (numbered names items) ≡ numbered names items
+pub numbered-measured : (names : List Name) (items : List Item) → AllByRecursion HasFrame items → map measured (numbered names items) ≡ numbered names items
 unfolding numbered
 numbered-measured names [] are = refl
 numbered-measured names (refused refusal ∷ items) are = refl
@@ -40,4 +31,4 @@ numbered-measured names (packet meta frame ∷ items) are = by (write_fault name
         → map measured (numbered_or fault (numbered_of names meta frame) (numbered (with_name names meta) items))
         ≡ numbered_or fault (numbered_of names meta frame) (numbered (with_name names meta) items)
     by (Some rule) later = refl
-    by None later = λ i. same-packet names meta frame are.0 i ∷ later i
+    by None later = λ i. same-packet names meta frame are.0.captured i ∷ later i

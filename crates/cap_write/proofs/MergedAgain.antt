@@ -120,7 +120,7 @@ fits-numbered meta frame fits = record {
   offset = fits.interface.offset;
   units = fits.units;
   original = fits.original;
-  frame = omega (arith, fits.captured, fits.limit);
+  frame = omega (arith, fits.frame.captured, fits.frame.limit);
 }
 
 -- their fields fit

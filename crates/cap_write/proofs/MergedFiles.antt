@@ -1,5 +1,5 @@
 -- The run of any files, written and read again.
-use Rattle.std.proofs.Common.{◌≡◌, ◌==◌, ℕ, ◌+◌, ◌≤◌, map, List, [], ◌∷◌, length, Bool, true, false, sym, ap, ◌∙◌, arith, if◌then◌else◌}
+use Rattle.std.proofs.Common.{◌==◌, ℕ, ◌+◌, ◌≤◌, map, List, [], ◌∷◌, Bool, true, false, sym, ap, ◌∙◌, arith, if◌then◌else◌}
 use Rattle.std.proofs.lemmas.Bool.{eq-eqb, ne_eqb}
 use Rattle.std.specs.List.{AllByRecursion}
 use Rattle.cap_blocks.specs.Split.{AreBytes}
@@ -7,22 +7,23 @@ use Rattle.cap_bytes.specs.declared.faults.Tail.{Tail}
 use Rattle.cap_merge.specs.Parts.{item_time, is_refusal}
 use Rattle.cap_merge.specs.Run.{Clocked, opened, merged, through_first}
 use Rattle.cap_source.proofs.Fields.{fields_fit-law}
+use Rattle.cap_source.proofs.Frames.{frames_fit-law}
 use Rattle.cap_source.specs.Feed.{Item, packet, refused}
-use Rattle.cap_source.specs.Fields.{ItemFits}
+use Rattle.cap_source.specs.Fields.{HasFrame, ItemFits}
 use Rattle.cap_source.specs.Items.{file_items}
 use Rattle.cap_time.specs.declared.resolutions.Interface.{Interface}
 use Rattle.cap_write.proofs.Alike.{merge-all}
 use Rattle.cap_write.proofs.Instances.{one_interface-law}
-use Rattle.cap_write.proofs.Measured.{IsMeasured, numbered-measured}
+use Rattle.cap_write.proofs.Measured.{numbered-measured}
 use Rattle.cap_write.proofs.MergedAgain.{fits-numbered}
 use Rattle.cap_write.proofs.Renumbered.{merged_again-law}
 use Rattle.cap_write.specs.Laws.{AllAlike, HasFields, AllHave, MergeLaw}
 use Rattle.cap_write.specs.Numbering.{Name, name_of}
 use Rattle.cap_merge.specs.Files.{items_of_files, run_of_files}
 
--- A packet has the interface of its name, its fields fit, as many bytes were captured as are told, and its file has at least that number.
+-- A packet has the interface of its name, its fields fit, and its file has at least that number.
 abbrev IsOfFile : ℕ → (Name → Interface) → Item → Type 0
-IsOfFile least given (packet meta frame) = (least ≤ meta.file) × HasFields given meta frame × (length frame ≡ meta.captured)
+IsOfFile least given (packet meta frame) = (least ≤ meta.file) × HasFields given meta frame
 IsOfFile least given (refused refusal) = Unit {0}
 
 -- the interfaces of some files by their names
@@ -48,7 +49,6 @@ of_one tail file bytes files (packet meta frame ∷ items) alike fit = (
           (eq-eqb meta.file file alike.0));
       fits = fits-numbered meta frame fit.0;
     },
-    fit.0.captured,
   ),
   of_one tail file bytes files items alike.2 fit.1,
 )
@@ -68,7 +68,6 @@ raised tail file bytes files (packet meta frame) is =
             (ne_eqb meta.file file (λ e. absurd (omega (arith, least, e)))));
         fits = is.1.fits;
       },
-      is.2,
     )
 
 each : {A : Type 0} (P Q : A → Type 0) → ((x : A) → P x → Q x) → (xs : List A) → AllByRecursion P xs → AllByRecursion Q xs
@@ -101,10 +100,9 @@ all_have least given [] h = tt
 all_have least given (refused refusal ∷ items) h = tt
 all_have least given (packet meta frame ∷ items) h = (h.0.1, all_have least given items h.1)
 
-all_measured : (least : ℕ) (given : Name → Interface) (items : List Item) → AllByRecursion (IsOfFile least given) items → AllByRecursion IsMeasured items
-all_measured least given [] h = tt
-all_measured least given (refused refusal ∷ items) h = (tt, all_measured least given items h.1)
-all_measured least given (packet meta frame ∷ items) h = (h.0.2, all_measured least given items h.1)
+all_frames : (tail : Tail) (file : ℕ) (files : List (List ℕ)) → AllByRecursion (AllByRecursion HasFrame) (items_of_files tail file files)
+all_frames tail file [] = tt
+all_frames tail file (bytes ∷ files) = (frames_fit-law tail file bytes, all_frames tail (file + 1) files)
 
 pub merge-law : MergeLaw
 unfolding run_of_files
@@ -112,6 +110,9 @@ merge-law order tail tail_again file_again files are limit =
     let given = given_from tail 1 files in
     let lists = items_of_files tail 1 files in
     let items = run_of_files tail files in
-    let all = front (IsOfFile 1 given) (λ x. is_refusal x.item) (merged item_time (map opened lists)) (merge-all (IsOfFile 1 given) item_time lists (of_all tail 1 files are)) in
-    let law = merged_again-law order tail_again file_again given items (all_have 1 given items all) limit in
-    (law.0 ∙ numbered-measured [] items (all_measured 1 given items all), law.1, law.2, law.3)
+    let ends : Clocked Item → Bool = λ x. is_refusal x.item in
+    let all = merged item_time (map opened lists) in
+    let law = merged_again-law order tail_again file_again given items
+    (all_have 1 given items (front (IsOfFile 1 given) ends all (merge-all (IsOfFile 1 given) item_time lists (of_all tail 1 files are)))) limit in
+    let frames = front HasFrame ends all (merge-all HasFrame item_time lists (all_frames tail 1 files)) in
+    (law.0 ∙ numbered-measured [] items frames, law.1, law.2, law.3)

@@ -177,7 +177,7 @@ all-written first (packet meta frame ∷ items) fit none =
     let d = in_second (fraction_of first) in
     let quotient : units_in (fraction_of first) (written_time first meta) / d ≡ t.seconds =
     ap (λ u. u / d) (units_are first meta t) ∙ div-mul-add t.seconds d t.rest (whole first meta t).below in
-    (omega (arith, quotient, t.few), fit.0.original, omega (arith, fit.0.captured, fit.0.limit), all-written first items fit.1 g.rest)
+    (omega (arith, quotient, t.few), fit.0.original, omega (arith, fit.0.frame.captured, fit.0.frame.limit), all-written first items fit.1 g.rest)
 
 -- and what they are when they are read again
 same_packet : (order : Order) (first : Interface) (file offset : ℕ) (meta : Meta) (frame : List ℕ) → IsTimed first meta → length frame ≡ meta.captured
@@ -206,7 +206,7 @@ same_packets order first file offset [] fit none = tt
 same_packets order first file offset (refused refusal ∷ items) fit none = never_refused first refusal items none
 same_packets order first file offset (packet meta frame ∷ items) fit none =
     let g = goes first meta frame items none in (
-      same_packet order first file offset meta frame (timed first meta g.unrefused) fit.0.captured,
+      same_packet order first file offset meta frame (timed first meta g.unrefused) fit.0.frame.captured,
       same_packets order first file (offset + packet_size (form_of first meta frame)) items fit.1 g.rest,
     )
 

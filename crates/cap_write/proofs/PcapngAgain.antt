@@ -8,6 +8,7 @@ use Rattle.cap_bytes.specs.declared.faults.Tail.{Tail}
 use Rattle.cap_bytes.specs.declared.numbers.Order.{Order}
 use Rattle.cap_blocks.proofs.Items.{items_from-none}
 use Rattle.cap_source.proofs.Fields.{fields_fit-law}
+use Rattle.cap_source.proofs.Frames.{frames_fit-law}
 use Rattle.cap_source.specs.Feed.{Item, packet, refused, refusal_of}
 use Rattle.cap_source.specs.Fields.{ItemFits}
 use Rattle.cap_source.specs.Items.{file_items, file_first, first_in}
@@ -16,7 +17,7 @@ use Rattle.cap_write.proofs.Again.{reached}
 use Rattle.cap_write.proofs.Files.{pcapng-again, first-behind_section}
 use Rattle.cap_write.proofs.FirstInterface.{IsFirst, first-of, first-none}
 use Rattle.cap_write.proofs.Instances.{one_interface-law}
-use Rattle.cap_write.proofs.Measured.{measured-fields, numbered-measured}
+use Rattle.cap_write.proofs.Measured.{numbered-measured}
 use Rattle.cap_write.proofs.MergedAgain.{fits-numbered, IsNumbered-given, AllFit-given, all_described-given}
 use Rattle.cap_write.proofs.Renumbered.{numbered-again, refusal-again, refusal_of-again, InOrder-numbered, merged_again-law}
 use Rattle.cap_write.specs.Laws.{AllAlike, AllHave, PcapngAgain}
@@ -68,7 +69,7 @@ without_first order tail tail_again file file_again bytes are limit =
     let law = merged_again-law order tail_again file_again (of_instance alike.0) items (have_all file alike.0 items alike.1 fit)
     (subst (λ t. length t ≤ 2 ^ 40) same limit) in
     subst (λ t. IsReadAgain [] [] items (file_items tail_again file_again t)) (sym same)
-    (record { packets = law.0 ∙ numbered-measured [] items (measured-fields items fit); unrefused = law.1; complete = law.2 })
+    (record { packets = law.0 ∙ numbered-measured [] items (frames_fit-law tail file bytes); unrefused = law.1; complete = law.2 })
 
 -- behind a section header alone no interface stands
 first-section : (order : Order) (tail : Tail) (file : ℕ) → file_first tail file (section_text order ++ []) ≡ None
@@ -107,7 +108,7 @@ behind_first order tail tail_again file file_again bytes i are is limit =
       record {
         packets =
             ap (numbered (first_names file_again (Some i))) read
-            ∙ (numbered-again order file_again place 1 ns in_order ∙ numbered-measured names items (measured-fields items fit));
+            ∙ (numbered-again order file_again place 1 ns in_order ∙ numbered-measured names items (frames_fit-law tail file bytes));
         unrefused = ap (refusal_in (first_names file_again (Some i))) read ∙ refusal-again order file_again place 1 ns in_order;
         complete = ap refusal_of read ∙ refusal_of-again order file_again place 1 ns;
       },

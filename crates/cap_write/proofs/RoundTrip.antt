@@ -20,7 +20,8 @@ use Rattle.cap_pcap.specs.declared.records.Stop.TheVariants as stops
 use Rattle.cap_pcap.proofs.Again.{flipped, flips_text, header_at-text, header_again-law}
 use Rattle.cap_pcap.specs.Grammar.{Packet, magic_of, header_text}
 use Rattle.cap_pcap.specs.declared.headers.PcapHeader.{PcapHeader}
-use Rattle.cap_source.proofs.Fields.{AllHeld, AreBytes-drop, held-splits, read_header, below_header}
+use Rattle.cap_source.proofs.Fields.{AllHeld, AreBytes-drop, held-splits, below_header}
+use Rattle.cap_source.proofs.Frames.{read_header}
 use Rattle.cap_source.specs.Feed.{Item}
 use Rattle.cap_source.specs.Items.{is_pcapng, pcap_items, interface_of, unless_refused, items_from, first_from, file_items, file_first}
 use Rattle.cap_time.specs.declared.resolutions.Interface.{Interface}
