@@ -15,4 +15,5 @@ pub mod Most
 pub mod OpenGroups
 pub mod ByPlaces
 pub mod Once
+pub mod AlikeGroups
 pub mod EqualClocks

@@ -34,6 +34,7 @@ pub record IsAlike (x y : Taken) : Type 0 where
   pub clock : IsSameTime x.clock y.clock
   pub interface : x.meta.interface ≡ y.meta.interface
   pub units : x.meta.units ≡ y.meta.units
+  pub captured : x.meta.captured ≡ y.meta.captured
   pub original : x.meta.original ≡ y.meta.original
   pub frame : x.frame ≡ y.frame
 

@@ -1,10 +1,8 @@
 mod Alike
 mod FileNumbers
-mod LikeGroups
 mod LikePieces
 mod LikeReports
 mod LikeUnits
-mod Measured
 mod OneFile
 mod PcapWritten
 mod Rounds

@@ -1,34 +1,18 @@
 -- What is made of fragments whose frames have the same times, maybe in other forms.
-use Rattle.std.proofs.Common.{◌≡◌, ℕ, zero, suc, ◌+◌, ◌-◌, ◌*◌, Bool, true, false, List, [], ◌∷◌, length, refl, sym, ◌∙◌, ap, true≢false, Option, Some, None, ◌||◌, ◌&&◌}
-use Rattle.std.specs.Cmp.{alike_right}
+use Rattle.std.proofs.Common.{◌≡◌, ℕ, zero, suc, ◌+◌, ◌-◌, ◌*◌, Bool, true, false, List, [], ◌∷◌, length, refl, sym, true≢false, Option, Some, None, ◌||◌, ◌&&◌}
 use Rattle.std.specs.List.{AllZip, range_with_len}
 use Rattle.std.specs.Option.{option_map_or}
-use Rattle.std.specs.Ordering.{is_lt, is_gt}
 use Rattle.std.specs.Prelude.{◌==◌, map, slice_index, if◌then◌else◌}
-use Rattle.cap_join.proofs.OpenGroups.{total}
+use Rattle.cap_join.proofs.AlikeGroups.{AlikeGroups, IsAlikeEvent, IsAlikeness, alike-groups, before_same, none_some, some_none}
 use Rattle.cap_join.specs.ByteMap.{is_covered, covers_below, total_of, header_of, byte_at, blocks, completes, data_of}
 use Rattle.cap_join.specs.EqualClocks.{IsSameTime}
 use Rattle.cap_join.specs.Fragments.{Piece}
 use Rattle.cap_join.specs.Frames.{is_before, original_bytes, timed, earlier, later, first_frame, last_frame}
+use Rattle.cap_join.specs.History.{Event}
 use Rattle.cap_join.specs.Holes.{is_within}
 use Rattle.cap_join.specs.declared.datagrams.Stamped.{Stamped}
-use Rattle.cap_merge.specs.Clock.{clock_cmp}
 use Rattle.cap_talks.specs.Classes.{has_place}
 use Rattle.cap_time.specs.declared.stamps.Stamp.{Stamp}
-
--- ---- times
-
-pub cmp-same : (a b c d : Option Stamp) → IsSameTime a b → IsSameTime c d → clock_cmp a c ≡ clock_cmp b d
-cmp-same a b c d e f = total.congr a b c e ∙ alike_right total c d b f
-
-pub before-same : (a b c d : Option Stamp) → IsSameTime a b → IsSameTime c d → is_before a c ≡ is_before b d
-before-same a b c d e f = ap is_lt (cmp-same a b c d e f)
-
-pub none-some : (b : Stamp) → IsSameTime None (Some b) → ⊥
-none-some b e = true≢false (ap is_lt e)
-
-pub some-none : (b : Stamp) → IsSameTime (Some b) None → ⊥
-some-none b e = true≢false (ap is_gt e)
 
 -- ---- frames
 
@@ -59,7 +43,7 @@ earlier-like a b None (Some t) h k = absurd k
 earlier-like a b (Some s) None h k = absurd k
 earlier-like None None (Some s) (Some t) h k = k
 earlier-like (Some x) (Some y) (Some s) (Some t) h k =
-    one-of s t x y k h (is_before s.time x.time) (is_before t.time y.time) (before-same s.time t.time x.time y.time k.time h.time)
+    one-of s t x y k h (is_before s.time x.time) (is_before t.time y.time) (before_same s.time t.time x.time y.time k.time h.time)
 
 later-like : (a b c d : Option Stamped) → LikeFrames a b → LikeFrames c d → LikeFrames (later a c) (later b d)
 later-like None None None None h k = tt
@@ -70,12 +54,12 @@ later-like a b None (Some t) h k = absurd k
 later-like a b (Some s) None h k = absurd k
 later-like None None (Some s) (Some t) h k = k
 later-like (Some x) (Some y) (Some s) (Some t) h k =
-    one-of s t x y k h (is_before x.time s.time) (is_before y.time t.time) (before-same x.time y.time s.time t.time h.time k.time)
+    one-of s t x y k h (is_before x.time s.time) (is_before y.time t.time) (before_same x.time y.time s.time t.time h.time k.time)
 
 timed-like : (s t : Stamped) → IsLikeFrame s t → (a b : Option Stamp) → IsSameTime a b → LikeFrames (timed s a) (timed t b)
 timed-like s t h None None e = tt
-timed-like s t h None (Some b) e = absurd (none-some b e)
-timed-like s t h (Some a) None e = absurd (some-none a e)
+timed-like s t h None (Some b) e = absurd (none_some b e)
+timed-like s t h (Some a) None e = absurd (some_none a e)
 timed-like s t h (Some a) (Some b) e = h
 
 -- ---- fragments
@@ -158,3 +142,15 @@ place-like n m (p ∷ ps) (q ∷ qs) e h = λ i. (h.0.stamped.place i == e i) ||
 
 pub frames-like : (ps qs : List Piece) → Like ps qs → LikeFrames (first_frame ps) (first_frame qs) × LikeFrames (last_frame ps) (last_frame qs)
 frames-like ps qs h = (first-like ps qs h, last-like ps qs h)
+
+-- ---- groups
+
+pub pieces-alike : IsAlikeness IsLike
+pieces-alike = record { header = λ p q h. h.header; place = λ p q h. h.stamped.place; completes = completes-like }
+
+abbrev pub LikeEvent : Event → Event → Type 0
+LikeEvent = IsAlikeEvent IsLike
+
+-- such fragments, at clocks of the same times, make such groups
+pub events-groups : (limit : ℕ) (es fs : List Event) → AllZip LikeEvent es fs → AlikeGroups IsLike limit es fs
+events-groups = alike-groups IsLike pieces-alike

@@ -10,6 +10,7 @@ use Rattle.cap_ip.specs.Transport.{transport_of}
 use Rattle.cap_ip.specs.declared.headers.Fragment.{Fragment}
 use Rattle.cap_ip.specs.declared.transports.Transport.TheVariants as transport
 use Rattle.cap_join.specs.Completed.{if_complete}
+use Rattle.cap_join.proofs.AlikeGroups.{if_complete-alike, zip-both}
 use Rattle.cap_join.specs.EqualClocks.{IsSameTime}
 use Rattle.cap_join.specs.Fragments.{Piece, piece_of}
 use Rattle.cap_join.specs.History.{Event, joined_pieces, state_of}
@@ -29,8 +30,7 @@ use Rattle.cap_talks.specs.Talks.{key_of, rows_of}
 use Rattle.cap_talks.specs.declared.classes.Class.TheVariants as class
 use Rattle.cap_talks.specs.declared.units.CountedUnit.{CountedUnit}
 use Rattle.cap_time.specs.declared.stamps.Stamp.{Stamp}
-use Rattle.cap_laws.proofs.LikeGroups.{LikeEvent, completed-like, given_up-like, if_complete-like, joined-like, zip-both}
-use Rattle.cap_laws.proofs.LikePieces.{IsLike, IsLikeFrame, Like, data-like, header-like, place-like}
+use Rattle.cap_laws.proofs.LikePieces.{IsLike, IsLikeFrame, Like, LikeEvent, data-like, events-groups, header-like, pieces-alike, place-like}
 use Rattle.cap_laws.proofs.LikeUnits.{LikeUnit, LikeUnits, first_unit-like, key-like, refused-like, rows-like, whole-like}
 use Rattle.cap_laws.specs.Forms.{BodyParts, IsSameTalk, SameButForms, counts_text}
 use Rattle.cap_laws.specs.Reports.{Place, place_or, refused_after}
@@ -127,7 +127,7 @@ events-like (x ∷ xs) (y ∷ ys) h =
     (look-like (length xs) (length ys) x y (taken-length xs ys h.1) h.0) h.0.clock (events-like xs ys h.1)
 
 groups-like : (xs ys : List Taken) → LikeTaken xs ys → AllZip Like (groups_of xs) (groups_of ys)
-groups-like xs ys h = completed-like open_limit (events_of xs) (events_of ys) (events-like xs ys h)
+groups-like xs ys h = (events-groups open_limit (events_of xs) (events_of ys) (events-like xs ys h)).completed
 
 -- ---- classes
 
@@ -188,7 +188,7 @@ unit-by (datagram i b) (datagram j a) s t c d es fs e f u h =
 unit-by (fragment p) (fragment q) s t c d es fs e f u h =
     let ps = joined_pieces c p (state_of open_limit es) in
     let qs = joined_pieces d q (state_of open_limit fs) in
-    first_unit-like (if_complete ps) (if_complete qs) (if_complete-like ps qs (joined-like open_limit es fs h c d p q u e))
+    first_unit-like (if_complete ps) (if_complete qs) (if_complete-alike IsLike pieces-alike ps qs ((events-groups open_limit es fs h).joined c d p q u e))
 unit-by (plain k) (datagram j a) s t c d es fs e f u h = absurd e
 unit-by (plain k) (fragment q) s t c d es fs e f u h = absurd e
 unit-by (datagram i b) (plain l) s t c d es fs e f u h = absurd e
@@ -242,7 +242,7 @@ lines-like xs ys h =
     let t = truncated-like xs ys h in
     let k = classes-like xs ys h in
     let j : joined_in xs ≡ joined_in ys = counted-like (groups_of xs) (groups_of ys) (groups-like xs ys h) in
-    let up : given_up_in xs ≡ given_up_in ys = given_up-like open_limit (events_of xs) (events_of ys) (events-like xs ys h) in
+    let up : given_up_in xs ≡ given_up_in ys = (events-groups open_limit (events_of xs) (events_of ys) (events-like xs ys h)).given_up in
     let talks : length (rows_of (units_of xs)) ≡ length (rows_of (units_of ys)) =
     length_all_zip IsSameTalk (rows_of (units_of xs)) (rows_of (units_of ys)) (talks-like xs ys h) in
     cc

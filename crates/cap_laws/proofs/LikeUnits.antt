@@ -10,6 +10,7 @@ use Rattle.cap_ip.specs.Header.{HeaderFields}
 use Rattle.cap_ip.specs.Transport.{transport_of}
 use Rattle.cap_join.proofs.OpenGroups.{filter-true, filter-false}
 use Rattle.cap_join.specs.ByteMap.{header_of, data_of}
+use Rattle.cap_join.proofs.AlikeGroups.{cmp_same, none_some, some_none}
 use Rattle.cap_join.specs.EqualClocks.{IsSameTime}
 use Rattle.cap_join.specs.Fragments.{Piece}
 use Rattle.cap_join.specs.Frames.{original_bytes, first_frame, last_frame}
@@ -24,7 +25,7 @@ use Rattle.cap_talks.specs.declared.units.CountedUnit.{CountedUnit}
 use Rattle.cap_talks.specs.declared.units.End.{End}
 use Rattle.cap_talks.specs.declared.units.TimedFrame.{TimedFrame}
 use Rattle.cap_time.specs.declared.stamps.Stamp.{Stamp}
-use Rattle.cap_laws.proofs.LikePieces.{IsLikeFrame, Like, LikeFrames, cmp-same, data-like, frames-like, header-like, none-some, original-like, some-none}
+use Rattle.cap_laws.proofs.LikePieces.{IsLikeFrame, Like, LikeFrames, data-like, frames-like, header-like, original-like}
 use Rattle.cap_laws.specs.Forms.{IsSameTalk}
 
 -- ---- frames
@@ -38,8 +39,8 @@ LikeTimed (Some a) (Some b) = (clock_cmp (Some a.time) (Some b.time) ≡ Equal) 
 timed_at : (n m : ℕ) (a b : Option Stamp) → n ≡ m → IsSameTime a b
     → LikeTimed (option_map (λ time. record { time = time; place = n }) a) (option_map (λ time. record { time = time; place = m }) b)
 timed_at n m None None e h = tt
-timed_at n m None (Some b) e h = absurd (none-some b h)
-timed_at n m (Some a) None e h = absurd (some-none a h)
+timed_at n m None (Some b) e h = absurd (none_some b h)
+timed_at n m (Some a) None e h = absurd (some_none a h)
 timed_at n m (Some a) (Some b) e h = (h, e)
 
 timed_frame-like : (a b : Option Stamped) → LikeFrames a b → LikeTimed (timed_frame a) (timed_frame b)
@@ -162,7 +163,7 @@ earlier-like (Some x) (Some y) None (Some t) h k = absurd k
 earlier-like (Some x) (Some y) (Some s) None h k = absurd k
 earlier-like (Some x) (Some y) (Some s) (Some t) h k =
     one-of s t x y k h (is_lt (by_time s x)) (is_lt (by_time t y))
-    (λ i. is_lt (ordering_then (cmp-same (Some s.time) (Some t.time) (Some x.time) (Some y.time) k.0 h.0 i) (nat_cmp (k.1 i) (h.1 i))))
+    (λ i. is_lt (ordering_then (cmp_same (Some s.time) (Some t.time) (Some x.time) (Some y.time) k.0 h.0 i) (nat_cmp (k.1 i) (h.1 i))))
 
 later-like : (a b c d : Option TimedFrame) → LikeTimed a b → LikeTimed c d → LikeTimed (later_frame a c) (later_frame b d)
 later-like None None c d h k = k
@@ -173,7 +174,7 @@ later-like (Some x) (Some y) None (Some t) h k = absurd k
 later-like (Some x) (Some y) (Some s) None h k = absurd k
 later-like (Some x) (Some y) (Some s) (Some t) h k =
     one-of s t x y k h (is_lt (by_time_down s x)) (is_lt (by_time_down t y))
-    (λ i. is_lt (ordering_then (cmp-same (Some x.time) (Some y.time) (Some s.time) (Some t.time) h.0 k.0 i) (nat_cmp (k.1 i) (h.1 i))))
+    (λ i. is_lt (ordering_then (cmp_same (Some x.time) (Some y.time) (Some s.time) (Some t.time) h.0 k.0 i) (nat_cmp (k.1 i) (h.1 i))))
 
 least-like : (us vs : List CountedUnit) → LikeUnits us vs → LikeTimed (least_frame us) (least_frame vs)
 least-like [] [] h = tt

@@ -3,6 +3,7 @@ use Rattle.std.proofs.Common.{◌≡◌, Bool, true, false, List, [], ◌∷◌,
 use Rattle.std.specs.List.{AllZip}
 use Rattle.std.specs.Ordering.{is_lt}
 use Rattle.std.specs.Prelude.{map, if◌then◌else◌}
+use Rattle.cap_join.proofs.AlikeGroups.{cmp_same}
 use Rattle.cap_merge.proofs.RunLaws.{ClocksAreTold, run-clocks}
 use Rattle.cap_merge.specs.Clock.{clock_cmp, later}
 use Rattle.cap_merge.specs.Files.{clocked_run, run_of_lists}
@@ -13,7 +14,6 @@ use Rattle.cap_source.specs.Items.{file_first, file_items}
 use Rattle.cap_time.specs.declared.stamps.Stamp.{Stamp}
 use Rattle.cap_write.specs.Laws.{PcapAgain, SamePackets}
 use Rattle.cap_write.specs.Pcap.{pcap_text}
-use Rattle.cap_laws.proofs.LikePieces.{cmp-same}
 use Rattle.cap_laws.proofs.LikeReports.{LikeItems, RunsLike, same-but-forms}
 use Rattle.cap_laws.proofs.OneFile.{run-one}
 use Rattle.cap_laws.proofs.SameRun.{told_twice}
@@ -48,7 +48,7 @@ later_by t u x y false true e h k = absurd (true≢false (sym e))
 later_by t u x y false false e h k = h
 
 later-same : (t u x y : Option Stamp) → clock_cmp t u ≡ Equal → clock_cmp x y ≡ Equal → clock_cmp (later t x) (later u y) ≡ Equal
-later-same t u x y h k = later_by t u x y (is_lt (clock_cmp t x)) (is_lt (clock_cmp u y)) (ap is_lt (cmp-same t u x y h k)) h k
+later-same t u x y h k = later_by t u x y (is_lt (clock_cmp t x)) (is_lt (clock_cmp u y)) (ap is_lt (cmp_same t u x y h k)) h k
 
 times : (a b : Item) → SamePackets a b → clock_cmp (item_time a) (item_time b) ≡ Equal
 times (packet m f) (packet n g) h = h.time
@@ -76,7 +76,7 @@ pub pcap-report : PcapAgain → PcapReport
 pcap-report again-law order tail tail_again bytes are none short =
     let items = file_items tail 1 bytes in
     let again = file_items tail_again 1 (pcap_text order (file_first tail 1 bytes) items) in
-    let same = again-law order tail tail_again 1 1 bytes are none short in
+    let same = (again-law order tail tail_again 1 1 bytes are).1 none short in
     let one : run_of_lists (items ∷ []) ≡ items = run-one items (never-first items again same) in
     let other : run_of_lists (again ∷ []) ≡ again = run-one again (never-again items again same) in
     let both : AllZip SamePackets (run_of_lists (items ∷ [])) (run_of_lists (again ∷ [])) =

@@ -59,7 +59,7 @@ items-are names (packet meta frame ∷ items) none same =
     let later = numbered (with_name names meta) items in
     let both = tails meta.instance n.number (instances items) (numbers later) (same ∙ ap numbers one.packets) in
     subst (λ (ns : List Numbered). AllZip IsItemOf ns (packet meta frame ∷ items)) (sym one.packets) (
-      record { instance = both.0; interface = refl; units = timed meta.units one.timed; original = refl; frame = refl },
+      record { instance = both.0; interface = refl; units = timed meta.units one.timed; captured = refl; original = refl; frame = refl },
       items-are (with_name names meta) items one.rest both.1,
     )
 

@@ -43,7 +43,8 @@ twin_times (refused q) (packet n g) h = absurd h
 twin_times (refused q) (refused r) h = absurd h
 
 alike-twins : (c d : Option Stamp) (i j : Item) → clock_cmp c d ≡ Equal → TwinItems i j → AlikeItems c d i j
-alike-twins c d (packet m f) (packet n g) e h = record { clock = e; interface = h.interface; units = h.units; original = h.original; frame = h.frame }
+alike-twins c d (packet m f) (packet n g) e h =
+    record { clock = e; interface = h.interface; units = h.units; captured = h.captured; original = h.original; frame = h.frame }
 alike-twins c d (packet m f) (refused r) e h = absurd h
 alike-twins c d (refused q) (packet n g) e h = absurd h
 alike-twins c d (refused q) (refused r) e h = absurd h

@@ -9,10 +9,11 @@ use Rattle.cap_source.specs.Feed.{Item, packet, refused}
 use Rattle.cap_source.specs.declared.packets.Meta.{Meta}
 use Rattle.cap_write.specs.Numbering.{Name, Numbered, with_name, is_full, write_fault, numbered, numbered_of, numbered_or, refusal_in, refusal_or, refusal_at}
 
--- Two packets have the same interface, units, length and bytes.
+-- Two packets have the same interface, units, lengths and bytes.
 pub record IsTwin (m n : Meta) (f g : List ℕ) : Type 0 where
   pub interface : m.interface ≡ n.interface
   pub units : m.units ≡ n.units
+  pub captured : m.captured ≡ n.captured
   pub original : m.original ≡ n.original
   pub frame : f ≡ g
 
@@ -95,6 +96,7 @@ twins names others (packet m f ∷ xs) (packet n g ∷ ys) h k e =
       record {
         interface = ap (λ (x : Numbered). x.interface) both.0;
         units = same_units m.units n.units one.timed two.timed (ap (λ (x : Numbered). x.units) both.0);
+        captured = ap (λ (x : Numbered). x.captured) both.0;
         original = ap (λ (x : Numbered). x.original) both.0;
         frame = ap (λ (x : Numbered). x.frame) both.0;
       },

@@ -16,7 +16,6 @@ use Rattle.cap_write.specs.Numbering.{Name, numbered, refusal_at, refusal_in, re
 use Rattle.cap_write.specs.Texts.{first_names, merged_refusal, merged_text, pcapng_refusal, pcapng_text}
 use Rattle.cap_laws.proofs.OneFile.{run-one}
 use Rattle.cap_laws.proofs.Alike.{AlikeItems, RunsAlike}
-use Rattle.cap_laws.proofs.Measured.{AreMeasured, IsMeasured, files-measured, run-measured}
 use Rattle.cap_laws.proofs.SameRun.{IsRewritten, rewritten-alike, same-run}
 use Rattle.cap_laws.specs.Reports.{MergedReport, PcapngReport}
 use Rattle.cap_laws.specs.Runs.{MergedRun, PcapngRun, SameItems, SameRun}
@@ -92,18 +91,18 @@ pcapng-report again-law order tail tail_again bytes are none short =
 
 -- ---- runs
 
-same-items : (c d : Option Stamp) (x y : Item) → AlikeItems c d x y → IsMeasured x → IsMeasured y → SameItems c d x y
-same-items c d (packet m f) (packet n g) h one other =
-    record { clocks = h.clock; interface = h.interface; units = h.units; captured = one ∙ ap length h.frame ∙ sym other; original = h.original; frame = h.frame }
-same-items c d (packet m f) (refused r) h one other = absurd h
-same-items c d (refused q) (packet n g) h one other = absurd h
-same-items c d (refused q) (refused r) h one other = absurd h
+same-items : (c d : Option Stamp) (x y : Item) → AlikeItems c d x y → SameItems c d x y
+same-items c d (packet m f) (packet n g) h =
+    record { clocks = h.clock; interface = h.interface; units = h.units; captured = h.captured; original = h.original; frame = h.frame }
+same-items c d (packet m f) (refused r) h = absurd h
+same-items c d (refused q) (packet n g) h = absurd h
+same-items c d (refused q) (refused r) h = absurd h
 
-same-runs : (xs ys : List (Clocked Item)) → RunsAlike xs ys → AreMeasured xs → AreMeasured ys → SameRun xs ys
-same-runs [] [] h one other = tt
-same-runs [] (y ∷ ys) h one other = absurd h
-same-runs (x ∷ xs) [] h one other = absurd h
-same-runs (x ∷ xs) (y ∷ ys) h one other = (same-items x.clock y.clock x.item y.item h.0 one.0 other.0, same-runs xs ys h.1 one.1 other.1)
+same-runs : (xs ys : List (Clocked Item)) → RunsAlike xs ys → SameRun xs ys
+same-runs [] [] h = tt
+same-runs [] (y ∷ ys) h = absurd h
+same-runs (x ∷ xs) [] h = absurd h
+same-runs (x ∷ xs) (y ∷ ys) h = (same-items x.clock y.clock x.item y.item h.0, same-runs xs ys h.1)
 
 -- the run of files of some bytes, and that of a file of which the same packets are written
 run-again : (tail tail_again : Tail) (names others : List Name) (files : List (List ℕ)) (text : List ℕ)
@@ -112,8 +111,6 @@ run-again : (tail tail_again : Tail) (names others : List Name) (files : List (L
 run-again tail tail_again names others files text is =
     same-runs (clocked_run tail files) (clocked_run tail_again (text ∷ []))
     (rewritten-alike names others (items_of_files tail 1 files) (file_items tail_again 1 text ∷ []) is)
-    (run-measured (items_of_files tail 1 files) (files-measured tail 1 files))
-    (run-measured (items_of_files tail_again 1 (text ∷ [])) (files-measured tail_again 1 (text ∷ [])))
 
 pub merged-run : MergeLaw → MergedRun
 unfolding merged_items

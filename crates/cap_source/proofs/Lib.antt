@@ -1,6 +1,8 @@
 pub mod Blocks
 pub mod Bodies
+pub mod Fields
 pub mod Firsts
+pub mod Frames
 pub mod Going
 pub mod Lists
 pub mod Looks
@@ -8,4 +10,5 @@ pub mod Onward
 pub mod Options
 pub mod Pcaps
 pub mod Resolutions
+pub mod Saying
 pub mod Walking

@@ -2,6 +2,7 @@ pub mod Captures
 pub mod Clocks
 pub mod Contents
 pub mod Feed
+pub mod Fields
 pub mod Items
 pub mod Lanes
 pub mod Laws

@@ -5,6 +5,7 @@ mod captures;
 mod contents;
 mod feeds;
 mod interfaces;
+pub mod laws;
 mod listed;
 mod listings;
 mod packets;

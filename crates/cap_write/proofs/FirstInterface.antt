@@ -1,5 +1,6 @@
--- The first interface of a file is that of the packets of instance 0, and its fields fit in their widths.
-use Rattle.std.proofs.Common.{◌≡◌, ℕ, suc, ◌+◌, List, [], ◌∷◌, ◌++◌, length, slice_get, Bool, true, false, Option, Some, None, Result, Ok, Err, IfOk, IfSome, refl, sym, ap, ◌∙◌, subst, arith, if◌then◌else◌}
+-- The first interface of a file is that of the packets of instance 0, and its fields fit in their widths. Of a file without one no packet
+-- is written.
+use Rattle.std.proofs.Common.{◌≡◌, ℕ, suc, ◌+◌, List, [], ◌∷◌, ◌++◌, length, drop, slice_get, Bool, true, false, Option, Some, None, Result, Ok, Err, IfOk, IfSome, refl, sym, ap, ◌∙◌, subst, arith, if◌then◌else◌}
 use Rattle.std.specs.List.{AllByRecursion}
 use Rattle.cap_blocks.specs.Split as blocks
 use Rattle.cap_blocks.specs.Split.{AreBytes}
@@ -10,16 +11,18 @@ use Rattle.cap_bytes.specs.declared.faults.Rule.{Rule}
 use Rattle.cap_bytes.specs.declared.faults.Tail.{Tail}
 use Rattle.cap_pcap.specs.Split as records
 use Rattle.cap_pcap.specs.declared.records.Stop.TheVariants as record_stops
+use Rattle.cap_source.proofs.Fields.{FitsPacket, one_more, content-fits, IsOfBytes, blocks-bytes, header-fits}
+use Rattle.cap_source.proofs.Saying.{OfContent}
 use Rattle.cap_source.specs.Contents.{content_in}
 use Rattle.cap_source.specs.Feed.{Item, packet, refused}
+use Rattle.cap_source.specs.Fields.{FitsInterface}
 use Rattle.cap_source.specs.Items.{Progress, fresh, behind, first_or, first_in, first_from, unless_item, unless_refused, items_at, items_in, items_of_stop, items_from, is_pcapng, pcap_items, interface_of, file_items, file_first}
 use Rattle.cap_source.specs.declared.contents.Content.{Content}
 use Rattle.cap_source.specs.declared.contents.Content.TheVariants as contents
 use Rattle.cap_source.specs.declared.contents.Packet.{Packet}
 use Rattle.cap_time.specs.declared.resolutions.Interface.{Interface}
-use Rattle.cap_write.proofs.Contents.{OfContent}
-use Rattle.cap_write.proofs.Fields.{FitsInterface, FitsPacket, one_more, content-fits, IsOfBytes, blocks-bytes, header-fits}
 use Rattle.cap_write.proofs.Instances.{HasNumber, IsAny, content-of}
+use Rattle.cap_write.specs.Numbering.{numbered}
 
 -- A packet of instance 0 has that interface.
 abbrev pub IsFirst : Interface → Item → Type 0
@@ -189,3 +192,82 @@ first-of tail file bytes i are is = by (is_pcapng bytes) is
     by true is = of_blocks file i (blocks.items_from None tail file 0 bytes) (blocks-bytes (suc (length bytes)) None tail file 0 bytes are) is
     by false is =
         of_records file i (interface_of (records.header_at bytes)) (records.header_fault 0 bytes) (records.file_items tail file 0 bytes) (header-fits bytes are) is
+
+-- ---- a file without one
+
+some-none : {A : Type 0} (a : A) → Some a ≡ None → ⊥
+some-none a e = cc
+
+none-some : {A : Type 0} (a : A) → None ≡ Some a → ⊥
+none-some a e = cc
+
+-- where none stands before the next item or the end, none was read before
+none-before : (progress : Progress) (items : List blocks.Item) → first_in progress items ≡ None → progress.first ≡ None
+unfolding first_in
+none-before progress [] none = none
+none-before progress (blocks.stopped stop ∷ rest) none = none
+none-before progress (blocks.given block body ∷ rest) none =
+    let content = content_in progress.interfaces block.kind block.order body in
+    by content none (λ later. none-before (behind progress content) rest later)
+  where
+    by : (content : Result Content Rule) → unless_item content progress.first (first_in (behind progress content) rest) ≡ None
+        → (first_in (behind progress content) rest ≡ None → (behind progress content).first ≡ None) → progress.first ≡ None
+    by (Ok contents.Section) none before = before none
+    by (Ok (contents.Interface j)) none before = absurd (some-none (first_or progress.first j) (before none))
+    by (Ok (contents.Packet p)) none before = none
+    by (Ok contents.Other) none before = before none
+    by (Err rule) none before = none
+
+stop-unwritten : (stop : BlockStop) → numbered [] (items_of_stop stop) ≡ []
+unfolding numbered
+stop-unwritten block_stops.End = refl
+stop-unwritten block_stops.Cut = refl
+stop-unwritten (block_stops.Refused refusal) = refl
+
+block-unwritten : (file : ℕ) (progress : Progress) (block : Block) (body : List ℕ) (content : Result Content Rule) (first : Option Interface) (items : List Item)
+    → IfOk content (OfContent IsAny (HasNumber progress.interfaces)) → progress.interfaces ≡ [] → unless_item content progress.first first ≡ None
+    → (first ≡ None → (behind progress content).first ≡ None)
+    → ((behind progress content).interfaces ≡ [] → first ≡ None → numbered [] items ≡ [])
+    → numbered [] (items_at file progress block body content items) ≡ []
+unfolding numbered
+block-unwritten file progress block body (Ok contents.Section) first items of empty none before rest = rest refl none
+block-unwritten file progress block body (Ok (contents.Interface j)) first items of empty none before rest =
+    absurd (some-none (first_or progress.first j) (before none))
+block-unwritten file progress block body (Ok (contents.Packet p)) first items of empty none before rest =
+    absurd (none-some p.interface (subst (λ l. slice_get l p.number ≡ Some p.interface) empty of))
+block-unwritten file progress block body (Ok contents.Other) first items of empty none before rest = rest empty none
+block-unwritten file progress block body (Err rule) first items of empty none before rest = refl
+
+blocks-unwritten : (file : ℕ) (progress : Progress) (items : List blocks.Item) → progress.interfaces ≡ [] → first_in progress items ≡ None
+    → numbered [] (items_in file progress items) ≡ []
+unfolding numbered items_in first_in
+blocks-unwritten file progress [] empty none = refl
+blocks-unwritten file progress (blocks.stopped stop ∷ rest) empty none = stop-unwritten stop
+blocks-unwritten file progress (blocks.given block body ∷ rest) empty none =
+    let content = content_in progress.interfaces block.kind block.order body in
+    block-unwritten file progress block body content (first_in (behind progress content) rest) (items_in file (behind progress content) rest)
+    (content-of progress.interfaces block.kind block.order body) empty none
+    (λ none. none-before (behind progress content) rest none)
+    (λ empty none. blocks-unwritten file (behind progress content) rest empty none)
+
+records-unwritten : (tail : Tail) (file : ℕ) (bytes : List ℕ) (own : Interface) → unless_refused (records.header_fault 0 bytes) own ≡ None
+    → numbered [] (pcap_items file own (records.file_items tail file 0 bytes)) ≡ []
+unfolding numbered pcap_items records.file_items
+records-unwritten tail file bytes own none = by (records.header_fault 0 bytes) none
+  where
+    by : (fault : Option Rule) → unless_refused fault own ≡ None
+        → numbered [] (pcap_items file own (records.refused_or fault file 0 (records.items_from (records.header_at bytes) tail file 24 (drop 24 bytes)))) ≡ []
+    by (Some rule) none = refl
+    by None none = absurd (some-none own none)
+
+pub first-none : (tail : Tail) (file : ℕ) (bytes : List ℕ) → file_first tail file bytes ≡ None → numbered [] (file_items tail file bytes) ≡ []
+unfolding items_from first_from
+first-none tail file bytes none = by (is_pcapng bytes) none
+  where
+    by : (pcapng : Bool)
+        → (if pcapng then first_in fresh (blocks.items_from None tail file 0 bytes)
+        else unless_refused (records.header_fault 0 bytes) (interface_of (records.header_at bytes))) ≡ None
+        → numbered [] (if pcapng then items_in file fresh (blocks.items_from None tail file 0 bytes)
+        else pcap_items file (interface_of (records.header_at bytes)) (records.file_items tail file 0 bytes)) ≡ []
+    by true none = blocks-unwritten file fresh (blocks.items_from None tail file 0 bytes) refl none
+    by false none = records-unwritten tail file bytes (interface_of (records.header_at bytes)) none

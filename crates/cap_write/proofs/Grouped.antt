@@ -79,7 +79,7 @@ moved_apart p q a b c d h k = λ i. same_tests a.0 b.0 c.0 d.0 p q h.file k.file
 
 item_moved : (p q n m : ℕ) → m + p ≡ n + q → (x : Item) → Renamed (IsMoved p q) (in_file n x) (in_file m x)
 item_moved p q n m e (packet meta frame) =
-    (record { name = record { file = e; instance = refl }; interface = refl; units = refl; original = refl }, refl)
+    (record { name = record { file = e; instance = refl }; interface = refl; units = refl; captured = refl; original = refl }, refl)
 item_moved p q n m e (refused refusal) = refl
 
 items_moved : (p q n m : ℕ) → m + p ≡ n + q → (xs : List Item) → AllZip (Renamed (IsMoved p q)) (map (in_file n) xs) (map (in_file m) xs)
@@ -151,6 +151,7 @@ group_item file place count ns m f xs (packet n g) e w h = (
     };
     interface = w.interface;
     units = w.units ∙ timed_by ns m e;
+    captured = w.captured;
     original = w.original;
   },
   w.frame,
@@ -266,7 +267,7 @@ file_rounds-law groups files h =
 -- what a merge writes, as the items of a file, is what it writes
 made : (ns : List Numbered) → AllZip IsItemOf ns (file_of ns)
 made [] = tt
-made (n ∷ ns) = (record { instance = refl; interface = refl; units = refl; original = refl; frame = refl }, made ns)
+made (n ∷ ns) = (record { instance = refl; interface = refl; units = refl; captured = refl; original = refl; frame = refl }, made ns)
 
 all_made : (groups : List (List (List Item))) → AllByRecursion (λ g. refusal_in [] (run_of g) ≡ None) groups
     → AllZip IsMergeOf groups (map (λ g. file_of (merged_packets g)) groups)

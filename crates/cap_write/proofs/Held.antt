@@ -1,22 +1,19 @@
--- The packets that pcap bytes spell, and what is written for packets, read again.
-use Rattle.std.proofs.Common.{◌≡◌, ℕ, zero, suc, ◌+◌, ◌*◌, ◌/◌, ◌%◌, ◌^◌, ◌≤◌, ◌<◌, List, [], ◌∷◌, ◌++◌, length, take, drop, get_or, Bool, true, false, refl, ap, ◌∙◌, subst, arith, length-append, if◌then◌else◌}
+-- What is written for the packets of a pcap file, read again.
+use Rattle.std.proofs.Common.{◌≡◌, ℕ, ◌+◌, ◌*◌, ◌/◌, ◌%◌, ◌^◌, ◌≤◌, ◌<◌, List, [], ◌∷◌, ◌++◌, length, Bool, true, false, refl, ap, ◌∙◌, subst, arith, length-append, if◌then◌else◌}
 use Rattle.std.proofs.Math.Nat.{mod-add-div, mul_comm, add_comm}
 use Rattle.std.proofs.lemmas.Bool.{ltb-true, lt-ltb}
-use Rattle.std.proofs.lemmas.List.{get_or-drop}
 use Rattle.std.specs.Prelude.{FitsSigned}
 use Rattle.std.specs.Int.{w64}
-use Rattle.cap_blocks.specs.Split.{AreBytes}
-use Rattle.cap_bytes.proofs.Spelling.{number-lt}
-use Rattle.cap_bytes.specs.Number.{number}
 use Rattle.cap_bytes.specs.declared.faults.Tail.{Tail}
 use Rattle.cap_bytes.specs.declared.numbers.Order.{Order}
 use Rattle.cap_pcap.proofs.Again.{record_again-law}
 use Rattle.cap_pcap.proofs.Items.{items_from-none}
 use Rattle.cap_pcap.proofs.Splitting.{record_read-law, length-spelled}
 use Rattle.cap_pcap.specs.Grammar.{Packet, packet_size, SpellsRecord, record_text}
-use Rattle.cap_pcap.specs.Split.{Splits, items_with, items_from, given, record_of}
+use Rattle.cap_pcap.specs.Split.{items_with, items_from, given, record_of}
 use Rattle.cap_pcap.specs.declared.headers.PcapHeader.{PcapHeader}
 use Rattle.cap_pcap.specs.declared.records.Stop.TheVariants as stops
+use Rattle.cap_source.proofs.Fields.{AllHeld}
 use Rattle.cap_time.specs.Unit.{in_second}
 use Rattle.cap_time.specs.declared.resolutions.Interface.{Interface}
 use Rattle.cap_time.specs.declared.stamps.Unit.{Unit as Fraction}
@@ -24,46 +21,6 @@ use Rattle.cap_time.specs.declared.stamps.Unit.TheVariants.{Micro, Nano}
 use Rattle.cap_write.proofs.Out.{fits, early}
 use Rattle.cap_write.proofs.Packed.{number_all}
 use Rattle.cap_write.specs.Laws.{AllFit, records_form, AllWritten}
-
--- the fields of some packets fit in their widths
-abbrev pub AllHeld : List Packet → Type 0
-AllHeld [] = Unit {0}
-AllHeld (p ∷ ps) = (p.units < 2 ^ 64) × (p.original < 2 ^ 32) × (length p.frame ≤ 262144) × AllHeld ps
-
-pub AreBytes-drop : (n : ℕ) (bytes : List ℕ) → AreBytes bytes → AreBytes (drop n bytes)
-AreBytes-drop n bytes are k = rw get_or-drop (are (n + k))
-
-units_below : (unit : Fraction) (a b : ℕ) → a < 256 ^ 4 → b < 256 ^ 4 → a * in_second unit + b < 2 ^ 64
-units_below Micro a b h k = omega arith
-units_below Nano a b h k = omega arith
-
--- those that bytes spell
-pub held-spelled : (order : Order) (unit : Fraction) (p : Packet) (xs : List ℕ) → AreBytes xs → SpellsRecord order unit p xs
-    → (p.units < 2 ^ 64) × (p.original < 2 ^ 32) × (length p.frame ≤ 262144)
-held-spelled order unit p xs are s =
-    let seconds = number-lt order 4 xs are in
-    let fraction = number-lt order 4 (drop 4 xs) (AreBytes-drop 4 xs are) in
-    let original = number-lt order 4 (drop 12 xs) (AreBytes-drop 12 xs are) in (
-      rw s.units (units_below unit (number order 4 xs) (number order 4 (drop 4 xs)) seconds fraction),
-      rw s.original (omega (arith, original)),
-      s.limit,
-    )
-
-take_below : (n : ℕ) (xs : List ℕ) (k : ℕ) → ((j : ℕ) → get_or xs j 0 < 256) → get_or (take n xs) k 0 < 256
-take_below zero xs k h = omega arith
-take_below (suc n) [] k h = h k
-take_below (suc n) (x ∷ xs) zero h = h 0
-take_below (suc n) (x ∷ xs) (suc k) h = take_below n xs k (λ j. h (suc j))
-
-pub AreBytes-take : (n : ℕ) (bytes : List ℕ) → AreBytes bytes → AreBytes (take n bytes)
-AreBytes-take n bytes are k = take_below n bytes k are
-
-pub held-splits : (order : Order) (unit : Fraction) (offset : ℕ) (bytes : List ℕ) (ps : List Packet) (rest : List ℕ) → AreBytes bytes
-    → Splits order unit offset bytes ps rest → AllHeld ps
-held-splits order unit offset bytes [] rest are s = tt
-held-splits order unit offset bytes (p ∷ ps) rest are s =
-    let here = held-spelled order unit p (take (packet_size p) bytes) (AreBytes-take (packet_size p) bytes are) s.0 in
-    (here.0, here.1, here.2, held-splits order unit (offset + packet_size p) (drop (packet_size p) bytes) ps rest (AreBytes-drop (packet_size p) bytes are) s.2)
 
 -- their fields fit, as they are numbered
 pub AllFit-held : (i : Interface) (ps : List Packet) → i.link < 2 ^ 16 → i.snaplen < 2 ^ 32 → FitsSigned w64 i.offset → AllHeld ps → AllFit (number_all i ps)

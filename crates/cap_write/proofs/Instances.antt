@@ -11,6 +11,7 @@ use Rattle.cap_bytes.specs.declared.faults.Rule.{Rule}
 use Rattle.cap_bytes.specs.declared.numbers.Order.{Order}
 use Rattle.cap_pcap.specs.Split as records
 use Rattle.cap_pcap.specs.declared.records.Stop.TheVariants as record_stops
+use Rattle.cap_source.proofs.Saying.{OfContent, content-holds}
 use Rattle.cap_source.specs.Clocks.{interface_in}
 use Rattle.cap_source.specs.Contents.{content_in}
 use Rattle.cap_source.specs.Feed.{Item}
@@ -19,7 +20,6 @@ use Rattle.cap_source.specs.declared.contents.Content.{Content}
 use Rattle.cap_source.specs.declared.contents.Content.TheVariants as contents
 use Rattle.cap_source.specs.declared.contents.Packet.{Packet}
 use Rattle.cap_time.specs.declared.resolutions.Interface.{Interface}
-use Rattle.cap_write.proofs.Contents.{OfContent, content-holds}
 use Rattle.cap_write.specs.Laws.{AllAlike, OneInterface}
 
 -- A packet that a block says has the section's interface of its number.

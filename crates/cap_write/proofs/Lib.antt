@@ -2,9 +2,7 @@ mod Again
 mod Alike
 mod Back
 mod Completed
-mod Contents
 mod Feeding
-mod Fields
 mod Files
 mod FirstInterface
 mod Grouped
@@ -12,6 +10,7 @@ mod Held
 mod Instances
 mod Joining
 mod Lengths
+mod Measured
 mod MergedAgain
 mod MergedFiles
 mod Numbers

@@ -5,10 +5,11 @@ use Rattle.std.specs.List.{list_any, position_or_len}
 use Rattle.cap_bytes.specs.declared.faults.Rule.{Rule}
 use Rattle.cap_bytes.specs.declared.faults.Rule.TheVariants.{NoTime, InterfaceLimit}
 use Rattle.cap_source.specs.Feed.{Item, packet, refused}
+use Rattle.cap_source.specs.Fields.{FitsMeta}
 use Rattle.cap_source.specs.declared.packets.Meta.{Meta}
 use Rattle.cap_time.specs.declared.resolutions.Interface.{Interface}
 use Rattle.cap_write.proofs.Places.{position_or_len-none, position_or_len-some}
-use Rattle.cap_write.specs.Laws.{AllFit, AllHave, IsNumbered, described, all_described}
+use Rattle.cap_write.specs.Laws.{Fits, AllFit, AllHave, IsNumbered, described, all_described}
 use Rattle.cap_write.specs.Numbering.{Name, name_of, is_name, is_used, number_of, with_name, is_full, write_fault, numbered_of, numbered_or, numbered}
 
 -- names are equal where they are told to be
@@ -111,6 +112,17 @@ IsNumbered-given given names (packet meta frame ∷ items) have =
       subst (λ l. IsNumbered l (numbered (with_name names meta) items)) (sym (described-given given names meta frame have.0.interface)) later,
     )
 
+-- the fields of a file's packet fit, as it is numbered
+pub fits-numbered : (meta : Meta) (frame : List ℕ) → FitsMeta meta frame → Fits (numbered_of [] meta frame)
+fits-numbered meta frame fits = record {
+  link = fits.interface.link;
+  snaplen = fits.interface.snaplen;
+  offset = fits.interface.offset;
+  units = fits.units;
+  original = fits.original;
+  frame = omega (arith, fits.frame.captured, fits.frame.limit);
+}
+
 -- their fields fit
 pub AllFit-given : (given : Name → Interface) (names : List Name) (items : List Item) → AllHave given items → AllFit (numbered names items)
 unfolding numbered
@@ -129,7 +141,7 @@ AllFit-given given names (packet meta frame ∷ items) have =
         offset = have.0.fits.offset;
         units = have.0.fits.units;
         original = have.0.fits.original;
-        frame = have.0.fits.captured;
+        frame = have.0.fits.frame;
       },
       later,
     )

@@ -6,14 +6,18 @@ use Rattle.cap_blocks.specs.Split.{AreBytes}
 use Rattle.cap_bytes.specs.declared.faults.Tail.{Tail}
 use Rattle.cap_merge.specs.Parts.{item_time, is_refusal}
 use Rattle.cap_merge.specs.Run.{Clocked, opened, merged, through_first}
+use Rattle.cap_source.proofs.Fields.{fields_fit-law}
+use Rattle.cap_source.proofs.Frames.{frames_fit-law}
 use Rattle.cap_source.specs.Feed.{Item, packet, refused}
+use Rattle.cap_source.specs.Fields.{HasFrame, ItemFits}
 use Rattle.cap_source.specs.Items.{file_items}
 use Rattle.cap_time.specs.declared.resolutions.Interface.{Interface}
 use Rattle.cap_write.proofs.Alike.{merge-all}
-use Rattle.cap_write.proofs.Fields.{fields_fit-law}
 use Rattle.cap_write.proofs.Instances.{one_interface-law}
+use Rattle.cap_write.proofs.Measured.{numbered-measured}
+use Rattle.cap_write.proofs.MergedAgain.{fits-numbered}
 use Rattle.cap_write.proofs.Renumbered.{merged_again-law}
-use Rattle.cap_write.specs.Laws.{AllAlike, HasFields, AllHave, ItemFits, MergeLaw}
+use Rattle.cap_write.specs.Laws.{AllAlike, HasFields, AllHave, MergeLaw}
 use Rattle.cap_write.specs.Numbering.{Name, name_of}
 use Rattle.cap_merge.specs.Files.{items_of_files, run_of_files}
 
@@ -43,7 +47,7 @@ of_one tail file bytes files (packet meta frame ∷ items) alike fit = (
           alike.1
           ∙ sym (ap (λ b. if b then (one_interface-law tail file bytes).0 meta.instance else given_from tail (file + 1) files (name_of meta))
           (eq-eqb meta.file file alike.0));
-      fits = fit.0;
+      fits = fits-numbered meta frame fit.0;
     },
   ),
   of_one tail file bytes files items alike.2 fit.1,
@@ -96,13 +100,19 @@ all_have least given [] h = tt
 all_have least given (refused refusal ∷ items) h = tt
 all_have least given (packet meta frame ∷ items) h = (h.0.1, all_have least given items h.1)
 
+all_frames : (tail : Tail) (file : ℕ) (files : List (List ℕ)) → AllByRecursion (AllByRecursion HasFrame) (items_of_files tail file files)
+all_frames tail file [] = tt
+all_frames tail file (bytes ∷ files) = (frames_fit-law tail file bytes, all_frames tail (file + 1) files)
+
 pub merge-law : MergeLaw
 unfolding run_of_files
 merge-law order tail tail_again file_again files are limit =
     let given = given_from tail 1 files in
     let lists = items_of_files tail 1 files in
-    merged_again-law order tail_again file_again given (run_of_files tail files)
-    (all_have 1 given (run_of_files tail files)
-    (front (IsOfFile 1 given) (λ x. is_refusal x.item) (merged item_time (map opened lists))
-    (merge-all (IsOfFile 1 given) item_time lists (of_all tail 1 files are))))
-    limit
+    let items = run_of_files tail files in
+    let ends : Clocked Item → Bool = λ x. is_refusal x.item in
+    let all = merged item_time (map opened lists) in
+    let law = merged_again-law order tail_again file_again given items
+    (all_have 1 given items (front (IsOfFile 1 given) ends all (merge-all (IsOfFile 1 given) item_time lists (of_all tail 1 files are)))) limit in
+    let frames = front HasFrame ends all (merge-all HasFrame item_time lists (all_frames tail 1 files)) in
+    (law.0 ∙ numbered-measured [] items frames, law.1, law.2, law.3)

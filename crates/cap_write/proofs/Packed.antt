@@ -18,7 +18,7 @@ use Rattle.std.specs.List.{position_or_len}
 
 -- the packets of a pcap file as they are numbered behind its one interface, and as they are kept
 abbrev pub number_one : Interface → Packet → Numbered
-number_one i p = record { number = 0; interface = i; units = p.units; original = p.original; frame = p.frame }
+number_one i p = record { number = 0; interface = i; units = p.units; captured = length p.frame; original = p.original; frame = p.frame }
 
 abbrev pub number_all : Interface → List Packet → List Numbered
 number_all i [] = []
@@ -54,7 +54,7 @@ numbered-packets file i offset [] stops.End = refl
 numbered-packets file i offset [] stops.Cut = refl
 numbered-packets file i offset [] (stops.Refused refusal) = refl
 numbered-packets file i offset (p ∷ ps) stop =
-    ap (λ k. record { number = k; interface = i; units = p.units; original = p.original; frame = p.frame }
+    ap (λ k. record { number = k; interface = i; units = p.units; captured = length p.frame; original = p.original; frame = p.frame }
     ∷ numbered (insert_key is_name (one_name file) (file, 0)) (pcap_items file i (records.items_with (offset + packet_size p) ps stop))) (number-same file)
     ∙ (ap (λ names. number_one i p ∷ numbered names (pcap_items file i (records.items_with (offset + packet_size p) ps stop))) (names-same file)
     ∙ ap (λ l. number_one i p ∷ l) (numbered-packets file i (offset + packet_size p) ps stop))

@@ -8,14 +8,18 @@ use Rattle.std.specs.Prelude.{nat_abs}
 use Rattle.cap_bytes.specs.declared.faults.Refusal.{Refusal}
 use Rattle.cap_bytes.specs.declared.faults.Rule.{Rule}
 use Rattle.cap_bytes.specs.declared.faults.Rule.TheVariants.{NoTime, LinkMixed, Inexact, TimeRange}
+use Rattle.cap_bytes.specs.declared.faults.Tail.{Tail}
 use Rattle.cap_bytes.specs.declared.numbers.Order.{Order}
 use Rattle.cap_merge.specs.Clock.{clock_cmp}
 use Rattle.cap_pcap.specs.Grammar.{Packet, packet_size, header_text, record_text}
 use Rattle.cap_pcap.specs.Split.{items_with, record_of}
 use Rattle.cap_pcap.specs.declared.headers.PcapHeader.{PcapHeader}
 use Rattle.cap_pcap.specs.declared.records.Stop.TheVariants as stops
+use Rattle.cap_pcap.specs.Split as records
+use Rattle.cap_source.proofs.Fields.{fields_fit-law}
 use Rattle.cap_source.specs.Feed.{Item, packet, refused}
-use Rattle.cap_source.specs.Items.{file_items, file_first, interface_of, resolution_of_unit, meta_of, pcap_items}
+use Rattle.cap_source.specs.Fields.{ItemFits}
+use Rattle.cap_source.specs.Items.{file_items, file_first, first_from, interface_of, resolution_of_unit, meta_of, pcap_items}
 use Rattle.cap_source.specs.declared.packets.Meta.{Meta}
 use Rattle.cap_time.proofs.WholeUnits.{whole_of_pair, in_second_positive}
 use Rattle.cap_time.specs.Resolution.{units_of}
@@ -25,12 +29,11 @@ use Rattle.cap_time.specs.Unit.{in_second}
 use Rattle.cap_time.specs.declared.resolutions.Interface.{Interface}
 use Rattle.cap_time.specs.declared.stamps.Stamp.{Stamp}
 use Rattle.cap_time.specs.declared.stamps.Unit.{Unit as Fraction}
-use Rattle.cap_write.proofs.Fields.{fields_fit-law}
 use Rattle.cap_write.proofs.FirstInterface.{first-of}
 use Rattle.cap_write.proofs.Records.{fault_by}
-use Rattle.cap_write.proofs.RoundTrip.{items-written}
+use Rattle.cap_write.proofs.RoundTrip.{first-header, items-written}
 use Rattle.cap_write.proofs.Trips.{units_of-unit, in_range-pos}
-use Rattle.cap_write.specs.Laws.{ItemFits, AllWritten, record_form, records_form, IsSamePacket, SamePackets, PcapAgain}
+use Rattle.cap_write.specs.Laws.{AllWritten, record_form, records_form, IsSamePacket, SamePackets, written_first, PcapAgain}
 use Rattle.cap_write.specs.Numbering.{refusal_or, refusal_at}
 use Rattle.cap_write.specs.Pcap.{fraction_of, header_of, whole_time, is_in_range, time_fault, record_fault, time_in, written_time, time_text, packet_record, records_text, records_refusal, bare_refusal, pcap_text, pcap_refusal}
 use Rattle.cap_write.specs.Texts.{text_or}
@@ -174,12 +177,12 @@ all-written first (packet meta frame ∷ items) fit none =
     let d = in_second (fraction_of first) in
     let quotient : units_in (fraction_of first) (written_time first meta) / d ≡ t.seconds =
     ap (λ u. u / d) (units_are first meta t) ∙ div-mul-add t.seconds d t.rest (whole first meta t).below in
-    (omega (arith, quotient, t.few), fit.0.original, fit.0.captured, all-written first items fit.1 g.rest)
+    (omega (arith, quotient, t.few), fit.0.original, omega (arith, fit.0.frame.captured, fit.0.frame.limit), all-written first items fit.1 g.rest)
 
 -- and what they are when they are read again
-same_packet : (order : Order) (first : Interface) (file offset : ℕ) (meta : Meta) (frame : List ℕ) → IsTimed first meta
+same_packet : (order : Order) (first : Interface) (file offset : ℕ) (meta : Meta) (frame : List ℕ) → IsTimed first meta → length frame ≡ meta.captured
     → IsSamePacket meta (meta_of file (interface_of (header_of order first)) (record_of offset (form_of first meta frame))) frame frame
-same_packet order first file offset meta frame t =
+same_packet order first file offset meta frame t captured =
     let h = header_of order first in
     record {
       link = t.link;
@@ -188,6 +191,7 @@ same_packet order first file offset meta frame t =
           (ap (λ u. time_of_units u) t.is)
           ∙ (ap (λ u. stamp_cmp (stamp_in t.units meta.interface) (stamp_in u (interface_of h))) (units_are first meta t)
           ∙ same_time (fraction_of first) h refl (stamp_in t.units meta.interface) t.seconds t.rest (whole first meta t));
+      captured = sym captured;
       original = refl;
       frame = refl;
     }
@@ -195,16 +199,21 @@ same_packet order first file offset meta frame t =
     time_of_units : Option ℕ → Option Stamp
     time_of_units u = option_map (λ units. stamp_in units meta.interface) u
 
-same_packets : (order : Order) (first : Interface) (file offset : ℕ) (items : List Item) → records_refusal first items ≡ None
+same_packets : (order : Order) (first : Interface) (file offset : ℕ) (items : List Item) → AllByRecursion ItemFits items → records_refusal first items ≡ None
     → AllZip SamePackets items (pcap_items file (interface_of (header_of order first)) (items_with offset (forms_of first items) stops.End))
 unfolding pcap_items
-same_packets order first file offset [] none = tt
-same_packets order first file offset (refused refusal ∷ items) none = never_refused first refusal items none
-same_packets order first file offset (packet meta frame ∷ items) none =
+same_packets order first file offset [] fit none = tt
+same_packets order first file offset (refused refusal ∷ items) fit none = never_refused first refusal items none
+same_packets order first file offset (packet meta frame ∷ items) fit none =
     let g = goes first meta frame items none in (
-      same_packet order first file offset meta frame (timed first meta g.unrefused),
-      same_packets order first file (offset + packet_size (form_of first meta frame)) items g.rest,
+      same_packet order first file offset meta frame (timed first meta g.unrefused) fit.0.frame.captured,
+      same_packets order first file (offset + packet_size (form_of first meta frame)) items fit.1 g.rest,
     )
+
+-- nothing has no interface
+no_bytes : (tail : Tail) (file : ℕ) → file_first tail file [] ≡ None
+unfolding first_from records.header_fault
+no_bytes tail file = refl
 
 pub pcap_again-law : PcapAgain
 pcap_again-law order tail tail_again file file_again bytes are = by (file_first tail file bytes) refl
@@ -212,17 +221,22 @@ pcap_again-law order tail tail_again file file_again bytes are = by (file_first 
     by : (first : Option Interface) → file_first tail file bytes ≡ first
         → (let items = file_items tail file bytes in
         let text = pcap_text order first items in
-        pcap_refusal file first items ≡ None → length text ≤ 2 ^ 40
-        → AllZip SamePackets items (file_items tail_again file_again text))
-    by None is none limit = absurd (some-none (bare_refusal file (file_items tail file bytes)) none)
-    by (Some first) is none limit =
+        (file_first tail_again file_again text ≡ option_map written_first first)
+        × (pcap_refusal file first items ≡ None → length text ≤ 2 ^ 40
+        → AllZip SamePackets items (file_items tail_again file_again text)))
+    by None is = (no_bytes tail_again file_again, λ none limit. absurd (some-none (bare_refusal file (file_items tail file bytes)) none))
+    by (Some first) is =
         let items = file_items tail file bytes in
         let h = header_of order first in
         let ps = forms_of first items in
         let fits = (first-of tail file bytes first are is).fits in
-        let text : pcap_text order (Some first) items ≡ header_text h ++ records_form order (fraction_of first) ps =
-        ap (λ l. header_text h ++ l) (records-are order first items none) in
-        let read = items-written tail_again file_again h ps fits.snaplen fits.link (all-written first items (fields_fit-law tail file bytes are) none)
-        (subst (λ l. length l ≤ 2 ^ 40) text limit) in
-        subst (λ (l : List Item). AllZip SamePackets items l) (sym (ap (file_items tail_again file_again) text ∙ read))
-        (same_packets order first file_again 24 items none)
+        let fit = fields_fit-law tail file bytes are in (
+          first-header tail_again file_again h (records_text order first items) fits.snaplen fits.link,
+          λ none limit.
+              let text : pcap_text order (Some first) items ≡ header_text h ++ records_form order (fraction_of first) ps =
+              ap (λ l. header_text h ++ l) (records-are order first items none) in
+              let read = items-written tail_again file_again h ps fits.snaplen fits.link (all-written first items fit none)
+              (subst (λ l. length l ≤ 2 ^ 40) text limit) in
+              subst (λ (l : List Item). AllZip SamePackets items l) (sym (ap (file_items tail_again file_again) text ∙ read))
+              (same_packets order first file_again 24 items fit none),
+        )

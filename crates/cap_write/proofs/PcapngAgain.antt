@@ -6,16 +6,21 @@ use Rattle.cap_blocks.specs.Split.{AreBytes}
 use Rattle.cap_blocks.specs.Grammar.{section_text, interface_text}
 use Rattle.cap_bytes.specs.declared.faults.Tail.{Tail}
 use Rattle.cap_bytes.specs.declared.numbers.Order.{Order}
+use Rattle.cap_blocks.proofs.Items.{items_from-none}
+use Rattle.cap_source.proofs.Fields.{fields_fit-law}
+use Rattle.cap_source.proofs.Frames.{frames_fit-law}
 use Rattle.cap_source.specs.Feed.{Item, packet, refused, refusal_of}
-use Rattle.cap_source.specs.Items.{file_items, file_first}
+use Rattle.cap_source.specs.Fields.{ItemFits}
+use Rattle.cap_source.specs.Items.{file_items, file_first, first_in}
 use Rattle.cap_time.specs.declared.resolutions.Interface.{Interface}
-use Rattle.cap_write.proofs.Fields.{fields_fit-law}
-use Rattle.cap_write.proofs.Files.{pcapng-again}
-use Rattle.cap_write.proofs.FirstInterface.{IsFirst, first-of}
+use Rattle.cap_write.proofs.Again.{reached}
+use Rattle.cap_write.proofs.Files.{pcapng-again, first-behind_section}
+use Rattle.cap_write.proofs.FirstInterface.{IsFirst, first-of, first-none}
 use Rattle.cap_write.proofs.Instances.{one_interface-law}
-use Rattle.cap_write.proofs.MergedAgain.{IsNumbered-given, AllFit-given, all_described-given}
+use Rattle.cap_write.proofs.Measured.{numbered-measured}
+use Rattle.cap_write.proofs.MergedAgain.{fits-numbered, IsNumbered-given, AllFit-given, all_described-given}
 use Rattle.cap_write.proofs.Renumbered.{numbered-again, refusal-again, refusal_of-again, InOrder-numbered, merged_again-law}
-use Rattle.cap_write.specs.Laws.{AllAlike, AllHave, ItemFits, PcapngAgain}
+use Rattle.cap_write.specs.Laws.{AllAlike, AllHave, PcapngAgain}
 use Rattle.cap_write.specs.Numbering.{Name, numbered, refusal_in}
 use Rattle.cap_write.specs.Texts.{first_names, packets_text, pcapng_text, merged_text}
 
@@ -27,7 +32,7 @@ have_all : (file : ℕ) (given : ℕ → Interface) (items : List Item) → AllA
 have_all file given [] alike fit = tt
 have_all file given (refused refusal ∷ items) alike fit = tt
 have_all file given (packet meta frame ∷ items) alike fit =
-    (record { interface = alike.1; fits = fit.0 }, have_all file given items alike.2 fit.1)
+    (record { interface = alike.1; fits = fits-numbered meta frame fit.0 }, have_all file given items alike.2 fit.1)
 
 -- the same, the first of them known
 abbrev with_first : Interface → (ℕ → Interface) → Name → Interface
@@ -38,7 +43,7 @@ have_first : (file : ℕ) (i : Interface) (given : ℕ → Interface) (items : L
 have_first file i given [] alike first fit = tt
 have_first file i given (refused refusal ∷ items) alike first fit = tt
 have_first file i given (packet meta frame ∷ items) alike first fit =
-    (record { interface = by (meta.instance == 0) refl; fits = fit.0 }, have_first file i given items alike.2 first.1 fit.1)
+    (record { interface = by (meta.instance == 0) refl; fits = fits-numbered meta frame fit.0 }, have_first file i given items alike.2 first.1 fit.1)
   where
     by : (zero : Bool) → (meta.instance == 0) ≡ zero → meta.interface ≡ (if zero then i else given meta.instance)
     by true is = first.0 (eqb-true meta.instance 0 is)
@@ -50,39 +55,65 @@ record IsReadAgain (names others : List Name) (items again : List Item) : Type 0
   unrefused : refusal_in others again ≡ None
   complete : refusal_of again ≡ None
 
+-- ---- a file without an interface
+
 without_first : (order : Order) (tail tail_again : Tail) (file file_again : ℕ) (bytes : List ℕ) → AreBytes bytes
     → length (pcapng_text order file None (file_items tail file bytes)) ≤ 2 ^ 40
     → IsReadAgain [] [] (file_items tail file bytes) (file_items tail_again file_again (pcapng_text order file None (file_items tail file bytes)))
 without_first order tail tail_again file file_again bytes are limit =
     let items = file_items tail file bytes in
     let alike = one_interface-law tail file bytes in
+    let fit = fields_fit-law tail file bytes are in
     let same : pcapng_text order file None items ≡ merged_text order items =
     ap (λ front. front ++ packets_text order 0 (numbered [] items)) (append-nil (section_text order)) in
-    let law = merged_again-law order tail_again file_again (of_instance alike.0) items (have_all file alike.0 items alike.1 (fields_fit-law tail file bytes are))
+    let law = merged_again-law order tail_again file_again (of_instance alike.0) items (have_all file alike.0 items alike.1 fit)
     (subst (λ t. length t ≤ 2 ^ 40) same limit) in
-    subst (λ t. IsReadAgain [] [] items (file_items tail_again file_again t)) (sym same) (record { packets = law.0; unrefused = law.1; complete = law.2 })
+    subst (λ t. IsReadAgain [] [] items (file_items tail_again file_again t)) (sym same)
+    (record { packets = law.0 ∙ numbered-measured [] items (frames_fit-law tail file bytes); unrefused = law.1; complete = law.2 })
+
+-- behind a section header alone no interface stands
+first-section : (order : Order) (tail : Tail) (file : ℕ) → file_first tail file (section_text order ++ []) ≡ None
+unfolding first_in
+first-section order tail file =
+    first-behind_section order tail file [] ∙ ap (first_in (reached [] None)) (items_from-none (Some order) tail file 28 refl)
+
+no_first : (order : Order) (tail tail_again : Tail) (file file_again : ℕ) (bytes : List ℕ) → file_first tail file bytes ≡ None
+    → file_first tail_again file_again (pcapng_text order file None (file_items tail file bytes)) ≡ None
+unfolding packets_text
+no_first order tail tail_again file file_again bytes none =
+    ap (λ ns. file_first tail_again file_again ((section_text order ++ []) ++ packets_text order 0 ns)) (first-none tail file bytes none)
+    ∙ (ap (file_first tail_again file_again) (append-nil (section_text order ++ [])) ∙ first-section order tail_again file_again)
+
+-- ---- one with an interface
 
 behind_first : (order : Order) (tail tail_again : Tail) (file file_again : ℕ) (bytes : List ℕ) (i : Interface) → AreBytes bytes → file_first tail file bytes ≡ Some i
     → length (pcapng_text order file (Some i) (file_items tail file bytes)) ≤ 2 ^ 40
     → IsReadAgain (first_names file (Some i)) (first_names file_again (Some i)) (file_items tail file bytes)
     (file_items tail_again file_again (pcapng_text order file (Some i) (file_items tail file bytes)))
+    × (file_first tail_again file_again (pcapng_text order file (Some i) (file_items tail file bytes)) ≡ Some i)
 behind_first order tail tail_again file file_again bytes i are is limit =
     let items = file_items tail file bytes in
     let alike = one_interface-law tail file bytes in
+    let fit = fields_fit-law tail file bytes are in
     let first = first-of tail file bytes i are is in
     let given = with_first i alike.0 in
-    let have = have_first file i alike.0 items alike.1 first.packets (fields_fit-law tail file bytes are) in
+    let have = have_first file i alike.0 items alike.1 first.packets fit in
     let names = first_names file (Some i) in
     let ns = numbered names items in
     let in_order = InOrder-numbered names items in
     let place = 28 + length (interface_text order i) in
-    let read = (pcapng-again order tail_again file_again i ns first.fits.link first.fits.snaplen first.fits.offset
-    (IsNumbered-given given names items have) (AllFit-given given names items have) (all_described-given given names items have (omega arith)) limit).0 in
-    record {
-      packets = ap (numbered (first_names file_again (Some i))) read ∙ numbered-again order file_again place 1 ns in_order;
-      unrefused = ap (refusal_in (first_names file_again (Some i))) read ∙ refusal-again order file_again place 1 ns in_order;
-      complete = ap refusal_of read ∙ refusal_of-again order file_again place 1 ns;
-    }
+    let both = pcapng-again order tail_again file_again i ns first.fits.link first.fits.snaplen first.fits.offset
+    (IsNumbered-given given names items have) (AllFit-given given names items have) (all_described-given given names items have (omega arith)) limit in
+    let read = both.0 in (
+      record {
+        packets =
+            ap (numbered (first_names file_again (Some i))) read
+            ∙ (numbered-again order file_again place 1 ns in_order ∙ numbered-measured names items (frames_fit-law tail file bytes));
+        unrefused = ap (refusal_in (first_names file_again (Some i))) read ∙ refusal-again order file_again place 1 ns in_order;
+        complete = ap refusal_of read ∙ refusal_of-again order file_again place 1 ns;
+      },
+      both.1,
+    )
 
 pub pcapng_again-law : PcapngAgain
 pcapng_again-law order tail tail_again file file_again bytes are = by (file_first tail file bytes) refl
@@ -94,10 +125,11 @@ pcapng_again-law order tail tail_again file file_again bytes are = by (file_firs
         length text ≤ 2 ^ 40
         → (numbered (first_names file_again first) again ≡ numbered (first_names file first) items)
         × (refusal_in (first_names file_again first) again ≡ None)
-        × (refusal_of again ≡ None))
+        × (refusal_of again ≡ None)
+        × (file_first tail_again file_again text ≡ first))
     by None is limit =
         let read = without_first order tail tail_again file file_again bytes are limit in
-        (read.packets, read.unrefused, read.complete)
+        (read.packets, read.unrefused, read.complete, no_first order tail tail_again file file_again bytes is)
     by (Some i) is limit =
         let read = behind_first order tail tail_again file file_again bytes i are is limit in
-        (read.packets, read.unrefused, read.complete)
+        (read.0.packets, read.0.unrefused, read.0.complete, read.1)

@@ -18,6 +18,7 @@ pub record IsRenamed (R : Name → Name → Type 0) (m n : Meta) : Type 0 where
   pub name : R (name_of m) (name_of n)
   pub interface : n.interface ≡ m.interface
   pub units : n.units ≡ m.units
+  pub captured : n.captured ≡ m.captured
   pub original : n.original ≡ m.original
 
 abbrev pub Renamed : (Name → Name → Type 0) → Item → Item → Type 0
@@ -27,8 +28,16 @@ Renamed R (refused r) (packet n g) = ⊥
 Renamed R (refused r) (refused s) = s.rule ≡ r.rule
 
 pub renamed-implied : (R S : Name → Name → Type 0) → ((a b : Name) → R a b → S a b) → (x y : Item) → Renamed R x y → Renamed S x y
-renamed-implied R S f (packet m g) (packet n h) r =
-    (record { name = f (name_of m) (name_of n) r.0.name; interface = r.0.interface; units = r.0.units; original = r.0.original }, r.1)
+renamed-implied R S f (packet m g) (packet n h) r = (
+  record {
+    name = f (name_of m) (name_of n) r.0.name;
+    interface = r.0.interface;
+    units = r.0.units;
+    captured = r.0.captured;
+    original = r.0.original;
+  },
+  r.1,
+)
 renamed-implied R S f (packet m g) (refused s) r = r
 renamed-implied R S f (refused s) (packet m g) r = r
 renamed-implied R S f (refused s) (refused t) r = r
@@ -77,6 +86,7 @@ module _ (R : Name → Name → Type 0) (one : IsOneToOne R) where
         number = position-renamed ns ms (name_of m) (name_of n) h r.name i;
         interface = r.interface i;
         units = unwrap_or (r.units i) 0;
+        captured = r.captured i;
         original = r.original i;
         frame = e i;
       }

@@ -1,5 +1,5 @@
 -- The packets of a written file, numbered again.
-use Rattle.std.proofs.Common.{◌≡◌, ◌==◌, ◌&&◌, ℕ, zero, suc, ◌+◌, ◌≤◌, ◌<◌, min, nat_le, nat_lt, not, cond, List, [], ◌∷◌, ◌++◌, length, Bool, true, false, Option, Some, None, refl, sym, ap, ◌∙◌, subst, arith, length-append, if◌then◌else◌}
+use Rattle.std.proofs.Common.{◌≡◌, ◌==◌, ◌&&◌, ℕ, zero, suc, ◌+◌, ◌≤◌, ◌<◌, map, min, nat_le, nat_lt, not, cond, List, [], ◌∷◌, ◌++◌, length, Bool, true, false, Option, Some, None, refl, sym, ap, ◌∙◌, subst, arith, length-append, if◌then◌else◌}
 use Rattle.std.proofs.lemmas.Bool.{eq-eqb, eqb-true, eqb-false, ne_eqb, false≢true, lt-ltb, ltb-true, ltb-false}
 use Rattle.std.proofs.lemmas.Bool.Decides.{nat_tests}
 use Rattle.std.proofs.lemmas.List.Folds.{position_or_len_push}
@@ -15,7 +15,7 @@ use Rattle.cap_write.proofs.Feeding.{count_after-is}
 use Rattle.cap_write.proofs.Files.{merged-again}
 use Rattle.cap_write.proofs.MergedAgain.{number-used, room_left, IsNumbered-given, AllFit-given, all_described-given}
 use Rattle.cap_write.proofs.Places.{position_or_len-none, position_or_len-some}
-use Rattle.cap_write.specs.Laws.{read_items, meta_again, instances, numbers, MergedAgain}
+use Rattle.cap_write.specs.Laws.{read_items, meta_again, instances, numbers, measured, MergedAgain}
 use Rattle.cap_source.specs.Feed.{refusal_of}
 use Rattle.cap_write.specs.Numbering.{Name, name_of, is_name, is_used, number_of, with_name, write_fault, Numbered, numbered_of, numbered_or, numbered, refusal_or, refusal_in}
 use Rattle.cap_write.specs.Texts.{interface_part, packet_part, count_after, merged_text}
@@ -119,9 +119,9 @@ unrefused file place count n few room = by (list_any (is_name (file, n.number)) 
         ap (λ b. if b && not (list_any (is_name (file, n.number)) (file_names file count)) then Some InterfaceLimit else None)
         (few_left (length (file_names file count)) (omega (arith, left, length-file_names file count)))
 
--- Packets that are read again have the numbers that they had, and none is refused.
+-- Packets that are read again have the numbers that they had, and as many captured bytes as they have, and none is refused.
 pub numbered-again : (order : Order) (file offset count : ℕ) (ns : List Numbered) → InOrder count ns
-    → numbered (file_names file count) (read_items order file offset count ns) ≡ ns
+    → numbered (file_names file count) (read_items order file offset count ns) ≡ map measured ns
 unfolding numbered read_items
 numbered-again order file offset count [] in_order = refl
 numbered-again order file offset count (n ∷ rest) in_order =
@@ -132,10 +132,10 @@ numbered-again order file offset count (n ∷ rest) in_order =
     place_of file n.number count ∙ omega (arith, in_order.0) in
     ap (λ f. numbered_or f (numbered_of (file_names file count) (meta_again file place n) n.frame) (numbered (with_name (file_names file count) (meta_again file place n)) items))
     (unrefused file place count n in_order.0 in_order.1)
-    ∙ (ap (λ k. record { number = k; interface = n.interface; units = n.units; original = n.original; frame = n.frame }
+    ∙ (ap (λ k. record { number = k; interface = n.interface; units = n.units; captured = length n.frame; original = n.original; frame = n.frame }
     ∷ numbered (with_name (file_names file count) (meta_again file place n)) items) number
-    ∙ (ap (λ names. n ∷ numbered names items) (names_behind file count n in_order.0)
-    ∙ ap (λ l. n ∷ l) (numbered-again order file next (count_after count n) rest in_order.2)))
+    ∙ (ap (λ names. measured n ∷ numbered names items) (names_behind file count n in_order.0)
+    ∙ ap (λ l. measured n ∷ l) (numbered-again order file next (count_after count n) rest in_order.2)))
 
 pub refusal-again : (order : Order) (file offset count : ℕ) (ns : List Numbered) → InOrder count ns
     → refusal_in (file_names file count) (read_items order file offset count ns) ≡ None
@@ -164,6 +164,10 @@ instances-again order file offset count (n ∷ rest) =
     ap (λ l. n.number ∷ l)
     (instances-again order file (offset + length (interface_part order count n) + length (packet_part order n)) (count_after count n) rest)
 
+numbers-measured : (ns : List Numbered) → numbers (map measured ns) ≡ numbers ns
+numbers-measured [] = refl
+numbers-measured (n ∷ rest) = ap (λ l. n.number ∷ l) (numbers-measured rest)
+
 -- what is numbered is in order
 pub InOrder-numbered : (names : List Name) (items : List Item) → InOrder (length names) (numbered names items)
 unfolding numbered
@@ -187,9 +191,9 @@ merged_again-law order tail file given items have limit =
     let read : file_items tail file (merged_text order items) ≡ read_items order file 28 0 ns =
     merged-again order tail file ns (IsNumbered-given given [] items have) (AllFit-given given [] items have) (all_described-given given [] items have (omega arith)) limit in
     let in_order = InOrder-numbered [] items in
-    let same : numbered [] (file_items tail file (merged_text order items)) ≡ ns = ap (numbered []) read ∙ numbered-again order file 28 0 ns in_order in (
+    let same : numbered [] (file_items tail file (merged_text order items)) ≡ map measured ns = ap (numbered []) read ∙ numbered-again order file 28 0 ns in_order in (
       same,
       ap (refusal_in []) read ∙ refusal-again order file 28 0 ns in_order,
       ap refusal_of read ∙ refusal_of-again order file 28 0 ns,
-      ap instances read ∙ (instances-again order file 28 0 ns ∙ sym (ap numbers same)),
+      ap instances read ∙ (instances-again order file 28 0 ns ∙ (sym (numbers-measured ns) ∙ sym (ap numbers same))),
     )

@@ -1,12 +1,12 @@
 -- Every accepted pcap file comes back from its pcapng text.
-use Rattle.std.proofs.Common.{mod-lt, ◌≡◌, ◌==◌, ◌&&◌, ℕ, ◌+◌, ◌^◌, ◌≤◌, ◌<◌, nat_le, List, [], ◌∷◌, ◌++◌, length, drop, Bool, true, false, Option, Some, None, is_some, refl, sym, ap, ◌∙◌, subst, arith, length-append, if◌then◌else◌}
+use Rattle.std.proofs.Common.{◌≡◌, ◌==◌, ◌&&◌, ℕ, ◌+◌, ◌^◌, ◌≤◌, ◌<◌, nat_le, List, [], ◌∷◌, ◌++◌, length, drop, Bool, true, false, Option, Some, None, is_some, refl, sym, ap, ◌∙◌, subst, arith, length-append, if◌then◌else◌}
 use Rattle.std.specs.Prelude.{FitsSigned, pos}
 use Rattle.std.specs.Int.{w64}
 use Rattle.std.proofs.lemmas.Bool.{false≢true, ne_eqb}
 use Rattle.cap_blocks.proofs.Parts.{length-packet_body}
 use Rattle.cap_blocks.specs.Grammar.{section_kind, enhanced_kind, packet_body, block_text, section_text, interface_text}
 use Rattle.cap_blocks.specs.Split.{AreBytes}
-use Rattle.cap_bytes.proofs.Spelling.{number-append, number-lt, length-bytes_of}
+use Rattle.cap_bytes.proofs.Spelling.{number-append, length-bytes_of}
 use Rattle.cap_bytes.specs.Number.{number}
 use Rattle.cap_bytes.specs.declared.faults.Rule.{Rule}
 use Rattle.cap_bytes.specs.declared.faults.Tail.{Tail}
@@ -20,13 +20,15 @@ use Rattle.cap_pcap.specs.declared.records.Stop.TheVariants as stops
 use Rattle.cap_pcap.proofs.Again.{flipped, flips_text, header_at-text, header_again-law}
 use Rattle.cap_pcap.specs.Grammar.{Packet, magic_of, header_text}
 use Rattle.cap_pcap.specs.declared.headers.PcapHeader.{PcapHeader}
+use Rattle.cap_source.proofs.Fields.{AllHeld, AreBytes-drop, held-splits, below_header}
+use Rattle.cap_source.proofs.Frames.{read_header}
 use Rattle.cap_source.specs.Feed.{Item}
 use Rattle.cap_source.specs.Items.{is_pcapng, pcap_items, interface_of, unless_refused, items_from, first_from, file_items, file_first}
 use Rattle.cap_time.specs.declared.resolutions.Interface.{Interface}
 use Rattle.cap_time.specs.declared.stamps.Unit.{Unit as Fraction}
 use Rattle.cap_time.specs.declared.stamps.Unit.TheVariants.{Micro, Nano}
 use Rattle.cap_write.proofs.Files.{length-section_text, pcapng-again}
-use Rattle.cap_write.proofs.Held.{AllHeld, AllFit-held, AreBytes-drop, held-splits, held-written, early-written, records-again}
+use Rattle.cap_write.proofs.Held.{AllFit-held, held-written, early-written, records-again}
 use Rattle.cap_write.proofs.Out.{fits, early, records_text-read, records_refusal-read, timely-packets}
 use Rattle.cap_write.proofs.Packed.{number_one, number_all, stop_refusal, numbered-packets, refusal-packets, refusal_of-packets, kept-packets, kept-read, IsNumbered-packets, all_described-packets}
 use Rattle.cap_write.proofs.Trips.{fraction_of-header}
@@ -87,22 +89,22 @@ first_only : (tail : Tail) (file : ℕ) (bytes : List ℕ) → is_pcapng bytes �
 unfolding first_from
 first_only tail file bytes is = rw is refl
 
+-- what begins with a written header has its interface
+pub first-header : (tail : Tail) (file : ℕ) (header : PcapHeader) (rest : List ℕ) → header.snaplen < 2 ^ 32 → header.link < 2 ^ 16
+    → file_first tail file (header_text header ++ rest) ≡ Some (interface_of header)
+first-header tail file header rest snaplen link =
+    let bytes = header_text header ++ rest in
+    let read = header_at-text header rest snaplen link in
+    first_only tail file bytes (is_pcapng-header header rest snaplen link)
+    ∙ (ap (λ f. unless_refused f (interface_of (records.header_at bytes))) read.0
+    ∙ ap (λ x. Some (interface_of x)) read.1)
+
 refused_header : (tail : Tail) (file : ℕ) (bytes : List ℕ) (i : Interface) (rule : Rule) → records.header_fault 0 bytes ≡ Some rule
     → refusal_of (pcap_items file i (records.file_items tail file 0 bytes)) ≡ None → ⊥
 unfolding records.file_items pcap_items refusal_of
 refused_header tail file bytes i rule is none =
     absurd (false≢true (sym (ap is_some
     (sym (ap (λ f. refusal_of (pcap_items file i (records.refused_or f file 0 (records.items_from (records.header_at bytes) tail file 24 (drop 24 bytes))))) is) ∙ none))))
-
-pub read_header : (tail : Tail) (file : ℕ) (bytes : List ℕ) → records.header_fault 0 bytes ≡ None
-    → records.file_items tail file 0 bytes ≡ records.items_from (records.header_at bytes) tail file 24 (drop 24 bytes)
-unfolding records.file_items
-read_header tail file bytes is = rw is refl
-
-pub below_header : (bytes : List ℕ) → AreBytes bytes → ((records.header_at bytes).snaplen < 2 ^ 32) × ((records.header_at bytes).link < 2 ^ 16)
-unfolding records.header_at
-below_header bytes are =
-    (omega (arith, number-lt (records.order_at bytes) 4 (drop 16 bytes) (AreBytes-drop 16 bytes are)), mod-lt (number (records.order_at bytes) 4 (drop 20 bytes)) {m = 65536} (omega arith))
 
 pub accepted : (tail : Tail) (file : ℕ) (bytes : List ℕ) → AreBytes bytes → is_pcapng bytes ≡ false → refusal_of (file_items tail file bytes) ≡ None
     → Accepted tail file bytes (records.header_at bytes)
@@ -276,6 +278,8 @@ round_trip-law bytes tail file are plain none order back tail_again tail_last fi
       ap kept b.read ∙ (kept-read order file_again place 1 i ps ∙ sym (ap kept a.items ∙ kept-packets file i 24 ps a.stop)),
       ap (λ f. pcap_refusal file_again f (file_items tail_again file_again text)) b.first
           ∙ (ap (records_refusal i) b.read ∙ (records_refusal-read h order file_again place 1 ps ∙ sym (ap late_in b.read))),
+      ap (file_first tail_last file_last) b.out
+          ∙ (first-header tail_last file_last (header_with back h) (records_form back h.unit (early h.unit ps)) a.snaplen a.link ∙ sym a.first),
       ap kept last ∙ (kept-packets file_last i 24 (early h.unit ps) stops.End
           ∙ sym (ap (λ l. kept (timely l)) a.items ∙ timely-packets h file 24 ps a.stop)),
       ap refusal_of last ∙ refusal_of-packets file_last i 24 (early h.unit ps) stops.End,
@@ -300,17 +304,11 @@ accepted-written : (tail : Tail) (file : ℕ) (h : PcapHeader) (ps : List Packet
     → length (header_text h ++ records_form h.order h.unit ps) ≤ 2 ^ 40
     → Accepted tail file (header_text h ++ records_form h.order h.unit ps) h
 accepted-written tail file h ps snaplen link w limit =
-    let rest = records_form h.order h.unit ps in
-    let bytes = header_text h ++ rest in
-    let read = header_at-text h rest snaplen link in
     record {
       packets = ps;
       stop = stops.End;
       items = items-written tail file h ps snaplen link w limit;
-      first =
-          first_only tail file bytes (is_pcapng-header h rest snaplen link)
-          ∙ (ap (λ f. unless_refused f (interface_of (records.header_at bytes))) read.0
-          ∙ ap (λ x. Some (interface_of x)) read.1);
+      first = first-header tail file h (records_form h.order h.unit ps) snaplen link;
       unrefused = refl;
       held = held-written h.unit ps w;
       snaplen = snaplen;

@@ -1,5 +1,5 @@
 -- What is true of written files, whatever writes or reads them.
-use Rattle.std.specs.Prelude.{◌≡◌, ℕ, ◌+◌, ◌/◌, ◌%◌, ◌^◌, ◌≤◌, ◌<◌, ◌==◌, FitsSigned, List, [], ◌∷◌, ◌++◌, length, slice_get, Option, Some, None, unwrap_or, not, pos, int_lt, Bool, ⊤, false, if◌then◌else◌}
+use Rattle.std.specs.Prelude.{◌≡◌, ℕ, ◌+◌, ◌/◌, ◌%◌, ◌^◌, ◌≤◌, ◌<◌, ◌==◌, FitsSigned, List, [], ◌∷◌, ◌++◌, length, map, slice_get, Option, Some, None, option_map, not, pos, int_lt, Bool, ⊤, false, if◌then◌else◌}
 use Rattle.std.specs.Int.{w64}
 use Rattle.cap_bytes.specs.declared.numbers.Order.{Order}
 use Rattle.cap_bytes.specs.declared.faults.Refusal.{Refusal}
@@ -11,15 +11,15 @@ use Rattle.cap_pcap.specs.declared.headers.PcapHeader.{PcapHeader}
 use Rattle.std.specs.List.{AllByRecursion, AllZip}
 use Rattle.std.specs.declared.cmp.Ordering.TheVariants.{Equal}
 use Rattle.cap_source.specs.Feed.{Item, packet, refused, refusal_of}
-use Rattle.cap_source.specs.Items.{is_pcapng, file_items, file_first}
+use Rattle.cap_source.specs.Items.{is_pcapng, file_items, file_first, resolution_of_unit}
 use Rattle.cap_source.specs.declared.packets.Format.TheVariants.{Pcapng}
 use Rattle.cap_source.specs.declared.packets.Meta.{Meta}
 use Rattle.cap_time.specs.declared.resolutions.Interface.{Interface}
 use Rattle.cap_time.specs.Stamp.{seconds_of, stamp_in}
 use Rattle.cap_time.specs.Unit.{in_second}
 use Rattle.cap_time.specs.declared.stamps.Unit.{Unit as Fraction}
-use Rattle.cap_write.specs.Numbering.{Name, name_of, Numbered, numbered, refusal_in, refusal_at}
-use Rattle.cap_write.specs.Pcap.{pcap_text, pcap_refusal}
+use Rattle.cap_write.specs.Numbering.{Name, name_of, Numbered, numbered_of, numbered, refusal_in, refusal_at}
+use Rattle.cap_write.specs.Pcap.{fraction_of, pcap_text, pcap_refusal}
 use Rattle.cap_merge.specs.Clock.{clock_cmp}
 use Rattle.cap_merge.specs.Files.{run_of_files}
 use Rattle.cap_merge.specs.Parts.{meta_time}
@@ -115,8 +115,9 @@ late_in [] = None
 late_in (packet meta frame ∷ items) = if is_late meta.interface meta.units then Some (refusal_at meta TimeRange) else late_in items
 late_in (refused refusal ∷ items) = Some refusal
 
--- Every accepted pcap file whose pcapng text is at most 2^40 bytes long comes back: that text has its
--- packets, and the pcap text of it has those before the first that is too late, which is refused.
+-- Every accepted pcap file whose pcapng text is at most 2^40 bytes long comes back: that text has its first
+-- interface and its packets, and the pcap text of it has the same interface, and the packets before the first that
+-- is too late, which is refused.
 abbrev pub RoundTrip : Type 0
 RoundTrip =
     (bytes : List ℕ) (tail : Tail) (file : ℕ) → AreBytes bytes → is_pcapng bytes ≡ false → refusal_of (file_items tail file bytes) ≡ None
@@ -132,6 +133,7 @@ RoundTrip =
     × (first_again ≡ first)
     × (kept read ≡ kept items)
     × (pcap_refusal file_again first_again read ≡ late_in read)
+    × (file_first tail_last file_last out ≡ first)
     × (kept (file_items tail_last file_last out) ≡ kept (timely items))
     × (refusal_of (file_items tail_last file_last out) ≡ None))
 
@@ -161,25 +163,10 @@ SameBytes =
     length bytes ≤ 2 ^ 40 → length text ≤ 2 ^ 40
     → pcap_text header.order (file_first tail_again file_again text) (file_items tail_again file_again text) ≡ bytes)
 
--- The fields of an item's packet and of its interface fit in their widths, and so many bytes may be captured.
--- draft-ietf-opsawg-pcap, 4 and 5; draft-ietf-opsawg-pcapng, 4.2 to 4.4 and Appendix A.
-pub record FitsMeta (meta : Meta) (bytes : List ℕ) : Type 0 where
-  pub link : meta.interface.link < 2 ^ 16
-  pub snaplen : meta.interface.snaplen < 2 ^ 32
-  pub offset : FitsSigned w64 meta.interface.offset
-  pub units : unwrap_or meta.units 0 < 2 ^ 64
-  pub original : meta.original < 2 ^ 32
-  pub captured : length bytes ≤ 262144
-
--- a refusal has no fields
-abbrev pub ItemFits : Item → Type 0
-ItemFits (packet meta frame) = FitsMeta meta frame
-ItemFits (refused refusal) = ⊤
-
 -- An interface for each name, which the packets of a list have, and the fields of which fit, as theirs do.
 pub record HasFields (given : Name → Interface) (meta : Meta) (bytes : List ℕ) : Type 0 where
   pub interface : meta.interface ≡ given (name_of meta)
-  pub fits : FitsMeta meta bytes
+  pub fits : Fits (numbered_of [] meta bytes)
 
 abbrev pub AllHave : (Name → Interface) → List Item → Type 0
 AllHave given [] = ⊤
@@ -196,16 +183,21 @@ instances [] = []
 instances (packet meta frame ∷ items) = meta.instance ∷ instances items
 instances (refused refusal ∷ items) = []
 
+-- a packet as it is read again: its captured length is the number of its bytes
+abbrev pub measured : Numbered → Numbered
+measured n = record n { captured = length n.frame }
+
 -- What is written of a list in which the packets of one instance have one interface, and which is at most
 -- 2^40 bytes long, has the packets of the list, those before a refusal, in order: both have the same
--- numbered packets, and a packet's instance is its number there.
+-- numbered packets, but that the captured length which is read again is the number of a packet's bytes, and a
+-- packet's instance is its number there.
 abbrev pub MergedAgain : Type 0
 MergedAgain =
     (order : Order) (tail : Tail) (file : ℕ) (given : Name → Interface) (items : List Item) → AllHave given items
     → (let text = merged_text order items in
     let again = file_items tail file text in
     length text ≤ 2 ^ 40
-    → (numbered [] again ≡ numbered [] items)
+    → (numbered [] again ≡ map measured (numbered [] items))
     × (refusal_in [] again ≡ None)
     × (refusal_of again ≡ None)
     × (instances again ≡ numbers (numbered [] again)))
@@ -220,10 +212,6 @@ AllAlike file given (refused refusal ∷ items) = AllAlike file given items
 abbrev pub OneInterface : Type 0
 OneInterface =
     (tail : Tail) (file : ℕ) (bytes : List ℕ) → (given : ℕ → Interface) × AllAlike file given (file_items tail file bytes)
-
--- In every file, which is a list of bytes, the fields of the packets and of their interfaces fit in their widths.
-abbrev pub FieldsFit : Type 0
-FieldsFit = (tail : Tail) (file : ℕ) (bytes : List ℕ) → AreBytes bytes → AllByRecursion ItemFits (file_items tail file bytes)
 
 -- What is written of a merge of any files, where it is at most 2^40 bytes long, has the packets of their run,
 -- those before a refusal, in order: both have the same numbered packets, and a packet's instance is its number
@@ -240,8 +228,9 @@ MergeLaw =
     × (refusal_of again ≡ None)
     × (instances again ≡ numbers (numbered [] again)))
 
--- What is written of any file as pcapng, where it is at most 2^40 bytes long, has the file's packets, those before a refusal,
--- in order: both have the same numbered packets after the first interface, and nothing is refused there.
+-- What is written of any file as pcapng, where it is at most 2^40 bytes long, has the file's first interface, or none where
+-- the file has none, and the file's packets, those before a refusal, in order: both have the same numbered packets after the
+-- first interface, and nothing is refused there.
 abbrev pub PcapngAgain : Type 0
 PcapngAgain =
     (order : Order) (tail tail_again : Tail) (file file_again : ℕ) (bytes : List ℕ) → AreBytes bytes
@@ -252,12 +241,14 @@ PcapngAgain =
     length text ≤ 2 ^ 40
     → (numbered (first_names file_again first) again ≡ numbered (first_names file first) items)
     × (refusal_in (first_names file_again first) again ≡ None)
-    × (refusal_of again ≡ None))
+    × (refusal_of again ≡ None)
+    × (file_first tail_again file_again text ≡ first))
 
--- A packet of a file and one that was written for it have the same link, length and bytes, and the same time, maybe in another form.
+-- A packet of a file and one that was written for it have the same link, lengths and bytes, and the same time, maybe in another form.
 pub record IsSamePacket (meta again : Meta) (bytes bytes_again : List ℕ) : Type 0 where
   pub link : meta.interface.link ≡ again.interface.link
   pub time : clock_cmp (meta_time meta) (meta_time again) ≡ Equal
+  pub captured : meta.captured ≡ again.captured
   pub original : meta.original ≡ again.original
   pub frame : bytes ≡ bytes_again
 
@@ -266,12 +257,20 @@ SamePackets (packet meta frame) (packet again frame_again) = IsSamePacket meta a
 SamePackets (packet meta frame) (refused refusal) = ⊥
 SamePackets (refused refusal) again = ⊥
 
--- What is written of any file as pcap, where nothing is refused and it is at most 2^40 bytes long, has the file's packets, in order.
+-- The one interface of what is written as pcap of a file with that first interface: its link and snaplen, and the units in which
+-- times are written, counted from 1970. draft-ietf-opsawg-pcap, 4.
+abbrev pub written_first : Interface → Interface
+written_first first =
+    record { link = first.link; snaplen = first.snaplen; resolution = resolution_of_unit (fraction_of first); offset = pos 0 }
+
+-- What is written of any file as pcap has that interface, or none where the file has none. Where nothing is refused and it is at most
+-- 2^40 bytes long, it has the file's packets, in order.
 abbrev pub PcapAgain : Type 0
 PcapAgain =
     (order : Order) (tail tail_again : Tail) (file file_again : ℕ) (bytes : List ℕ) → AreBytes bytes
     → (let items = file_items tail file bytes in
     let first = file_first tail file bytes in
     let text = pcap_text order first items in
-    pcap_refusal file first items ≡ None → length text ≤ 2 ^ 40
-    → AllZip SamePackets items (file_items tail_again file_again text))
+    (file_first tail_again file_again text ≡ option_map written_first first)
+    × (pcap_refusal file first items ≡ None → length text ≤ 2 ^ 40
+    → AllZip SamePackets items (file_items tail_again file_again text)))

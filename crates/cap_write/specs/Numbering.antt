@@ -20,11 +20,12 @@ abbrev pub is_name : Name → Name → Bool
 is_name a b = (a.0 == b.0) && (a.1 == b.1)
 
 -- A packet as it is written: the number of its interface, the interface, its time in the interface's
--- units, how long it was, and the bytes that were captured of it.
+-- units, how many bytes were captured of it, as is told, and how many it had, and the captured bytes.
 pub record Numbered : Type 0 where
   pub number : ℕ
   pub interface : Interface
   pub units : ℕ
+  pub captured : ℕ
   pub original : ℕ
   pub frame : List ℕ
 
@@ -57,6 +58,7 @@ numbered_of names meta frame =
       number = number_of names meta;
       interface = meta.interface;
       units = unwrap_or meta.units 0;
+      captured = meta.captured;
       original = meta.original;
       frame = frame;
     }

@@ -1,5 +1,5 @@
 -- Laws of merging: a packet's clock in the merged list, and merging in rounds.
-use Rattle.std.specs.Prelude.{◌≡◌, ℕ, suc, List, [], ◌∷◌, ◌++◌, length, map, Option, Some, None}
+use Rattle.std.specs.Prelude.{◌≡◌, ℕ, suc, List, [], ◌∷◌, ◌++◌, map, Option, Some, None}
 use Rattle.std.specs.List.{AllByRecursion, AllZip, flat_map}
 use Rattle.std.specs.Option.{option_map}
 use Rattle.std.specs.declared.cmp.Ordering.TheVariants.{Equal}
@@ -51,6 +51,7 @@ pub record IsPacketOf (n : Numbered) (meta : Meta) (bytes : List ℕ) : Type 0 w
   pub instance : meta.instance ≡ n.number
   pub interface : meta.interface ≡ n.interface
   pub units : meta.units ≡ Some n.units
+  pub captured : meta.captured ≡ n.captured
   pub original : meta.original ≡ n.original
   pub frame : bytes ≡ n.frame
 
@@ -82,7 +83,7 @@ item_of n =
       instance = n.number;
       interface = n.interface;
       units = Some n.units;
-      captured = length n.frame;
+      captured = n.captured;
       original = n.original;
     }) n.frame
 

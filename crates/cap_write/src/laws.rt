@@ -1,11 +1,14 @@
 //! Laws of written files, each the contract of a function that does nothing.
-ghost use Rattle.cap_write.specs.Laws.{FieldsFit, MergeLaw, MergedAgain, OneInterface, PcapAgain, PcapngAgain, RoundTrip, SameBytes};
+ghost use Rattle.cap_write.specs.Laws.{MergeLaw, MergedAgain, OneInterface, PcapAgain, PcapngAgain, RoundTrip, SameBytes};
 ghost use Rattle.cap_write.specs.Rounds.{ClockLaw, FileRoundsLaw, RoundsLaw};
 
-/// An accepted pcap file, written as pcapng and then as pcap again, comes back: the pcapng file has its
-/// packets, in order, with link, snaplen, exact time, lengths and bytes, and the pcap file has those before
-/// the first with a time of 2^32 seconds or more, which is refused (rule 20, time-range); nothing else is. A
-/// file in the written form comes back byte for byte in the same order.
+pub use cap_source::laws::fields_fit;
+
+/// An accepted pcap file whose pcapng text is at most 2^40 bytes long, written as pcapng and then as pcap again,
+/// comes back: the pcapng file has its interface, also where there is no packet, and its packets, in order, with
+/// link, snaplen, exact time, lengths and bytes. The pcap file has the same interface (the link, the snaplen and the
+/// unit of its header) and the packets before the first with a time of 2^32 seconds or more, which is refused (rule
+/// 20, time-range); nothing else is. A file in the written form comes back byte for byte in the same order.
 pub fn round_trip()
     ensures packets { RoundTrip }
     ensures bytes { SameBytes }
@@ -15,22 +18,25 @@ pub fn round_trip()
 /// bytes long, has the packets of the run, those before a refusal, in order: with the same numbers of
 /// interfaces, which are the instances there, and the same interfaces, times, lengths and bytes. The same
 /// holds of every list whose fields fit in their widths and in which the packets of one instance have one
-/// interface.
+/// interface, but that the captured length which is read again is the number of a packet's bytes.
 pub fn merged_again()
     ensures files { MergeLaw }
     ensures packets { MergedAgain }
 {}
 
 /// What `to_pcapng` writes of any file, of either format and whatever bytes it holds, where it is at most 2^40
-/// bytes long, has the file's packets, those before a refusal, in order: with the same numbers of interfaces
+/// bytes long, has the file's first interface, also where there is no packet (or none, where the file has none before
+/// its first packet), and the file's packets, those before a refusal, in order: with the same numbers of interfaces
 /// after the file's first one, and the same interfaces, times, lengths and bytes.
 pub fn pcapng_again()
     ensures { PcapngAgain }
 {}
 
-/// What `to_pcap` writes of any file, of either format and whatever bytes it holds, where it refuses nothing and
-/// is at most 2^40 bytes long, has the file's packets, in order: with the same link, length and bytes, and the
-/// same time, which may have another form.
+/// What `to_pcap` writes of any file, of either format and whatever bytes it holds, has the link and the snaplen of
+/// the file's first interface, also where there is no packet, and counts in microseconds where each of that
+/// interface's units is a whole number of them, else in nanoseconds; where the file has no interface before its first
+/// packet, neither has the text. Where nothing is refused and the text is at most 2^40 bytes long, it has the file's
+/// packets, in order: with the same link, lengths and bytes, and the same time, which may have another form.
 pub fn pcap_again()
     ensures { PcapAgain }
 {}
@@ -38,13 +44,6 @@ pub fn pcap_again()
 /// In every file, of either format, the packets of one instance have one interface.
 pub fn one_interface()
     ensures law { OneInterface }
-{}
-
-/// In every file, of either format, the fields of a packet and of its interface fit in their widths: the
-/// link type in two bytes, the snaplen and the original length in four, the units and the offset (with its
-/// sign) in eight. At most 262,144 bytes are captured.
-pub fn fields_fit()
-    ensures law { FieldsFit }
 {}
 
 /// In the run of some files, the greatest time among the packets up to and with one equals that packet's

@@ -1,7 +1,7 @@
--- The fields of every file's packets fit in their widths.
-use Rattle.std.proofs.Common.{◌≡◌, ◌==◌, ◌*◌, ℕ, zero, suc, ◌+◌, ◌-◌, ◌^◌, ◌≤◌, ◌<◌, nat_le, List, [], ◌∷◌, ◌++◌, length, drop, slice_get, Bool, true, false, Option, Some, None, Result, Ok, Err, IfOk, IfSome, unwrap_or, refl, ◌∙◌, subst, sym, arith, if◌then◌else◌}
+-- The fields of every file's packets fit in their widths, and as many bytes were captured of each as are told.
+use Rattle.std.proofs.Common.{◌≡◌, ◌==◌, ◌*◌, ℕ, zero, suc, ◌+◌, ◌-◌, ◌^◌, ◌≤◌, ◌<◌, nat_le, List, [], ◌∷◌, ◌++◌, length, take, drop, get_or, slice_get, mod-lt, Bool, true, false, Option, Some, None, Result, Ok, Err, IfOk, IfSome, unwrap_or, refl, ◌∙◌, subst, sym, arith, if◌then◌else◌}
 use Rattle.std.proofs.lemmas.Int.{ints}
-use Rattle.std.proofs.lemmas.List.{length-take}
+use Rattle.std.proofs.lemmas.List.{get_or-drop}
 use Rattle.std.specs.Int.{w64, cast_signed}
 use Rattle.std.specs.List.{AllByRecursion}
 use Rattle.std.specs.Prelude.{FitsSigned, pos}
@@ -18,30 +18,42 @@ use Rattle.cap_bytes.specs.declared.faults.Rule.TheVariants.{InterfaceLimit, Opt
 use Rattle.cap_bytes.specs.declared.faults.Tail.{Tail}
 use Rattle.cap_bytes.specs.declared.numbers.Order.{Order}
 use Rattle.cap_pcap.proofs.Splitting.{every_split-law, split_items-law}
-use Rattle.cap_pcap.specs.Grammar.{Packet as Record, packet_size}
+use Rattle.cap_pcap.specs.Grammar.{Packet as Record, packet_size, SpellsRecord}
 use Rattle.cap_pcap.specs.Split as records
+use Rattle.cap_pcap.specs.Split.{Splits}
 use Rattle.cap_pcap.specs.declared.records.Stop.{Stop as RecordStop}
 use Rattle.cap_pcap.specs.declared.records.Stop.TheVariants as record_stops
+use Rattle.cap_source.proofs.Blocks.{IsFit, content_fit}
+use Rattle.cap_source.proofs.Frames.{block-frame, read_header}
+use Rattle.cap_source.proofs.Saying.{OfContent, content-holds}
 use Rattle.cap_source.specs.Clocks.{interface_in, interface_or, interface_at, options_fault, offset_in, given_or, read_or, value_of}
 use Rattle.cap_source.specs.Contents.{content_in}
 use Rattle.cap_source.specs.Feed.{Item}
+use Rattle.cap_source.specs.Fields.{FitsInterface, ItemFits, FieldsFit}
 use Rattle.cap_source.specs.Items.{Progress, fresh, behind, items_at, items_in, items_of_stop, items_from, is_pcapng, pcap_items, interface_of}
 use Rattle.cap_source.specs.declared.contents.Content.{Content}
 use Rattle.cap_source.specs.declared.contents.Content.TheVariants as contents
 use Rattle.cap_source.specs.declared.contents.Packet.{Packet}
 use Rattle.cap_time.specs.declared.resolutions.Interface.{Interface}
-use Rattle.cap_write.proofs.Contents.{OfContent, content-holds}
-use Rattle.cap_write.proofs.Held.{AllHeld, AreBytes-drop, AreBytes-take, held-splits}
-use Rattle.cap_write.proofs.RoundTrip.{below_header, read_header}
-use Rattle.cap_write.specs.Laws.{ItemFits, FieldsFit}
+use Rattle.cap_time.specs.Unit.{in_second}
+use Rattle.cap_time.specs.declared.stamps.Unit.{Unit as Fraction}
+use Rattle.cap_time.specs.declared.stamps.Unit.TheVariants.{Micro, Nano}
+
+-- ---- bytes
+
+pub AreBytes-drop : (n : ℕ) (bytes : List ℕ) → AreBytes bytes → AreBytes (drop n bytes)
+AreBytes-drop n bytes are k = rw get_or-drop (are (n + k))
+
+take_below : (n : ℕ) (xs : List ℕ) (k : ℕ) → ((j : ℕ) → get_or xs j 0 < 256) → get_or (take n xs) k 0 < 256
+take_below zero xs k h = omega arith
+take_below (suc n) [] k h = h k
+take_below (suc n) (x ∷ xs) zero h = h 0
+take_below (suc n) (x ∷ xs) (suc k) h = take_below n xs k (λ j. h (suc j))
+
+pub AreBytes-take : (n : ℕ) (bytes : List ℕ) → AreBytes bytes → AreBytes (take n bytes)
+AreBytes-take n bytes are k = take_below n bytes k are
 
 -- ---- interfaces
-
--- An interface's fields fit.
-pub record FitsInterface (i : Interface) : Type 0 where
-  pub link : i.link < 2 ^ 16
-  pub snaplen : i.snaplen < 2 ^ 32
-  pub offset : FitsSigned w64 i.offset
 
 -- a number of four bytes
 of_bytes : (order : Order) (n : ℕ) (body : List ℕ) → AreBytes body → number order 4 (drop n body) < 2 ^ 32
@@ -95,7 +107,6 @@ pub record FitsPacket (p : Packet) : Type 0 where
   interface : FitsInterface p.interface
   units : unwrap_or p.units 0 < 2 ^ 64
   original : p.original < 2 ^ 32
-  captured : p.captured ≤ 262144
 
 -- units are two numbers of four bytes
 two_words : (high low : ℕ) → high < 2 ^ 32 → low < 2 ^ 32 → high * 2 ^ 32 + low < 2 ^ 64
@@ -110,13 +121,11 @@ content-fits interfaces kind order body fit are =
       interface = interface_of-number interfaces k i fit is;
       units = two_words (number order 4 (drop 4 body)) (number order 4 (drop 8 body)) (of_bytes order 4 body are) (of_bytes order 8 body are);
       original = of_bytes order 16 body are;
-      captured = few;
     })
     (λ i is few. record {
       interface = interface_of-number interfaces 0 i fit is;
       units = omega arith;
       original = omega (arith, number-lt order 4 body are);
-      captured = few;
     })
 
 -- ---- blocks
@@ -143,25 +152,23 @@ blocks-bytes (suc fuel) section tail file offset bytes are =
     (AreBytes-take (total - 12) (drop 8 bytes) (AreBytes-drop 8 bytes are))
     (blocks-bytes fuel (Some order) tail file (offset + total) (drop total bytes) (AreBytes-drop total bytes are))
 
-block-fits : (file : ℕ) (progress : Progress) (block : Block) (body : List ℕ) (content : Result Content Rule) (items : List Item)
-    → IfOk content (OfContent FitsInterface FitsPacket) → AllByRecursion FitsInterface progress.interfaces
+block-fits : (file few : ℕ) (progress : Progress) (block : Block) (body : List ℕ) (content : Result Content Rule) (items : List Item)
+    → IfOk content (OfContent FitsInterface FitsPacket) → IsFit few body content → AllByRecursion FitsInterface progress.interfaces
     → (AllByRecursion FitsInterface (behind progress content).interfaces → AllByRecursion ItemFits items)
     → AllByRecursion ItemFits (items_at file progress block body content items)
-block-fits file progress block body (Ok contents.Section) items fits all rest = rest tt
-block-fits file progress block body (Ok (contents.Interface i)) items fits all rest = rest (one_more progress.interfaces i all fits)
-block-fits file progress block body (Ok (contents.Packet p)) items fits all rest = (
+block-fits file few progress block body (Ok contents.Section) items fits within all rest = rest tt
+block-fits file few progress block body (Ok (contents.Interface i)) items fits within all rest = rest (one_more progress.interfaces i all fits)
+block-fits file few progress block body (Ok (contents.Packet p)) items fits within all rest = (
   record {
-    link = fits.interface.link;
-    snaplen = fits.interface.snaplen;
-    offset = fits.interface.offset;
+    interface = fits.interface;
     units = fits.units;
     original = fits.original;
-    captured = omega (arith, fits.captured, length-take p.captured (drop p.place body));
+    frame = block-frame file progress block p body within;
   },
   rest all,
 )
-block-fits file progress block body (Ok contents.Other) items fits all rest = rest all
-block-fits file progress block body (Err rule) items fits all rest = (tt, tt)
+block-fits file few progress block body (Ok contents.Other) items fits within all rest = rest all
+block-fits file few progress block body (Err rule) items fits within all rest = (tt, tt)
 
 stop-fits : (stop : BlockStop) → AllByRecursion ItemFits (items_of_stop stop)
 stop-fits block_stops.End = tt
@@ -175,11 +182,44 @@ blocks-fit file progress [] fit are = tt
 blocks-fit file progress (blocks.stopped stop ∷ rest) fit are = stop-fits stop
 blocks-fit file progress (blocks.given block body ∷ rest) fit are =
     let content = content_in progress.interfaces block.kind block.order body in
-    block-fits file progress block body content (items_in file (behind progress content) rest)
-    (content-fits progress.interfaces block.kind block.order body fit are.0) fit
+    block-fits file (length progress.interfaces) progress block body content (items_in file (behind progress content) rest)
+    (content-fits progress.interfaces block.kind block.order body fit are.0) (content_fit progress.interfaces block.kind block.order body) fit
     (λ all. blocks-fit file (behind progress content) rest all are.1)
 
 -- ---- records
+
+-- the fields of some packets fit in their widths
+abbrev pub AllHeld : List Record → Type 0
+AllHeld [] = Unit {0}
+AllHeld (p ∷ ps) = (p.units < 2 ^ 64) × (p.original < 2 ^ 32) × (length p.frame ≤ 262144) × AllHeld ps
+
+units_below : (unit : Fraction) (a b : ℕ) → a < 256 ^ 4 → b < 256 ^ 4 → a * in_second unit + b < 2 ^ 64
+units_below Micro a b h k = omega arith
+units_below Nano a b h k = omega arith
+
+-- those that bytes spell
+pub held-spelled : (order : Order) (unit : Fraction) (p : Record) (xs : List ℕ) → AreBytes xs → SpellsRecord order unit p xs
+    → (p.units < 2 ^ 64) × (p.original < 2 ^ 32) × (length p.frame ≤ 262144)
+held-spelled order unit p xs are s =
+    let seconds = number-lt order 4 xs are in
+    let fraction = number-lt order 4 (drop 4 xs) (AreBytes-drop 4 xs are) in
+    let original = number-lt order 4 (drop 12 xs) (AreBytes-drop 12 xs are) in (
+      rw s.units (units_below unit (number order 4 xs) (number order 4 (drop 4 xs)) seconds fraction),
+      rw s.original (omega (arith, original)),
+      s.limit,
+    )
+
+pub held-splits : (order : Order) (unit : Fraction) (offset : ℕ) (bytes : List ℕ) (ps : List Record) (rest : List ℕ) → AreBytes bytes
+    → Splits order unit offset bytes ps rest → AllHeld ps
+held-splits order unit offset bytes [] rest are s = tt
+held-splits order unit offset bytes (p ∷ ps) rest are s =
+    let here = held-spelled order unit p (take (packet_size p) bytes) (AreBytes-take (packet_size p) bytes are) s.0 in
+    (here.0, here.1, here.2, held-splits order unit (offset + packet_size p) (drop (packet_size p) bytes) ps rest (AreBytes-drop (packet_size p) bytes are) s.2)
+
+pub below_header : (bytes : List ℕ) → AreBytes bytes → ((records.header_at bytes).snaplen < 2 ^ 32) × ((records.header_at bytes).link < 2 ^ 16)
+unfolding records.header_at
+below_header bytes are =
+    (omega (arith, number-lt (records.order_at bytes) 4 (drop 16 bytes) (AreBytes-drop 16 bytes are)), mod-lt (number (records.order_at bytes) 4 (drop 20 bytes)) {m = 65536} (omega arith))
 
 -- the packets of records have the one interface of the header
 records-fit : (file : ℕ) (i : Interface) (offset : ℕ) (packets : List Record) (stop : RecordStop) → FitsInterface i → AllHeld packets
@@ -189,14 +229,7 @@ records-fit file i offset [] record_stops.End fits held = tt
 records-fit file i offset [] record_stops.Cut fits held = tt
 records-fit file i offset [] (record_stops.Refused refusal) fits held = (tt, tt)
 records-fit file i offset (p ∷ ps) stop fits held = (
-  record {
-    link = fits.link;
-    snaplen = fits.snaplen;
-    offset = fits.offset;
-    units = held.0;
-    original = held.1;
-    captured = held.2;
-  },
+  record { interface = fits; units = held.0; original = held.1; frame = record { captured = refl; limit = held.2 } },
   records-fit file i (offset + packet_size p) ps stop fits held.3,
 )
 

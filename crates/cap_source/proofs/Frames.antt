@@ -1,0 +1,105 @@
+-- Each packet of a file has as many captured bytes as are told.
+use Rattle.std.proofs.Common.{◌≡◌, ℕ, ◌+◌, ◌≤◌, List, [], ◌∷◌, length, length-drop, drop, Bool, true, false, Option, Some, None, Result, Ok, Err, refl, sym, ◌∙◌, subst, arith, if◌then◌else◌}
+use Rattle.std.proofs.lemmas.List.{length-take-le}
+use Rattle.std.specs.List.{AllByRecursion}
+use Rattle.cap_blocks.specs.Split as blocks
+use Rattle.cap_blocks.specs.declared.blocks.Block.{Block}
+use Rattle.cap_blocks.specs.declared.blocks.Stop.{Stop as BlockStop}
+use Rattle.cap_blocks.specs.declared.blocks.Stop.TheVariants as block_stops
+use Rattle.cap_bytes.specs.declared.faults.Rule.{Rule}
+use Rattle.cap_bytes.specs.declared.faults.Tail.{Tail}
+use Rattle.cap_bytes.specs.declared.numbers.Order.{Order}
+use Rattle.cap_pcap.proofs.Splitting.{every_split-law, split_items-law}
+use Rattle.cap_pcap.specs.Grammar.{Packet as Record, packet_size}
+use Rattle.cap_pcap.specs.Split as records
+use Rattle.cap_pcap.specs.Split.{Splits}
+use Rattle.cap_pcap.specs.declared.records.Stop.{Stop as RecordStop}
+use Rattle.cap_pcap.specs.declared.records.Stop.TheVariants as record_stops
+use Rattle.cap_source.proofs.Blocks.{IsFit, content_fit}
+use Rattle.cap_source.specs.Contents.{content_in}
+use Rattle.cap_source.specs.Feed.{Item}
+use Rattle.cap_source.specs.Fields.{HasFrame, IsFrame, FramesFit}
+use Rattle.cap_source.specs.Items.{Progress, fresh, behind, frame_in, meta_in, items_at, items_in, items_of_stop, items_from, is_pcapng, pcap_items, interface_of}
+use Rattle.cap_source.specs.declared.contents.Content.{Content}
+use Rattle.cap_source.specs.declared.contents.Content.TheVariants as contents
+use Rattle.cap_source.specs.declared.contents.Packet.{Packet}
+use Rattle.cap_time.specs.declared.resolutions.Interface.{Interface}
+use Rattle.cap_time.specs.declared.stamps.Unit.{Unit as Fraction}
+
+-- ---- blocks
+
+-- the captured bytes of a packet that is within its body
+pub block-frame : (file : ℕ) (progress : Progress) (block : Block) (p : Packet) (body : List ℕ) → (p.place + p.captured ≤ length body) × (p.captured ≤ 262144)
+    → IsFrame (meta_in file progress block p) (frame_in p body)
+block-frame file progress block p body within = record {
+  captured = length-take-le p.captured (drop p.place body) (omega (arith, within.0, length-drop p.place body));
+  limit = within.1;
+}
+
+block-frames : (file few : ℕ) (progress : Progress) (block : Block) (body : List ℕ) (content : Result Content Rule) (items : List Item)
+    → IsFit few body content → AllByRecursion HasFrame items → AllByRecursion HasFrame (items_at file progress block body content items)
+block-frames file few progress block body (Ok contents.Section) items within rest = rest
+block-frames file few progress block body (Ok (contents.Interface i)) items within rest = rest
+block-frames file few progress block body (Ok (contents.Packet p)) items within rest = (block-frame file progress block p body within, rest)
+block-frames file few progress block body (Ok contents.Other) items within rest = rest
+block-frames file few progress block body (Err rule) items within rest = (tt, tt)
+
+stop-frames : (stop : BlockStop) → AllByRecursion HasFrame (items_of_stop stop)
+stop-frames block_stops.End = tt
+stop-frames block_stops.Cut = tt
+stop-frames (block_stops.Refused refusal) = (tt, tt)
+
+blocks-frames : (file : ℕ) (progress : Progress) (items : List blocks.Item) → AllByRecursion HasFrame (items_in file progress items)
+unfolding items_in
+blocks-frames file progress [] = tt
+blocks-frames file progress (blocks.stopped stop ∷ rest) = stop-frames stop
+blocks-frames file progress (blocks.given block body ∷ rest) =
+    let content = content_in progress.interfaces block.kind block.order body in
+    block-frames file (length progress.interfaces) progress block body content (items_in file (behind progress content) rest)
+    (content_fit progress.interfaces block.kind block.order body) (blocks-frames file (behind progress content) rest)
+
+-- ---- records
+
+records-frames : (file : ℕ) (i : Interface) (order : Order) (unit : Fraction) (offset : ℕ) (bytes : List ℕ) (packets : List Record) (rest : List ℕ) (stop : RecordStop)
+    → Splits order unit offset bytes packets rest → AllByRecursion HasFrame (pcap_items file i (records.items_with offset packets stop))
+unfolding pcap_items
+records-frames file i order unit offset bytes [] rest record_stops.End s = tt
+records-frames file i order unit offset bytes [] rest record_stops.Cut s = tt
+records-frames file i order unit offset bytes [] rest (record_stops.Refused refusal) s = (tt, tt)
+records-frames file i order unit offset bytes (p ∷ ps) rest stop s = (
+  record { captured = refl; limit = s.0.limit },
+  records-frames file i order unit (offset + packet_size p) (drop (packet_size p) bytes) ps rest stop s.2,
+)
+
+pub read_header : (tail : Tail) (file : ℕ) (bytes : List ℕ) → records.header_fault 0 bytes ≡ None
+    → records.file_items tail file 0 bytes ≡ records.items_from (records.header_at bytes) tail file 24 (drop 24 bytes)
+unfolding records.file_items
+read_header tail file bytes is = rw is refl
+
+pcap-frames : (tail : Tail) (file : ℕ) (bytes : List ℕ)
+    → AllByRecursion HasFrame (pcap_items file (interface_of (records.header_at bytes)) (records.file_items tail file 0 bytes))
+unfolding records.file_items pcap_items
+pcap-frames tail file bytes = by (records.header_fault 0 bytes) refl
+  where
+    by : (fault : Option Rule) → records.header_fault 0 bytes ≡ fault
+        → AllByRecursion HasFrame (pcap_items file (interface_of (records.header_at bytes)) (records.file_items tail file 0 bytes))
+    by (Some rule) is = rw is ((tt, tt))
+    by None is =
+        let header = records.header_at bytes in
+        let split = every_split-law header.order header.unit 24 (drop 24 bytes) in
+        let whole = split_items-law header tail file 24 (drop 24 bytes) split.0 split.1 split.2 in
+        subst (λ items. AllByRecursion HasFrame (pcap_items file (interface_of header) items))
+        (sym (read_header tail file bytes is ∙ whole.2))
+        (records-frames file (interface_of header) header.order header.unit 24 (drop 24 bytes) split.0 split.1 whole.0 split.2)
+
+-- ---- files
+
+pub frames_fit-law : FramesFit
+unfolding items_from
+frames_fit-law tail file bytes = by (is_pcapng bytes)
+  where
+    by : (pcapng : Bool)
+        → AllByRecursion HasFrame (if pcapng then items_in file fresh (blocks.items_from None tail file 0 bytes)
+        else pcap_items file (interface_of (records.header_at bytes)) (records.file_items tail file 0 bytes))
+    by true = blocks-frames file fresh (blocks.items_from None tail file 0 bytes)
+    by false = pcap-frames tail file bytes
