@@ -1,6 +1,6 @@
 #!/usr/bin/env python3
 """Each limit of README.md at its edge, on the built program: the last number that is accepted, and the first that is
-refused, with its rule, status and offset.
+refused, with its rule, status and offset; and what memory is taken there.
 
 Use: checks/limits.py [PROGRAM]     (as after `rt run` or `rt ci` in crates/cap_tool; some half a minute, 200 MB of files)"""
 import sys
@@ -9,7 +9,7 @@ sys.dont_write_bytecode = True
 
 import os, struct, tempfile
 
-from captures import PROGRAM, Count, block, datagram, packet, pcap_header, record, run, udp, vector
+from captures import PROGRAM, Count, block, datagram, make_shim, packet, pcap_header, record, run, udp, vector
 
 SECTION = vector("CARRY_PCAPNG")[:28]
 INTERFACE = block(1, struct.pack("<HHI", 1, 0, 0))
@@ -19,7 +19,7 @@ MOST_TALKS = 1_048_576
 
 class Edges:
     def __init__(self, folder, program):
-        self.folder, self.program, self.count = folder, program, Count()
+        self.folder, self.program, self.count, self.shim = folder, program, Count(), make_shim(folder)
 
     def file(self, name, *parts):
         name = os.path.join(self.folder, name)
@@ -37,6 +37,13 @@ class Edges:
         """A run has this status, standard output and line on standard error."""
         seen = run(words, self.program)
         self.count.check(name, seen == (status, out, (told + "\n").encode()), seen[0], seen[1][:300], seen[2])
+
+    def takes(self, name, words, most):
+        """A run has status 0 and takes so many MiB of resident memory at most; what it writes."""
+        status, out, error, _, memory = run(words, self.program, (self.shim, {}))
+        self.count.check(f"{name}, memory", (status, error) == (0, b"") and memory <= most * 1024, status, error, memory)
+        print(f"{name}: {memory / 1024:.1f} MiB resident")
+        return out
 
     def everywhere(self, name, file, told, text=None):
         """Every command refuses a file; `list` prints a text before."""
@@ -147,6 +154,8 @@ def files(edges):
     edges.accepts("32 files, merge", ["merge", "-o", out, *[file] * 32])
     edges.accepts("32 files, merged", ["list", out], "packet 32 ")
     edges.accepts("32 files, join", ["join", "-o", out, *[file] * 32])
+    longest = edges.file("longest", SECTION, INTERFACE, packet(0, 1, b"\1", struct.pack("<HH", 1, 0) * ((524_288 - 36) // 4)))
+    edges.takes("32 files with a block of 524,288 bytes", ["report", *[longest] * 32], 24)
     for words in (["info"], ["report"], ["merge", "-o", out], ["join", "-o", out]):
         edges.refuses(f"33 files, {words[0]}", [*words, *[file] * 33], "fault: files", 2)
 
@@ -164,6 +173,13 @@ def groups(edges):
         edges.accepts(f"{count} groups, joined", ["join", "-o", out, file])
         _, text, _ = run(["list", out], edges.program)
         edges.count.check(f"{count} groups, datagrams", text.count(b"\n") == joined)
+
+
+def full_groups(edges):
+    """1,024 open groups of 65,512 bytes."""
+    parts = [record(1, datagram(bytes(8), 65_504, True, n)) for n in range(1_100)]
+    file = edges.file("full", pcap_header(101), *parts)
+    edges.takes("1,024 open groups of 65,512 bytes", ["report", file], 72)
 
 
 def ends(edges):
@@ -196,11 +212,10 @@ def conversations(edges):
         for way, seconds in ((there, 1), (back, 2)):
             for first in range(0, MOST_TALKS, 4_096):
                 out.write(b"".join(record(seconds, way(n)) for n in range(first, first + 4_096)))
-    status, text, error = run(["report", name], edges.program)
-    lines = text.splitlines()
+    lines = edges.takes("1,048,576 conversations", ["report", name], 256).splitlines()
     wanted = [f"talk udp 10.0.0.1:{n >> 16} 10.0.0.2:{n & 0xFFFF} forward 1 28 backward 1 28 first 1+0/1000000 last 2+0/1000000".encode()
               for n in range(MOST_TALKS)]
-    edges.count.check("1,048,576 conversations", (status, error) == (0, b"") and lines[4:] == [b"joined 0 given-up 0", b"talks 1048576", *wanted], status, lines[:6])
+    edges.count.check("1,048,576 conversations", lines[4:] == [b"joined 0 given-up 0", b"talks 1048576", *wanted], lines[:6])
     with open(name, "ab") as out:
         out.write(record(3, there(MOST_TALKS)))
     refused = f"refused: file 1 offset {24 + 2 * MOST_TALKS * 44} rule 16 talk-limit"
@@ -213,7 +228,7 @@ def conversations(edges):
 def main():
     with tempfile.TemporaryDirectory() as folder:
         edges = Edges(folder, sys.argv[1] if len(sys.argv) > 1 else PROGRAM)
-        for limit in (captured, blocks, interfaces, exponents, files, groups, ends, conversations):
+        for limit in (captured, blocks, interfaces, exponents, files, groups, full_groups, ends, conversations):
             limit(edges)
     edges.count.end()
 
