@@ -85,7 +85,7 @@ def all_runs():
                 for task in ONE:
                     yield label, task, [content], allow_cut
         for label, content in cuts:
-            if name in ("CARRY_PCAP", "OPTIONS_PCAPNG", "FRAGMENT_FRAMES"):
+            if name in (*ACCEPTED, "FRAGMENT_FRAMES"):
                 for contents in ([content, whole], [whole, content]):
                     for task in MANY:
                         yield label, task, contents, len(content) % 2 == 0

@@ -17,6 +17,13 @@ RAW = block(1, struct.pack("<HHI", 101, 0, 0))
 MOST_TALKS = 1_048_576
 
 
+def read(name):
+    if not os.path.exists(name):
+        return b""
+    with open(name, "rb") as file:
+        return file.read()
+
+
 class Edges:
     def __init__(self, folder, program):
         self.folder, self.program, self.count, self.shim = folder, program, Count(), make_shim(folder)
@@ -193,8 +200,7 @@ def ends(edges):
         if end == 65_515:
             edges.accepts("an end at 65,515", ["report", file], "bad 0 unjoined 0 counted 2\njoined 1 given-up 0\n")
             edges.accepts("an end at 65,515, joined", ["list", out], " captured 65535 original 65535 ")
-            with open(out, "rb") as written:
-                edges.count.check("the bytes of the datagram", written.read()[108:108 + 65_515] == data[:65_515])
+            edges.count.check("the bytes of the datagram", read(out)[108:108 + 65_515] == data[:65_515])
         else:
             edges.accepts("an end at 65,516", ["report", file], "bad 1 unjoined 1 counted 0\njoined 0 given-up 0\ntalks 0\n")
 
