@@ -99,8 +99,32 @@ def some_packet(rng, order, links):
                        + bytes(4) * rng.choice([0, 0, 1]))
 
 
+def some_large(rng):
+    """A capture near a limit: of a packet's bytes, a block's, the interfaces, the groups, the end of a fragment's data."""
+    order, near = rng.choice("<>"), rng.choice([-1, 0, 1])
+    head = struct.pack(order + "IHHIIII", 0xA1B2C3D4, 2, 4, 0, 0, 0, 101)
+    section = model.block(order, model.SECTION, struct.pack(order + "IHHq", 0x1A2B3C4D, 1, 0, -1))
+    interface = model.block(order, 1, struct.pack(order + "HHI", 101, 0, 0))
+    records = lambda frames: b"".join(struct.pack(order + "IIII", 1, n, len(data), len(data)) + data for n, data in enumerate(frames))
+    packet = lambda n, data: model.block(order, 6, struct.pack(order + "IIIII", n, 0, n, len(data), len(data)) + data + bytes(-len(data) % 4))
+    kind = rng.randrange(5)
+    if kind == 0:
+        return head + records([rng.randbytes(262_144 + near), b"\1"])
+    if kind == 1:
+        return section + interface + model.block(order, rng.choice([6, 5]), bytes(20) + bytes(524_288 + 4 * near - 32)) + packet(0, b"\1")
+    if kind == 2:
+        return section + interface * (1_024 + near) + b"".join(packet(n, datagram(udp((n, 1)))) for n in range(1_024))
+    if kind == 3:
+        frames = [datagram(bytes(8), 8, True, n) for n in range(1_024 + near)]
+        return head + records(frames + [datagram(udp((1, 2), bytes(8))[:8], 0, True, 0), datagram(bytes(8), 16, False, 0)])
+    first = struct.pack(">HHHH", 1, 2, 65_515, 0) + bytes(65_504)
+    return head + records([datagram(first, 0, True), datagram(bytes(3 + near), 65_512)])
+
+
 def some_capture(rng):
     kind = rng.random()
+    if kind < 0.02:
+        return some_large(rng)
     if kind < 0.25:
         return vector(rng.choice(list(VECTORS)))
     if kind < 0.6:
@@ -186,7 +210,7 @@ def case(rng, bench, shim, out, counts):
                 wrong = f"OUT is not read again: {again[2]}"
         if wrong:
             words = words_of(task, [content.hex() for content in contents], allow_cut, order, "OUT")
-            return f"{wrong}: {' '.join(words)} {variables}\n  wanted {wanted}\n  saw {seen}"
+            return f"{wrong}: {' '.join(words)[:4_000]} {variables}\n  wanted {str(wanted)[:500]}\n  saw {str(seen)[:500]}"
     return None
 
 
@@ -218,7 +242,7 @@ def main():
             total += counts
             wrongs += wrong
     for wrong in wrongs[:20]:
-        print(wrong[:5_000])
+        print(wrong)
     print(", ".join(f"{total[name]} {name}" for name in ("cases", "runs", "refused", "faults", "read again")) + f"; at most {memory} KiB resident")
     print("refused by rule: " + ", ".join(f"{total[rule]} by {rule}" for rule in model.RULES if total[rule]))
     print(f"{total['cases'] - len(wrongs)} passed, {len(wrongs)} failed")
