@@ -61,5 +61,6 @@ def groups(untimed):
 costs = [best([program, "join", "-o", f"{work}/out", make("groups", 1_000_000, bits)[0]]) for bits in (0, 20)]
 print(f"join, 1000000 fragments of 1,023 open groups: plain {costs[0]:.2f} processor s, chosen {costs[1]:.2f}: {costs[1] / costs[0]:.1f} times")
 costs = [best([program, "report", groups(untimed)]) for untimed in (0, 1_023)]
-print(f"report, 200000 groups, each too old at the next: {costs[0]:.2f} processor s, after 1,023 groups without a time {costs[1]:.2f}: {costs[1] / costs[0]:.0f} times")
+print(f"report, 200000 groups, each too old at the next: {costs[0]:.2f} processor s, after 1,023 groups without a time "
+      f"{costs[1]:.2f}: {costs[1] / costs[0]:.0f} times")
 PY

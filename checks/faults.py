@@ -1,13 +1,14 @@
 #!/usr/bin/env python3
 """Memory and devices that fail, on the built program and on built tests (faults.c makes them fail).
 
-Growths: each request for memory refused in turn (of the command line's one alone; then one, two together, and all from there
-on), until a run meets no refusal. The program answers as with memory, or `fault: memory`, where `report` and `info` have written nothing, and the other
-commands a prefix. Of the tests that call again after `Fault::Memory`, each has to pass, whichever request is refused.
+Growths: each request for memory refused in turn (of the command line's one alone; then one, two together, and all from
+there on), until a run meets no refusal. The program answers as with memory, or `fault: memory`, where `report` and `info`
+have written nothing, and the other commands a prefix. Of the tests that call again after `Fault::Memory`, each has to
+pass, whichever request is refused.
 
-Devices: each read of each file failing in turn, which is told with the header, record or block that it is of; a writer that
-fails, or takes nothing, after any number of bytes, which has just these (one that a signal interrupts is asked again); a
-file without end, which rule 14 stops.
+Devices: each read of each file failing in turn, which is told with the header, record or block that it is of; a writer
+that fails, or takes nothing, after any number of bytes, which has just these (one that a signal interrupts is asked
+again); a file without end, which rule 14 stops.
 
 Use: checks/faults.py [growths|devices] [PROGRAM]     (as after `rt run` in crates/cap_tool and `rt test` in the crates
 below, or `rt ci`; a minute)"""
@@ -15,11 +16,11 @@ import sys
 
 sys.dont_write_bytecode = True
 
-import os, re, struct, subprocess, tempfile, threading
+import os, re, struct, subprocess, tempfile
 from concurrent.futures import ThreadPoolExecutor
 
 import model
-from captures import (PROGRAM, TOP, VECTORS, Bench, Count, block, datagram, make_shim, packet, pcap_header, record, run, udp,
+from captures import (PROGRAM, TOP, Bench, Count, block, datagram, make_shim, packet, pcap_header, record, run, udp,
                       vector, wanted_of, words_of)
 
 SECTION = vector("CARRY_PCAPNG")[:28]
@@ -41,7 +42,8 @@ ROWS = {
     "overlapped-fragments": [vector("FRAGMENT_FRAMES")],
     "thirty-seconds": [pcap_header(101) + record(1, LAST) + record(31, FIRST)],
     "thirty-seconds, whole": [pcap_header(101) + record(1, LAST) + record(2, WHOLE) + record(3, FIRST)],
-    "overlap-map": [pcap_header(101) + b"".join(record(n, datagram(bytes.fromhex(data), start, more)) for n, (start, more, data) in enumerate(OVERLAPS))],
+    "overlap-map": [pcap_header(101) + b"".join(record(n, datagram(bytes.fromhex(data), start, more))
+                                                for n, (start, more, data) in enumerate(OVERLAPS))],
     "runs-back": RUNS_BACK,
     "runs-back and options": [RUNS_BACK[0], vector("OPTIONS_PCAPNG")],
     "carry-pcap": [vector("CARRY_PCAP")],
@@ -50,7 +52,7 @@ ROWS = {
     "cut": [vector("TAGGED_FRAMES")[:-1]],
     "longest": [pcap_header(1) + record(1, bytes(262_144)) + record(2, b"\1")],
     "conversations": [pcap_header(101) + b"".join(record(n, datagram(udp((n, 9)))) for n in range(3_000))],
-    "groups": [pcap_header(101) + b"".join(record(1, datagram(bytes(8), 8, True, n)) for n in range(1_026)) + record(2, datagram(udp((1, 2), bytes(8))[:8], 0, True, 1_025))],
+    "groups": [pcap_header(101) + b"".join(record(1, datagram(bytes(8), 8, True, n)) for n in range(1_026))],
     "interfaces": [SECTION + interface(6) * 300 + b"".join(packet(n, n, WHOLE) for n in range(300))],
 }
 GROWTHS = {

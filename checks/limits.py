@@ -136,7 +136,8 @@ def interfaces(edges):
     # joined: a datagram on each interface
     whole = datagram(udp((1, 2)))
     file = edges.file("join", *[SECTION, RAW * 1_024, *[packet(n, n, whole) for n in range(1_024)]] * 2)
-    edges.refuses("1,025 interfaces of datagrams", ["join", "-o", out, file], f"refused: file 1 offset {28 + 1_024 * 80 + 28 + 1_024 * 20} rule 13 interface-limit")
+    at = 28 + 1_024 * 80 + 28 + 1_024 * 20
+    edges.refuses("1,025 interfaces of datagrams", ["join", "-o", out, file], f"refused: file 1 offset {at} rule 13 interface-limit")
     edges.accepts("1,024 datagrams are written", ["list", out], "packet 1024 ")
 
 

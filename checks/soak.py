@@ -8,7 +8,7 @@ from collections import Counter
 from concurrent.futures import ProcessPoolExecutor
 
 import model
-from captures import PROGRAM, VECTORS, Bench, datagram, make_shim, pcap_header, run, udp, vector, wanted_of, words_of
+from captures import PROGRAM, VECTORS, Bench, datagram, make_shim, run, udp, vector, wanted_of, words_of
 
 TASKS = ["list", "blocks", "info", "report", "merge", "join", "pcap", "pcapng"]
 MANY = ("info", "report", "merge", "join")
