@@ -2,7 +2,7 @@
 # The gate: `rt ci`, and then the scripts beside this one. Its last line counts both: 'N passed, M failed'. The status is 0
 # if nothing failed.
 #
-# Use: checks/gate.sh     (the scripts take some four minutes; they want a C compiler and Python 3)
+# Use: checks/gate.sh     (the scripts take some three minutes; they want a C compiler and Python 3)
 set -u
 cd "$(dirname "$0")/.."
 passed=0
