@@ -2,8 +2,7 @@
 # The gate: `rt ci`, and then the scripts beside this one. Its last line counts both: 'N passed, M failed'. The status is 0
 # if nothing failed.
 #
-# Use: checks/gate.sh [--long]     (the scripts take some three minutes; with --long, every growth is refused, in each crate
-# that has tests for it, which takes some half an hour more)
+# Use: checks/gate.sh     (the scripts take some three minutes; they want a C compiler and Python 3)
 set -u
 cd "$(dirname "$0")/.."
 passed=0
@@ -32,12 +31,8 @@ counted() {
 counted 'rt ci' rt ci
 counted 'checks/program.sh' checks/program.sh
 counted 'checks/stack.sh' checks/stack.sh
-if [ "${1:-}" = --long ]; then
-    for crate in cap_bytes cap_input_tests cap_output_tests cap_tasks; do
-        counted "checks/refused.sh $crate" checks/refused.sh "$crate"
-    done
-else
-    counted 'checks/refused.sh cap_bytes' checks/refused.sh cap_bytes 6
-fi
+counted 'checks/hostile.py' checks/hostile.py
+counted 'checks/limits.py' checks/limits.py
+counted 'checks/faults.py' checks/faults.py
 echo "$passed passed, $failed failed"
 [ "$failed" = 0 ]

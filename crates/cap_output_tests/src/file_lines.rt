@@ -69,7 +69,7 @@ fn tell<W: Sink>(
 }
 
 #[test]
-fn files_are_told(rt: HostRuntime) -> Result<(), Fail> {
+fn always_memory_files_are_told(rt: HostRuntime) -> Result<(), Fail> {
     for (files, tail, wanted) in TOLD {
         for piece in [1, 4096] {
             let mut writer = Room::new(Vec::with_capacity(rt.alloc(), 512)?);

@@ -4,12 +4,14 @@ ghost use Rattle.std.specs.Prelude.{◌≤◌};
 use crate::report::{
     BINARY, BINARY_REPORT, FRAGMENT_REPORT, TAGGED_REPORT, TENTHS, UNTIMED_THEN_TIMED,
 };
-use crate::vectors::{AT_1, AT_31, FIRST, FRAGMENT_FRAMES, File, LAST, RAW, TAGGED_FRAMES};
+use crate::vectors::{
+    AT_1, AT_3, AT_4, AT_31, FIRST, FRAGMENT_FRAMES, File, LAST, RAW, TAGGED_FRAMES,
+};
 use cap_bytes::{Fault, Pieces, Room, Tail};
 use cap_merge::merge_files;
 use cap_source::{Capture, PacketFeed};
 use cap_talks::{Step, Table};
-use std::alloc::Global;
+use std::alloc::{AllocError, Global};
 use std::process::Abort;
 use std::test::Fail;
 
@@ -38,6 +40,27 @@ const THIRTY_REPORT: &str = "files 1\n\
     talks 1\n\
     talk udp 10.0.0.1:1000 10.0.0.2:2000 forward 2 56 backward 0 0 first 1+0/1000000 last 31+0/1000000\n";
 
+// Four fragments of one datagram of 32 bytes, of which 5 are in none; the second has 3 bytes.
+const OVERLAP_MAP: File = &[
+    RAW,
+    AT_1,
+    "4500001c000b2001401100000a0000010a000002a0a1a2a3a4a5a6a7",
+    "02000000000000001700000017000000",
+    "45000017000b0002401100000a0000010a000002c0c1c2",
+    AT_3,
+    "4500001c000b0003401100000a0000010a000002d0d1d2d3d4d5d6d7",
+    AT_4,
+    "4500001c000b2000401100000a0000010a00000203e807d000200000",
+];
+
+const OVERLAP_REPORT: &str = "files 1\n\
+    file 1 pcap packets 4 bytes 107 truncated 0 skipped 0 first 1+0/1000000 last 4+0/1000000\n\
+    total packets 4 bytes 107 truncated 0\n\
+    frames other-link 0 not-ipv4 0 short 0 cut 0 bad 0 unjoined 0 counted 4\n\
+    joined 1 given-up 0\n\
+    talks 1\n\
+    talk udp 10.0.0.1:1000 10.0.0.2:2000 forward 4 107 backward 0 0 first 1+0/1000000 last 4+0/1000000\n";
+
 // The table of some files, if memory is found.
 fn table_once(alloc: Global, files: &[File], piece: usize) -> Option<Table<Capture<Pieces>>>
     requires { 1 ≤ piece }
@@ -57,11 +80,11 @@ fn table_once(alloc: Global, files: &[File], piece: usize) -> Option<Table<Captu
     Some(Table::new(alloc, merge_files(alloc, sources, Tail::Refuse).ok()?))
 }
 
-// The table of 1 to 32 files, where at most one growth is refused.
+// The table of 1 to 32 files, where at most two growths are refused.
 fn table_of(rt: &impl Abort, alloc: Global, files: &[File], piece: usize) -> Table<Capture<Pieces>>
     requires { 1 ≤ piece }
 {
-    for _ in 0..2 {
+    for _ in 0..3 {
         if let Some(table) = table_once(alloc, files, piece) {
             return table;
         }
@@ -69,13 +92,19 @@ fn table_of(rt: &impl Abort, alloc: Global, files: &[File], piece: usize) -> Tab
     panic!(rt; "no table")
 }
 
-// What a table writes, where at most one growth is refused.
+// Room for a text, where at most two growths are refused.
+fn room_of(alloc: Global) -> Result<Vec<u8>, AllocError> {
+    for _ in 0..2 {
+        if let Ok(room) = Vec::with_capacity(alloc, 1024) {
+            return Ok(room);
+        }
+    }
+    Vec::with_capacity(alloc, 1024)
+}
+
+// What a table writes, where at most two growths are refused.
 fn text_of<F: PacketFeed>(alloc: Global, table: &Table<F>) -> Result<Room, Fail> {
-    let room = match Vec::with_capacity(alloc, 1024) {
-        Ok(room) => room,
-        Err(_) => Vec::with_capacity(alloc, 1024)?,
-    };
-    let mut writer = Room::new(room);
+    let mut writer = Room::new(room_of(alloc)?);
     table.write_so_far(&mut writer)?;
     Ok(writer)
 }
@@ -144,24 +173,28 @@ fn step_again<F: PacketFeed>(
 ) -> Result<Step, Fail> {
     let before = text_of(alloc, table)?;
     let held = table.held();
-    match table.step() {
-        Err(Fault::Memory) => {
-            assert_eq!(rt; text_of(alloc, table)?.bytes(), before.bytes());
-            assert_eq!(rt; table.held().talks, held.talks);
-            Ok(table.step()?)
+    for _ in 0..3 {
+        match table.step() {
+            Err(Fault::Memory) => {
+                assert_eq!(rt; text_of(alloc, table)?.bytes(), before.bytes());
+                let now = table.held();
+                assert_eq!(rt; (now.groups, now.talks), (held.groups, held.talks));
+            }
+            answer => return Ok(answer?),
         }
-        answer => Ok(answer?),
     }
+    Err(Fail::from("a third growth is refused"))
 }
 
-// Each report as with memory, whichever growth is refused.
+// Each report as with memory, whichever growth is refused, or two together (checks/faults.py).
 #[test]
 fn a_refused_growth_leaves_the_table(rt: HostRuntime) -> Result<(), Fail> {
-    let rows: [(&[File], &str); 4] = [
+    let rows: [(&[File], &str); 5] = [
         (&[FRAGMENT_FRAMES], FRAGMENT_REPORT),
         (&[TAGGED_FRAMES], TAGGED_REPORT),
         (&[BINARY, TENTHS], BINARY_REPORT),
         (&[THIRTY_SECONDS], THIRTY_REPORT),
+        (&[OVERLAP_MAP], OVERLAP_REPORT),
     ];
     for (files, wanted) in rows {
         let mut table = table_of(&rt, rt.alloc(), files, 4096);

@@ -110,7 +110,7 @@ const WRITTEN: [(Call, File, File); 6] = [
 ];
 
 #[test]
-fn a_packet_goes_both_ways(rt: HostRuntime) -> Result<(), Fail> {
+fn always_memory_a_packet_goes_both_ways(rt: HostRuntime) -> Result<(), Fail> {
     for (call, input, output) in WRITTEN {
         let (answer, writer) = written(rt.alloc(), call, input, 512)?;
         assert_eq!(rt; answer, Ok(()));
@@ -265,7 +265,7 @@ const EARLY_ALONE: File = &[
 ];
 
 #[test]
-fn files_are_merged(rt: HostRuntime) -> Result<(), Fail> {
+fn always_memory_files_are_merged(rt: HostRuntime) -> Result<(), Fail> {
     let files: [(&[File], File, Result<(), Fault>); 4] = [
         (&[CARRY_PCAP, CARRY_PCAP], TWICE, Ok(())),
         (&[LATE, EARLY], EARLY_ALONE, refused(2, 40, Rule::Cut)),
@@ -334,7 +334,7 @@ const CUT_FRAGMENTS: File = &[
 ];
 
 #[test]
-fn datagrams_are_joined(rt: HostRuntime) -> Result<(), Fail> {
+fn always_memory_datagrams_are_joined(rt: HostRuntime) -> Result<(), Fail> {
     let files = [
         (FRAGMENT_FRAMES, JOINED, Ok(())),
         (TAGGED_FRAMES, TAGGED_JOINED, Ok(())),

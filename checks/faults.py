@@ -1,0 +1,228 @@
+#!/usr/bin/env python3
+"""Memory and devices that fail, on the built program and on built tests (faults.c makes them fail).
+
+Growths: each request for memory refused in turn (of the command line's one alone; then one, two together, and all from
+there on), until a run meets no refusal. The program answers as with memory, or `fault: memory`, where `report` and `info`
+have written nothing, and the other commands a prefix. Of the tests that call again after `Fault::Memory`, each has to
+pass, whichever request is refused.
+
+Devices: each read of each file failing in turn, which is told with the header, record or block that it is of; a writer
+that fails, or takes nothing, after any number of bytes, which has just these (one that a signal interrupts is asked
+again); a file without end, which rule 14 stops.
+
+Use: checks/faults.py [growths|devices] [PROGRAM]     (as after `rt run` in crates/cap_tool and `rt test` in the crates
+below, or `rt ci`; a minute)"""
+import sys
+
+sys.dont_write_bytecode = True
+
+import os, re, struct, subprocess, tempfile
+from concurrent.futures import ThreadPoolExecutor
+
+import model
+from captures import (PROGRAM, TOP, Bench, Count, block, datagram, make_shim, packet, pcap_header, record, run, udp,
+                      vector, wanted_of, words_of)
+
+SECTION = vector("CARRY_PCAPNG")[:28]
+ALL = 10**9
+
+
+def interface(code, link=101):
+    return block(1, struct.pack("<HHIHHB3xI", link, 0, 0, 9, 1, code, 0))
+
+
+# RAW fragments and datagrams of one key
+FIRST, LAST = datagram(udp((1000, 2000), bytes(8)), 0, True)[:28], datagram(bytes(8), 8)
+WHOLE = datagram(udp((1000, 2000)))
+OVERLAPS = [(8, True, "a0a1a2a3a4a5a6a7"), (16, False, "c0c1c2"), (24, False, "d0d1d2d3d4d5d6d7"), (0, True, "03e807d000200000")]
+RUNS_BACK = [pcap_header(1) + record(5, b"\xa5") + record(1, b"\xa1"), pcap_header(1) + record(2, b"\xb2") + record(5, b"\xb5")]
+ROWS = {
+    "equal-resolutions": [SECTION + interface(0x8A) + packet(0, 512, WHOLE), SECTION + interface(1) + packet(0, 5, WHOLE)],
+    "tagged-frames": [vector("TAGGED_FRAMES")],
+    "overlapped-fragments": [vector("FRAGMENT_FRAMES")],
+    "thirty-seconds": [pcap_header(101) + record(1, LAST) + record(31, FIRST)],
+    "thirty-seconds, whole": [pcap_header(101) + record(1, LAST) + record(2, WHOLE) + record(3, FIRST)],
+    "overlap-map": [pcap_header(101) + b"".join(record(n, datagram(bytes.fromhex(data), start, more))
+                                                for n, (start, more, data) in enumerate(OVERLAPS))],
+    "runs-back": RUNS_BACK,
+    "runs-back and options": [RUNS_BACK[0], vector("OPTIONS_PCAPNG")],
+    "carry-pcap": [vector("CARRY_PCAP")],
+    "carry-pcapng": [vector("CARRY_PCAPNG")],
+    "options": [vector("OPTIONS_PCAPNG")],
+    "cut": [vector("TAGGED_FRAMES")[:-1]],
+    "longest": [pcap_header(1) + record(1, bytes(262_144)) + record(2, b"\1")],
+    "conversations": [pcap_header(101) + b"".join(record(n, datagram(udp((n, 9)))) for n in range(3_000))],
+    "groups": [pcap_header(101) + b"".join(record(1, datagram(bytes(8), 8, True, n)) for n in range(1_026))],
+    "interfaces": [SECTION + interface(6) * 300 + b"".join(packet(n, n, WHOLE) for n in range(300))],
+}
+GROWTHS = {
+    "report": ["equal-resolutions", "tagged-frames", "overlapped-fragments", "thirty-seconds", "thirty-seconds, whole", "overlap-map", "cut",
+               "conversations", "groups", "interfaces", "longest"],
+    "info": ["runs-back and options", "cut"],
+    "merge": ["runs-back", "interfaces"],
+    "join": ["overlapped-fragments", "interfaces"],
+    "pcapng": ["carry-pcap", "interfaces"],
+    "pcap": ["carry-pcapng", "longest"],
+    "list": ["options", "carry-pcap", "longest"],
+    "blocks": ["options", "interfaces"],
+}
+DEVICES = {
+    "report": ["tagged-frames", "overlapped-fragments", "runs-back and options"],
+    "info": ["runs-back and options"],
+    "merge": ["runs-back", "runs-back and options"],
+    "join": ["overlapped-fragments", "runs-back"],
+    "pcapng": ["carry-pcap", "carry-pcapng", "options"],
+    "pcap": ["carry-pcap", "carry-pcapng"],
+    "list": ["options", "tagged-frames"],
+    "blocks": ["options"],
+}
+# Tests that meet a refused growth, by crate, and how many together at most: they call again, or look at what a call left.
+TESTS = {
+    "cap_bytes": ("a_window|a_standard_reader", 1),
+    "cap_input_tests": ("a_refused_growth", 1),
+    "cap_output_tests": ("a_refused_growth", 2),
+    "cap_tasks": ("a_refused_growth", 1),
+}
+MEMORY, WRITE = b"fault: memory\n", b"fault: write\n"
+
+
+def told_as(task, seen, wanted, fault):
+    """Whether a run that met a fault told it, and has written nothing, or a prefix of what was wanted."""
+    status, text, error = seen[:3]
+    return (status, error) == (1, fault) and (text == b"" if task in ("report", "info") else wanted[1].startswith(text))
+
+
+def growths_before_files(bench, shim, out, task):
+    """Refuses each growth of a run whose file is missing: those of the command line. The first number that meets none, and
+    what was wrong."""
+    words = words_of(task, [os.path.join(bench.folder, "missing")], out=out)
+    for n in range(1, 10_000):
+        seen = run(words, bench.program, (shim, {"GROWTHS": f"{n}-{n + 1}"}))
+        if seen[3] == 0:
+            return n, None if seen[:3] == (1, b"", b"fault: open file 1\n") else f"no growth refused: {seen}"
+        if seen[:3] not in ((1, b"", MEMORY), (1, b"", b"fault: open file 1\n")):
+            return n, f"growth {n}: {seen}"
+    return n, "there is no end of growths"
+
+
+def growths_of(bench, shim, out, task, row, width, first):
+    """Refuses so many growths together, from each on, until a run meets none. The number of runs, and what was wrong."""
+    wanted = wanted_of(task, ROWS[row])
+    for n in range(first, 10_000):
+        seen = bench.run(task, ROWS[row], out=out, faults=(shim, {"GROWTHS": f"{n}-{n + width}"}))
+        if seen[3] == 0:
+            return n - first, None if seen[:3] == wanted else f"no growth refused: {seen}"
+        if seen[:3] != wanted and not told_as(task, seen, wanted, MEMORY):
+            return n, f"growth {n}: {seen}"
+    return n, "there is no end of growths"
+
+
+def tests_of(crate, names):
+    """A crate's built tests, and those of them whose names match."""
+    tests = os.path.join(TOP, "crates", crate, "out", f"{crate}_tests")
+    if not os.path.exists(tests):
+        subprocess.run(["rt", "test"], cwd=os.path.join(TOP, "crates", crate), check=True, stdout=subprocess.DEVNULL)
+    listed = subprocess.run([tests, "--list"], stdout=subprocess.PIPE, text=True, check=True).stdout
+    return tests, [name for name in re.findall(r"^([\w:]+): test$", listed, re.MULTILINE) if re.search(names, name)]
+
+
+def growths_of_test(shim, tests, name, width):
+    """Refuses so many growths together of a test, from each on. The number of runs, and what was wrong."""
+    for n in range(1, 10_000):
+        status, text, error, told, _ = run([name], tests, (shim, {"GROWTHS": f"{n}-{n + width}"}))
+        if status != 0 or b"test result: ok" not in text:
+            return n, f"growth {n}: {status} {text} {error}"
+        if told == 0:
+            return n, None
+    return n, "there is no end of growths"
+
+
+def growths(count, bench, shim, pool):
+    jobs, runs = [], 0
+    lines = {task: pool.submit(growths_before_files, bench, shim, os.path.join(bench.folder, task), task) for task in GROWTHS}
+    for task, rows in GROWTHS.items():
+        first, wrong = lines[task].result()
+        runs += first
+        count.check(f"the command line of {task}", wrong is None, wrong)
+        for row in rows:
+            for width in (1, 2, ALL) if row != "groups" else (1,):      # which makes more than 1,024
+                out = os.path.join(bench.folder, f"{task}-{row}-{width}")
+                jobs.append((f"{task} of {row}, {'all' if width == ALL else width} refused",
+                             pool.submit(growths_of, bench, shim, out, task, row, width, first)))
+    for crate, (names, width) in TESTS.items():
+        tests, found = tests_of(crate, names)
+        count.check(f"tests of {crate}", found)
+        jobs += [(f"{crate}: {name}, {n} refused", pool.submit(growths_of_test, shim, tests, name, n)) for name in found for n in range(1, width + 1)]
+    for name, job in jobs:
+        done, wrong = job.result()
+        runs += done
+        count.check(name, wrong is None, wrong)
+    print(f"{runs} runs with refused growths")
+
+
+def places_of(content):
+    """Where a file's header, records or blocks begin, and its end."""
+    file = model.File(1, content, False, content[:1] == b"\x0a")
+    starts = [block.offset for block in file.blocks] or [0, *[packet.offset for packet in file.packets]]
+    return [*starts, len(content)]
+
+
+def reads_of(count, bench, shim, out, task, row):
+    """Each read of each file failing in turn, where a read gives one byte."""
+    contents = ROWS[row]
+    wanted = wanted_of(task, contents)
+    for number, content in enumerate(contents, 1):
+        places = places_of(content)
+        for call in range(1, len(content) + 2):
+            seen = bench.run(task, contents, out=out, faults=(shim, {"READ": f"{number + 2}-{call}", "PIECE": 1}))
+            offset = max(place for place in places if place <= call - 1)
+            is_so = told_as(task, seen, wanted, f"fault: read file {number} offset {offset}\n".encode()) and seen[3] == 1
+            if task in ("list", "blocks"):
+                is_so = is_so and seen[1] == wanted_of(task, [content[:offset]])[1]
+            count.check(f"{task} of {row}, read {call} of file {number}", is_so, seen)
+
+
+def writes_of(count, bench, shim, out, task, row):
+    """A writer that takes nothing, or fails, after each number of bytes; one that a signal interrupts is asked again."""
+    wanted = wanted_of(task, ROWS[row])
+    for length in range(len(wanted[1])):
+        for how in range(3):
+            seen = bench.run(task, ROWS[row], out=out, faults=(shim, {"WRITE": f"{length}-{how}", "PIECE": (1, 7, 4_096)[length % 3]}))
+            ends = wanted if how == 2 else (1, wanted[1][:length], WRITE)
+            count.check(f"{task} of {row}, {length} bytes taken", seen[:3] == ends, seen)
+
+
+def endless(count, bench, shim, out):
+    """A section, and then blocks of 2^32 - 4 bytes without end: 256 of them end by byte 2^40, and the next begins there."""
+    offset = 28 + 256 * (2**32 - 4)
+    for task in ("list", "blocks", "info", "report", "pcap", "pcapng", "merge", "join"):
+        seen = bench.run(task, [SECTION], task == "list", out=out, faults=(shim, {"ENDLESS": 1}))
+        is_so = (seen[0], seen[2]) == (1, f"refused: file 1 offset {offset} rule 14 file-limit\n".encode())
+        count.check(f"{task} of a file without end", is_so and seen[4] < 16_384 and (task != "blocks" or seen[1].count(b"\n") == 257), seen)
+
+
+def devices(count, bench, shim, pool):
+    jobs = []
+    for task, rows in DEVICES.items():
+        for row in rows:
+            for check in (reads_of, writes_of):
+                jobs.append(pool.submit(check, count, bench, shim, os.path.join(bench.folder, f"{check.__name__}-{task}-{row}"), task, row))
+    jobs.append(pool.submit(endless, count, bench, shim, os.path.join(bench.folder, "endless")))
+    for job in jobs:
+        job.result()
+
+
+def main():
+    words = sys.argv[1:]
+    kinds = [word for word in words if word in ("growths", "devices")]
+    count = Count()
+    with tempfile.TemporaryDirectory() as folder, ThreadPoolExecutor(4) as pool:
+        bench = Bench(folder, next((word for word in words if word not in kinds), PROGRAM))
+        shim = make_shim(folder)
+        for name, check in (("growths", growths), ("devices", devices)):
+            if not kinds or name in kinds:
+                check(count, bench, shim, pool)
+    count.end()
+
+
+main()

@@ -1,0 +1,129 @@
+#!/usr/bin/env python3
+"""Cut and lying captures through each command of the built program: its status, standard error's one line, and standard
+output or OUT, held to the model beside this file.
+
+Every length of each worked file, with --allow-cut and without, alone and as one of two files; lengths of blocks that lie;
+each number of each worked file in turn replaced by 0, 1, and numbers at the ends of their range. Every other run is read by
+one byte at a time (faults.c).
+
+Use: checks/hostile.py [PROGRAM]     (as after `rt run` or `rt ci` in crates/cap_tool; under two minutes)"""
+import sys
+
+sys.dont_write_bytecode = True
+
+import os, tempfile, threading
+from concurrent.futures import ThreadPoolExecutor
+
+import model
+from captures import PROGRAM, VECTORS, Bench, Count, block, make_shim, vector
+
+ONE = ["list", "blocks", "info", "report", "pcapng", "pcap", "merge", "join"]
+MANY = ["info", "report", "merge", "join"]
+
+# The lengths at which `list` accepts a worked file that is cut; at every other it is refused by rule 3, at the greatest of
+# these and 0 that isn't above the length.
+ACCEPTED = {"CARRY_PCAP": [24, 44], "CARRY_PCAPNG": [28, 60, 96], "OPTIONS_PCAPNG": [44, 96, 144, 168]}
+
+
+def by_the_table(count, bench, name, length):
+    """Holds `list` of a cut file to the table above."""
+    places = ACCEPTED[name]
+    offset = max(place for place in [0, *places] if place <= length)
+    refused = f"refused: file 1 offset {offset} rule 3 cut\n".encode()
+    for allow_cut in (False, True):
+        is_accepted = length in places or allow_cut and length > places[0]
+        wanted = (0, b"") if is_accepted else (1, refused)
+        status, _, error = bench.run("list", [vector(name)[:length]], allow_cut)
+        count.check(f"list of {length} bytes of {name}", (status, error) == wanted, status, error)
+    _, text, _ = bench.run("info", [vector(name)[:length]], True)
+    is_cut = length > places[0] and length not in places
+    count.check(f"info of {length} bytes of {name}", text.endswith(b" cut\n") == is_cut, text)
+
+
+TALK = "talk udp 10.0.0.1:{} 10.0.0.2:{} {} first 1+0/1000000 last {}+0/1000000\n"
+TAGGED_REPORT = ("files 1\n"
+                 "file 1 pcap packets 3 bytes 180 truncated 0 skipped 0 first 1+0/1000000 last 3+0/1000000\n"
+                 "total packets 3 bytes 180 truncated 0\n"
+                 "frames other-link 0 not-ipv4 0 short 0 cut 0 bad 1 unjoined 0 counted 2\n"
+                 "joined 0 given-up 0\ntalks 1\n" + TALK.format(1000, 2000, "forward 1 60 backward 1 60", 2))
+FRAGMENT_REPORT = ("files 1\n"
+                   "file 1 pcap packets 4 bytes 112 truncated 0 skipped 0 first 1+0/1000000 last 4+0/1000000\n"
+                   "total packets 4 bytes 112 truncated 0\n"
+                   "frames other-link 0 not-ipv4 0 short 0 cut 0 bad 0 unjoined 0 counted 4\n"
+                   "joined 1 given-up 0\ntalks 1\n" + TALK.format(1001, 2001, "forward 4 112 backward 0 0", 4))
+# What is written of worked files, worked out by hand: the model is held to it.
+WORKED = [("pcapng", "CARRY_PCAP", vector("CARRY_PCAPNG")), ("pcap", "CARRY_PCAPNG", vector("CARRIED_PCAP")),
+          ("merge", "CARRY_PCAP", vector("CARRY_PCAPNG")), ("join", "FRAGMENT_FRAMES", vector("JOINED")),
+          ("report", "TAGGED_FRAMES", TAGGED_REPORT), ("report", "FRAGMENT_FRAMES", FRAGMENT_REPORT)]
+
+
+def lying_lengths():
+    """What stands behind a section of 28 bytes, and where and by which rule it is refused."""
+    for kind in (0, 1, 2, 3, 4, 5, 6, 0x40000001, 0x80000000, 0xFFFFFFFF):
+        for total in (0, 30, 0xFFFFFFFF):
+            yield kind.to_bytes(4, "little") + total.to_bytes(4, "little") + bytes(64), 28, 5
+    yield (6).to_bytes(4, "little") + (524_292).to_bytes(4, "little") + bytes(524_284), 28, 5
+    yield (5).to_bytes(4, "little") + (4_294_967_292).to_bytes(4, "little") + bytes(4), 28, 3
+    yield block(5, bytes(8))[:-4] + (16).to_bytes(4, "little"), 28, 6
+
+
+def lying_numbers(content):
+    """A file with each of its numbers of four bytes in turn replaced."""
+    for place in range(0, len(content) - 3, 4):
+        for number in (0, 1, 0x7FFFFFFF, 0x80000000, 0xFFFFFFFC, 0xFFFFFFFF):
+            yield content[:place] + number.to_bytes(4, "little") + content[place + 4:]
+
+
+def all_runs():
+    """Names of runs, tasks, contents of files, and whether a cut end is accepted."""
+    for name in VECTORS:
+        whole = vector(name)
+        cuts = [(f"{length} bytes of {name}", whole[:length]) for length in range(len(whole))]
+        lies = [(f"{name} with a number replaced", content) for content in lying_numbers(whole)]
+        for label, content in [(name, whole), *cuts]:
+            for allow_cut in (False, True):
+                for task in ONE:
+                    yield label, task, [content], allow_cut
+        for label, content in cuts:
+            if name in (*ACCEPTED, "FRAGMENT_FRAMES"):
+                for contents in ([content, whole], [whole, content]):
+                    for task in MANY:
+                        yield label, task, contents, len(content) % 2 == 0
+        for n, (label, content) in enumerate(lies):
+            yield label, ONE[n % len(ONE)], [content], n % 3 == 0
+            yield label, "report", [content], n % 2 == 0
+
+
+def main():
+    count = Count()
+    program = sys.argv[1] if len(sys.argv) > 1 else PROGRAM
+    with tempfile.TemporaryDirectory() as folder:
+        bench, shim = Bench(folder, program), make_shim(folder)
+        for task, name, wanted in WORKED:
+            count.check(f"the model's {task} of {name}", model.answer(task, [vector(name)]) == (wanted, None))
+        for name in ACCEPTED:
+            for length in range(len(vector(name))):
+                by_the_table(count, bench, name, length)
+        section = vector("CARRY_PCAPNG")[:28]
+        for content, offset, rule in lying_lengths():
+            refusal = f"refused: file 1 offset {offset} rule {rule} {model.RULES[rule]}\n".encode()
+            for task in ONE:
+                seen = bench.run(task, [section + content], out=os.path.join(folder, "out"))
+                count.check(f"{task} of a block that lies", seen[0] == 1 and seen[2] == refusal, content[:12], seen)
+                if task in ("info", "report"):
+                    count.check(f"{task} writes nothing", seen[1] == b"", seen)
+
+        def held(numbered):
+            n, (label, task, contents, allow_cut) = numbered
+            out = os.path.join(folder, f"out{threading.get_ident()}")
+            by_bytes = (shim, {"PIECE": 1}) if (n + n // 8 + n // 16) % 2 else None
+            name = f"{task} of {label}{', --allow-cut' if allow_cut else ''}{', by one byte' if by_bytes else ''}"
+            return name, bench.differs(task, contents, allow_cut, "<", out, by_bytes)
+
+        with ThreadPoolExecutor(4) as pool:
+            for name, wrong in pool.map(held, enumerate(all_runs())):
+                count.check(name, wrong is None, wrong)
+    count.end()
+
+
+main()

@@ -1,0 +1,504 @@
+"""What capt has to answer, as a plain program that keeps whole files: written from the formats (draft-ietf-opsawg-pcap,
+draft-ietf-opsawg-pcapng, RFC 791, RFC 768, RFC 9293) and from what README.md says of rules, limits and printed lines, and
+not from capt's code. The scripts of this folder hold the built program to it.
+
+`answer(task, files, ..)` gives what is written (a text, or the bytes of OUT) and the refusal, or none."""
+import struct
+from collections import namedtuple
+from fractions import Fraction
+
+RULES = {1: "magic", 2: "version", 3: "cut", 4: "packet-long", 5: "block-length", 6: "block-trailer", 7: "order-magic",
+         8: "captured", 9: "interface-unknown", 10: "option-end", 11: "option-length", 12: "resolution", 13: "interface-limit",
+         14: "file-limit", 15: "open-limit", 16: "talk-limit", 17: "no-time", 18: "link-mixed", 19: "inexact",
+         20: "time-range", 21: "no-interface"}
+PCAP_MAGICS = {b"\xd4\xc3\xb2\xa1": ("<", 10**6), b"\xa1\xb2\xc3\xd4": (">", 10**6),
+               b"\x4d\x3c\xb2\xa1": ("<", 10**9), b"\xa1\xb2\x3c\x4d": (">", 10**9)}
+SECTION, INTERFACE, OBSOLETE, SIMPLE, ENHANCED = 0x0A0D0D0A, 1, 2, 3, 6
+LEAST = {SECTION: 28, INTERFACE: 20, OBSOLETE: 32, SIMPLE: 16, ENHANCED: 32}
+MOST_CAPTURED, MOST_BLOCK, MOST_INTERFACES, MOST_GROUPS, MOST_TALKS = 262_144, 524_288, 1_024, 1_024, 1_048_576
+MOST_FILE, MOST_END = 2**40, 65_515
+
+Refusal = namedtuple("Refusal", "file offset rule")
+Interface = namedtuple("Interface", "link snaplen code seconds")
+Packet = namedtuple("Packet", "file offset format skipped instance interface units captured original data")
+Block = namedtuple("Block", "offset order kind total")
+Ending = namedtuple("Ending", "format skipped cut")
+
+
+class Refused(Exception):
+    def __init__(self, offset, rule):
+        self.offset, self.rule = offset, rule
+
+
+def told(refusal):
+    return f"refused: file {refusal.file} offset {refusal.offset} rule {refusal.rule} {RULES[refusal.rule]}\n"
+
+
+def units_in_second(code):
+    return 2 ** (code & 127) if code & 128 else 10**code
+
+
+def time_of(packet):
+    """The exact time, or None."""
+    if packet.units is None:
+        return None
+    return Fraction(packet.units, units_in_second(packet.interface.code)) + packet.interface.seconds
+
+
+def printed(packet):
+    """A packet's time in its own form; `-` for none, also of no packet."""
+    if packet is None or packet.units is None:
+        return "-"
+    d = units_in_second(packet.interface.code)
+    seconds, rest = divmod(packet.units + packet.interface.seconds * d, d)
+    return f"{seconds}+{rest}/{d}"
+
+
+class File:
+    """What a file gives: its packets, its blocks, its first interface, its refusal or how it ended."""
+
+    def __init__(self, number, data, allow_cut, blocks_alone=False):
+        self.number, self.data, self.blocks_alone = number, data, blocks_alone
+        self.packets, self.blocks, self.first, self.refusal, self.ending = [], [], None, None, None
+        self.skipped, self.instances, self.format, begun = 0, 0, "pcapng", False
+        try:
+            for _ in self.pieces():
+                begun = True
+            self.ending = Ending(self.format, self.skipped, False)
+        except Refused as refused:
+            if refused.rule == 3 and allow_cut and begun:
+                self.ending = Ending(self.format, self.skipped, True)
+            else:
+                self.refusal = Refusal(number, refused.offset, refused.rule)
+
+    def pieces(self):
+        magic = self.data[:4]
+        if len(magic) < 4:
+            raise Refused(0, 3)
+        if magic in PCAP_MAGICS and not self.blocks_alone:
+            self.format = "pcap"
+            return self.records(*PCAP_MAGICS[magic])
+        if magic != b"\x0a\x0d\x0d\x0a":
+            raise Refused(0, 1)
+        return self.parts()
+
+    def records(self, order, units):
+        data = self.data
+        if len(data) < 24:
+            raise Refused(0, 3)
+        if struct.unpack_from(order + "HH", data, 4) != (2, 4):
+            raise Refused(0, 2)
+        snaplen, link = struct.unpack_from(order + "II", data, 16)
+        self.first = Interface(link & 0xFFFF, snaplen, 6 if units == 10**6 else 9, 0)
+        yield
+        at = 24
+        while at < len(data):
+            if len(data) - at < 16:
+                raise Refused(at, 3)
+            seconds, fraction, captured, original = struct.unpack_from(order + "IIII", data, at)
+            self.check(at, [(captured > MOST_CAPTURED, 4), (at + 16 + captured > MOST_FILE, 14), (len(data) - at < 16 + captured, 3)])
+            frame = data[at + 16:at + 16 + captured]
+            self.packets.append(Packet(self.number, at, "pcap", 0, 0, self.first, seconds * units + fraction, captured, original, frame))
+            at += 16 + captured
+            yield
+
+    def check(self, at, conditions):
+        for holds, rule in conditions:
+            if holds:
+                raise Refused(at, rule)
+
+    def parts(self):
+        data, at, order, interfaces = self.data, 0, None, []
+        while at < len(data):
+            left = len(data) - at
+            if left < 12:
+                raise Refused(at, 3)
+            if data[at:at + 4] == b"\x0a\x0d\x0d\x0a":
+                order = {b"\x4d\x3c\x2b\x1a": "<", b"\x1a\x2b\x3c\x4d": ">"}.get(data[at + 8:at + 12])
+                if order is None:
+                    raise Refused(at, 7)
+            kind, total = struct.unpack_from(order + "II", data, at)
+            wrong = total % 4 != 0 or total < LEAST.get(kind, 12) or kind in LEAST and total > MOST_BLOCK
+            self.check(at, [(wrong, 5), (at + total > MOST_FILE, 14), (left < total, 3)])
+            if struct.unpack_from(order + "I", data, at + total - 4)[0] != total:
+                raise Refused(at, 6)
+            body = data[at + 8:at + total - 4] if kind in LEAST else b""
+            if kind == SECTION:
+                if struct.unpack_from(order + "HH", body, 4) not in ((1, 0), (1, 2)):
+                    raise Refused(at, 2)
+                interfaces = []
+            self.blocks.append(Block(at, order, kind, total))
+            if kind == INTERFACE and not self.blocks_alone:
+                self.check(at, [(len(interfaces) >= MOST_INTERFACES, 13)])
+                interface = interface_of(at, order, body)
+                self.first = self.first or (interface if not self.instances else None)
+                interfaces.append((self.instances, interface))
+                self.instances += 1
+            elif kind in LEAST and kind != SECTION and not self.blocks_alone:
+                self.packets.append(self.packet(at, order, kind, total, body, interfaces))
+            elif kind not in LEAST:
+                self.skipped += 1
+            at += total
+            yield
+
+    def packet(self, at, order, kind, total, body, interfaces):
+        number, units, begin = 0, None, 4
+        if kind == SIMPLE:
+            original = captured = struct.unpack_from(order + "I", body)[0]
+        else:
+            number, high, low, captured, original = struct.unpack_from(order + ("I" if kind == ENHANCED else "Hxx") + "IIII", body)
+            units, begin = high << 32 | low, 20
+        self.check(at, [(number >= len(interfaces), 9)])
+        instance, interface = interfaces[number]
+        if kind == SIMPLE and interface.snaplen:
+            captured = min(original, interface.snaplen)
+        self.check(at, [(captured > MOST_CAPTURED, 4), (begin + captured > total - 12, 8)])
+        return Packet(self.number, at, "pcapng", self.skipped, instance, interface, units, captured, original, body[begin:begin + captured])
+
+
+def interface_of(at, order, body):
+    link, _, snaplen = struct.unpack_from(order + "HHI", body)
+    found, place = {}, 8
+    while place + 4 <= len(body):
+        code, length = struct.unpack_from(order + "HH", body, place)
+        if code == 0:
+            break
+        if place + 4 + length > len(body):
+            raise Refused(at, 10)
+        value = body[place + 4:place + 4 + length]
+        if code in (9, 14) and code not in found:
+            if length != (1 if code == 9 else 8):
+                raise Refused(at, 11)
+            if code == 9 and (value[0] & 127) > (63 if value[0] & 128 else 19):
+                raise Refused(at, 12)
+            found[code] = value
+        place += 4 + (length + 3) // 4 * 4
+    seconds = struct.unpack(order + "q", found[14])[0] if 14 in found else 0
+    return Interface(link, snaplen, found[9][0] if 9 in found else 6, seconds)
+
+
+def run_of(files):
+    """The packets of files by (clock, file, place), each with its clock, and the first refusal, which ends them."""
+    items = []
+    for file in files:
+        clock = None
+        for place, packet in enumerate(file.packets + ([file.refusal] if file.refusal else [])):
+            time = time_of(packet) if isinstance(packet, Packet) else None
+            clock = time if clock is None else clock if time is None else max(clock, time)
+            items.append(((clock is not None, clock or 0, file.number, place), clock, packet))
+    items.sort(key=lambda item: item[0])
+    run = []
+    for _, clock, packet in items:
+        if isinstance(packet, Refusal):
+            return run, packet
+        run.append((clock, packet))
+    return run, None
+
+
+def ipv4_of(packet):
+    """The IPv4 bytes of a frame, or its class."""
+    link, frame = packet.interface.link, packet.data
+    short = "cut" if packet.captured < packet.original else "short"
+    if link in (101, 228):
+        if link == 101 and not frame:
+            return short
+        return frame if link == 228 or frame[0] >> 4 == 4 else "not-ipv4"
+    if link not in (1, 113, 276):
+        return "other-link"
+    at, end = {1: (12, 14), 113: (14, 16), 276: (0, 20)}[link]
+    if len(frame) < end:
+        return short
+    kind = frame[at:at + 2]
+    while kind in (b"\x81\x00", b"\x88\xa8"):
+        kind, end = frame[end + 2:end + 4], end + 4
+        if len(frame) < end:
+            return short
+    return frame[end:] if kind == b"\x08\x00" else "not-ipv4"
+
+
+Header = namedtuple("Header", "service identification more start life protocol source destination length data")
+
+
+def header_of(data, whole):
+    """The header with the captured part of the data, or its class: the first of seven steps that holds."""
+    if len(data) < 20:
+        return "bad" if whole else "cut"
+    first, service, total, identification, flags, life, protocol, _, source, destination = struct.unpack_from(">BBHHHBBHII", data)
+    size = (first & 15) * 4
+    if first >> 4 != 4 or size < 20 or total < size:
+        return "bad"
+    if len(data) < size:
+        return "bad" if whole else "cut"
+    if whole and total > len(data):
+        return "bad"
+    more, start, length = bool(flags & 0x2000), (flags & 0x1FFF) * 8, total - size
+    if more or start:
+        if length == 0 or more and length % 8 or start + length > MOST_END:
+            return "bad"
+        if len(data) < total:
+            return "cut"
+    return Header(service, identification, more, start, life, protocol, source, destination, length, data[size:total])
+
+
+def transport_of(protocol, data, length):
+    """The ports, (None, None) where there are none, or the class."""
+    least = {17: 8, 6: 20}.get(protocol)
+    if least is None:
+        return None, None
+    if length < least:
+        return "bad"
+    if len(data) < least:
+        return "cut"
+    inner = struct.unpack_from(">H", data, 4)[0] if protocol == 17 else (data[12] >> 4) * 4
+    return "bad" if inner < least or inner > length else struct.unpack_from(">HH", data)
+
+
+class Group:
+    def __init__(self, clock):
+        self.clock, self.bytes, self.covered, self.total, self.header, self.frames = clock, bytearray(), set(), None, None, []
+
+    def put(self, header, frame):
+        start, end = header.start, header.start + header.length
+        self.bytes.extend(bytes(max(0, end - len(self.bytes))))
+        self.bytes[start:end] = header.data
+        self.covered.update(range(start // 8, (end + 7) // 8))
+        self.frames.append(frame)
+        if not header.more:
+            self.total = end
+        if start == 0:
+            self.header = header
+        return self.total is not None and all(block in self.covered for block in range((self.total + 7) // 8))
+
+    def is_old(self, clock):
+        return self.clock is not None and clock is not None and self.clock + 30 < clock
+
+
+class Joiner:
+    def __init__(self):
+        self.groups, self.given_up = {}, 0
+
+    def put(self, clock, header, frame):
+        """The data of the datagram that the fragment completes, with its group, or None."""
+        key = key_of(header)
+        if key in self.groups and self.groups[key].is_old(clock):
+            del self.groups[key]
+        if key not in self.groups:
+            self.groups = {name: group for name, group in self.groups.items() if not group.is_old(clock)}
+            if len(self.groups) >= MOST_GROUPS:
+                del self.groups[next(iter(self.groups))]
+                self.given_up += 1
+            self.groups[key] = Group(clock)
+        if not self.groups[key].put(header, frame):
+            return None
+        group = self.groups.pop(key)
+        return bytes(group.bytes[:group.total]), group
+
+
+def key_of(header):
+    return header.source, header.destination, header.protocol, header.identification
+
+
+class Table:
+    """The report's counts over a list of packets with their clocks."""
+
+    def __init__(self):
+        self.classes = dict.fromkeys(["other-link", "not-ipv4", "short", "cut", "bad", "unjoined", "counted"], 0)
+        self.joiner, self.joined, self.talks = Joiner(), 0, {}
+
+    def take(self, place, clock, packet):
+        """The datagram that this packet completes, if it counts: its header, its data and whether that is whole."""
+        data = ipv4_of(packet)
+        header = data if isinstance(data, str) else header_of(data, packet.captured >= packet.original)
+        if isinstance(header, str):
+            self.classes[header] += 1
+            return None
+        if not header.more and not header.start:
+            self.joiner.groups.pop(key_of(header), None)
+            return self.count(header, header.data, header.length, [(place, packet)])
+        self.classes["unjoined"] += 1
+        done = self.joiner.put(clock, header, (place, packet))
+        if done is None:
+            return None
+        data, group = done
+        self.classes["unjoined"] -= len(group.frames)
+        return self.count(group.header, data, len(data), group.frames)
+
+    def count(self, header, data, length, frames):
+        ports = transport_of(header.protocol, data, length)
+        if isinstance(ports, str):
+            self.classes[ports] += len(frames)
+            return None
+        ends = (header.source, ports[0]), (header.destination, ports[1])
+        key = (header.protocol, *sorted(ends))
+        if key not in self.talks and len(self.talks) >= MOST_TALKS:
+            raise Refused(frames[-1][1].offset, 16)
+        sums, of_talk = self.talks.setdefault(key, ([0, 0, 0, 0], []))
+        way = 0 if ends[0] == key[1] else 2
+        sums[way] += len(frames)
+        sums[way + 1] += sum(packet.original for _, packet in frames)
+        timed = [(time_of(packet), place, packet) for place, packet in frames + of_talk if packet.units is not None]
+        of_talk[:] = [earliest(timed), latest(timed)] if timed else []
+        self.classes["counted"] += len(frames)
+        self.joined += len(frames) > 1      # no fragment is a datagram by itself
+        return header, data, len(data) == length
+
+
+def earliest(timed):
+    _, place, packet = min(timed, key=lambda one: (one[0], one[1]))
+    return place, packet
+
+
+def latest(timed):
+    _, place, packet = max(timed, key=lambda one: (one[0], -one[1]))
+    return place, packet
+
+
+def file_line(number, ending, packets):
+    timed = [(time_of(packet), place, packet) for place, packet in enumerate(packets) if packet.units is not None]
+    first, last = (printed(earliest(timed)[1]), printed(latest(timed)[1])) if timed else ("-", "-")
+    return (f"file {number} {ending.format} {sums_of(packets)} skipped {ending.skipped} first {first} last {last}"
+            + (" cut" if ending.cut else "") + "\n")
+
+
+def sums_of(packets):
+    return (f"packets {len(packets)} bytes {sum(packet.original for packet in packets)} "
+            f"truncated {sum(packet.captured < packet.original for packet in packets)}")
+
+
+def info(files):
+    for file in files:
+        if file.refusal:
+            return "", file.refusal
+    return f"files {len(files)}\n" + "".join(file_line(file.number, file.ending, file.packets) for file in files), None
+
+
+def end_text(protocol, end):
+    address = ".".join(str(byte) for byte in struct.pack(">I", end[0]))
+    return address if end[1] is None else f"{address}:{end[1]}"
+
+
+def report(files):
+    run, refusal = run_of(files)
+    table = Table()
+    for place, (clock, packet) in enumerate(run):
+        try:
+            table.take(place, clock, packet)
+        except Refused as refused:
+            return "", Refusal(packet.file, refused.offset, refused.rule)
+    if refusal:
+        return "", refusal
+    lines = [info(files)[0], f"total {sums_of([packet for _, packet in run])}\n",
+             "frames " + " ".join(f"{name} {count}" for name, count in table.classes.items()) + "\n",
+             f"joined {table.joined} given-up {table.joiner.given_up}\n", f"talks {len(table.talks)}\n"]
+    for (protocol, lesser, greater), (sums, frames) in table.talks.items():
+        name = {17: "udp", 6: "tcp"}.get(protocol, f"p{protocol}")
+        first, last = (printed(frames[0][1]), printed(frames[1][1])) if frames else ("-", "-")
+        lines.append(f"talk {name} {end_text(protocol, lesser)} {end_text(protocol, greater)} forward {sums[0]} {sums[1]} "
+                     f"backward {sums[2]} {sums[3]} first {first} last {last}\n")
+    return "".join(lines), None
+
+
+def list_(files):
+    lines = [f"packet {n} offset {p.offset} time {printed(p)} captured {p.captured} original {p.original} "
+             f"link {p.interface.link} data {p.data[:16].hex() or '-'}\n" for n, p in enumerate(files[0].packets, 1)]
+    return "".join(lines), files[0].refusal
+
+
+def blocks(files):
+    lines = [f"block {n} offset {b.offset} order {'little' if b.order == '<' else 'big'} kind {b.kind:08x} total {b.total}\n"
+             for n, b in enumerate(files[0].blocks, 1)]
+    return "".join(lines), files[0].refusal
+
+
+def block(order, kind, body):
+    total = len(body) + 12
+    return struct.pack(order + "II", kind, total) + body + struct.pack(order + "I", total)
+
+
+def section(order):
+    return block(order, SECTION, struct.pack(order + "IHHq", 0x1A2B3C4D, 1, 0, -1))
+
+
+def written_interface(order, interface):
+    body = struct.pack(order + "HHIHHB3x", interface.link, 0, interface.snaplen, 9, 1, interface.code)
+    if interface.seconds:
+        body += struct.pack(order + "HHq", 14, 8, interface.seconds)
+    return block(order, INTERFACE, body + bytes(4))
+
+
+def write_packets(order, packets, refusal, first=None):
+    """The text of packets as pcapng, up to the first refusal."""
+    out, numbers = [section(order)], {}
+    if first is not None:
+        numbers[1, 0] = 0
+        out.append(written_interface(order, first))
+    for packet in packets:
+        if packet.units is None:
+            return b"".join(out), Refusal(packet.file, packet.offset, 17)
+        name = packet.file, packet.instance
+        if name not in numbers:
+            if len(numbers) >= MOST_INTERFACES:
+                return b"".join(out), Refusal(packet.file, packet.offset, 13)
+            numbers[name] = len(numbers)
+            out.append(written_interface(order, packet.interface))
+        out.append(block(order, ENHANCED, struct.pack(order + "IIIII", numbers[name], packet.units >> 32, packet.units & 0xFFFFFFFF,
+                                                      packet.captured, packet.original) + packet.data + bytes(-packet.captured % 4)))
+    return b"".join(out), refusal
+
+
+def to_pcap(order, file):
+    if file.first is None:
+        return b"", file.refusal or Refusal(1, 0, 21)
+    unit = 10**6 if 10**6 % units_in_second(file.first.code) == 0 else 10**9
+    out = [struct.pack(order + "IHHIIII", 0xA1B2C3D4 if unit == 10**6 else 0xA1B23C4D, 2, 4, 0, 0, file.first.snaplen, file.first.link)]
+    for packet in file.packets:
+        time = time_of(packet)
+        rule = (17 if time is None else 18 if packet.interface.link != file.first.link
+                else 19 if (time * unit).denominator != 1 else 20 if not 0 <= time < 2**32 else None)
+        if rule:
+            return b"".join(out), Refusal(1, packet.offset, rule)
+        seconds, fraction = divmod(int(time * unit), unit)
+        out.append(struct.pack(order + "IIII", seconds, fraction, packet.captured, packet.original) + packet.data)
+    return b"".join(out), file.refusal
+
+
+def checksum(header):
+    total = sum(struct.unpack(">10H", header))
+    while total >> 16:
+        total = (total & 0xFFFF) + (total >> 16)
+    return ~total & 0xFFFF
+
+
+def join(order, files):
+    run, refusal = run_of(files)
+    table, packets = Table(), []
+    for place, (clock, packet) in enumerate(run):
+        if packet.units is None:
+            packets.append(packet)      # refused where it stands
+            break
+        done = table.take(place, clock, packet)
+        if done and done[2]:
+            header, data, _ = done
+            fields = [0x45, header.service, 20 + len(data), header.identification, 0, header.life, header.protocol, 0,
+                      header.source, header.destination]
+            fields[7] = checksum(struct.pack(">BBHHHBBHII", *fields))
+            datagram = struct.pack(">BBHHHBBHII", *fields) + data
+            packets.append(packet._replace(interface=packet.interface._replace(link=101, snaplen=0), data=datagram,
+                                           captured=len(datagram), original=len(datagram)))
+    return write_packets(order, packets, refusal)
+
+
+def answer(task, contents, allow_cut=False, order="<"):
+    """What a task has to write over the contents of files, and the refusal or None. The task is a command's name, or
+    `pcap` or `pcapng` for `convert` to that format."""
+    files = [File(number, data, allow_cut, task == "blocks") for number, data in enumerate(contents, 1)]
+    if task == "merge":
+        run, refusal = run_of(files)
+        return write_packets(order, [packet for _, packet in run], refusal)
+    if task == "pcapng":
+        return write_packets(order, files[0].packets, files[0].refusal, files[0].first)
+    if task == "pcap":
+        return to_pcap(order, files[0])
+    if task == "join":
+        return join(order, files)
+    return {"list": list_, "blocks": blocks, "info": info, "report": report}[task](files)
