@@ -31,6 +31,8 @@ counted() {
 counted 'rt ci' rt ci
 counted 'checks/program.sh' checks/program.sh
 counted 'checks/stack.sh' checks/stack.sh
+counted 'checks/papers.sh' checks/papers.sh
+counted 'checks/rounds.sh' checks/rounds.sh
 counted 'checks/hostile.py' checks/hostile.py
 counted 'checks/limits.py' checks/limits.py
 counted 'checks/faults.py' checks/faults.py
