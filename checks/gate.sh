@@ -33,6 +33,7 @@ counted 'checks/program.sh' checks/program.sh
 counted 'checks/stack.sh' checks/stack.sh
 counted 'checks/papers.sh' checks/papers.sh
 counted 'checks/rounds.sh' checks/rounds.sh
+counted 'checks/invariance.py' checks/invariance.py
 counted 'checks/hostile.py' checks/hostile.py
 counted 'checks/limits.py' checks/limits.py
 counted 'checks/faults.py' checks/faults.py

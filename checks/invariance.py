@@ -1,0 +1,103 @@
+#!/usr/bin/env python3
+"""What the report says stays when captures are rewritten: the reports over worked captures are held to the reports over what
+`merge`, `convert --to pcapng` and `convert --to pcap` of the built program made of them.
+
+All lines but those of the files are the same, byte for byte; after `convert --to pcap` times are compared as fractions, since
+they may have another form. A capture that isn't written whole is refused by the rule that is said here.
+
+Use: checks/invariance.py [PROGRAM]     (as after `rt run` or `rt ci` in crates/cap_tool)"""
+import sys
+
+sys.dont_write_bytecode = True
+
+import os, re, struct, tempfile
+from fractions import Fraction
+
+from captures import PROGRAM, SECTION, Count, block, datagram, packet, pcap_header, record, run, udp, vector
+
+RAW = 101
+
+
+def binary(code, units, data):
+    """A pcapng file of one RAW packet, whose clock counts as the code says."""
+    options = struct.pack("<HHBxxxHH", 9, 1, code, 0, 0)
+    interface = block(1, struct.pack("<HHI", RAW, 0, 0) + options)
+    return bytes.fromhex(SECTION.replace(" ", "")) + interface + packet(0, units, data)
+
+
+def raw(packets):
+    """A pcap file of RAW packets, each a second and its bytes."""
+    return pcap_header(RAW) + b"".join(record(second, data) for second, data in packets)
+
+
+TALK = datagram(udp((1000, 2000)))
+ANSWER = datagram(udp((2000, 1000)), ends=(0x0A000002, 0x0A000001))
+OPENS = [(1, datagram(udp((1000, 2000), bytes(8))[:8], more=True, identification=n)) for n in range(1025)]
+LAST = [(1, datagram(bytes(8), start=8, identification=n)) for n in (0, 1)]
+
+# captures, and the rule by which `convert --to pcap` of each is refused
+CASES = {
+    "equal-resolutions": ([binary(138, 512, TALK), binary(1, 5, TALK)], [None, None]),
+    "equal-resolutions, exchanged": ([binary(1, 5, TALK), binary(138, 512, TALK)], [None, None]),
+    "a time that isn't whole": ([binary(138, 1, TALK)], [19]),
+    "runs-back": ([raw([(5, TALK), (1, ANSWER)]), raw([(2, ANSWER), (5, TALK)])], [None, None]),
+    "runs-back, fragments": ([raw([(5, OPENS[0][1]), (1, OPENS[1][1])]), raw([(2, LAST[0][1]), (40, LAST[1][1])])], [None, None]),
+    "overlapped-fragments": ([vector("FRAGMENT_FRAMES")], [None]),
+    "tagged-frames": ([vector("TAGGED_FRAMES")], [None]),
+    "tagged and fragments": ([vector("TAGGED_FRAMES"), vector("FRAGMENT_FRAMES")], [None, None]),
+    "thirty-seconds": ([raw([(1, LAST[0][1]), (31, OPENS[0][1])])], [None]),
+    "given up": ([raw(OPENS)], [None]),
+    "given up, and its rest": ([raw(OPENS + LAST[:1])], [None]),
+    "given up, and another's rest": ([raw(OPENS + LAST[1:])], [None]),
+    "given up over two": ([raw(OPENS[:600]), raw(OPENS[600:])], [None, None]),
+    "a worked pcapng file": ([vector("OPTIONS_PCAPNG"), vector("CARRY_PCAP")], [None, None]),
+}
+
+
+def body(text):
+    """The lines of a report but for those of its files."""
+    return [line for line in text.splitlines() if not line.startswith(("files ", "file "))]
+
+
+def as_fractions(lines):
+    """The same, their times as fractions."""
+    time = r"(-?\d+)\+(\d+)/(\d+)"
+    return [re.sub(time, lambda t: str(int(t[1]) + Fraction(int(t[2]), int(t[3]))), line) for line in lines]
+
+
+def main():
+    program = sys.argv[1] if len(sys.argv) > 1 else PROGRAM
+    count = Count()
+    with tempfile.TemporaryDirectory() as folder:
+        out = os.path.join(folder, "out")
+
+        def done(words):
+            status, text, error = run(words, program)
+            return status, text.decode(), error.decode()
+
+        for name, (contents, rules) in CASES.items():
+            files = []
+            for place, content in enumerate(contents):
+                files.append(os.path.join(folder, str(place)))
+                with open(files[-1], "wb") as file:
+                    file.write(content)
+            status, told, error = done(["report", *files])
+            count.check(f"{name}: report", (status, error) == (0, ""), status, error)
+            for order in ("little", "big"):
+                count.check(f"{name}: merge", done(["merge", "--order", order, "-o", out, *files]) == (0, "", ""))
+                count.check(f"{name}: merged, {order}", body(done(["report", out])[1]) == body(told), told)
+            for file, rule in zip(files, rules):
+                alone = done(["report", file])[1]
+                count.check(f"{name}: pcapng", done(["convert", "--to", "pcapng", "-o", out, file]) == (0, "", ""))
+                count.check(f"{name}: report of pcapng", body(done(["report", out])[1]) == body(alone), alone)
+                status, _, error = done(["convert", "--to", "pcap", "-o", out, file])
+                if rule:
+                    count.check(f"{name}: pcap", status == 1 and f" rule {rule} " in error, status, error)
+                else:
+                    count.check(f"{name}: pcap", (status, error) == (0, ""), status, error)
+                    again = body(done(["report", out])[1])
+                    count.check(f"{name}: report of pcap", as_fractions(again) == as_fractions(body(alone)), again, alone)
+    count.end()
+
+
+main()
