@@ -103,13 +103,14 @@ class Count:
     """Counts what passed, and tells what failed, the first 20 of it."""
 
     def __init__(self):
-        self.passed = self.failed = 0
+        self.passed, self.failed, self.lock = 0, 0, threading.Lock()
 
     def check(self, name, is_so, *seen):
-        self.passed += bool(is_so)
-        self.failed += not is_so
-        if not is_so and self.failed <= 20:
-            print(name, *seen, flush=True)
+        with self.lock:
+            self.passed += bool(is_so)
+            self.failed += not is_so
+            if not is_so and self.failed <= 20:
+                print(name, *seen, flush=True)
 
     def end(self):
         print(f"{self.passed} passed, {self.failed} failed")
