@@ -75,7 +75,8 @@ def udp(ports, data=b""):
 
 def run(words, program=PROGRAM, faults=None, **how):
     """The status, standard output and standard error of the program. With faults, `(the shim of faults.c, its variables)`,
-    also how many faults there were, and the greatest resident memory in KiB."""
+    also how many faults there were, the greatest resident memory in KiB, and how many blocks of memory weren't given back: 0
+    and -1 where it didn't end by itself."""
     how = {"stdin": subprocess.DEVNULL, "stdout": subprocess.PIPE, "stderr": subprocess.PIPE, "timeout": 120, **how}
     if faults is None:
         done = subprocess.run([program, *words], **how)
@@ -89,7 +90,8 @@ def run(words, program=PROGRAM, faults=None, **how):
     os.close(high)
     with open(seen, "rb") as pipe:
         text = pipe.read()
-    return done.returncode, done.stdout, done.stderr, text.count(b"f"), int(text.strip(b"f\n") or 0)
+    memory, blocks = (text.strip(b"f\n") or b"0 -1").split()
+    return done.returncode, done.stdout, done.stderr, text.count(b"f"), int(memory), int(blocks)
 
 
 def make_shim(folder):
@@ -103,13 +105,14 @@ class Count:
     """Counts what passed, and tells what failed, the first 20 of it."""
 
     def __init__(self):
-        self.passed = self.failed = 0
+        self.passed, self.failed, self.lock = 0, 0, threading.Lock()
 
     def check(self, name, is_so, *seen):
-        self.passed += bool(is_so)
-        self.failed += not is_so
-        if not is_so and self.failed <= 20:
-            print(name, *seen, flush=True)
+        with self.lock:
+            self.passed += bool(is_so)
+            self.failed += not is_so
+            if not is_so and self.failed <= 20:
+                print(name, *seen, flush=True)
 
     def end(self):
         print(f"{self.passed} passed, {self.failed} failed")

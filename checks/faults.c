@@ -7,8 +7,8 @@
  *                             comes at the first of them, and the next goes on
  *   FAULT_PIECE=BYTES         a read gives, and a write takes, so many bytes at most
  *   FAULT_ENDLESS=1           behind its end a file goes on with blocks of 4,294,967,292 bytes, of kind 5, without end
- *   FAULT_TOLD=FILE           for each fault a byte is written to that open file, and as it ends the program's greatest
- *                             resident memory, a line in KiB
+ *   FAULT_TOLD=FILE           for each fault a byte is written to that open file, and as the program ends a line: its
+ *                             greatest resident memory in KiB, and how many blocks of memory it hasn't given back
  *
  * Standard error is left alone. */
 #include <errno.h>
@@ -23,6 +23,7 @@
 /* the C library's own, which these stand before */
 extern void *__libc_malloc(size_t size);
 extern void *__libc_realloc(void *block, size_t size);
+extern void __libc_free(void *block);
 
 static struct { long from, upto, file, call, bytes, how, piece, endless, told; } faults;
 static int is_ready;
@@ -67,9 +68,24 @@ static int is_refused(void) {
     return requests >= faults.from && requests < faults.upto;
 }
 
-void *malloc(size_t size) { return is_refused() ? fail(ENOMEM), NULL : __libc_malloc(size); }
+static long blocks;
 
-void *realloc(void *block, size_t size) { return is_refused() ? fail(ENOMEM), NULL : __libc_realloc(block, size); }
+void *malloc(size_t size) {
+    void *block = is_refused() ? (fail(ENOMEM), NULL) : __libc_malloc(size);
+    blocks += block != NULL;
+    return block;
+}
+
+void *realloc(void *block, size_t size) {
+    void *moved = is_refused() ? (fail(ENOMEM), NULL) : __libc_realloc(block, size);
+    blocks += block == NULL && moved != NULL;
+    return moved;
+}
+
+void free(void *block) {
+    blocks -= block != NULL;
+    __libc_free(block);
+}
 
 /* The bytes of a block's head and trailer, one at a time; of its body as many as are asked for, which nobody looks at. */
 static ssize_t go_on(unsigned char *bytes, size_t size) {
@@ -112,9 +128,9 @@ ssize_t write(int file, const void *bytes, size_t size) {
 
 __attribute__((destructor)) static void tell_memory(void) {
     static char status[4096];
-    char line[32];
+    char line[64];
     int file = faults.told >= 0 ? open("/proc/self/status", O_RDONLY) : -1;
     if (file < 0 || syscall(SYS_read, file, status, sizeof status - 1) < 0) return;
     const char *peak = strstr(status, "VmHWM:");
-    if (peak) tell(line, (size_t)snprintf(line, sizeof line, "%ld\n", atol(peak + 6)));
+    if (peak) tell(line, (size_t)snprintf(line, sizeof line, "%ld %ld\n", atol(peak + 6), blocks));
 }

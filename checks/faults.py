@@ -3,8 +3,8 @@
 
 Growths: each request for memory refused in turn (of the command line's one alone; then one, two together, and all from
 there on), until a run meets no refusal. The program answers as with memory, or `fault: memory`, where `report` and `info`
-have written nothing, and the other commands a prefix. Of the tests that call again after `Fault::Memory`, each has to
-pass, whichever request is refused.
+have written nothing, and the other commands a prefix, and has given all memory back. Of the tests that call again after
+`Fault::Memory`, each has to pass, whichever request is refused.
 
 Devices: each read of each file failing in turn, which is told with the header, record or block that it is of; a writer
 that fails, or takes nothing, after any number of bytes, which has just these (one that a signal interrupts is asked
@@ -87,9 +87,10 @@ MEMORY, WRITE = b"fault: memory\n", b"fault: write\n"
 
 
 def told_as(task, seen, wanted, fault):
-    """Whether a run that met a fault told it, and has written nothing, or a prefix of what was wanted."""
-    status, text, error = seen[:3]
-    return (status, error) == (1, fault) and (text == b"" if task in ("report", "info") else wanted[1].startswith(text))
+    """Whether a run that met a fault told it, has given all memory back, and has written nothing, or a prefix of what was
+    wanted."""
+    status, text, error, _, _, blocks = seen
+    return (status, error, blocks) == (1, fault, 0) and (text == b"" if task in ("report", "info") else wanted[1].startswith(text))
 
 
 def growths_before_files(bench, shim, out, task):
@@ -111,8 +112,8 @@ def growths_of(bench, shim, out, task, row, width, first):
     for n in range(first, 10_000):
         seen = bench.run(task, ROWS[row], out=out, faults=(shim, {"GROWTHS": f"{n}-{n + width}"}))
         if seen[3] == 0:
-            return n - first, None if seen[:3] == wanted else f"no growth refused: {seen}"
-        if seen[:3] != wanted and not told_as(task, seen, wanted, MEMORY):
+            return n - first, None if seen[:3] == wanted and seen[5] == 0 else f"no growth refused: {seen}"
+        if (seen[:3] != wanted or seen[5] != 0) and not told_as(task, seen, wanted, MEMORY):
             return n, f"growth {n}: {seen}"
     return n, "there is no end of growths"
 
@@ -129,9 +130,9 @@ def tests_of(crate, names):
 def growths_of_test(shim, tests, name, width):
     """Refuses so many growths together of a test, from each on. The number of runs, and what was wrong."""
     for n in range(1, 10_000):
-        status, text, error, told, _ = run([name], tests, (shim, {"GROWTHS": f"{n}-{n + width}"}))
-        if status != 0 or b"test result: ok" not in text:
-            return n, f"growth {n}: {status} {text} {error}"
+        status, text, error, told, _, blocks = run([name], tests, (shim, {"GROWTHS": f"{n}-{n + width}"}))
+        if (status, blocks) != (0, 0) or b"test result: ok" not in text:
+            return n, f"growth {n}: {status} {text} {error}, {blocks} blocks of memory"
         if told == 0:
             return n, None
     return n, "there is no end of growths"
@@ -152,6 +153,9 @@ def growths(count, bench, shim, pool):
     for crate, (names, width) in TESTS.items():
         tests, found = tests_of(crate, names)
         count.check(f"tests of {crate}", found)
+        if crate == "cap_output_tests":
+            seen = run(["steps::a_table_is_dropped_after_any_number_of_steps"], tests, (shim, {}))
+            count.check("tables stopped early give all memory back", (seen[0], seen[5]) == (0, 0), seen)
         jobs += [(f"{crate}: {name}, {n} refused", pool.submit(growths_of_test, shim, tests, name, n)) for name in found for n in range(1, width + 1)]
     for name, job in jobs:
         done, wrong = job.result()
@@ -189,7 +193,7 @@ def writes_of(count, bench, shim, out, task, row):
         for how in range(3):
             seen = bench.run(task, ROWS[row], out=out, faults=(shim, {"WRITE": f"{length}-{how}", "PIECE": (1, 7, 4_096)[length % 3]}))
             ends = wanted if how == 2 else (1, wanted[1][:length], WRITE)
-            count.check(f"{task} of {row}, {length} bytes taken", seen[:3] == ends, seen)
+            count.check(f"{task} of {row}, {length} bytes taken", seen[:3] == ends and seen[5] == 0, seen)
 
 
 def endless(count, bench, shim, out):

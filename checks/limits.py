@@ -46,9 +46,9 @@ class Edges:
         self.count.check(name, seen == (status, out, (told + "\n").encode()), seen[0], seen[1][:300], seen[2])
 
     def takes(self, name, words, most):
-        """A run has status 0 and takes so many MiB of resident memory at most; what it writes."""
-        status, out, error, _, memory = run(words, self.program, (self.shim, {}))
-        self.count.check(f"{name}, memory", (status, error) == (0, b"") and memory <= most * 1024, status, error, memory)
+        """A run has status 0, takes so many MiB of resident memory at most, and gives all back; what it writes."""
+        status, out, error, _, memory, blocks = run(words, self.program, (self.shim, {}))
+        self.count.check(f"{name}, memory", (status, error, blocks) == (0, b"", 0) and memory <= most * 1024, status, error, memory, blocks)
         print(f"{name}: {memory / 1024:.1f} MiB resident")
         return out
 

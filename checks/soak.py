@@ -166,11 +166,13 @@ def some_faults(rng):
 
 def complaint(task, seen, wanted, faults):
     """What is wrong with a run, or None."""
-    status, text, error, told, memory = seen
+    status, text, error, told, memory, blocks = seen
     if status not in (0, 1) or not LINE.fullmatch(error) or (status == 0) != (error == b""):
         return "no defined end"
     if memory > MOST_MEMORY or memory == 0:
         return f"{memory} KiB of memory"
+    if blocks != 0:
+        return f"{blocks} blocks of memory are not given back"
     if not faults or not told:
         return None if (status, text, error) == wanted else "not as the model has it"
     if (status, text, error) == wanted:

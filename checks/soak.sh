@@ -4,7 +4,7 @@
 # and without --allow-cut; a quarter of the runs with a growth, a read or a write that fails (faults.c).
 #
 # Each run ends by itself with status 0 or 1 and a defined line on standard error, takes at most 16 MiB of resident
-# memory, and answers and writes exactly what model.py has; where something failed, that fault and a prefix, or nothing. OUT
+# memory and gives all back, and answers and writes exactly what model.py has; where something failed, that fault and a prefix, or nothing. OUT
 # is read again by `list` up to its end, also after a refusal. A failed case is printed with its files in hex.
 #
 # Use: checks/soak.sh SECONDS [SEED] [PROGRAM]     (as after `rt run` or `rt ci` in crates/cap_tool)

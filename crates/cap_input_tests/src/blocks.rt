@@ -76,7 +76,7 @@ fn count<R: Source>(reader: &mut BlockReader<R>) -> Result<(u32, bool), Fault> {
 }
 
 #[test]
-fn blocks_in_order(rt: HostRuntime) -> Result<(), Fail> {
+fn always_memory_blocks_in_order(rt: HostRuntime) -> Result<(), Fail> {
     let (little, big) = (Order::Little, Order::Big);
     let options = [
         block(SECTION, 0, 44, little),

@@ -127,7 +127,7 @@ fn two_fragments(alloc: Global) -> Result<(Vec<u8>, Vec<u8>), Fail> {
 }
 
 #[test]
-fn thirty_seconds(rt: HostRuntime) -> Result<(), Fail> {
+fn always_memory_thirty_seconds(rt: HostRuntime) -> Result<(), Fail> {
     let (last, front) = two_fragments(rt.alloc())?;
     let mut run = Run::new(rt.alloc());
     assert!(rt; is_kept(run.put(&rt, Some(SECOND), &last)));

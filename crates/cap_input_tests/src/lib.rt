@@ -6,6 +6,8 @@ mod arrivals;
 #[cfg(test)]
 mod blocks;
 #[cfg(test)]
+mod endless;
+#[cfg(test)]
 mod join;
 #[cfg(test)]
 mod making;

@@ -77,7 +77,7 @@ const SPELLINGS: [([u8; 44], Order, Unit, u16, u64, u32); 6] = [
 ];
 
 #[test]
-fn six_spellings(rt: HostRuntime) -> Result<(), Fail> {
+fn always_memory_six_spellings(rt: HostRuntime) -> Result<(), Fail> {
     for (bytes, order, unit, link, units, original) in SPELLINGS {
         let wanted = PcapHeader {
             order,

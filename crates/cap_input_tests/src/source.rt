@@ -105,7 +105,7 @@ fn begins(rt: &impl Abort, alloc: Global, bytes: &[u8], head: Head) -> Result<()
 }
 
 #[test]
-fn a_pcap_file(rt: HostRuntime) -> Result<(), Fail> {
+fn always_memory_a_pcap_file(rt: HostRuntime) -> Result<(), Fail> {
     for piece in [1, 4_096] {
         let mut feed = capture(rt.alloc(), &CARRY_PCAP, piece, Tail::Refuse)?;
         assert_eq!(rt; feed.first()?, Some(interface(&rt, 1, 262_144, 6, 0)));
