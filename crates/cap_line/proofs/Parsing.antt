@@ -8,7 +8,7 @@ use Rattle.clap.specs.Words.{AddsSubcommand, shape_of, with_subcommand}
 use Rattle.clap.specs.declared.builder.command.Command.{Command}
 use Rattle.clap.specs.declared.builder.command.Command.TheViews.{out-Command}
 use Rattle.cap_line.specs.Command.{IsCapt, IsConvert, IsJoin, IsMerge, capt_app, convert_app, merge_app, printing_app}
-use Rattle.cap_line.specs.CommandLine.{Parses, IsJobOf, fault_by}
+use Rattle.cap_line.specs.CommandLine.{Parses, IsJobOf, IsWhole, fault_by}
 use Rattle.cap_line.specs.declared.job.Job.{Job}
 use Rattle.cap_line.specs.declared.faults.LineFault.{LineFault}
 use Rattle.cap_line.specs.declared.faults.LineFault.TheVariants.{Help, Line, Files, Input, Output, Memory}
@@ -43,6 +43,12 @@ Parses-answered words app (Err Memory) is taken job_is not_help = tt
 pub IsJobOf-no_help : (entered : Option (Text × List Row)) (r : Result Job LineFault) → IsJobOf entered r → r ≡ Err Help → ⊥
 IsJobOf-no_help None r job is = let same : Line ≡ Help = (cc) in cc
 IsJobOf-no_help (Some p) r job is = let at : IsJobOf (Some p) (Err Help) = subst (IsJobOf (Some p)) is job in at
+
+-- a job of a subcommand is whole
+pub whole-of : (entered : Option (Text × List Row)) (r : Result Job LineFault) → IsJobOf entered r → IfOk r IsWhole
+whole-of (Some p) (Ok job) is = is.4
+whole-of (Some p) (Err fault) is = tt
+whole-of None r is = rw is tt
 
 -- an error of clap's is for want of memory, or of one of its kinds
 abbrev Errs : List Text → App → ErrorKind → Type 0

@@ -4,11 +4,12 @@ ghost use Rattle.std.specs.List.{list_any};
 ghost use Rattle.std.specs.Str.{bytes_eq};
 ghost use Rattle.clap.specs.Values.{kind_of};
 ghost use Rattle.clap.specs.Words.{first_of, rows_of, found_of, subcommand_rows_of};
-ghost use Rattle.cap_line.specs.CommandLine.{fault_by, is_also_file, task_by, order_by, format_by, files_fault, files_in, IsJobBy, IsJobOf, Parses};
+ghost use Rattle.cap_line.specs.CommandLine.{fault_by, is_also_file, is_whole, task_by, order_by, format_by, files_fault, files_in, IsJobBy, IsJobOf, IsWhole, Parses};
 
 use crate::command::capt;
 use crate::faults::LineFault;
 use cap_bytes::Order;
+use cap_source::Format;
 use clap::ArgMatches;
 use clap::error::ErrorKind;
 use std::alloc::{AllocError, Global};
@@ -31,13 +32,6 @@ pub enum Task {
     Merge,
     /// Write the whole IPv4 datagrams of files as one pcapng file, in the order of time.
     Join,
-}
-
-/// A format of capture files.
-#[derive(Clone, Copy, Debug, PartialEq, Eq)]
-pub enum Format {
-    Pcap,
-    Pcapng,
 }
 
 /// What the command line asks for.
@@ -159,6 +153,19 @@ fn is_set(flag: Option<&str>) -> bool
     flag == Some("true")
 }
 
+// Whether a task has what it takes: one file where it is of one, a format for `convert`, an output
+// where it writes one.
+fn is_whole(task: Task, files: usize, to: Option<Format>, out: Option<&str>) -> bool
+    ensures { result ≡ is_whole task files to (option_map (λ o. o.now) out.entry) }
+{
+    match task {
+        Task::List | Task::Blocks => files == 1,
+        Task::Info | Task::Report => true,
+        Task::Convert => files == 1 && to.is_some() && out.is_some(),
+        Task::Merge | Task::Join => out.is_some(),
+    }
+}
+
 // The job of a subcommand's name and its matches, or what it is refused by.
 fn job_of<'a>(alloc: Global, name: &str, matches: &ArgMatches<'a>) -> Result<Job<'a>, LineFault>
     ensures { IsJobBy name.now (rows_of (found_of matches.now)) result }
@@ -170,13 +177,17 @@ fn job_of<'a>(alloc: Global, name: &str, matches: &ArgMatches<'a>) -> Result<Job
         return Err(LineFault::Memory);
     };
     let out = text_of(matches, "out");
+    let to = format_of(text_of(matches, "to"));
+    if !is_whole(task, files.len(), to, out) {
+        return Err(LineFault::Line);
+    }
     check_files(files.as_slice(), out)?;
     Ok(Job {
         task,
         files,
         allow_cut: is_set(text_of(matches, "allow-cut")),
         order: order_of(text_of(matches, "order")),
-        to: format_of(text_of(matches, "to")),
+        to,
         out,
     })
 }
@@ -212,9 +223,10 @@ fn job_entered<'a>(alloc: Global, matches: &ArgMatches<'a>) -> Result<Job<'a>, L
 
 /// Reads the words of a command line, the first of which is the program's name. Where several faults
 /// hold, it is the first of `Help` and `Line`, as clap meets them, `Files`, `Input`, `Output`;
-/// `Memory` comes where a growth is refused.
+/// `Memory` comes where a growth is refused. A job has 1 to 32 files and all that its task takes.
 pub fn parse<'a, S: AsStr>(alloc: Global, words: &'a [S]) -> Result<Job<'a>, LineFault>
-    ensures { Parses (map S.text words.entry.now) result }
+    ensures parses { Parses (map S.text words.entry.now) result }
+    ensures whole { IfOk result IsWhole }
 {
     let Ok(command) = capt(alloc) else {
         return Err(LineFault::Memory);

@@ -6,4 +6,4 @@ mod faults;
 mod job;
 
 pub use crate::faults::LineFault;
-pub use crate::job::{Format, Job, Task, parse};
+pub use crate::job::{Job, Task, parse};

@@ -3,6 +3,7 @@
 
 mod blocks;
 mod convert;
+mod jobs;
 mod join;
 mod lines;
 mod list;
@@ -13,6 +14,7 @@ mod tests;
 
 pub use crate::blocks::blocks_to;
 pub use crate::convert::convert_to;
+pub use crate::jobs::job_to;
 pub use crate::join::join_to;
 pub use crate::lines::{block_line, packet_line};
 pub use crate::list::list_to;

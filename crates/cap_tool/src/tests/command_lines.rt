@@ -1,6 +1,7 @@
 //! Command lines with their jobs and faults.
 use cap_bytes::Order;
-use cap_line::{Format, LineFault, Task, parse};
+use cap_line::{LineFault, Task, parse};
+use cap_source::Format;
 use std::alloc::Global;
 
 // A job's task, its first file, how many it has, and whether a cut end is dropped.
