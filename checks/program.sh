@@ -5,7 +5,7 @@
 # Use: checks/program.sh [PROGRAM]     (as after `rt run` or `rt ci` in crates/cap_tool)
 set -u
 top=$(cd "$(dirname "$0")/.." && pwd)
-program=${1:-$top/crates/cap_tool/out/cap_tool}
+program=$(realpath "${1:-$top/crates/cap_tool/out/cap_tool}")
 work=$(mktemp -d)
 trap 'rm -rf "$work"' EXIT
 passed=0
@@ -110,6 +110,24 @@ run merge -o "$one" "$one" "$one"; check 'a merge into one of its files' 2 '' 'f
 run merge -o "$work/none" - -; check 'standard input twice' 2 '' 'fault: input'
 run merge -o "$work/none" $(yes a | head -n 33); check '33 files' 2 '' 'fault: files'
 run merge -o /dev/full "$one" "$one"; check 'a merge on a full disk' 1 '' 'fault: write'
+# OUT that is a FILE under another name isn't touched; a lock that someone else holds doesn't matter
+mkdir "$work/k"; cp "$one" "$work/k/a"; ln -s a "$work/k/soft"; ln "$work/k/a" "$work/k/hard"; cd "$work/k" || exit 1
+for name in ./a "$work/k/a" ../k/a soft hard; do
+    for words in merge join 'convert --to pcap'; do
+        # shellcheck disable=SC2086 # the words of a command
+        run $words -o "$name" a; check "$words into $name" 1 '' 'fault: create output'; same "$words into $name" a "$one"
+    done
+done
+run merge -o a "$one" hard soft; check 'a merge into a file with two names' 1 '' 'fault: create output'; same 'a file with two names' a "$one"
+input=a; run convert --to pcap -o a -; check 'into the file of standard input' 1 '' 'fault: create output'; input=; same 'the file of standard input' a "$one"
+run merge -o new a; check 'beside its file' 0 '' ''; same 'beside its file' new "$work/want.pcapng"; rm new
+flock -s a "$program" merge -o new a; status=$?; check 'a file that someone else reads' 0 '' ''; same 'a file that someone else reads' new "$work/want.pcapng"
+flock -x a "$program" merge -o new a; status=$?; check 'a file that someone else holds' 0 '' ''
+run merge -o /dev/null a; check 'to nothing' 0 '' ''
+run merge -o /dev/null /dev/../dev/null; check 'from nothing to nothing' 1 '' 'refused: file 1 offset 0 rule 3 cut'
+run merge -o /dev/stdout a; check 'to /dev/stdout' 0 '*' ''; same '/dev/stdout' "$work/out" "$work/want.pcapng"
+mkfifo pipe; cat pipe > new & run merge -o pipe a; wait; check 'to a pipe' 0 '' ''; same 'a pipe' new "$work/want.pcapng"
+cat a > pipe & run merge -o new pipe; wait; check 'from a pipe' 0 '' ''; same 'from a pipe' new "$work/want.pcapng"; cd "$work" || exit 1
 run --help; check 'help' 0 '*' ''; grep -q 'capt report' "$work/out" || { failed=$((failed + 1)); echo 'help: no example'; }
 run list --help; check 'help of a subcommand' 0 '*' ''
 run list -h; check 'short help' 0 '*' ''

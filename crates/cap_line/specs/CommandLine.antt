@@ -19,6 +19,7 @@ use Rattle.cap_line.specs.declared.faults.LineFault.TheVariants.{Help, Line, Fil
 -- what clap's error is to the user
 abbrev pub fault_by : ErrorKind → LineFault
 fault_by kind.DisplayHelp = Help
+fault_by kind.DisplayVersion = Help
 fault_by kind.OutOfMemory = Memory
 fault_by _ = Line
 
@@ -127,10 +128,14 @@ pub record Refuses (words : List Text) (k : ErrorKind) (app : App) : Type 0 wher
   pub is_capt : IsCapt app
   pub refused : IsAmong k (fault_of app words)
 
+-- Clap refuses the words, or answers help or the version in place of matches.
+abbrev pub IsRefused : List Text → Type 0
+IsRefused words = (app : App) × (k : ErrorKind) × Refuses words k app
+
 -- What `parse` answers at the words of a command line, the first of which is the program's name.
 abbrev pub Parses : List Text → Result Job LineFault → Type 0
 Parses words (Ok job) = (app : App) × Answers words (Ok job) app
-Parses words (Err Help) = (app : App) × Refuses words kind.DisplayHelp app
+Parses words (Err Help) = (app : App) × (k : ErrorKind) × (fault_by k ≡ Help) × Refuses words k app
 Parses words (Err Line) =
     ((app : App) × (k : ErrorKind) × (fault_by k ≡ Line) × Refuses words k app) ⊎ ((app : App) × Answers words (Err Line) app)
 Parses words (Err Files) = (app : App) × Answers words (Err Files) app

@@ -1,17 +1,17 @@
 //! What the command line asks for.
-ghost use Rattle.std.specs.Prelude.{◌≡◌, ◌<◌, ◌≤◌, ◌↔◌, ◌-◌, map, length, codes, count_by, option_map, IsTrue, IfOk, Option, Some, None, Ok};
+ghost use Rattle.std.specs.Prelude.{◌≡◌, ◌≢◌, IfSome, IsSome, ◌<◌, ◌≤◌, ◌↔◌, ◌-◌, map, length, codes, count_by, option_map, IsTrue, IfOk, Option, Some, None, Ok};
 ghost use Rattle.std.specs.List.{list_any};
 ghost use Rattle.std.specs.Str.{bytes_eq};
 ghost use Rattle.clap.specs.Values.{kind_of};
 ghost use Rattle.clap.specs.Words.{first_of, rows_of, found_of, subcommand_rows_of};
-ghost use Rattle.cap_line.specs.CommandLine.{fault_by, is_also_file, is_whole, task_by, order_by, format_by, files_fault, files_in, IsJobBy, IsJobOf, IsWhole, Parses};
+ghost use Rattle.cap_line.specs.CommandLine.{fault_by, is_also_file, is_whole, task_by, order_by, format_by, files_fault, files_in, IsJobBy, IsJobOf, IsRefused, IsWhole, Parses};
 
 use crate::command::capt;
 use crate::faults::LineFault;
 use cap_bytes::Order;
 use cap_source::Format;
-use clap::ArgMatches;
 use clap::error::ErrorKind;
+use clap::{ArgMatches, Error};
 use std::alloc::{AllocError, Global};
 use std::convert::AsStr;
 
@@ -55,10 +55,20 @@ fn fault_by(kind: ErrorKind) -> LineFault
     ensures { result ≡ fault_by kind }
 {
     match kind {
-        ErrorKind::DisplayHelp => LineFault::Help,
+        ErrorKind::DisplayHelp | ErrorKind::DisplayVersion => LineFault::Help,
         ErrorKind::OutOfMemory => LineFault::Memory,
         _ => LineFault::Line,
     }
+}
+
+// The text of clap's error, unless memory ran out.
+fn said_by(alloc: Global, error: Error) -> Option<String>
+    ensures { IsSome result → kind_of error ≢ ErrorKind.OutOfMemory }
+{
+    if error.kind() == ErrorKind::OutOfMemory {
+        return None;
+    }
+    format!(in alloc; "{error}").ok()
 }
 
 // How many of the files are standard input.
@@ -234,5 +244,19 @@ pub fn parse<'a, S: AsStr>(alloc: Global, words: &'a [S]) -> Result<Job<'a>, Lin
     match command.try_get_matches_from(words) {
         Ok(matches) => job_entered(alloc, &matches),
         Err(error) => Err(fault_by(error.kind())),
+    }
+}
+
+/// What clap says of words that give no job: help, the version, or a message that names the wrong word. It
+/// says nothing where it takes the words, nor where a growth was refused.
+pub fn message<'a, S: AsStr>(alloc: Global, words: &'a [S]) -> Option<String>
+    ensures { IfSome result (λ text. IsRefused (map S.text words.entry.now)) }
+{
+    let Ok(command) = capt(alloc) else {
+        return None;
+    };
+    match command.try_get_matches_from(words) {
+        Ok(_) => None,
+        Err(error) => said_by(alloc, error),
     }
 }

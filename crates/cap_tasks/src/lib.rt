@@ -19,4 +19,4 @@ pub use crate::join::join_to;
 pub use crate::lines::{block_line, packet_line};
 pub use crate::list::list_to;
 pub use crate::merge::merge_to;
-pub use crate::outcomes::{Outcome, USAGE, end_of, outcome_line, status_of, tell};
+pub use crate::outcomes::{Outcome, end_of, outcome_line, status_of, tell};

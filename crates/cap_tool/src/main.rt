@@ -10,7 +10,7 @@ mod tests;
 
 use crate::streams::{create_output, open_all};
 use cap_bytes::{Fault, Source, Tracked};
-use cap_line::{Job, LineFault, parse};
+use cap_line::{Job, LineFault, NOT_UTF_8, USAGE, message, parse};
 use cap_tasks::{Outcome, end_of, job_to, status_of, tell};
 use std::alloc::Global;
 use std::env;
@@ -52,28 +52,50 @@ fn run_job<R: Source, W: Write + Drop>(
 }
 
 // What the command line asks for. Every file is opened before the output is created.
-fn run<R: Files<File = File> + Env + AllocGlobal>(
+fn run<R: Files<File = File> + AllocGlobal>(
     rt: &R,
+    words: &[String],
     input: Stdin,
     output: Stdout,
 ) -> Result<(), Outcome> {
-    let words = words_of(rt).map_err(Outcome::Line)?;
-    let job = match parse(rt.alloc(), words.as_slice()) {
+    let job = match parse(rt.alloc(), words) {
         Ok(job) => job,
         Err(fault) => return Err(Outcome::Line(fault)),
     };
     let inputs = open_all(rt, rt.alloc(), input, job.files.as_slice())?;
-    let output = create_output(rt, output, job.out)?;
-    run_job(rt.alloc(), &job, inputs, output)
+    let output = create_output(rt, output, job.out, inputs.ids.as_slice())?;
+    run_job(rt.alloc(), &job, inputs.sources, output)
+}
+
+// How a run ended, and what clap says of words that give no job.
+fn ended(
+    alloc: Global,
+    words: &[String],
+    answer: Result<(), Outcome>,
+) -> (Outcome, Option<String>) {
+    match answer {
+        Ok(()) => (Outcome::Done, None),
+        Err(Outcome::Line(fault)) => (Outcome::Line(fault), message(alloc, words)),
+        Err(outcome) => (outcome, None),
+    }
 }
 
 fn main(rt: HostRuntime) -> ExitCode {
-    let outcome = match run(&rt, rt.stdin(), rt.stdout()) {
-        Ok(()) => Outcome::Done,
-        Err(outcome) => outcome,
-    };
     let mut output = Tracked::new(rt.stdout());
     let mut faults = Tracked::new(rt.stderr());
-    let ending = tell(outcome, &mut output, &mut faults);
+    let ending = match words_of(&rt) {
+        Ok(words) => {
+            let answer = run(&rt, words.as_slice(), rt.stdin(), rt.stdout());
+            let (outcome, said) = ended(rt.alloc(), words.as_slice(), answer);
+            match said {
+                Some(text) => tell(outcome, text.as_bytes(), &mut output, &mut faults),
+                None => tell(outcome, USAGE.as_bytes(), &mut output, &mut faults),
+            }
+        }
+        Err(fault) => {
+            let outcome = Outcome::Line(fault);
+            tell(outcome, NOT_UTF_8.as_bytes(), &mut output, &mut faults)
+        }
+    };
     ExitCode::from(status_of(&ending))
 }

@@ -142,7 +142,7 @@ static WRITING: [(&[&str], Writing); 24] = [
     ),
 ];
 
-static LINES: [(&[&str], Answer); 36] = [
+static LINES: [(&[&str], Answer); 38] = [
     (&["capt", "list", "a"], Ok((Task::List, "a", 1, false))),
     (
         &["capt", "list", "--allow-cut", "a"],
@@ -190,7 +190,9 @@ static LINES: [(&[&str], Answer); 36] = [
     (&["capt", "list", "--help"], Err(LineFault::Help)),
     (&["capt", "list", "-h"], Err(LineFault::Help)),
     (&["capt"], Err(LineFault::Line)),
-    (&["capt", "--version"], Err(LineFault::Line)),
+    (&["capt", "--version"], Err(LineFault::Help)),
+    (&["capt", "-V"], Err(LineFault::Help)),
+    (&["capt", "list", "--version"], Err(LineFault::Line)),
     (&["capt", "help"], Err(LineFault::Line)),
     (&["capt", "frobnicate", "a"], Err(LineFault::Line)),
     (&["capt", "list"], Err(LineFault::Line)),
