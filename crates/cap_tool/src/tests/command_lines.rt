@@ -1,6 +1,6 @@
 //! Command lines with their jobs and faults.
 use cap_bytes::Order;
-use cap_line::{LineFault, Task, parse};
+use cap_line::{LineFault, Task, USAGE, message, parse};
 use cap_source::Format;
 use std::alloc::Global;
 
@@ -220,5 +220,28 @@ fn lines_give_their_jobs_and_faults(rt: HostRuntime) {
     }
     for (words, want) in WRITING {
         assert_eq!(rt; writing(rt.alloc(), words), want, "{words:?}");
+    }
+}
+
+// What is said of words: the version, help, why they are refused, and nothing where clap takes them.
+static SAID: [(&[&str], Option<&str>); 5] = [
+    (&["capt", "--version"], Some("capt 0.1.0\n")),
+    (&["capt", "--help"], Some(USAGE)),
+    (
+        &["capt", "merg"],
+        Some(
+            "error: unrecognized subcommand 'merg'\n\n  tip: a similar subcommand exists: 'merge'\n\n\
+            Usage: capt <COMMAND>\n\nFor more information, try '--help'.\n",
+        ),
+    ),
+    (&["capt", "list", "a"], None),
+    (&["capt", "merge", "-o", "a", "a"], None),
+];
+
+#[test]
+fn clap_says_why_words_are_refused(rt: HostRuntime) {
+    for (words, wanted) in SAID {
+        let said = message(rt.alloc(), words);
+        assert_eq!(rt; said.as_deref(), wanted, "{words:?}");
     }
 }
