@@ -138,6 +138,26 @@ run list ''; check 'an empty name' 1 '' 'fault: open file 1'
 run list "$one/a"; check 'a name below a file' 1 '' 'fault: open file 1'
 cp "$one" "$work/closed"; chmod 0 "$work/closed"; if [ ! -r "$work/closed" ]; then run list "$work/closed"; check 'an unreadable file' 1 '' 'fault: open file 1'; fi
 chmod 0444 "$work/closed"; if [ ! -w "$work/closed" ]; then run merge -o "$work/closed" "$one"; check 'an OUT that is write-protected' 1 '' 'fault: create output'; fi
+# at a terminal a second line tells the file and why; elsewhere none does, as all checks before show
+shown() {
+    local name=$1 want=$2
+    shift 2
+    (cd "$work" && script -qec "$(printf '%q ' "$program" "$@")" /dev/null) < /dev/null | tr -d '\r' > "$work/shown"
+    if [ "$(cat "$work/shown")" = "$want" ]; then passed=$((passed + 1)); else failed=$((failed + 1)); echo "$name:"; cat "$work/shown"; fi
+}
+if command -v script > /dev/null; then
+    shown 'a cut file at a terminal' 'refused: file 2 offset 24 rule 3 cut
+  cut.pcap: it ends inside a file header, or inside a record or block, which --allow-cut drops' info one.pcap cut.pcap
+    shown 'a missing file at a terminal' 'fault: open file 1
+  missing: No such file or directory (os error 2)' list missing
+    shown 'a folder at a terminal' "fault: read file 1 offset 0
+  folder: it can't be read" list folder
+    shown 'an OUT that is read, at a terminal' 'fault: create output
+  k/hard: it is one of the files that are read' merge -o k/hard k/a
+    shown 'an OUT in no folder, at a terminal' 'fault: create output
+  nowhere/new: No such file or directory (os error 2)' merge -o nowhere/new one.pcap
+    shown 'a faulty output at a terminal' 'fault: output' merge -o one.pcap one.pcap
+fi
 # What is said of the program, and of words that give no job, is what says.txt has: a line of standard error begins with
 # '! ' there. No line is longer than a terminal's.
 ln -s "$program" "$work/capt"

@@ -4,18 +4,20 @@
 ghost use Rattle.std.specs.Prelude.{◌≡◌, ◌⊎◌, IfErr, vec_len};
 ghost use Rattle.cap_line.specs.CommandLine.{IsWhole};
 
+mod hints;
 mod streams;
 #[cfg(test)]
 mod tests;
 
+use crate::hints::hint;
 use crate::streams::{create_output, open_all};
-use cap_bytes::{Fault, Source, Tracked};
+use cap_bytes::{Fault, Source, Tracked, put_all};
 use cap_line::{Job, LineFault, NOT_UTF_8, USAGE, message, parse};
 use cap_tasks::{Outcome, end_of, job_to, status_of, tell};
 use std::alloc::Global;
 use std::env;
 use std::fs::File;
-use std::io::{BufWriter, ErrorKind, Stdin, Stdout, Write};
+use std::io::{BufWriter, ErrorKind, IsTerminal, Stdin, Stdout, Write};
 use std::process::ExitCode;
 use std::rt::{Env, Files};
 
@@ -87,10 +89,16 @@ fn main(rt: HostRuntime) -> ExitCode {
         Ok(words) => {
             let answer = run(&rt, words.as_slice(), rt.stdin(), rt.stdout());
             let (outcome, said) = ended(rt.alloc(), words.as_slice(), answer);
-            match said {
+            let ending = match said {
                 Some(text) => tell(outcome, text.as_bytes(), &mut output, &mut faults),
                 None => tell(outcome, USAGE.as_bytes(), &mut output, &mut faults),
+            };
+            if rt.stderr().is_terminal() {
+                if let Some(line) = hint(&rt, rt.alloc(), &ending, words.as_slice()) {
+                    let _ = put_all(&mut faults, line.as_bytes());
+                }
             }
+            ending
         }
         Err(fault) => {
             let outcome = Outcome::Line(fault);
