@@ -1,4 +1,7 @@
 //! What is told at a terminal beside the line of a fault: the file's name, and why.
+ghost use Rattle.std.specs.Prelude.{IsSome, IsTrue};
+ghost use Rattle.cap_tool.specs.Hints.{is_of_file};
+
 use cap_bytes::{Fault, Rule};
 use cap_line::{Job, parse};
 use cap_tasks::Outcome;
@@ -64,7 +67,9 @@ pub fn hint<R: Files<File = File>>(
     alloc: Global,
     outcome: &Outcome,
     words: &[String],
-) -> Option<String> {
+) -> Option<String>
+    ensures { IsSome result → IsTrue (is_of_file outcome.now) }
+{
     let Ok(job) = parse(alloc, words) else {
         return None;
     };
