@@ -5,7 +5,7 @@
 # Use: checks/program.sh [PROGRAM]     (as after `rt run` or `rt ci` in crates/cap_tool)
 set -u
 top=$(cd "$(dirname "$0")/.." && pwd)
-program=${1:-$top/crates/cap_tool/out/cap_tool}
+program=$(realpath "${1:-$top/crates/cap_tool/out/cap_tool}")
 work=$(mktemp -d)
 trap 'rm -rf "$work"' EXIT
 passed=0
@@ -110,15 +110,68 @@ run merge -o "$one" "$one" "$one"; check 'a merge into one of its files' 2 '' 'f
 run merge -o "$work/none" - -; check 'standard input twice' 2 '' 'fault: input'
 run merge -o "$work/none" $(yes a | head -n 33); check '33 files' 2 '' 'fault: files'
 run merge -o /dev/full "$one" "$one"; check 'a merge on a full disk' 1 '' 'fault: write'
-run --help; check 'help' 0 '*' ''; grep -q 'capt report' "$work/out" || { failed=$((failed + 1)); echo 'help: no example'; }
-run list --help; check 'help of a subcommand' 0 '*' ''
-run list -h; check 'short help' 0 '*' ''
-run; check 'no words' 2 '' '*'; [ -s "$work/err" ] || { failed=$((failed + 1)); echo 'no words: no usage'; }
-run --version; check 'version' 2 '' '*'
-run list; check 'no file' 2 '' '*'
-run list a b; check 'two files' 2 '' '*'
-run list --allow-cut --allow-cut a; check 'a flag twice' 2 '' '*'
-run frobnicate a; check 'an unknown subcommand' 2 '' '*'
+# OUT that is a FILE under another name isn't touched; a lock that someone else holds doesn't matter
+mkdir "$work/k"; cp "$one" "$work/k/a"; ln -s a "$work/k/soft"; ln "$work/k/a" "$work/k/hard"; cd "$work/k" || exit 1
+for name in ./a "$work/k/a" ../k/a soft hard; do
+    for words in merge join 'convert --to pcap'; do
+        # shellcheck disable=SC2086 # the words of a command
+        run $words -o "$name" a; check "$words into $name" 1 '' 'fault: create output'; same "$words into $name" a "$one"
+    done
+done
+run merge -o a "$one" hard soft; check 'a merge into a file with two names' 1 '' 'fault: create output'; same 'a file with two names' a "$one"
+input=a; run convert --to pcap -o a -; check 'into the file of standard input' 1 '' 'fault: create output'; input=; same 'the file of standard input' a "$one"
+run merge -o new a; check 'beside its file' 0 '' ''; same 'beside its file' new "$work/want.pcapng"; rm new
+flock -s a "$program" merge -o new a; status=$?; check 'a file that someone else reads' 0 '' ''; same 'a file that someone else reads' new "$work/want.pcapng"
+flock -x a "$program" merge -o new a; status=$?; check 'a file that someone else holds' 0 '' ''
+run merge -o /dev/null a; check 'to nothing' 0 '' ''
+run merge -o /dev/null /dev/../dev/null; check 'from nothing to nothing' 1 '' 'refused: file 1 offset 0 rule 3 cut'
+run merge -o /dev/stdout a; check 'to /dev/stdout' 0 '*' ''; same '/dev/stdout' "$work/out" "$work/want.pcapng"
+mkfifo pipe; cat pipe > new & run merge -o pipe a; wait; check 'to a pipe' 0 '' ''; same 'a pipe' new "$work/want.pcapng"
+cat a > pipe & run merge -o new pipe; wait; check 'from a pipe' 0 '' ''; same 'from a pipe' new "$work/want.pcapng"; cd "$work" || exit 1
+# what isn't a capture that capt reads, or no file at all
+printf '\x1f\x8b\x08\0\0\0\0\0\0\x03' > "$work/gz"; run list "$work/gz"; check 'a compressed capture' 1 '' 'refused: file 1 offset 0 rule 1 magic'
+echo 'a line of text' > "$work/text"; run report "$one" "$work/text"; check 'a text' 1 '' 'refused: file 2 offset 0 rule 1 magic'
+{ printf '\x34\xcd\xb2\xa1'; tail -c +5 "$one"; } > "$work/modified"; run info "$work/modified"; check 'a modified pcap magic' 1 '' 'refused: file 1 offset 0 rule 1 magic'
+{ head -c 6 "$one"; printf '\x03'; tail -c +8 "$one"; } > "$work/older"; run list "$work/older"; check 'pcap 2.3' 1 '' 'refused: file 1 offset 0 rule 2 version'
+{ head -c 12 "$work/section"; printf '\x02'; tail -c +14 "$work/section"; } > "$work/newer"; run list "$work/newer"; check 'pcapng 2.0' 1 '' 'refused: file 1 offset 0 rule 2 version'
+run list ''; check 'an empty name' 1 '' 'fault: open file 1'
+run list "$one/a"; check 'a name below a file' 1 '' 'fault: open file 1'
+cp "$one" "$work/closed"; chmod 0 "$work/closed"; if [ ! -r "$work/closed" ]; then run list "$work/closed"; check 'an unreadable file' 1 '' 'fault: open file 1'; fi
+chmod 0444 "$work/closed"; if [ ! -w "$work/closed" ]; then run merge -o "$work/closed" "$one"; check 'an OUT that is write-protected' 1 '' 'fault: create output'; fi
+# at a terminal a second line tells the file and why; elsewhere none does, as all checks before show
+shown() {
+    local name=$1 want=$2
+    shift 2
+    (cd "$work" && script -qec "$(printf '%q ' "$program" "$@")" /dev/null) < /dev/null | tr -d '\r' > "$work/shown"
+    if [ "$(cat "$work/shown")" = "$want" ]; then passed=$((passed + 1)); else failed=$((failed + 1)); echo "$name:"; cat "$work/shown"; fi
+}
+if command -v script > /dev/null; then
+    shown 'a cut file at a terminal' 'refused: file 2 offset 24 rule 3 cut
+  cut.pcap: it ends inside a file header, or inside a record or block, which --allow-cut drops' info one.pcap cut.pcap
+    shown 'a missing file at a terminal' 'fault: open file 1
+  missing: No such file or directory (os error 2)' list missing
+    shown 'a folder at a terminal' "fault: read file 1 offset 0
+  folder: it can't be read" list folder
+    shown 'an OUT that is read, at a terminal' 'fault: create output
+  k/hard: it is one of the files that are read' merge -o k/hard k/a
+    shown 'an OUT in no folder, at a terminal' 'fault: create output
+  nowhere/new: No such file or directory (os error 2)' merge -o nowhere/new one.pcap
+    shown 'a faulty output at a terminal' 'fault: output' merge -o one.pcap one.pcap
+fi
+# What is said of the program, and of words that give no job, is what says.txt has: a line of standard error begins with
+# '! ' there. No line is longer than a terminal's.
+ln -s "$program" "$work/capt"
+says() {
+    grep '^\$ capt' "$top/checks/says.txt" | while read -r _ _ words; do
+        echo "\$ capt${words:+ $words}"
+        # shellcheck disable=SC2086 # the words of a command
+        "$work/capt" $words > "$work/out" 2> "$work/err" < /dev/null
+        echo "status $?"; cat "$work/out"; sed 's/^/! /; s/ $//' "$work/err"
+    done
+}
+says > "$work/said"; same 'what is said' "$work/said" "$top/checks/says.txt"; diff "$top/checks/says.txt" "$work/said" | head -20
+if grep -q '^[^$!].\{80\}\|^! .\{81\}' "$work/said"; then failed=$((failed + 1)); echo 'what is said: a long line'; else passed=$((passed + 1)); fi
+run --help; check 'help' 0 '*' ''; "$program" --help > /dev/full 2> "$work/err"; status=$?; : > "$work/out"; check 'help on a full disk' 1 '' 'fault: write'
 run list $'\xff\xfe'; check 'words that are not UTF-8' 2 '' '*'
 "$program" list "$work/one.pcap" > /dev/full 2> "$work/err"; status=$?; : > "$work/out"
 check 'a full disk' 1 '' 'fault: write'

@@ -1,5 +1,5 @@
 -- From clap's answer to capt's.
-use Rattle.std.proofs.Common.{◌≡◌, ◌⊎◌, List, [], Option, Some, None, Result, Ok, Err, IfOk, true, false, refl, sym, ap, ◌∙◌, subst, inl, inr}
+use Rattle.std.proofs.Common.{◌≡◌, ◌⊎◌, List, [], Option, Some, None, Result, Ok, Err, IfOk, IfSome, IsSome, true, false, refl, sym, ap, ◌∙◌, subst, inl, inr}
 use Rattle.clap.specs.Words.{App, Text, Row, IsAmong, app_of, fault_of, is_simple, is_simple_and_free, subcommand_of}
 use Rattle.clap.proofs.OnLiterals.{clap_on_literals}
 use Rattle.clap.specs.declared.error.kind.ErrorKind.{ErrorKind}
@@ -8,7 +8,7 @@ use Rattle.clap.specs.Words.{AddsSubcommand, shape_of, with_subcommand}
 use Rattle.clap.specs.declared.builder.command.Command.{Command}
 use Rattle.clap.specs.declared.builder.command.Command.TheViews.{out-Command}
 use Rattle.cap_line.specs.Command.{IsCapt, IsConvert, IsJoin, IsMerge, capt_app, convert_app, merge_app, printing_app}
-use Rattle.cap_line.specs.CommandLine.{Parses, IsJobOf, fault_by}
+use Rattle.cap_line.specs.CommandLine.{Parses, IsJobOf, IsRefused, IsWhole, fault_by}
 use Rattle.cap_line.specs.declared.job.Job.{Job}
 use Rattle.cap_line.specs.declared.faults.LineFault.{LineFault}
 use Rattle.cap_line.specs.declared.faults.LineFault.TheVariants.{Help, Line, Files, Input, Output, Memory}
@@ -44,6 +44,12 @@ pub IsJobOf-no_help : (entered : Option (Text × List Row)) (r : Result Job Line
 IsJobOf-no_help None r job is = let same : Line ≡ Help = (cc) in cc
 IsJobOf-no_help (Some p) r job is = let at : IsJobOf (Some p) (Err Help) = subst (IsJobOf (Some p)) is job in at
 
+-- a job of a subcommand is whole
+pub whole-of : (entered : Option (Text × List Row)) (r : Result Job LineFault) → IsJobOf entered r → IfOk r IsWhole
+whole-of (Some p) (Ok job) is = is.4
+whole-of (Some p) (Err fault) is = tt
+whole-of None r is = rw is tt
+
 -- an error of clap's is for want of memory, or of one of its kinds
 abbrev Errs : List Text → App → ErrorKind → Type 0
 Errs words app k = (k ≡ kind.OutOfMemory) ⊎ IsAmong k (fault_of app words)
@@ -57,7 +63,9 @@ refused_line words app k is line other (inr among) r at =
 -- clap's refusal is the parse's
 pub Parses-refused : (words : List Text) (app : App) (k : ErrorKind) → IsCapt app → Errs words app k → Parses words (Err (fault_by k))
 Parses-refused words app kind.DisplayHelp is (inl e) = absurd (let no : kind.DisplayHelp ≡ kind.OutOfMemory = e in cc)
-Parses-refused words app kind.DisplayHelp is (inr among) = (app, record { is_capt = is; refused = among })
+Parses-refused words app kind.DisplayHelp is (inr among) = (app, kind.DisplayHelp, refl, record { is_capt = is; refused = among })
+Parses-refused words app kind.DisplayVersion is (inl e) = absurd (let no : kind.DisplayVersion ≡ kind.OutOfMemory = e in cc)
+Parses-refused words app kind.DisplayVersion is (inr among) = (app, kind.DisplayVersion, refl, record { is_capt = is; refused = among })
 Parses-refused words app kind.OutOfMemory is errs = tt
 Parses-refused words app kind.InvalidValue is errs = refused_line words app kind.InvalidValue is refl (λ e. (cc)) errs _ refl
 Parses-refused words app kind.UnknownArgument is errs = refused_line words app kind.UnknownArgument is refl (λ e. (cc)) errs _ refl
@@ -71,7 +79,6 @@ Parses-refused words app kind.ArgumentConflict is errs = refused_line words app 
 Parses-refused words app kind.MissingRequiredArgument is errs = refused_line words app kind.MissingRequiredArgument is refl (λ e. (cc)) errs _ refl
 Parses-refused words app kind.MissingSubcommand is errs = refused_line words app kind.MissingSubcommand is refl (λ e. (cc)) errs _ refl
 Parses-refused words app kind.DisplayHelpOnMissingArgumentOrSubcommand is errs = refused_line words app kind.DisplayHelpOnMissingArgumentOrSubcommand is refl (λ e. (cc)) errs _ refl
-Parses-refused words app kind.DisplayVersion is errs = refused_line words app kind.DisplayVersion is refl (λ e. (cc)) errs _ refl
 Parses-refused words app kind.Io is errs = refused_line words app kind.Io is refl (λ e. (cc)) errs _ refl
 Parses-refused words app kind.Format is errs = refused_line words app kind.Format is refl (λ e. (cc)) errs _ refl
 
@@ -100,3 +107,10 @@ IsCapt-added printing convert mid merge most join all is is_convert convert_loca
           ∙ ap (λ a. with_subcommand a (shape_of merge))
           (convert_added.shape convert_local ∙ ap (λ a. with_subcommand a (shape_of convert)) is));
     }
+
+-- clap has said why it gives no matches
+pub IsRefused-said : {A : Type 0} (words : List Text) (app : App) (k : ErrorKind) (said : Option A) → IsCapt app → Errs words app k
+    → (IsSome said → k ≡ kind.OutOfMemory → ⊥) → IfSome said (λ text. IsRefused words)
+IsRefused-said words app k None is errs other = tt
+IsRefused-said words app k (Some text) is (inl e) other = absurd (other refl e)
+IsRefused-said words app k (Some text) is (inr among) other = (app, k, record { is_capt = is; refused = among })

@@ -20,7 +20,7 @@ allow_cut_rule = record (new_rule (codes "allow-cut")) { long = Some (codes "all
 
 -- the option `--order`, which takes one of those names
 abbrev pub order_rule : Names → Rule
-order_rule names = record (new_rule (codes "order")) { long = Some (codes "order"); parser = Some (parser.Names names) }
+order_rule names = record (new_rule (codes "order")) { long = Some (codes "order"); value_names = 1; parser = Some (parser.Names names) }
 
 abbrev pub IsOrderRule : Rule → Type 0
 IsOrderRule rule = (names : Names) × AreNames names (codes "big" ∷ codes "little" ∷ []) × (rule ≡ order_rule names)
@@ -28,14 +28,14 @@ IsOrderRule rule = (names : Names) × AreNames names (codes "big" ∷ codes "lit
 -- the option `--to`, which is required and takes one of those names
 abbrev pub to_rule : Names → Rule
 to_rule names =
-    record (new_rule (codes "to")) { long = Some (codes "to"); parser = Some (parser.Names names); required = true }
+    record (new_rule (codes "to")) { long = Some (codes "to"); value_names = 1; parser = Some (parser.Names names); required = true }
 
 abbrev pub IsToRule : Rule → Type 0
 IsToRule rule = (names : Names) × AreNames names (codes "pcap" ∷ codes "pcapng" ∷ []) × (rule ≡ to_rule names)
 
 -- the option `-o`, the letter's code being 111, which is required
 abbrev pub out_rule : Rule
-out_rule = record (new_rule (codes "out")) { short = Some 111; required = true }
+out_rule = record (new_rule (codes "out")) { short = Some 111; value_names = 1; required = true }
 
 -- the argument FILE, which is required
 abbrev pub file_rule : Rule
@@ -111,9 +111,10 @@ pub record IsJoin (app : App) : Type 0 where
   pub orders_are : AreNames orders (codes "big" ∷ codes "little" ∷ [])
   pub app_is : app ≡ join_app orders
 
--- `capt` without its subcommands: one is required, and `help` is none
+-- `capt` without its subcommands: one is required, and `help` is none; it has a version
 abbrev pub capt_alone : App
-capt_alone = on_top (λ s. record s { subcommand_required = true; disable_help_subcommand = true }) (new_app (codes "capt"))
+capt_alone =
+    on_top (λ s. record s { has_version = true; subcommand_required = true; disable_help_subcommand = true }) (new_app (codes "capt"))
 
 -- `capt` with the subcommands that print one capture, with those that print, and with all
 abbrev pub listing_app : App

@@ -1,5 +1,5 @@
 -- What a command line asks for, by clap's matches of its words.
-use Rattle.std.specs.Prelude.{◌≡◌, ◌⊎◌, ◌&&◌, not, Bool, false, List, [], length, codes, count_by, Option, Some, None, Result, Ok, Err, unwrap_or, if◌then◌else◌, nat_lt, map, option_map, IsTrue, ◌↔◌}
+use Rattle.std.specs.Prelude.{◌≡◌, ◌⊎◌, ◌&&◌, ◌==◌, ◌≤◌, ℕ, not, Bool, true, false, List, [], length, codes, count_by, Option, Some, None, is_some, Result, Ok, Err, unwrap_or, if◌then◌else◌, nat_lt, map, option_map, vec_len, IsTrue, IsFalse, ◌↔◌}
 use Rattle.std.specs.Str.{bytes_eq}
 use Rattle.std.specs.List.{list_any}
 use Rattle.clap.specs.Words.{App, Row, Text, all_of, first_of, fault_of, subcommand_of, IsAmong}
@@ -8,8 +8,8 @@ use Rattle.clap.specs.declared.error.kind.ErrorKind.TheVariants as kind
 use Rattle.cap_line.specs.Command.{IsCapt}
 use Rattle.cap_bytes.specs.declared.numbers.Order.{Order}
 use Rattle.cap_bytes.specs.declared.numbers.Order.TheVariants.{Big, Little}
-use Rattle.cap_line.specs.declared.job.Format.{Format}
-use Rattle.cap_line.specs.declared.job.Format.TheVariants.{Pcap, Pcapng}
+use Rattle.cap_source.specs.declared.packets.Format.{Format}
+use Rattle.cap_source.specs.declared.packets.Format.TheVariants.{Pcap, Pcapng}
 use Rattle.cap_line.specs.declared.job.Job.{Job}
 use Rattle.cap_line.specs.declared.job.Task.{Task}
 use Rattle.cap_line.specs.declared.job.Task.TheVariants as tasks
@@ -19,6 +19,7 @@ use Rattle.cap_line.specs.declared.faults.LineFault.TheVariants.{Help, Line, Fil
 -- what clap's error is to the user
 abbrev pub fault_by : ErrorKind → LineFault
 fault_by kind.DisplayHelp = Help
+fault_by kind.DisplayVersion = Help
 fault_by kind.OutOfMemory = Memory
 fault_by _ = Line
 
@@ -58,12 +59,37 @@ files_fault files out =
     if nat_lt 1 (count_by (λ f. bytes_eq f (codes "-")) files) then Err Input else
     if is_also_file out files then Err Output else Ok tt
 
--- the files that a subcommand's rows name, and its output
+-- whether a task has what it takes, with so many files: one file where it is of one, a format for `convert`, an output
+-- where it writes one
+abbrev pub is_whole : Task → ℕ → Option Format → Option Text → Bool
+is_whole tasks.List files to out = files == 1
+is_whole tasks.Blocks files to out = files == 1
+is_whole tasks.Info files to out = true
+is_whole tasks.Report files to out = true
+is_whole tasks.Convert files to out = (files == 1) && is_some to && is_some out
+is_whole tasks.Merge files to out = is_some out
+is_whole tasks.Join files to out = is_some out
+
+-- A job has 1 to 32 files, and all that its task takes.
+pub record IsWhole (job : Job) : Type 0 where
+  pub some : 1 ≤ vec_len job.files
+  pub most : vec_len job.files ≤ 32
+  pub taken : IsTrue (is_whole job.task (vec_len job.files) job.to (option_map (λ o. o.now) job.out))
+
+-- the files that a subcommand's rows name, its output and its format
 abbrev pub files_in : List Row → List Text
 files_in rows = unwrap_or (all_of (codes "FILE") rows) []
 
 abbrev pub out_in : List Row → Option Text
 out_in rows = first_of (codes "out") rows
+
+abbrev pub to_in : List Row → Option Format
+to_in rows = format_by (first_of (codes "to") rows)
+
+-- A task lacks what it takes.
+abbrev pub Lacks : Text → List Row → Type 0
+Lacks name rows =
+    (task : Task) × (task_by name ≡ Some task) × IsFalse (is_whole task (length (files_in rows)) (to_in rows) (out_in rows))
 
 -- The job is what the rows say.
 pub record HasRows (task : Task) (rows : List Row) (job : Job) : Type 0 where
@@ -71,16 +97,16 @@ pub record HasRows (task : Task) (rows : List Row) (job : Job) : Type 0 where
   pub files : map (λ f. f.now) job.files.items ≡ files_in rows
   pub allow_cut : IsTrue job.allow_cut ↔ (first_of (codes "allow-cut") rows ≡ Some (codes "true"))
   pub order : job.order ≡ order_by (first_of (codes "order") rows)
-  pub to : job.to ≡ format_by (first_of (codes "to") rows)
+  pub to : job.to ≡ to_in rows
   pub out : option_map (λ o. o.now) job.out ≡ out_in rows
 
--- What a subcommand of that name with those rows gives: a job, or the first fault. A name that is no task's is
--- refused as the line.
+-- What a subcommand of that name with those rows gives: a whole job, or the first fault. A name that is no task's, and a
+-- task that lacks what it takes, are refused as the line.
 abbrev pub IsJobBy : Text → List Row → Result Job LineFault → Type 0
 IsJobBy name rows (Ok job) =
-    (task : Task) × (task_by name ≡ Some task) × (files_fault (files_in rows) (out_in rows) ≡ Ok tt) × HasRows task rows job
+    (task : Task) × (task_by name ≡ Some task) × (files_fault (files_in rows) (out_in rows) ≡ Ok tt) × HasRows task rows job × IsWhole job
 IsJobBy name rows (Err Help) = ⊥
-IsJobBy name rows (Err Line) = (task_by name ≡ None) ⊎ (files_fault (files_in rows) (out_in rows) ≡ Err Line)
+IsJobBy name rows (Err Line) = (task_by name ≡ None) ⊎ Lacks name rows ⊎ (files_fault (files_in rows) (out_in rows) ≡ Err Line)
 IsJobBy name rows (Err Files) = files_fault (files_in rows) (out_in rows) ≡ Err Files
 IsJobBy name rows (Err Input) = files_fault (files_in rows) (out_in rows) ≡ Err Input
 IsJobBy name rows (Err Output) = files_fault (files_in rows) (out_in rows) ≡ Err Output
@@ -102,10 +128,14 @@ pub record Refuses (words : List Text) (k : ErrorKind) (app : App) : Type 0 wher
   pub is_capt : IsCapt app
   pub refused : IsAmong k (fault_of app words)
 
+-- Clap refuses the words, or answers help or the version in place of matches.
+abbrev pub IsRefused : List Text → Type 0
+IsRefused words = (app : App) × (k : ErrorKind) × Refuses words k app
+
 -- What `parse` answers at the words of a command line, the first of which is the program's name.
 abbrev pub Parses : List Text → Result Job LineFault → Type 0
 Parses words (Ok job) = (app : App) × Answers words (Ok job) app
-Parses words (Err Help) = (app : App) × Refuses words kind.DisplayHelp app
+Parses words (Err Help) = (app : App) × (k : ErrorKind) × (fault_by k ≡ Help) × Refuses words k app
 Parses words (Err Line) =
     ((app : App) × (k : ErrorKind) × (fault_by k ≡ Line) × Refuses words k app) ⊎ ((app : App) × Answers words (Err Line) app)
 Parses words (Err Files) = (app : App) × Answers words (Err Files) app

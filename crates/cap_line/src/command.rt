@@ -4,24 +4,9 @@ ghost use Rattle.clap.specs.Words.{app_of, rule_of};
 ghost use Rattle.clap.specs.declared.builder.command.Command.TheViews.{out-Command as fields_of};
 ghost use Rattle.cap_line.specs.Command.{IsCapt, IsConvert, IsJoin, IsMerge, IsOrderRule, IsToRule, IsWriting, allow_cut_rule, blocks_app, capt_alone, capture_app, captures_app, file_rule, files_rule, info_app, list_app, listing_app, out_rule, printing_app, report_app};
 
+use crate::texts;
 use clap::{Arg, ArgAction, Command};
 use std::alloc::{AllocError, Global};
-
-const EXAMPLE: &str = "Example: capt report trace.pcap";
-
-const LIST_EXAMPLE: &str = "Example: capt list --allow-cut trace.pcap";
-
-const BLOCKS_EXAMPLE: &str = "Example: capt blocks trace.pcapng";
-
-const INFO_EXAMPLE: &str = "Example: capt info morning.pcap evening.pcapng";
-
-const REPORT_EXAMPLE: &str = "Example: capt report morning.pcap evening.pcapng";
-
-const CONVERT_EXAMPLE: &str = "Example: capt convert --to pcapng -o trace.pcapng trace.pcap";
-
-const MERGE_EXAMPLE: &str = "Example: capt merge -o day.pcapng morning.pcap evening.pcapng";
-
-const JOIN_EXAMPLE: &str = "Example: capt join -o whole.pcapng morning.pcap evening.pcapng";
 
 // The names of the orders, and of the formats.
 static ORDERS: [&str; 2] = ["big", "little"];
@@ -36,7 +21,7 @@ fn allow_cut<'a>(alloc: Global) -> Arg<'a>
     Arg::new(alloc, "allow-cut")
         .long("allow-cut")
         .action(ArgAction::SetTrue)
-        .help("Drop a last packet or block that is cut off")
+        .help(texts::ALLOW_CUT_HELP)
 }
 
 // `FILE`
@@ -46,7 +31,7 @@ fn file<'a>(alloc: Global) -> Arg<'a>
 {
     Arg::new(alloc, "FILE")
         .required(true)
-        .help("A capture file, or - for standard input")
+        .help(texts::FILE_HELP)
 }
 
 // A subcommand with `[--allow-cut] FILE`, without its texts
@@ -66,8 +51,8 @@ fn list<'a>(alloc: Global) -> Result<Command<'a>, AllocError>
 {
     Ok(
         capture_command(alloc, "list")?
-            .about("Prints a line for each packet of a capture")
-            .after_help(LIST_EXAMPLE),
+            .about(texts::LIST_ABOUT)
+            .after_help(texts::LIST_HELP),
     )
 }
 
@@ -78,8 +63,8 @@ fn blocks<'a>(alloc: Global) -> Result<Command<'a>, AllocError>
 {
     Ok(
         capture_command(alloc, "blocks")?
-            .about("Prints a line for each block of a pcapng file")
-            .after_help(BLOCKS_EXAMPLE),
+            .about(texts::BLOCKS_ABOUT)
+            .after_help(texts::BLOCKS_HELP),
     )
 }
 
@@ -91,7 +76,8 @@ fn order<'a>(alloc: Global) -> Arg<'a>
     Arg::new(alloc, "order")
         .long("order")
         .value_parser(ORDERS.as_slice())
-        .help("The byte order of the output: little where none is named")
+        .value_name("ORDER")
+        .help(texts::ORDER_HELP)
 }
 
 // `--to`
@@ -103,7 +89,8 @@ fn to<'a>(alloc: Global) -> Arg<'a>
         .long("to")
         .value_parser(FORMATS.as_slice())
         .required(true)
-        .help("The format of the output")
+        .value_name("FORMAT")
+        .help(texts::TO_HELP)
 }
 
 // `-o`
@@ -114,7 +101,8 @@ fn out<'a>(alloc: Global) -> Arg<'a>
     Arg::new(alloc, "out")
         .short('o')
         .required(true)
-        .help("The output file, or - for standard output")
+        .value_name("OUT")
+        .help(texts::OUT_HELP)
 }
 
 // `FILE..`
@@ -125,7 +113,7 @@ fn files<'a>(alloc: Global) -> Arg<'a>
     Arg::new(alloc, "FILE")
         .required(true)
         .num_args(1..)
-        .help("Capture files, of which one may be - for standard input")
+        .help(texts::FILES_HELP)
 }
 
 // A subcommand with `[--allow-cut] FILE..`, without its texts
@@ -145,8 +133,8 @@ fn info<'a>(alloc: Global) -> Result<Command<'a>, AllocError>
 {
     Ok(
         captures_command(alloc, "info")?
-            .about("Prints a line for each capture")
-            .after_help(INFO_EXAMPLE),
+            .about(texts::INFO_ABOUT)
+            .after_help(texts::INFO_HELP),
     )
 }
 
@@ -157,8 +145,8 @@ fn report<'a>(alloc: Global) -> Result<Command<'a>, AllocError>
 {
     Ok(
         captures_command(alloc, "report")?
-            .about("Prints the totals of captures, and a line for each conversation")
-            .after_help(REPORT_EXAMPLE),
+            .about(texts::REPORT_ABOUT)
+            .after_help(texts::REPORT_HELP),
     )
 }
 
@@ -182,8 +170,8 @@ fn convert<'a>(alloc: Global) -> Result<Command<'a>, AllocError>
         writing_command(alloc, "convert")?
             .arg(to(alloc))?
             .arg(file(alloc))?
-            .about("Writes the packets of a capture in either format")
-            .after_help(CONVERT_EXAMPLE),
+            .about(texts::CONVERT_ABOUT)
+            .after_help(texts::CONVERT_HELP),
     )
 }
 
@@ -195,8 +183,8 @@ fn merge<'a>(alloc: Global) -> Result<Command<'a>, AllocError>
     Ok(
         writing_command(alloc, "merge")?
             .arg(files(alloc))?
-            .about("Writes the packets of captures as one, in the order of time")
-            .after_help(MERGE_EXAMPLE),
+            .about(texts::MERGE_ABOUT)
+            .after_help(texts::MERGE_HELP),
     )
 }
 
@@ -208,8 +196,8 @@ fn join<'a>(alloc: Global) -> Result<Command<'a>, AllocError>
     Ok(
         writing_command(alloc, "join")?
             .arg(files(alloc))?
-            .about("Writes the whole IPv4 datagrams of captures, joined of their fragments")
-            .after_help(JOIN_EXAMPLE),
+            .about(texts::JOIN_ABOUT)
+            .after_help(texts::JOIN_HELP),
     )
 }
 
@@ -219,8 +207,8 @@ fn capt_itself<'a>(alloc: Global) -> Command<'a>
     ensures local { (fields_of result).has_globals ≡ false }
 {
     Command::new(alloc, "capt")
-        .about("Reads packet captures: pcap 2.4, pcapng 1.0")
-        .after_help(EXAMPLE)
+        .version(texts::VERSION)
+        .override_help(texts::USAGE)
         .subcommand_required(true)
         .disable_help_subcommand(true)
 }

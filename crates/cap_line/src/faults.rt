@@ -5,7 +5,7 @@ use thiserror::Error;
 /// What is answered in place of a job.
 #[derive(Clone, Copy, Debug, PartialEq, Eq, Error)]
 pub enum LineFault {
-    /// Help was asked for.
+    /// Help or the version was asked for.
     #[error("help")]
     Help,
     /// The words aren't a command line of capt, or aren't all UTF-8.

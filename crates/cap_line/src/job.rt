@@ -1,16 +1,17 @@
 //! What the command line asks for.
-ghost use Rattle.std.specs.Prelude.{◌≡◌, ◌<◌, ◌≤◌, ◌↔◌, ◌-◌, map, length, codes, count_by, option_map, IsTrue, IfOk, Option, Some, None, Ok};
+ghost use Rattle.std.specs.Prelude.{◌≡◌, ◌≢◌, IfSome, IsSome, ◌<◌, ◌≤◌, ◌↔◌, ◌-◌, map, length, codes, count_by, option_map, IsTrue, IfOk, Option, Some, None, Ok};
 ghost use Rattle.std.specs.List.{list_any};
 ghost use Rattle.std.specs.Str.{bytes_eq};
 ghost use Rattle.clap.specs.Values.{kind_of};
 ghost use Rattle.clap.specs.Words.{first_of, rows_of, found_of, subcommand_rows_of};
-ghost use Rattle.cap_line.specs.CommandLine.{fault_by, is_also_file, task_by, order_by, format_by, files_fault, files_in, IsJobBy, IsJobOf, Parses};
+ghost use Rattle.cap_line.specs.CommandLine.{fault_by, is_also_file, is_whole, task_by, order_by, format_by, files_fault, files_in, IsJobBy, IsJobOf, IsRefused, IsWhole, Parses};
 
 use crate::command::capt;
 use crate::faults::LineFault;
 use cap_bytes::Order;
-use clap::ArgMatches;
+use cap_source::Format;
 use clap::error::ErrorKind;
+use clap::{ArgMatches, Error};
 use std::alloc::{AllocError, Global};
 use std::convert::AsStr;
 
@@ -31,13 +32,6 @@ pub enum Task {
     Merge,
     /// Write the whole IPv4 datagrams of files as one pcapng file, in the order of time.
     Join,
-}
-
-/// A format of capture files.
-#[derive(Clone, Copy, Debug, PartialEq, Eq)]
-pub enum Format {
-    Pcap,
-    Pcapng,
 }
 
 /// What the command line asks for.
@@ -61,10 +55,20 @@ fn fault_by(kind: ErrorKind) -> LineFault
     ensures { result ≡ fault_by kind }
 {
     match kind {
-        ErrorKind::DisplayHelp => LineFault::Help,
+        ErrorKind::DisplayHelp | ErrorKind::DisplayVersion => LineFault::Help,
         ErrorKind::OutOfMemory => LineFault::Memory,
         _ => LineFault::Line,
     }
+}
+
+// The text of clap's error, unless memory ran out.
+fn said_by(alloc: Global, error: Error) -> Option<String>
+    ensures { IsSome result → kind_of error ≢ ErrorKind.OutOfMemory }
+{
+    if error.kind() == ErrorKind::OutOfMemory {
+        return None;
+    }
+    format!(in alloc; "{error}").ok()
 }
 
 // How many of the files are standard input.
@@ -159,6 +163,19 @@ fn is_set(flag: Option<&str>) -> bool
     flag == Some("true")
 }
 
+// Whether a task has what it takes: one file where it is of one, a format for `convert`, an output
+// where it writes one.
+fn is_whole(task: Task, files: usize, to: Option<Format>, out: Option<&str>) -> bool
+    ensures { result ≡ is_whole task files to (option_map (λ o. o.now) out.entry) }
+{
+    match task {
+        Task::List | Task::Blocks => files == 1,
+        Task::Info | Task::Report => true,
+        Task::Convert => files == 1 && to.is_some() && out.is_some(),
+        Task::Merge | Task::Join => out.is_some(),
+    }
+}
+
 // The job of a subcommand's name and its matches, or what it is refused by.
 fn job_of<'a>(alloc: Global, name: &str, matches: &ArgMatches<'a>) -> Result<Job<'a>, LineFault>
     ensures { IsJobBy name.now (rows_of (found_of matches.now)) result }
@@ -170,13 +187,17 @@ fn job_of<'a>(alloc: Global, name: &str, matches: &ArgMatches<'a>) -> Result<Job
         return Err(LineFault::Memory);
     };
     let out = text_of(matches, "out");
+    let to = format_of(text_of(matches, "to"));
+    if !is_whole(task, files.len(), to, out) {
+        return Err(LineFault::Line);
+    }
     check_files(files.as_slice(), out)?;
     Ok(Job {
         task,
         files,
         allow_cut: is_set(text_of(matches, "allow-cut")),
         order: order_of(text_of(matches, "order")),
-        to: format_of(text_of(matches, "to")),
+        to,
         out,
     })
 }
@@ -212,9 +233,10 @@ fn job_entered<'a>(alloc: Global, matches: &ArgMatches<'a>) -> Result<Job<'a>, L
 
 /// Reads the words of a command line, the first of which is the program's name. Where several faults
 /// hold, it is the first of `Help` and `Line`, as clap meets them, `Files`, `Input`, `Output`;
-/// `Memory` comes where a growth is refused.
+/// `Memory` comes where a growth is refused. A job has 1 to 32 files and all that its task takes.
 pub fn parse<'a, S: AsStr>(alloc: Global, words: &'a [S]) -> Result<Job<'a>, LineFault>
-    ensures { Parses (map S.text words.entry.now) result }
+    ensures parses { Parses (map S.text words.entry.now) result }
+    ensures whole { IfOk result IsWhole }
 {
     let Ok(command) = capt(alloc) else {
         return Err(LineFault::Memory);
@@ -222,5 +244,19 @@ pub fn parse<'a, S: AsStr>(alloc: Global, words: &'a [S]) -> Result<Job<'a>, Lin
     match command.try_get_matches_from(words) {
         Ok(matches) => job_entered(alloc, &matches),
         Err(error) => Err(fault_by(error.kind())),
+    }
+}
+
+/// What clap says of words that give no job: help, the version, or a message that names the wrong word. It
+/// says nothing where it takes the words, nor where a growth was refused.
+pub fn message<'a, S: AsStr>(alloc: Global, words: &'a [S]) -> Option<String>
+    ensures { IfSome result (λ text. IsRefused (map S.text words.entry.now)) }
+{
+    let Ok(command) = capt(alloc) else {
+        return None;
+    };
+    match command.try_get_matches_from(words) {
+        Ok(_) => None,
+        Err(error) => said_by(alloc, error),
     }
 }

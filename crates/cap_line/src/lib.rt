@@ -4,6 +4,8 @@
 mod command;
 mod faults;
 mod job;
+mod texts;
 
 pub use crate::faults::LineFault;
-pub use crate::job::{Format, Job, Task, parse};
+pub use crate::job::{Job, Task, message, parse};
+pub use crate::texts::{NOT_UTF_8, USAGE, VERSION};

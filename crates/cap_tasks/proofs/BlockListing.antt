@@ -19,6 +19,7 @@ pub record Printing (old new : State) (failed_old failed_new : Bool) (from to : 
   pub number : n ≤ new.offset + 1
   pub limit : n ≤ 2 ^ 41
   pub failed : failed_new ≡ failed_old
+  pub file : new.file ≡ old.file
   pub can_fail : IsTrue new.can_fail → IsTrue old.can_fail
   pub told : IsTrue old.told → IsTrue new.told
   pub writer_told : IsTrue from.told → IsTrue to.told
@@ -77,6 +78,7 @@ Printing-more old mid new fo fm fn from m to n block body line p gives keeps too
       number = omega (arith, p.number, gives.next, gives.least);
       limit = omega (arith, p.number, gives.next, gives.least, keeps.limit);
       failed = failed ∙ p.failed;
+      file = keeps.file ∙ p.file;
       can_fail = λ c. p.can_fail (keeps.can_fail c);
       told = λ t. keeps.told (p.told t);
       writer_told = λ t. told (p.writer_told t);

@@ -2,6 +2,7 @@
 use Rattle.std.proofs.Common.{ℕ, ◌+◌, ◌≤◌, List, Bool, refl}
 use Rattle.cap_bytes.proofs.Putting.{}
 use Rattle.cap_bytes.specs.Device.{Writer}
+use Rattle.cap_source.proofs.Onward.{Went}
 use Rattle.cap_source.proofs.Walking.{Plan, IsPlan, GoesOn, Walking}
 use Rattle.cap_source.specs.Feed.{Feed}
 use Rattle.cap_source.specs.declared.packets.Meta.{Meta}
@@ -23,4 +24,5 @@ plan_of-next n meta frame = record { text = λ items. refl; refusal = λ items. 
 -- The lines before the number n of a feed that was `old` are written by a writer that was `from`.
 pub record Listing (old new : Feed) (failed_old failed_new : Bool) (from to : Writer) (n : ℕ) : Type 0 where
   pub number : n + new.left ≤ 1 + old.left
+  pub went : Went old new
   pub walk : Walking (plan_of 1) (plan_of n) old new failed_old failed_new from to

@@ -1,5 +1,6 @@
 pub mod BlockText
 pub mod Converted
+pub mod Jobs
 pub mod Lines
 pub mod ListText
 pub mod JoinText

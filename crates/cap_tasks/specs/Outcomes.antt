@@ -5,7 +5,7 @@ use Rattle.cap_bytes.specs.declared.faults.Fault.{Fault}
 use Rattle.cap_bytes.specs.declared.faults.Fault.TheVariants.{Refused, Read, Write, Memory}
 use Rattle.cap_bytes.specs.declared.faults.Refusal.{Refusal}
 use Rattle.cap_bytes.specs.Printing.{PrintsFront}
-use Rattle.cap_tasks.specs.declared.outcomes.TheConstants.{USAGE}
+use Rattle.cap_line.specs.declared.texts.TheConstants.{USAGE}
 use Rattle.cap_line.specs.declared.faults.LineFault.{LineFault}
 use Rattle.cap_line.specs.declared.faults.LineFault.TheVariants as lines
 use Rattle.cap_tasks.specs.declared.outcomes.Outcome.{Outcome}
@@ -87,10 +87,26 @@ is_help (outcomes.Fault fault) = false
 is_help (outcomes.Open file) = false
 is_help outcomes.Create = false
 
+-- what is told of an outcome where that is said of words that give no job
+abbrev pub told_line : List ℕ → LineFault → List ℕ
+told_line said lines.Help = said
+told_line said lines.Line = said
+told_line said lines.Files = line_text lines.Files
+told_line said lines.Input = line_text lines.Input
+told_line said lines.Output = line_text lines.Output
+told_line said lines.Memory = line_text lines.Memory
+
+abbrev pub told_text : List ℕ → Outcome → List ℕ
+told_text said outcomes.Done = outcome_text outcomes.Done
+told_text said (outcomes.Line fault) = told_line said fault
+told_text said (outcomes.Fault fault) = outcome_text (outcomes.Fault fault)
+told_text said (outcomes.Open file) = outcome_text (outcomes.Open file)
+told_text said outcomes.Create = outcome_text outcomes.Create
+
 -- how a run ends that was asked for help: help is written, or the writer failed and a front of it is
-abbrev pub HelpEnds : List ℕ → List ℕ → Outcome → Type 0
-HelpEnds old new outcomes.Done = ⊥
-HelpEnds old new (outcomes.Line fault) = (fault ≡ lines.Help) × (new ≡ old ++ USAGE.now)
-HelpEnds old new (outcomes.Fault fault) = (fault ≡ Write) × PrintsFront USAGE.now old new
-HelpEnds old new (outcomes.Open file) = ⊥
-HelpEnds old new outcomes.Create = ⊥
+abbrev pub HelpEnds : List ℕ → List ℕ → List ℕ → Outcome → Type 0
+HelpEnds said old new outcomes.Done = ⊥
+HelpEnds said old new (outcomes.Line fault) = (fault ≡ lines.Help) × (new ≡ old ++ said)
+HelpEnds said old new (outcomes.Fault fault) = (fault ≡ Write) × PrintsFront said old new
+HelpEnds said old new (outcomes.Open file) = ⊥
+HelpEnds said old new outcomes.Create = ⊥

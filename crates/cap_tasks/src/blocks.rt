@@ -3,7 +3,8 @@ ghost use Rattle.std.specs.Prelude.{IsTrue};
 ghost use Rattle.cap_blocks.specs.Reader.{items_of};
 ghost use Rattle.cap_tasks.specs.BlockText.{block_lines, block_list, block_refusal, refusal_of};
 ghost use Rattle.cap_bytes.specs.Device.{WriterKeeps, writer_of};
-ghost use Rattle.cap_bytes.specs.Printing.{Prints, IsRead, is_write};
+ghost use Rattle.cap_bytes.specs.Printing.{Prints, is_write};
+ghost use Rattle.cap_source.specs.ReadFaults.{FailsAs, FailsOf};
 
 use crate::lines::write_block;
 use cap_blocks::BlockReader;
@@ -20,7 +21,7 @@ fn print_blocks<R: Source, W: Sink>(
         → Prints (block_lines 1 (items_of reader.old)) (refusal_of (items_of reader.old))
         (W.held writer.old) result (W.held writer.new) }
     ensures writer { WriterKeeps (writer_of W.Sink writer.old) (is_write result) (writer_of W.Sink writer.new) }
-    ensures read { IsRead result → IsTrue reader.old.can_fail }
+    ensures read { FailsAs reader.old.file reader.old.can_fail result }
 {
     let mut line = Line::new();
     let mut n = 1u64;
@@ -44,7 +45,7 @@ pub fn blocks_to<R: Source, W: Sink>(
         → Prints (block_list tail (R.coming source)) (block_refusal tail (R.coming source))
         (W.held writer.old) result (W.held writer.new) }
     ensures writer { WriterKeeps (writer_of W.Sink writer.old) (is_write result) (writer_of W.Sink writer.new) }
-    ensures read { IsRead result → IsTrue (R.can_fail source) }
+    ensures read { FailsOf 1 (R.can_fail source) result }
 {
     let mut reader = BlockReader::new(Window::new(alloc, source, 1), tail);
     print_blocks(&mut reader, writer)

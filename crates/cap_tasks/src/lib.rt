@@ -3,6 +3,7 @@
 
 mod blocks;
 mod convert;
+mod jobs;
 mod join;
 mod lines;
 mod list;
@@ -13,7 +14,8 @@ mod tests;
 
 pub use crate::blocks::blocks_to;
 pub use crate::convert::convert_to;
+pub use crate::jobs::job_to;
 pub use crate::join::join_to;
 pub use crate::list::list_to;
 pub use crate::merge::merge_to;
-pub use crate::outcomes::{Outcome, USAGE, end_of, outcome_line, status_of, tell};
+pub use crate::outcomes::{Outcome, end_of, outcome_line, status_of, tell};

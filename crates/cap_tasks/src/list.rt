@@ -2,8 +2,10 @@
 ghost use Rattle.std.specs.Prelude.{◌≤◌, ◌^◌, IsTrue};
 ghost use Rattle.cap_tasks.specs.ListText.{list_lines, list_text, list_refusal};
 ghost use Rattle.cap_bytes.specs.Device.{WriterKeeps, writer_of};
-ghost use Rattle.cap_bytes.specs.Printing.{Prints, IsRead, is_write};
+ghost use Rattle.cap_bytes.specs.Printing.{Prints, is_write};
 ghost use Rattle.cap_source.specs.Feed.{refusal_of};
+ghost use Rattle.cap_source.specs.ReadFaults.{FailsOf};
+ghost use Rattle.cap_source.specs.Walk.{Walks};
 
 use crate::lines::write_packet;
 use cap_bytes::{Fault, Sink, Source, Tail, put_all};
@@ -18,7 +20,7 @@ fn list_packets<F: PacketFeed, W: Sink>(feed: &mut F, writer: &mut W) -> Result<
         → Prints (list_lines 1 (F.feed feed.old).items) (refusal_of (F.feed feed.old).items)
         (W.held writer.old) result (W.held writer.new) }
     ensures writer { WriterKeeps (writer_of W.Sink writer.old) (is_write result) (writer_of W.Sink writer.new) }
-    ensures read { IsRead result → IsTrue (F.feed feed.old).can_fail }
+    ensures walks { Walks (F.feed feed.old) result (F.feed feed.new) }
 {
     let mut line = Line::new();
     let mut n = 1u64;
@@ -43,7 +45,7 @@ pub fn list_to<R: Source, W: Sink>(
         → Prints (list_text tail (R.coming source)) (list_refusal tail (R.coming source))
         (W.held writer.old) result (W.held writer.new) }
     ensures writer { WriterKeeps (writer_of W.Sink writer.old) (is_write result) (writer_of W.Sink writer.new) }
-    ensures read { IsRead result → IsTrue (R.can_fail source) }
+    ensures read { FailsOf 1 (R.can_fail source) result }
 {
     let mut capture = Capture::new(alloc, source, 1, tail);
     list_packets(&mut capture, writer)

@@ -1,55 +1,13 @@
 //! How a run ends: its status, and what is told of it.
 ghost use Rattle.std.specs.Prelude.{◌≡◌, ◌++◌, is_err, IsTrue, IsFalse, IsOk, IsErr, IsOkUnless};
 ghost use Rattle.cap_bytes.specs.Device.{Puts, WriterKeeps, writer_of};
-ghost use Rattle.cap_tasks.specs.Outcomes.{ends_by, status_after, outcome_text, refusal_text, read_text, open_text, is_help, HelpEnds};
+ghost use Rattle.cap_tasks.specs.Outcomes.{ends_by, status_after, outcome_text, refusal_text, read_text, open_text, told_text, is_help, HelpEnds};
 ghost use Rattle.cap_bytes.specs.Printing.{PrintsFront};
 
 use cap_bytes::{Fault, Refusal, Sink, put_all};
-use cap_line::LineFault;
+use cap_line::{LineFault, USAGE};
 use cap_print::{Line, put_field, put_text};
 use std::io;
-
-/// What `capt` says of itself: help, and what is told of a faulty command line.
-pub const USAGE: &[u8] = b"capt reads packet captures.
-
-Usage: capt report [--allow-cut] FILE...
-       capt info [--allow-cut] FILE...
-       capt list [--allow-cut] FILE
-       capt blocks [--allow-cut] FILE
-       capt convert [--allow-cut] [--order ORDER] --to FORMAT -o OUT FILE
-       capt merge [--allow-cut] [--order ORDER] -o OUT FILE...
-       capt join [--allow-cut] [--order ORDER] -o OUT FILE...
-
-report prints what the packets of captures are, and one line for each conversation:
-  talk PROTO A B forward P BYTES backward P BYTES first T last T
-info prints how many captures there are, and one line for each:
-  file I FORMAT packets P bytes B truncated Q skipped S first T last T
-list prints one line for each packet:
-  packet N offset O time T captured C original G link L data X
-blocks prints one line for each block of a pcapng file:
-  block N offset O order little kind 0a0d0d0a total T
-convert writes the packets of a capture to OUT
-merge writes the packets of captures to OUT, in the order of time
-join writes the whole IPv4 datagrams of captures to OUT, joined of their fragments
-
-  FILE            a capture; - is standard input
-  --allow-cut     drops a last packet or block that the end of the capture cuts
-  --order ORDER   big or little: the byte order of OUT, little if none is given
-  --to FORMAT     pcap or pcapng: the format of OUT
-  -o OUT          the file that is written; - is standard output
-  -h, --help      prints this text
-
-Examples: capt report monday.pcap tuesday.pcapng
-          capt info monday.pcap tuesday.pcapng
-          capt list --allow-cut monday.pcap
-          capt blocks monday.pcapng
-          capt convert --to pcapng -o monday.pcapng monday.pcap
-          capt merge -o week.pcapng monday.pcapng tuesday.pcap
-          capt join -o whole.pcapng monday.pcapng tuesday.pcap
-
-Status 0: done; 1: the capture is refused, or a read, a write, an open, a
-creation or memory failed; 2: the command line is faulty.
-";
 
 /// How a run ended.
 #[derive(Clone, Copy, Debug, PartialEq, Eq)]
@@ -140,7 +98,9 @@ pub fn outcome_line<W: Sink>(outcome: &Outcome, writer: &mut W) -> Result<(), Fa
 {
     match outcome {
         Outcome::Done => Ok(()),
-        Outcome::Line(LineFault::Help) | Outcome::Line(LineFault::Line) => put_all(writer, USAGE),
+        Outcome::Line(LineFault::Help) | Outcome::Line(LineFault::Line) => {
+            put_all(writer, USAGE.as_bytes())
+        }
         Outcome::Line(LineFault::Files) => put_all(writer, b"fault: files\n"),
         Outcome::Line(LineFault::Input) => put_all(writer, b"fault: input\n"),
         Outcome::Line(LineFault::Output) => put_all(writer, b"fault: output\n"),
@@ -159,28 +119,45 @@ pub fn outcome_line<W: Sink>(outcome: &Outcome, writer: &mut W) -> Result<(), Fa
     }
 }
 
-/// Tells an outcome: help on `output`, all else on `faults`. Answers how the run ends: by
-/// `Fault::Write` where help could not be written, which is told then, else by the same outcome. A
-/// failure of `faults` changes nothing.
-pub fn tell<O: Sink, E: Sink>(outcome: Outcome, output: &mut O, faults: &mut E) -> Outcome
+// Writes what is told of an outcome where something else than the usage is said of words that give no job.
+fn put_told<W: Sink>(outcome: &Outcome, said: &[u8], writer: &mut W) -> Result<(), Fault>
+    ensures text { IsTrue (W.tells_held writer.old)
+        → Puts (W.held writer.old) result (W.held writer.new) (told_text said.now outcome.now) }
+    ensures writer { WriterKeeps (writer_of W.Sink writer.old) (is_err result) (writer_of W.Sink writer.new) }
+{
+    match outcome {
+        Outcome::Line(LineFault::Help) | Outcome::Line(LineFault::Line) => put_all(writer, said),
+        _ => outcome_line(outcome, writer),
+    }
+}
+
+/// Tells an outcome: help on `output`, all else on `faults`. `said` is what is told of help, and of a line
+/// that isn't of capt. Answers how the run ends: by `Fault::Write` where help could not be written, which is
+/// told then, else by the same outcome. A failure of `faults` changes nothing.
+pub fn tell<O: Sink, E: Sink>(
+    outcome: Outcome,
+    said: &[u8],
+    output: &mut O,
+    faults: &mut E,
+) -> Outcome
     ensures same { IsFalse (is_help outcome) → result ≡ outcome }
     ensures silent { IsFalse (is_help outcome) → output.new ≡ output.old }
     ensures help { IsTrue (is_help outcome) → IsTrue (O.tells_held output.old)
-        → HelpEnds (O.held output.old) (O.held output.new) result }
+        → HelpEnds said.now (O.held output.old) (O.held output.new) result }
     ensures ends { IsTrue (is_help outcome) → IsFalse (O.can_fail output.old) → result ≡ outcome }
     ensures told { IsTrue (E.tells_held faults.old) → IsFalse (is_help result)
-        → PrintsFront (outcome_text result) (E.held faults.old) (E.held faults.new) }
+        → PrintsFront (told_text said.now result) (E.held faults.old) (E.held faults.new) }
     ensures whole { IsTrue (E.tells_held faults.old) → IsFalse (is_help result)
         → IsFalse (E.can_fail faults.old)
-        → E.held faults.new ≡ E.held faults.old ++ outcome_text result }
+        → E.held faults.new ≡ E.held faults.old ++ told_text said.now result }
 {
     let ending = match outcome {
-        Outcome::Line(LineFault::Help) => match outcome_line(&outcome, output) {
+        Outcome::Line(LineFault::Help) => match put_told(&outcome, said, output) {
             Ok(()) => return outcome,
-            Err(fault) => Outcome::Fault(fault),
+            Err(_) => Outcome::Fault(Fault::Write),
         },
         _ => outcome,
     };
-    let _ = outcome_line(&ending, faults);
+    let _ = put_told(&ending, said, faults);
     ending
 }

@@ -1,8 +1,8 @@
 //! Outcomes and what is told of them.
 
-use crate::outcomes::{Outcome, USAGE, end_of, outcome_line, status_of, tell};
+use crate::outcomes::{Outcome, end_of, outcome_line, status_of, tell};
 use cap_bytes::{Fault, Refusal, Room, Rule};
-use cap_line::LineFault;
+use cap_line::{LineFault, USAGE};
 use std::io;
 use std::io::{BufWriter, Write};
 use std::test::Fail;
@@ -54,21 +54,27 @@ fn outcomes_print_one_line(rt: HostRuntime) -> Result<(), Fail> {
 
 #[test]
 fn help_and_usage_go_to_two_writers(rt: HostRuntime) -> Result<(), Fail> {
-    let room = USAGE.len();
+    let said = b"what clap says\n";
+    let room = said.len();
     let help = Outcome::Line(LineFault::Help);
     let usage = Outcome::Line(LineFault::Line);
     let write = Outcome::Fault(Fault::Write);
     let cases = [
-        (help, room, help, USAGE, b"".as_slice()),
-        (usage, room, usage, b"".as_slice(), USAGE),
+        (help, room, help, said.as_slice(), b"".as_slice()),
+        (usage, room, usage, b"".as_slice(), said.as_slice()),
         (help, 0, write, b"".as_slice(), b"fault: write\n".as_slice()),
     ];
     for (outcome, room, ending, printed, told) in cases {
         let mut output = Room::new(Vec::with_capacity(rt.alloc(), room)?);
-        let mut faults = Room::new(Vec::with_capacity(rt.alloc(), USAGE.len())?);
-        assert_eq!(rt; tell(outcome, &mut output, &mut faults), ending);
+        let mut faults = Room::new(Vec::with_capacity(rt.alloc(), 64)?);
+        assert_eq!(rt; tell(outcome, said, &mut output, &mut faults), ending);
         assert_eq!(rt; output.bytes(), printed);
         assert_eq!(rt; faults.bytes(), told);
+    }
+    for outcome in [help, usage] {
+        let mut writer = Room::new(Vec::with_capacity(rt.alloc(), USAGE.len())?);
+        assert_eq!(rt; outcome_line(&outcome, &mut writer), Ok(()));
+        assert_eq!(rt; writer.bytes(), USAGE.as_bytes());
     }
     Ok(())
 }

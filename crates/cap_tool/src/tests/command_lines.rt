@@ -1,6 +1,7 @@
 //! Command lines with their jobs and faults.
 use cap_bytes::Order;
-use cap_line::{Format, LineFault, Task, parse};
+use cap_line::{LineFault, Task, USAGE, message, parse};
+use cap_source::Format;
 use std::alloc::Global;
 
 // A job's task, its first file, how many it has, and whether a cut end is dropped.
@@ -141,7 +142,7 @@ static WRITING: [(&[&str], Writing); 24] = [
     ),
 ];
 
-static LINES: [(&[&str], Answer); 36] = [
+static LINES: [(&[&str], Answer); 38] = [
     (&["capt", "list", "a"], Ok((Task::List, "a", 1, false))),
     (
         &["capt", "list", "--allow-cut", "a"],
@@ -189,7 +190,9 @@ static LINES: [(&[&str], Answer); 36] = [
     (&["capt", "list", "--help"], Err(LineFault::Help)),
     (&["capt", "list", "-h"], Err(LineFault::Help)),
     (&["capt"], Err(LineFault::Line)),
-    (&["capt", "--version"], Err(LineFault::Line)),
+    (&["capt", "--version"], Err(LineFault::Help)),
+    (&["capt", "-V"], Err(LineFault::Help)),
+    (&["capt", "list", "--version"], Err(LineFault::Line)),
     (&["capt", "help"], Err(LineFault::Line)),
     (&["capt", "frobnicate", "a"], Err(LineFault::Line)),
     (&["capt", "list"], Err(LineFault::Line)),
@@ -217,5 +220,28 @@ fn lines_give_their_jobs_and_faults(rt: HostRuntime) {
     }
     for (words, want) in WRITING {
         assert_eq!(rt; writing(rt.alloc(), words), want, "{words:?}");
+    }
+}
+
+// What is said of words: the version, help, why they are refused, and nothing where clap takes them.
+static SAID: [(&[&str], Option<&str>); 5] = [
+    (&["capt", "--version"], Some("capt 0.1.0\n")),
+    (&["capt", "--help"], Some(USAGE)),
+    (
+        &["capt", "merg"],
+        Some(
+            "error: unrecognized subcommand 'merg'\n\n  tip: a similar subcommand exists: 'merge'\n\n\
+            Usage: capt <COMMAND>\n\nFor more information, try '--help'.\n",
+        ),
+    ),
+    (&["capt", "list", "a"], None),
+    (&["capt", "merge", "-o", "a", "a"], None),
+];
+
+#[test]
+fn clap_says_why_words_are_refused(rt: HostRuntime) {
+    for (words, wanted) in SAID {
+        let said = message(rt.alloc(), words);
+        assert_eq!(rt; said.as_deref(), wanted, "{words:?}");
     }
 }

@@ -1,5 +1,9 @@
-use Rattle.std.proofs.Common.{◌≡◌, ◌+◌, ◌≤◌, vec_len}
+use Rattle.std.proofs.Common.{◌≡◌, ◌≤◌, length, map, take, vec_len}
+use Rattle.cap_tool.specs.Streams.{is_dash, standards_of}
 use Rattle.cap_tool.proofs.streams.open_all.Given as goal
 
-abbrev pub invariant-loop-name : goal.invariant-loop-name
-invariant-loop-name g l = (vec_len l.inputs ≡ l.name-index) × (1 ≤ l.number) × (l.number ≤ l.name-index + 1)
+-- the inputs of the names so far are opened
+abbrev pub invariant-loop-place : goal.invariant-loop-place
+invariant-loop-place g l =
+    (standards_of l.sources.items ≡ map (λ name. is_dash name.now) (take l.place l.names)) × (vec_len l.sources ≡ l.place)
+    × (l.place ≤ length l.names)

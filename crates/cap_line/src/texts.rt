@@ -1,0 +1,136 @@
+//! What the program says of itself. clap makes the rest of its help and its messages.
+
+/// The version of the program.
+pub const VERSION: &str = "0.1.0";
+
+/// The usage: the program's help.
+pub const USAGE: &str =
+    "Reads packet captures, pcap 2.4 and pcapng 1.0, and reports on them, converts,
+merges and joins them.
+
+Usage: capt report [--allow-cut] FILE...
+       capt info [--allow-cut] FILE...
+       capt list [--allow-cut] FILE
+       capt blocks [--allow-cut] FILE
+       capt convert [--allow-cut] [--order ORDER] --to FORMAT -o OUT FILE
+       capt merge [--allow-cut] [--order ORDER] -o OUT FILE...
+       capt join [--allow-cut] [--order ORDER] -o OUT FILE...
+
+Commands:
+  report   Prints the totals of captures, and a line for each conversation
+  info     Prints a line for each capture
+  list     Prints a line for each packet of a capture
+  blocks   Prints a line for each block of a pcapng file
+  convert  Writes the packets of a capture in either format
+  merge    Writes the packets of captures as one, in the order of time
+  join     Writes the whole IPv4 datagrams of captures, fragments joined
+
+Options:
+  -h, --help     Print help; of a command: capt merge --help
+  -V, --version  Print version
+
+A refused capture is told by its file, the offset and the rule that it breaks.
+Status 0: done; 1: a capture is refused, or a read, a write, an open, a
+creation or memory failed; 2: the command line is faulty.
+";
+
+/// What is told of words that aren't all UTF-8.
+pub const NOT_UTF_8: &str = "error: a word of the command line isn't UTF-8
+
+Usage: capt <COMMAND>
+
+For more information, try '--help'.
+";
+
+pub(crate) const REPORT_ABOUT: &str =
+    "Prints the totals of captures, and a line for each conversation";
+
+pub(crate) const REPORT_HELP: &str = "Prints, of all packets in the order of time:
+  files K
+  file I FORMAT packets P bytes B truncated Q skipped S first T last T
+  total packets P bytes B truncated Q
+  frames other-link N not-ipv4 N short N cut N bad N unjoined N counted N
+  joined J given-up G
+  talks C
+  talk PROTO A B forward P BYTES backward P BYTES first T last T
+If a capture is refused, nothing is printed. Bytes are original lengths; Q
+packets were captured in part, S blocks skipped. A time T is SEC+NUM/DEN:
+2+500000/1000000 is 2.5 seconds after 1970 began; - is no time.
+
+Examples: capt report morning.pcap evening.pcapng
+          zcat trace.pcap.gz | capt report -";
+
+pub(crate) const INFO_ABOUT: &str = "Prints a line for each capture";
+
+pub(crate) const INFO_HELP: &str = "Prints:
+  files K
+  file I FORMAT packets P bytes B truncated Q skipped S first T last T
+The line of a capture that is cut off ends with cut. If a capture is refused,
+nothing is printed. Bytes are original lengths; Q packets were captured in
+part, S blocks skipped. A time T is SEC+NUM/DEN: 2+500000/1000000 is 2.5
+seconds after 1970 began; - is no time.
+
+Example: capt info morning.pcap evening.pcapng";
+
+pub(crate) const LIST_ABOUT: &str = "Prints a line for each packet of a capture";
+
+pub(crate) const LIST_HELP: &str = "Prints, for each packet, as it is found:
+  packet N offset O time T captured C original G link L data X
+O is where its record or block begins, C and G are its captured and original
+length, L its link type, X at most 16 of its bytes in hex. If the capture is
+refused, the lines before stand. A time T is SEC+NUM/DEN: 2+500000/1000000 is
+2.5 seconds after 1970 began; - is no time.
+
+Examples: capt list --allow-cut trace.pcap
+          zcat trace.pcap.gz | capt list -";
+
+pub(crate) const BLOCKS_ABOUT: &str = "Prints a line for each block of a pcapng file";
+
+pub(crate) const BLOCKS_HELP: &str = "Prints, for each block, as it is found:
+  block N offset O order little kind 0a0d0d0a total T
+O is where it begins, T its length, and the order that of its section, little
+or big. If the capture is refused, the lines before stand; a pcap file is.
+
+Example: capt blocks trace.pcapng";
+
+pub(crate) const CONVERT_ABOUT: &str = "Writes the packets of a capture in either format";
+
+pub(crate) const CONVERT_HELP: &str =
+    "A pcap file has one link type and times in whole micro- or nanoseconds: the
+first packet that it can't hold is refused.
+
+Examples: capt convert --to pcapng -o trace.pcapng trace.pcap
+          capt merge -o - a.pcap b.pcap | capt convert --to pcap -o ab.pcap -";
+
+pub(crate) const MERGE_ABOUT: &str = "Writes the packets of captures as one, in the order of time";
+
+pub(crate) const MERGE_HELP: &str =
+    "A packet's time is the greatest so far in its file; of equal times the file
+that is named first comes first. OUT is a pcapng file. More than 32 captures
+are merged in rounds: 32 at a time, in order, and then the results.
+
+Examples: capt merge -o day.pcapng morning.pcap evening.pcapng
+          capt merge -o - a.pcap b.pcap | capt convert --to pcap -o ab.pcap -";
+
+pub(crate) const JOIN_ABOUT: &str = "Writes the whole IPv4 datagrams of captures, fragments joined";
+
+pub(crate) const JOIN_HELP: &str =
+    "Each datagram is one packet, from its IPv4 header on, with the time of the
+frame that completed it. OUT is a pcapng file.
+
+Example: capt join -o whole.pcapng morning.pcap evening.pcapng";
+
+pub(crate) const ALLOW_CUT_HELP: &str = "Drop a last packet or block that is cut off";
+
+pub(crate) const ORDER_HELP: &str = "Byte order, or else little";
+
+pub(crate) const TO_HELP: &str = "The format of OUT";
+
+pub(crate) const OUT_HELP: &str = "The file to be written, or - for standard output.
+It is emptied once every FILE is open, and never if
+it is one of them; if a capture is refused, it
+holds the packets before";
+
+pub(crate) const FILE_HELP: &str = "A capture, or - for standard input";
+
+pub(crate) const FILES_HELP: &str = "1 to 32 captures, of which one may be - for standard input";

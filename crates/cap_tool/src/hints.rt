@@ -1,0 +1,91 @@
+//! What is told at a terminal beside the line of a fault: the file's name, and why.
+ghost use Rattle.std.specs.Prelude.{IsSome, IsTrue};
+ghost use Rattle.cap_tool.specs.Hints.{is_of_file};
+
+use cap_bytes::{Fault, Rule};
+use cap_line::{Job, parse};
+use cap_tasks::Outcome;
+use std::alloc::Global;
+use std::fmt::Display;
+use std::fs::{File, OpenOptions};
+use std::rt::Files;
+
+// What is wrong with a capture that breaks a rule.
+fn meaning(rule: Rule) -> &'static str {
+    match rule {
+        Rule::Magic => "this is no capture of pcap or pcapng",
+        Rule::Version => "its version isn't pcap 2.4 or pcapng 1.0",
+        Rule::Cut =>
+            "it ends inside a file header, or inside a record or block, which --allow-cut drops",
+        Rule::PacketLong => "more than 262,144 bytes of a packet were captured",
+        Rule::BlockLength => "the length of a block is wrong",
+        Rule::BlockTrailer => "the two lengths of a block differ",
+        Rule::OrderMagic => "the byte order of a section can't be told",
+        Rule::Captured => "a packet doesn't fit in its block",
+        Rule::InterfaceUnknown => "a packet names an interface that isn't in its section",
+        Rule::OptionEnd => "an option runs past the end of its block",
+        Rule::OptionLength => "the length of an option is wrong",
+        Rule::Resolution => "its times are finer than 10^-19 or 2^-63 of a second",
+        Rule::InterfaceLimit => "there are more than 1,024 interfaces",
+        Rule::FileLimit => "a record or block of it ends after 2^40 bytes",
+        Rule::OpenLimit => "too many groups of fragments are open",
+        Rule::TalkLimit => "there are more than 1,048,576 conversations",
+        Rule::NoTime => "a packet has no time, and can't be written",
+        Rule::LinkMixed => "a pcap file has one link type, and the packets have two",
+        Rule::Inexact => "a time isn't whole in the unit of the pcap file",
+        Rule::TimeRange => "a time doesn't fit in a pcap file",
+        Rule::NoInterface => "it has no interface, which a pcap file needs",
+    }
+}
+
+// The name of a file of a job, from 1 on.
+fn name_of<'a>(job: &Job<'a>, file: u32) -> Option<&'a str> {
+    job.files.get((file as usize).checked_sub(1)?).copied()
+}
+
+// `  cut.pcap: it ends inside a packet`
+fn line(alloc: Global, name: &str, why: &impl Display) -> Option<String> {
+    format!(in alloc; "  {name}: {why}\n").ok()
+}
+
+// Why the output of a run can't be created: the system says so, or it is one of the inputs.
+fn create_line<R: Files<File = File>>(files: &R, alloc: Global, name: &str) -> Option<String> {
+    match OpenOptions::new()
+        .write(true)
+        .create(true)
+        .open(files, name)
+    {
+        Ok(_) => line(alloc, name, &"it is one of the files that are read"),
+        Err(error) => line(alloc, name, &error),
+    }
+}
+
+/// The line that a terminal shows after the line of a fault: the name of the file, and what the system says
+/// of it, or what the rule means that is broken. There is none where the fault is of no file.
+pub fn hint<R: Files<File = File>>(
+    files: &R,
+    alloc: Global,
+    outcome: &Outcome,
+    words: &[String],
+) -> Option<String>
+    ensures { IsSome result → IsTrue (is_of_file outcome.now) }
+{
+    let Ok(job) = parse(alloc, words) else {
+        return None;
+    };
+    match outcome {
+        Outcome::Fault(Fault::Refused(refusal)) => {
+            line(alloc, name_of(&job, refusal.file)?, &meaning(refusal.rule))
+        }
+        Outcome::Fault(Fault::Read { file, .. }) => {
+            line(alloc, name_of(&job, *file)?, &"it can't be read")
+        }
+        Outcome::Open(file) => {
+            let name = name_of(&job, *file)?;
+            let error = File::open(files, name).err()?;
+            line(alloc, name, &error)
+        }
+        Outcome::Create => create_line(files, alloc, job.out?),
+        _ => None,
+    }
+}
