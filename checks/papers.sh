@@ -1,7 +1,7 @@
 #!/usr/bin/env bash
 # What the papers show is so: each line that begins with `$ ` in a block of README.md is run over a copy of examples/, and
 # what stands under it must be what it prints, on both streams; the captures are made anew by examples/make.py; docs/RULES.md has
-# the numbers and names of the rules; each file that a page links to is there; the manual page and the completions
+# the numbers and names of the rules, docs/CLAIMS.md the lengths of what must be read; each file that a page links to is there; the manual page and the completions
 # are read without a complaint, if the programs for that are there.
 #
 # Use: checks/papers.sh [PROGRAM]
@@ -48,6 +48,11 @@ names = dict(re.findall(r'Rule::(\w+) => "([\w-]+)",', kept))
 rules = {(int(numbers[rule]), names[rule]) for rule in numbers}
 told = {(int(number), name) for number, name in re.findall(r"^\| (\d+) `([\w-]+)` \|", text_of("docs/RULES.md"), re.M)}
 judged("docs/RULES.md", len(rules) == 21 and told == rules, f"other rules: {sorted(told ^ rules)}")
+
+ran = subprocess.run([f"{top}/checks/trusted.py"], capture_output=True, text=True)
+for command, definitions, lines, crates in re.findall(r"^(\w+): (\d+) definitions, (\d+) lines \((.*)\)$", ran.stdout, re.M):
+    row = f"| `{command}` | {definitions} | {lines} | {crates} |"
+    judged(f"docs/CLAIMS.md, {command}", row in text_of("docs/CLAIMS.md"), f"wants the row {row}")
 
 pages = ["README.md", "CHANGELOG.md"] + [f"docs/{name}" for name in sorted(os.listdir(f"{top}/docs"))]
 for page in pages:
