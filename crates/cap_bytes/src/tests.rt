@@ -124,7 +124,7 @@ fn skip<R: Source>(window: &mut Window<R>, n: u32) -> Result<bool, Fault> {
 }
 
 #[test]
-fn a_window_shows_the_next_bytes_or_the_end(rt: HostRuntime) -> Result<(), Fail> {
+fn always_memory_a_window_shows_the_next_bytes_or_the_end(rt: HostRuntime) -> Result<(), Fail> {
     for piece in [1, 2, 4_096] {
         let mut window = Window::new(
             rt.alloc(),

@@ -40,7 +40,7 @@ const TOLD: [(Outcome, &str, u8); 11] = [
 ];
 
 #[test]
-fn outcomes_print_one_line(rt: HostRuntime) -> Result<(), Fail> {
+fn always_memory_outcomes_print_one_line(rt: HostRuntime) -> Result<(), Fail> {
     for (outcome, text, status) in TOLD {
         let mut writer = Room::new(Vec::with_capacity(rt.alloc(), 64)?);
         assert_eq!(rt; outcome_line(&outcome, &mut writer), Ok(()));

@@ -118,7 +118,7 @@ fn last_of(n: usize) -> (usize, usize) {
 }
 
 #[test]
-fn blocks_are_printed(rt: HostRuntime) -> Result<(), Fail> {
+fn always_memory_blocks_are_printed(rt: HostRuntime) -> Result<(), Fail> {
     for (file, lines) in [(OPTIONS, OPTIONS_LINES), (SECTIONS, SECTIONS_LINES)] {
         for piece in [1, 4096] {
             let pieces = Pieces::new(hex::decode(rt.alloc(), file)?, piece, None);

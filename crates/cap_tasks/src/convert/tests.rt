@@ -120,7 +120,7 @@ fn convert<W: Sink>(
 }
 
 #[test]
-fn captures_are_written_in_either_format(rt: HostRuntime) -> Result<(), Fail> {
+fn always_memory_captures_are_written_in_either_format(rt: HostRuntime) -> Result<(), Fail> {
     for (capture, order, format, wanted) in WRITTEN {
         for piece in [1, 4096] {
             let mut writer = Room::new(Vec::with_capacity(rt.alloc(), 256)?);

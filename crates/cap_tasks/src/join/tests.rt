@@ -41,7 +41,7 @@ fn join<W: Sink>(
 }
 
 #[test]
-fn fragments_are_joined(rt: HostRuntime) -> Result<(), Fail> {
+fn always_memory_fragments_are_joined(rt: HostRuntime) -> Result<(), Fail> {
     let wanted = hex::decode(rt.alloc(), JOINED)?;
     for piece in [1, 4096] {
         let mut writer = Room::new(Vec::with_capacity(rt.alloc(), 512)?);

@@ -214,7 +214,7 @@ fn list(
 }
 
 #[test]
-fn a_packet_is_listed_in_every_spelling(rt: HostRuntime) -> Result<(), Fail> {
+fn always_memory_a_packet_is_listed_in_every_spelling(rt: HostRuntime) -> Result<(), Fail> {
     let others = [(CARRY_PCAP, CARRY_LINE), (ABOVE, ABOVE_LINE)];
     let captures = SPELLINGS.iter().chain(others.iter()).chain(BLOCKS.iter());
     for (capture, line) in captures {

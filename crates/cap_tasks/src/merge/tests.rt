@@ -82,7 +82,7 @@ fn merge<W: Sink>(
 }
 
 #[test]
-fn files_are_merged_by_time(rt: HostRuntime) -> Result<(), Fail> {
+fn always_memory_files_are_merged_by_time(rt: HostRuntime) -> Result<(), Fail> {
     for (files, wanted, ending) in MERGED {
         for piece in [1, 4096] {
             let mut writer = Room::new(Vec::with_capacity(rt.alloc(), 512)?);
