@@ -172,7 +172,11 @@ says() {
 says > "$work/said"; same 'what is said' "$work/said" "$top/checks/says.txt"; diff "$top/checks/says.txt" "$work/said" | head -20
 if grep -q '^[^$!].\{80\}\|^! .\{81\}' "$work/said"; then failed=$((failed + 1)); echo 'what is said: a long line'; else passed=$((passed + 1)); fi
 run --help; check 'help' 0 '*' ''; "$program" --help > /dev/full 2> "$work/err"; status=$?; : > "$work/out"; check 'help on a full disk' 1 '' 'fault: write'
-run list $'\xff\xfe'; check 'words that are not UTF-8' 2 '' '*'
+run list $'\xff\xfe'; check 'words that are not UTF-8' 2 '' "error: a word of the command line isn't UTF-8
+
+Usage: capt <COMMAND>
+
+For more information, try '--help'."
 "$program" list "$work/one.pcap" > /dev/full 2> "$work/err"; status=$?; : > "$work/out"
 check 'a full disk' 1 '' 'fault: write'
 { "$program" list "$work/one.pcap" 2> "$work/err"; echo $? > "$work/status"; } | true

@@ -1,7 +1,6 @@
 -- The opening of a run's files and of its output.
-use Rattle.std.specs.Prelude.{◌≡◌, ◌≤◌, ◌-◌, ℕ, List, [], Bool, true, false, codes, length, map, IsFalse}
+use Rattle.std.specs.Prelude.{◌≡◌, ◌≤◌, ◌-◌, ℕ, List, [], Bool, true, false, codes, get_or, length, map, IsFalse}
 use Rattle.std.specs.Str.{bytes_eq}
-use Rattle.std.specs.Prelude.{get_or}
 use Rattle.cap_bytes.specs.Tracked.{inner_of}
 use Rattle.cap_bytes.specs.declared.faults.Fault.TheVariants as faults
 use Rattle.cap_bytes.specs.declared.streams.Tracked.{Tracked}

@@ -1,5 +1,5 @@
 //! The files and the standard streams of a run.
-ghost use Rattle.std.specs.Prelude.{◌≡◌, ◌≢◌, ◌≤◌, ◌↔◌, codes, length, map, vec_len, Contains, IfOk, IfErr, IfSome, IsErr, IsFalse, IsTrue, IsSomeAnd, option_map, Some, None};
+ghost use Rattle.std.specs.Prelude.{◌≡◌, ◌≢◌, ◌≤◌, ◌↔◌, codes, length, map, vec_len, Contains, IfOk, IfErr, IsErr, IsFalse, IsTrue, IsSomeAnd, option_map, Some, None};
 ghost use Rattle.cap_tool.specs.Streams.{IsOutFile, StopsOpening, StopsCreating, is_dash, is_standard, standards_of};
 
 use cap_bytes::{Fault, Tracked};
