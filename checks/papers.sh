@@ -1,8 +1,8 @@
 #!/usr/bin/env bash
 # What the papers show is so: each line that begins with `$ ` in a block of README.md is run over a copy of examples/, and
 # what stands under it must be what it prints, on both streams; the captures are made anew by examples/make.py; docs/RULES.md has
-# the numbers and names of the rules, docs/CLAIMS.md the lengths of what must be read; each file that a page links to is there; the manual page and the completions
-# are read without a complaint, if the programs for that are there.
+# the numbers and names of the rules, docs/CLAIMS.md the lengths of what must be read; each file that a page links to is
+# there; the manual page and the completions are read without a complaint, if the programs for that are there.
 #
 # Use: checks/papers.sh [PROGRAM]
 set -u

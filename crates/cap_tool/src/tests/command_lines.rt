@@ -214,7 +214,7 @@ static LINES: [(&[&str], Answer); 38] = [
 ];
 
 #[test]
-fn lines_give_their_jobs_and_faults(rt: HostRuntime) {
+fn always_line_always_memory_lines_give_their_jobs_and_faults(rt: HostRuntime) {
     for (words, want) in LINES {
         assert_eq!(rt; answer(rt.alloc(), words), want, "{words:?}");
     }
