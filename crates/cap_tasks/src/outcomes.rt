@@ -20,7 +20,7 @@ pub enum Outcome {
     Fault(Fault),
     /// The file of that number, from 1, could not be opened.
     Open(u32),
-    /// The output could not be created.
+    /// The output could not be created, or is one of the files that are read.
     Create,
 }
 
