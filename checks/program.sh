@@ -157,6 +157,15 @@ if command -v script > /dev/null; then
     shown 'an OUT in no folder, at a terminal' 'fault: create output
   nowhere/new: No such file or directory (os error 2)' merge -o nowhere/new one.pcap
     shown 'a faulty output at a terminal' 'fault: output' merge -o one.pcap one.pcap
+    # a line is seen at a terminal as it comes, while the pipe it is read from stays open
+    mkfifo "$work/slow"
+    { cat "$one"; for _ in $(seq 100); do [ -e "$work/seen" ] && break; sleep 0.1; done; } > "$work/slow" &
+    writer=$!
+    (cd "$work" && script -qec "$(printf '%q ' "$program" list slow)" /dev/null) < /dev/null > "$work/shown" &
+    for _ in $(seq 100); do grep -q "$line" "$work/shown" && break; sleep 0.1; done
+    if grep -q "$line" "$work/shown" && kill -0 "$writer" 2> /dev/null; then passed=$((passed + 1)); else failed=$((failed + 1)); echo 'a line at a terminal'; fi
+    : > "$work/seen"
+    wait
 fi
 # What is said of the program, and of words that give no job, is what says.txt has: a line of standard error begins with
 # '! ' there. No line is longer than a terminal's.

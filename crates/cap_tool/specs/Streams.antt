@@ -29,6 +29,11 @@ abbrev pub IsOutFile : Output → Type 0
 IsOutFile (outputs.File file) = Unit {0}
 IsOutFile (outputs.Standard standard) = ⊥
 
+-- it is standard output
+abbrev pub IsStandardOut : Output → Type 0
+IsStandardOut (outputs.File file) = ⊥
+IsStandardOut (outputs.Standard standard) = Unit {0}
+
 -- the output could not be created
 abbrev pub StopsCreating : Outcome → Type 0
 StopsCreating outcome = outcome ≡ outcomes.Create

@@ -21,8 +21,10 @@ use std::io::{BufWriter, ErrorKind, IsTerminal, Stdin, Stdout, Write};
 use std::process::ExitCode;
 use std::rt::{Env, Files};
 
-// How many bytes wait for a write.
-const OUTPUT_BUFFER: usize = 65_536;
+// How many bytes wait for a write: none at a terminal, where each line is seen as it comes.
+fn output_buffer(is_terminal: bool) -> usize {
+    if is_terminal { 0 } else { 65_536 }
+}
 
 // The words of the command line, the first of which is the program's name.
 fn words_of<R: Env + AllocGlobal>(rt: &R) -> Result<Vec<String>, LineFault>
@@ -41,11 +43,12 @@ fn run_job<R: Source, W: Write + Drop>(
     job: &Job<'_>,
     sources: Vec<R>,
     output: W,
+    buffer: usize,
 ) -> Result<(), Outcome>
     requires whole { IsWhole job.now }
     requires sources { vec_len sources ≡ vec_len job.now.files }
 {
-    let Ok(buffered) = BufWriter::with_capacity(alloc, OUTPUT_BUFFER, output) else {
+    let Ok(buffered) = BufWriter::with_capacity(alloc, buffer, output) else {
         return Err(Outcome::Fault(Fault::Memory));
     };
     let mut writer = Tracked::new(buffered);
@@ -66,7 +69,8 @@ fn run<R: Files<File = File> + AllocGlobal>(
     };
     let inputs = open_all(rt, rt.alloc(), input, job.files.as_slice())?;
     let output = create_output(rt, output, job.out, inputs.ids.as_slice())?;
-    run_job(rt.alloc(), &job, inputs.sources, output)
+    let buffer = output_buffer(output.is_terminal());
+    run_job(rt.alloc(), &job, inputs.sources, output, buffer)
 }
 
 // How a run ended, and what clap says of words that give no job.

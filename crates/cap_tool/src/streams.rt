@@ -1,12 +1,12 @@
 //! The files and the standard streams of a run.
 ghost use Rattle.std.specs.Prelude.{◌≡◌, ◌≢◌, ◌≤◌, ◌↔◌, codes, length, map, vec_len, Contains, IfOk, IfErr, IsErr, IsFalse, IsTrue, IsSomeAnd, option_map, Some, None};
-ghost use Rattle.cap_tool.specs.Streams.{IsOutFile, StopsOpening, StopsCreating, is_dash, is_standard, standards_of};
+ghost use Rattle.cap_tool.specs.Streams.{IsOutFile, IsStandardOut, StopsOpening, StopsCreating, is_dash, is_standard, standards_of};
 
 use cap_bytes::{Fault, Tracked};
 use cap_tasks::Outcome;
 use std::alloc::Global;
 use std::fs::{File, Metadata, OpenOptions};
-use std::io::{ErrorKind, Read, Stdin, Stdout, Write};
+use std::io::{ErrorKind, IsTerminal, Read, Stdin, Stdout, Write};
 use std::os::unix::fs::MetadataExt;
 use std::rt::Files;
 use std::{fs, io};
@@ -132,6 +132,16 @@ impl Output {
             return Ok(Output::Standard(standard));
         }
         Ok(Output::File(create_file(files, name, inputs)?))
+    }
+
+    /// Whether someone sees what is written as it comes: it goes to a terminal, by standard output.
+    pub fn is_terminal(&self) -> bool
+        ensures { IsTrue result → IsStandardOut self.now }
+    {
+        match self {
+            Output::File(_) => false,
+            Output::Standard(standard) => standard.is_terminal(),
+        }
     }
 }
 
