@@ -6,7 +6,7 @@
  *   FAULT_WRITE=BYTES-HOW     after so many bytes writes fail: HOW 0, they take nothing; 1, the disk is full; 2, a signal
  *                             comes at the first of them, and the next goes on
  *   FAULT_PIECE=BYTES         a read gives, and a write takes, so many bytes at most
- *   FAULT_ENDLESS=1           behind its end a file goes on with blocks of 4,294,967,292 bytes, of kind 5, without end
+ *   FAULT_ENDLESS=1           after its end a file goes on with blocks of 4,294,967,292 bytes, of kind 5, without end
  *   FAULT_TOLD=FILE           for each fault a byte is written to that open file, and as the program ends a line: its
  *                             greatest resident memory in KiB, and how many blocks of memory it hasn't given back
  *

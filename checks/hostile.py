@@ -58,7 +58,7 @@ WORKED = [("pcapng", "CARRY_PCAP", vector("CARRY_PCAPNG")), ("pcap", "CARRY_PCAP
 
 
 def lying_lengths():
-    """What stands behind a section of 28 bytes, and where and by which rule it is refused."""
+    """What follows a section of 28 bytes, and where and by which rule it is refused."""
     for kind in (0, 1, 2, 3, 4, 5, 6, 0x40000001, 0x80000000, 0xFFFFFFFF):
         for total in (0, 30, 0xFFFFFFFF):
             yield kind.to_bytes(4, "little") + total.to_bytes(4, "little") + bytes(64), 28, 5

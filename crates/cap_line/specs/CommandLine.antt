@@ -59,7 +59,7 @@ files_fault files out =
     if nat_lt 1 (count_by (λ f. bytes_eq f (codes "-")) files) then Err Input else
     if is_also_file out files then Err Output else Ok tt
 
--- whether a task has what it takes, with so many files: one file where it is of one, a format for `convert`, an output
+-- whether a task has what it takes, with that many files: one file where it is of one, a format for `convert`, an output
 -- where it writes one
 abbrev pub is_whole : Task → ℕ → Option Format → Option Text → Bool
 is_whole tasks.List files to out = files == 1

@@ -71,7 +71,7 @@ without_first order tail tail_again file file_again bytes are limit =
     subst (λ t. IsReadAgain [] [] items (file_items tail_again file_again t)) (sym same)
     (record { packets = law.0 ∙ numbered-measured [] items (frames_fit-law tail file bytes); unrefused = law.1; complete = law.2 })
 
--- behind a section header alone no interface stands
+-- after a section header alone there is no interface
 first-section : (order : Order) (tail : Tail) (file : ℕ) → file_first tail file (section_text order ++ []) ≡ None
 unfolding first_in
 first-section order tail file =

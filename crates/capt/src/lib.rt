@@ -1,5 +1,5 @@
-//! Packet captures, read, put in order, joined, written and reported: the library of `capt` by subject. Each name is that of the
-//! crate behind it, where its contract stands.
+//! Packet captures, read, put in order, joined, written and reported: the library of `capt` by subject. Each name comes
+//! from a crate below, where its contract stands.
 #![tactic(auto)]
 
 pub mod bytes;
