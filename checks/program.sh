@@ -166,6 +166,29 @@ if command -v script > /dev/null; then
     if grep -q "$line" "$work/shown" && kill -0 "$writer" 2> /dev/null; then passed=$((passed + 1)); else failed=$((failed + 1)); echo 'a line at a terminal'; fi
     : > "$work/seen"
     wait
+    # Work of over two seconds shows at a terminal how far it is, on a line that is wiped in the end; not if what is
+    # written goes to a program, which may use the same terminal.
+    # slowly NAME SHOWN WRITTEN COMMAND: what the terminal shows and what the file `written` has, of a command over `slow`
+    slowly() {
+        rm -f "$work/written"
+        { head -c 24 "$one"; sleep 2.4; tail -c +25 "$one"; } > "$work/slow" &
+        (cd "$work" && script -qec "$4" /dev/null) < /dev/null | tr -d '\n' > "$work/shown"
+        wait
+        if [ "$(cat "$work/shown")" = "$2" ] && { [ -z "$3" ] || [ "$(cat "$work/written")" = "$3" ]; }; then
+            passed=$((passed + 1))
+        else
+            failed=$((failed + 1)); echo "$1:"; cat -v "$work/shown"
+        fi
+    }
+    wipe=$'\r\e[K'
+    far="$wipe  0.0 MB, 0.0 MB a second$wipe"
+    slowly 'progress, then lines at the same terminal' "$far$line"$'\r' '' "$(printf '%q ' "$program" list slow)"
+    slowly 'progress beside a file' "$far" "$report" "$(printf '%q ' "$program" report slow) > written"
+    slowly 'no progress beside a pipe' '' "$report" "$(printf '%q ' "$program" report slow) | cat > written"
+    head -c 43 "$one" > "$work/half"; one=$work/half
+    slowly 'progress, then a fault' "$far"$'refused: file 1 offset 24 rule 3 cut\r  slow: it ends inside a file header, or inside a record or block, which --allow-cut drops\r' '' \
+        "$(printf '%q ' "$program" info slow)"
+    one=$work/one.pcap
 fi
 # What is said of the program, and of words that give no job, is what says.txt has: a line of standard error begins with
 # '! ' there. No line is longer than a terminal's.

@@ -2,6 +2,7 @@
 ghost use Rattle.std.specs.Prelude.{IsSome, IsTrue};
 ghost use Rattle.cap_tool.specs.Hints.{is_of_file};
 
+use crate::regular::{id_of, is_input, regular_at, regular_file};
 use cap_bytes::{Fault, Rule};
 use cap_line::{Job, parse};
 use cap_tasks::Outcome;
@@ -48,14 +49,34 @@ fn line(alloc: Global, name: &str, why: &impl Display) -> Option<String> {
     format!(in alloc; "  {name}: {why}\n").ok()
 }
 
-// Why the output of a run can't be created: the system says so, or it is one of the inputs.
-fn create_line<R: Files<File = File>>(files: &R, alloc: Global, name: &str) -> Option<String> {
-    match OpenOptions::new()
+// Whether a file that is open is one of those that a job reads, of which `-` is standard input.
+fn is_read<R: Files<File = File>>(files: &R, file: &File, job: &Job<'_>) -> bool {
+    let id = id_of(regular_file(file));
+    for name in job.files.iter() {
+        let path = if *name == "-" { "/dev/stdin" } else { name };
+        if is_input(id, &[id_of(regular_at(files, path))]) {
+            return true;
+        }
+    }
+    false
+}
+
+// Why the output of a job can't be created: the system says so, or it is one of the files that are read.
+fn create_line<R: Files<File = File>>(
+    files: &R,
+    alloc: Global,
+    job: &Job<'_>,
+    name: &str,
+) -> Option<String> {
+    let opened = OpenOptions::new()
         .write(true)
         .create(true)
-        .open(files, name)
-    {
-        Ok(_) => line(alloc, name, &"it is one of the files that are read"),
+        .open(files, name);
+    match opened {
+        Ok(file) if is_read(files, &file, job) => {
+            line(alloc, name, &"it is one of the files that are read")
+        }
+        Ok(_) => None,
         Err(error) => line(alloc, name, &error),
     }
 }
@@ -85,7 +106,7 @@ pub fn hint<R: Files<File = File>>(
             let error = File::open(files, name).err()?;
             line(alloc, name, &error)
         }
-        Outcome::Create => create_line(files, alloc, job.out?),
+        Outcome::Create => create_line(files, alloc, &job, job.out?),
         _ => None,
     }
 }

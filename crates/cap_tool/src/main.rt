@@ -5,21 +5,27 @@ ghost use Rattle.std.specs.Prelude.{◌≡◌, ◌⊎◌, IfErr, vec_len};
 ghost use Rattle.cap_line.specs.CommandLine.{IsWhole};
 
 mod hints;
+mod progress;
+mod regular;
 mod streams;
 #[cfg(test)]
 mod tests;
+mod watched;
 
 use crate::hints::hint;
-use crate::streams::{create_output, open_all};
+use crate::progress::Progress;
+use crate::streams::{Output, create_output, open_all};
+use crate::watched::{Watched, watch_all};
 use cap_bytes::{Fault, Source, Tracked, put_all};
 use cap_line::{Job, LineFault, NOT_UTF_8, USAGE, message, parse};
 use cap_tasks::{Outcome, end_of, job_to, status_of, tell};
 use std::alloc::Global;
 use std::env;
 use std::fs::File;
-use std::io::{BufWriter, ErrorKind, IsTerminal, Stdin, Stdout, Write};
+use std::io::{BufWriter, ErrorKind, IsTerminal, Stderr, Stdin, Stdout, Write};
 use std::process::ExitCode;
 use std::rt::{Env, Files};
+use std::time::Clock;
 
 // How many bytes wait for a write: none at a terminal, where each line is seen as it comes.
 fn output_buffer(is_terminal: bool) -> usize {
@@ -38,39 +44,60 @@ fn words_of<R: Env + AllocGlobal>(rt: &R) -> Result<Vec<String>, LineFault>
 }
 
 // Does a job, and flushes what waits in the output's buffer.
-fn run_job<R: Source, W: Write + Drop>(
+fn run_job<R: Source, C: Clock>(
     alloc: Global,
     job: &Job<'_>,
     sources: Vec<R>,
-    output: W,
-    buffer: usize,
+    output: Output,
+    progress: &Progress<'_, C>,
 ) -> Result<(), Outcome>
     requires whole { IsWhole job.now }
     requires sources { vec_len sources ≡ vec_len job.now.files }
 {
+    let buffer = output_buffer(output.is_terminal());
     let Ok(buffered) = BufWriter::with_capacity(alloc, buffer, output) else {
         return Err(Outcome::Fault(Fault::Memory));
     };
-    let mut writer = Tracked::new(buffered);
+    let mut writer = Watched::new(Tracked::new(buffered), progress);
     let answer = job_to(alloc, job, sources, &mut writer);
-    end_of(answer, writer.into_inner().flush())
+    end_of(answer, writer.into_inner().into_inner().flush())
+}
+
+// The standard streams.
+#[derive(Clone, Copy)]
+struct StandardStreams {
+    input: Stdin,
+    output: Stdout,
+    faults: Stderr,
+}
+
+// Where progress is shown: at a terminal, unless what is written goes to a program that may use the same one.
+fn screen_of<R: Files<File = File>>(files: &R, faults: Stderr, output: &Output) -> Option<Stderr> {
+    if faults.is_terminal() && (output.is_terminal() || output.is_regular(files)) {
+        Some(faults)
+    } else {
+        None
+    }
 }
 
 // What the command line asks for. Every file is opened before the output is created.
-fn run<R: Files<File = File> + AllocGlobal>(
+fn run<R: Files<File = File> + Clock + AllocGlobal>(
     rt: &R,
     words: &[String],
-    input: Stdin,
-    output: Stdout,
+    streams: StandardStreams,
 ) -> Result<(), Outcome> {
     let job = match parse(rt.alloc(), words) {
         Ok(job) => job,
         Err(fault) => return Err(Outcome::Line(fault)),
     };
-    let inputs = open_all(rt, rt.alloc(), input, job.files.as_slice())?;
-    let output = create_output(rt, output, job.out, inputs.ids.as_slice())?;
-    let buffer = output_buffer(output.is_terminal());
-    run_job(rt.alloc(), &job, inputs.sources, output, buffer)
+    let inputs = open_all(rt, rt.alloc(), streams.input, job.files.as_slice())?;
+    let output = create_output(rt, streams.output, job.out, inputs.ids.as_slice())?;
+    let screen = screen_of(rt, streams.faults, &output);
+    let progress = Progress::new(rt, screen, output.is_terminal(), inputs.size);
+    let sources = watch_all(rt.alloc(), inputs.sources, &progress)?;
+    let answer = run_job(rt.alloc(), &job, sources, output, &progress);
+    progress.wipe();
+    answer
 }
 
 // How a run ended, and what clap says of words that give no job.
@@ -89,9 +116,14 @@ fn ended(
 fn main(rt: HostRuntime) -> ExitCode {
     let mut output = Tracked::new(rt.stdout());
     let mut faults = Tracked::new(rt.stderr());
+    let streams = StandardStreams {
+        input: rt.stdin(),
+        output: rt.stdout(),
+        faults: rt.stderr(),
+    };
     let ending = match words_of(&rt) {
         Ok(words) => {
-            let answer = run(&rt, words.as_slice(), rt.stdin(), rt.stdout());
+            let answer = run(&rt, words.as_slice(), streams);
             let (outcome, said) = ended(rt.alloc(), words.as_slice(), answer);
             let ending = match said {
                 Some(text) => tell(outcome, text.as_bytes(), &mut output, &mut faults),

@@ -1,37 +1,15 @@
 //! The files and the standard streams of a run.
-ghost use Rattle.std.specs.Prelude.{◌≡◌, ◌≢◌, ◌≤◌, ◌↔◌, codes, length, map, vec_len, Contains, IfOk, IfErr, IsErr, IsFalse, IsTrue, IsSomeAnd, option_map, Some, None};
+ghost use Rattle.std.specs.Prelude.{◌≡◌, ◌≢◌, ◌≤◌, codes, length, map, vec_len, IfOk, IfErr, IsErr, IsFalse, IsTrue, option_map, Some, None};
 ghost use Rattle.cap_tool.specs.Streams.{IsOutFile, IsStandardOut, StopsOpening, StopsCreating, is_dash, is_standard, standards_of};
 
+use crate::regular::{FileId, Regular, id_of, is_input, regular_at, regular_file, regular_of};
 use cap_bytes::{Fault, Tracked};
 use cap_tasks::Outcome;
 use std::alloc::Global;
-use std::fs::{File, Metadata, OpenOptions};
+use std::fs::{File, OpenOptions};
+use std::io;
 use std::io::{ErrorKind, IsTerminal, Read, Stdin, Stdout, Write};
-use std::os::unix::fs::MetadataExt;
 use std::rt::Files;
-use std::{fs, io};
-
-/// A regular file, under whatever name it was opened: all its names, relative and absolute ones, symbolic
-/// and hard links, give the same.
-#[derive(Clone, Copy, Debug, PartialEq, Eq)]
-pub struct FileId {
-    /// The number of the device that the file is on.
-    pub device: u64,
-    /// The number of the file on its device.
-    pub number: u64,
-}
-
-// Which regular file it is; none for a device, a pipe and a folder.
-fn id_of(metadata: &Metadata) -> Option<FileId> {
-    if metadata.is_file() {
-        Some(FileId {
-            device: metadata.dev(),
-            number: metadata.ino(),
-        })
-    } else {
-        None
-    }
-}
 
 /// What a capture is read from.
 #[derive(Drop)]
@@ -56,14 +34,10 @@ impl Input {
     }
 
     // Which regular file is read, if it is one and that can be found out.
-    fn id<R: Files<File = File>>(&self, files: &R) -> Option<FileId> {
-        let metadata = match self {
-            Input::File(file) => file.metadata(),
-            Input::Standard(_) => fs::metadata(files, "/dev/stdin"),
-        };
-        match metadata {
-            Ok(metadata) => id_of(&metadata),
-            Err(_) => None,
+    fn regular<R: Files<File = File>>(&self, files: &R) -> Option<Regular> {
+        match self {
+            Input::File(file) => regular_file(file),
+            Input::Standard(_) => regular_at(files, "/dev/stdin"),
         }
     }
 }
@@ -86,16 +60,6 @@ pub enum Output {
     Standard(Stdout),
 }
 
-/// Whether a file that is to be written is one of those that are read. What is no regular file is none.
-pub fn is_input(output: Option<FileId>, inputs: &[Option<FileId>]) -> bool
-    ensures { IsTrue result ↔ IsSomeAnd output (λ id. Contains inputs.now (Some id)) }
-{
-    match output {
-        Some(id) => inputs.contains(&Some(id)),
-        None => false,
-    }
-}
-
 // Opens a file to be written and empties it, unless it is one of the inputs: then it stays as it is.
 fn create_file<R: Files<File = File>>(
     files: &R,
@@ -106,7 +70,7 @@ fn create_file<R: Files<File = File>>(
         .write(true)
         .create(true)
         .open(files, name)?;
-    let id = id_of(&file.metadata()?);
+    let id = id_of(regular_of(&file.metadata()?));
     if is_input(id, inputs) {
         return Err(io::Error::from(ErrorKind::AlreadyExists));
     }
@@ -141,6 +105,14 @@ impl Output {
         match self {
             Output::File(_) => false,
             Output::Standard(standard) => standard.is_terminal(),
+        }
+    }
+
+    /// Whether it goes to a regular file.
+    pub fn is_regular<R: Files<File = File>>(&self, files: &R) -> bool {
+        match self {
+            Output::File(file) => regular_file(file).is_some(),
+            Output::Standard(_) => regular_at(files, "/dev/stdout").is_some(),
         }
     }
 }
@@ -187,6 +159,13 @@ pub struct Inputs {
     pub sources: Vec<Tracked<Input>>,
     /// Which regular file each of them is, if it is one and that can be found out.
     pub ids: Vec<Option<FileId>>,
+    /// How many bytes they have together, if each of them is a regular file.
+    pub size: Option<u64>,
+}
+
+// So many bytes and those of one file more, if both are known.
+fn add_size(size: Option<u64>, regular: Option<Regular>) -> Option<u64> {
+    size?.checked_add(regular?.size)
 }
 
 /// Opens every file of a run, in order, and reads none: an input is standard input exactly where its name
@@ -205,14 +184,16 @@ pub fn open_all<R: Files<File = File>>(
 {
     let mut sources = Vec::new(alloc);
     let mut ids = Vec::new(alloc);
+    let mut size = Some(0);
     for (place, name) in names.iter().enumerate() {
         let Ok(input) = Input::open(files, standard, name) else {
             return Err(Outcome::Open(place as u32 + 1));
         };
-        let id = input.id(files);
-        if ids.push(id).is_err() || sources.push(Tracked::new(input)).is_err() {
+        let regular = input.regular(files);
+        size = add_size(size, regular);
+        if ids.push(id_of(regular)).is_err() || sources.push(Tracked::new(input)).is_err() {
             return Err(Outcome::Fault(Fault::Memory));
         }
     }
-    Ok(Inputs { sources, ids })
+    Ok(Inputs { sources, ids, size })
 }

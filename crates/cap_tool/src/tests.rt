@@ -1,8 +1,10 @@
 //! Command lines; the opening of files, and of the output.
 
 mod command_lines;
+mod progress;
 
-use crate::streams::{FileId, create_output, is_input, open_all};
+use crate::regular::{FileId, is_input};
+use crate::streams::{create_output, open_all};
 use cap_tasks::Outcome;
 
 #[test]

@@ -1,0 +1,68 @@
+//! Regular files: which of them are the same, and how large they are.
+ghost use Rattle.std.specs.Prelude.{◌≡◌, ◌↔◌, Contains, IsTrue, IsSomeAnd, Some, option_map};
+
+use std::fs;
+use std::fs::{File, Metadata};
+use std::os::unix::fs::MetadataExt;
+use std::rt::Files;
+
+/// A regular file, under whatever name it was opened: all its names, relative and absolute ones, symbolic
+/// and hard links, give the same.
+#[derive(Clone, Copy, Debug, PartialEq, Eq)]
+pub struct FileId {
+    /// The number of the device that the file is on.
+    pub device: u64,
+    /// The number of the file on its device.
+    pub number: u64,
+}
+
+/// What is known of a regular file.
+#[derive(Clone, Copy)]
+pub struct Regular {
+    /// Which one it is.
+    pub id: FileId,
+    /// How many bytes it has.
+    pub size: u64,
+}
+
+/// What the system tells of a regular file; none of a device, a pipe and a folder.
+pub fn regular_of(metadata: &Metadata) -> Option<Regular> {
+    if metadata.is_file() {
+        Some(Regular {
+            id: FileId {
+                device: metadata.dev(),
+                number: metadata.ino(),
+            },
+            size: metadata.len(),
+        })
+    } else {
+        None
+    }
+}
+
+/// What is known of a file that is open, if it is a regular one and that can be found out.
+pub fn regular_file(file: &File) -> Option<Regular> {
+    regular_of(&file.metadata().ok()?)
+}
+
+/// What is known of the file of that name, if it is a regular one and that can be found out.
+pub fn regular_at<R: Files<File = File>>(files: &R, name: &str) -> Option<Regular> {
+    regular_of(&fs::metadata(files, name).ok()?)
+}
+
+/// Which regular file it is, if it is one.
+pub fn id_of(regular: Option<Regular>) -> Option<FileId>
+    ensures { result ≡ option_map (λ r. r.id) regular }
+{
+    Some(regular?.id)
+}
+
+/// Whether a file that is to be written is one of those that are read. What is no regular file is none.
+pub fn is_input(output: Option<FileId>, inputs: &[Option<FileId>]) -> bool
+    ensures { IsTrue result ↔ IsSomeAnd output (λ id. Contains inputs.now (Some id)) }
+{
+    match output {
+        Some(id) => inputs.contains(&Some(id)),
+        None => false,
+    }
+}
