@@ -1,17 +1,12 @@
-/* The conversations of a pcap file as a plain C program counts them: what bench/report.sh holds `capt report` to.
+/* The conversations of a pcap file as a plain C program counts them: what bench/all.sh holds `capt report` to.
  *
  * Reads little-endian pcap of Ethernet in microseconds, takes whole IPv4 datagrams of UDP and TCP into one hash table,
  * and prints `talks N` and the `talk` lines of `capt report`, in the order of the first packets. It checks the lengths
  * that it reads past, and nothing else: no other link, no tags, no fragments, no order of time.
  */
-#include <fcntl.h>
-#include <stdint.h>
-#include <stdio.h>
-#include <stdlib.h>
-#include <string.h>
-#include <unistd.h>
+#include "window.h"
 
-enum { ROOM = 1 << 19, RECORD = 16, ETHERNET = 14 };
+enum { RECORD = 16, ETHERNET = 14 };
 
 struct key {
     uint32_t low, high;
@@ -25,36 +20,9 @@ struct talk {
     uint64_t frames[2], bytes[2];
 };
 
-static uint8_t room[ROOM];
-static size_t from, upto;
 static struct talk *talks;
 static uint32_t *slots;
 static size_t count, capacity = 1024;
-
-static void fail(const char *why) {
-    fprintf(stderr, "count: %s\n", why);
-    exit(1);
-}
-
-/* whether so many bytes are there, from room + from on */
-static int need(int file, size_t bytes) {
-    while (upto - from < bytes) {
-        if (from) {
-            memmove(room, room + from, upto - from);
-            upto -= from;
-            from = 0;
-        }
-        ssize_t taken = read(file, room + upto, ROOM - upto);
-        if (taken < 0) fail("read");
-        if (taken == 0) return 0;
-        upto += (size_t)taken;
-    }
-    return 1;
-}
-
-static uint32_t little(const uint8_t *at) {
-    return at[0] | at[1] << 8 | at[2] << 16 | (uint32_t)at[3] << 24;
-}
 
 static uint32_t big(const uint8_t *at) {
     return (uint32_t)at[0] << 24 | at[1] << 16 | at[2] << 8 | at[3];

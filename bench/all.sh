@@ -1,0 +1,142 @@
+#!/usr/bin/env bash
+# What each command of capt costs, beside `cat`, plain C programs (count.c, info.c, a loop that copies text) and its
+# peers where they are installed: capinfos, editcap, mergecap, tshark, tcpdump. One table of ratios.
+#
+# Makes its inputs (deterministic, in a folder of its own that is removed again; sizes at 100 percent):
+#   mixed.pcap   1,470,000 packets of 64 to 1,514 bytes in 1,000 conversations, 1.2 GB
+#   small.pcap   5,000,000 packets of 64 bytes in 1,000 conversations, 0.4 GB
+#   many.pcap    2,000,000 packets of 64 bytes in 1,000,000 conversations, 0.16 GB
+#   part1 to 8   1,200,000 packets of 64 to 1,514 bytes, whose times come in turn, 1 GB together
+# and mixed.pcapng and small.pcapng, which capt makes of the first two. Holds the conversations that capt prints to those
+# of count.c, and what it prints of a file to what info.c counts. A row has the processor seconds of capt (user and system,
+# the best of several runs), its peak of resident memory, and its processor seconds as a ratio to those of each other
+# program in the same run, whose runs come in turn. Aims, as ratios: report at most 1.5 of count.c (2 on many), info 1.5 of
+# info.c, convert and merge 2 of `cat FILE > OUT` on mixed sizes, a third of editcap and half of mergecap on small ones.
+#
+# Use: bench/all.sh [PROGRAM] [PERCENT OF THE SIZES] [RUNS]
+set -eu
+top=$(cd "$(dirname "$0")/.." && pwd)
+program=$(realpath "${1:-$top/crates/cap_tool/out/cap_tool}")
+percent=${2:-100}
+runs=${3:-5}
+if [ ! -x "$program" ]; then
+    (cd "$top/crates/cap_tool" && rt run -- --help > /dev/null)
+fi
+work=$(mktemp -d "${TMPDIR:-/tmp}/capt-all.XXXXXX")
+trap 'rm -rf "$work"' EXIT
+cc -O2 -o "$work/count" "$top/bench/count.c"
+cc -O2 -o "$work/info" "$top/bench/info.c"
+cat > "$work/copy.c" <<'C'
+#include <stdio.h>
+int main(int count, char **words) {
+    FILE *text = count > 1 ? fopen(words[1], "rb") : NULL;
+    if (!text) return 1;
+    for (int byte; (byte = getc_unlocked(text)) != EOF;) putc_unlocked(byte, stdout);
+    return fflush(stdout) != 0;
+}
+C
+cc -O2 -o "$work/copy" "$work/copy.c"
+
+cd "$work"
+PYTHONPATH="$top/bench" PYTHONDONTWRITEBYTECODE=1 python3 - "$program" "$percent" "$runs" <<'PY'
+import os, platform, shutil, struct, subprocess, sys
+from measure import measure
+
+program, percent, runs = sys.argv[1], int(sys.argv[2]), int(sys.argv[3])
+HEADER = bytes.fromhex("d4c3b2a1" "02000400" "00000000" "00000000" "00000400" "01000000")
+ETHERNET = bytes.fromhex("020000000002" "020000000001" "0800")
+UDP, TCP = 17, 6
+SIZES = [64, 1514, 90, 1514, 576, 1514, 128, 1000]
+
+def frame(talk, back, size):
+    """A frame of a conversation by its number: every fourth one is of TCP."""
+    protocol = UDP if talk % 4 else TCP
+    ends = [(0x0A000000 + talk // 500, 1024 + talk % 500), (0xC0A80000 + talk % 7, 53)]
+    (source, source_port), (destination, destination_port) = reversed(ends) if back else ends
+    length = size - 14
+    ip = struct.pack(">BBHHHBBHII", 0x45, 0, length, talk % 65536, 0, 64, protocol, 0, source, destination)
+    if protocol == UDP:
+        rest = struct.pack(">HHHH", source_port, destination_port, length - 20, 0)
+    else:
+        rest = struct.pack(">HHIIBBHHH", source_port, destination_port, 1, 1, 0x50, 0x10, 8192, 0, 0)
+    return (ETHERNET + ip + rest).ljust(size, b"\0")
+
+def make(name, packets, frame_at, first=0, step=1):
+    """A file of packets whose times are a millisecond apart, or `step` of them."""
+    with open(name, "wb") as out:
+        out.write(HEADER)
+        for begin in range(0, packets, 1000):
+            part = []
+            for i in range(begin, min(begin + 1000, packets)):
+                bytes_, time = frame_at(i), first + i * step
+                part.append(struct.pack("<IIII", 1000 + time // 1000, time % 1000 * 1000, len(bytes_), len(bytes_)) + bytes_)
+            out.write(b"".join(part))
+
+mixed = [frame(i * 37 % 1000, i % 3 == 0, SIZES[i % 8]) for i in range(8000)]
+small = [frame(i, i % 3 == 0, 64) for i in range(1000)]
+talks = max(1, 10_000 * percent)
+make("mixed.pcap", 14_700 * percent, lambda i: mixed[i % 8000])
+make("small.pcap", 50_000 * percent, lambda i: small[i % 1000])
+make("many.pcap", 2 * talks, lambda i: frame(i * 617 % talks, i >= talks, 64))
+parts = [f"part{n}.pcap" for n in range(1, 9)]
+for n, part in enumerate(parts):
+    make(part, 1_500 * percent, lambda i: mixed[i % 8000], n, 8)
+for name in ("mixed", "small"):
+    subprocess.run([program, "convert", "--to", "pcapng", "-o", f"{name}.pcapng", f"{name}.pcap"], check=True)
+
+def lines(words, start):
+    """What a program prints from the first line that begins so."""
+    text = subprocess.run(words, check=True, capture_output=True).stdout
+    return text[text.index(start):]
+
+for name in ("mixed", "small", "many"):
+    assert lines([program, "report", f"{name}.pcap"], b"talks ") == lines(["./count", f"{name}.pcap"], b"talks "), name
+for name in ("mixed.pcap", "small.pcap", "mixed.pcapng", "small.pcapng"):
+    assert lines([program, "info", name], b"file 1").replace(b" skipped 0", b"") == lines(["./info", name], b"file 1"), name
+
+def text_of(*words):
+    with open("text", "wb") as out:
+        subprocess.run([program, *words], check=True, stdout=out)
+
+def row(label, own, beside, output=False):
+    """Measures capt and others in turn, and prints how they compare."""
+    best = {}
+    for n in range(runs):
+        for name, words in {"capt": own, **beside}.items():
+            if (n == 0 or name != "tshark") and shutil.which(words[0]):
+                taken = measure(words, ["out"])
+                if taken:
+                    best[name] = min(taken, best.get(name, taken))
+    own_cost, peak = best["capt"][0], best["capt"][4]
+    ratios = "  ".join(f"{name} {own_cost / max(cost[0], 0.001):.2f}" for name, cost in best.items() if name != "capt")
+    print(f"{label:22} {own_cost:7.2f} s {peak:6.1f} MiB   {ratios}", flush=True)
+    return peak
+
+def copy(*names):
+    return ["sh", "-c", 'cat "$@" > out', "sh", *names]
+
+with open("/proc/cpuinfo") as info:
+    model = next((line.split(":")[1].strip() for line in info if line.startswith("model name")), platform.machine())
+print(f"{model}, {os.cpu_count()} processors, load {os.getloadavg()[0]:.1f}; {percent} percent of the sizes, best of {runs} runs")
+peaks = {}
+for name in ("mixed", "small", "many"):
+    file = f"{name}.pcap"
+    peaks[name] = row(f"report {file}", [program, "report", file],
+        {"cat": ["cat", file], "count.c": ["./count", file], "tshark": ["tshark", "-q", "-z", "conv,udp", "-z", "conv,tcp", "-r", file]})
+more = (peaks["many"] - peaks["small"]) * 2**20 / max(1, talks - 1000)
+print(f"{'':22} {more:.0f} bytes of memory for each further conversation")
+for file in ("mixed.pcap", "small.pcap", "mixed.pcapng", "small.pcapng"):
+    row(f"info {file}", [program, "info", file], {"cat": ["cat", file], "info.c": ["./info", file], "capinfos": ["capinfos", file]})
+for words in (["list", "small.pcap"], ["list", "small.pcapng"], ["blocks", "small.pcapng"]):
+    text_of(*words)
+    row(" ".join(words), [program, *words],
+        {"plain loop over the text": ["./copy", "text"], **({"tcpdump": ["tcpdump", "-r", words[1], "-nn"]} if words[0] == "list" else {})})
+os.remove("text")
+for source, target in (("mixed.pcap", "pcapng"), ("small.pcap", "pcapng"), ("mixed.pcapng", "pcap"), ("small.pcapng", "pcap")):
+    row(f"convert {source}", [program, "convert", "--to", target, "-o", "out", source],
+        {"cat > OUT": copy(source), "editcap": ["editcap", "-F", target, source, "out"]})
+row("merge 8 parts", [program, "merge", "-o", "out", *parts], {"cat > OUT": copy(*parts), "mergecap": ["mergecap", "-F", "pcapng", "-w", "out", *parts]})
+row("merge small twice", [program, "merge", "-o", "out", "small.pcap", "small.pcapng"],
+    {"cat > OUT": copy("small.pcap", "small.pcapng"), "mergecap": ["mergecap", "-F", "pcapng", "-w", "out", "small.pcap", "small.pcapng"]})
+row("join small.pcap", [program, "join", "-o", "out", "small.pcap"], {"cat > OUT": copy("small.pcap")})
+PY
