@@ -6,3 +6,5 @@ pub mod ListText
 pub mod JoinText
 pub mod MergeText
 pub mod Outcomes
+pub mod Progress
+pub mod Watched

@@ -9,8 +9,10 @@ mod lines;
 mod list;
 mod merge;
 mod outcomes;
+mod progress;
 #[cfg(test)]
 mod tests;
+mod watched;
 
 pub use crate::blocks::blocks_to;
 pub use crate::convert::convert_to;
@@ -19,3 +21,5 @@ pub use crate::join::join_to;
 pub use crate::list::list_to;
 pub use crate::merge::merge_to;
 pub use crate::outcomes::{Outcome, end_of, outcome_line, status_of, tell};
+pub use crate::progress::{Progress, progress_line};
+pub use crate::watched::Watched;

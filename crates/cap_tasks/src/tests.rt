@@ -1,5 +1,7 @@
 //! Outcomes and what is told of them.
 
+mod progress;
+
 use crate::outcomes::{Outcome, end_of, outcome_line, status_of, tell};
 use cap_bytes::{Fault, Refusal, Room, Rule};
 use cap_line::{LineFault, USAGE};

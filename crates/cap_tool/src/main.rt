@@ -5,20 +5,16 @@ ghost use Rattle.std.specs.Prelude.{◌≡◌, ◌⊎◌, IfErr, vec_len};
 ghost use Rattle.cap_line.specs.CommandLine.{IsWhole};
 
 mod hints;
-mod progress;
 mod regular;
 mod streams;
 #[cfg(test)]
 mod tests;
-mod watched;
 
 use crate::hints::hint;
-use crate::progress::Progress;
-use crate::streams::{Output, create_output, open_all};
-use crate::watched::{Watched, watch_all};
+use crate::streams::{Output, create_output, open_all, watch_all};
 use cap_bytes::{Fault, Source, Tracked, put_all};
 use cap_line::{Job, LineFault, NOT_UTF_8, USAGE, message, parse};
-use cap_tasks::{Outcome, end_of, job_to, status_of, tell};
+use cap_tasks::{Outcome, Progress, Watched, end_of, job_to, status_of, tell};
 use std::alloc::Global;
 use std::env;
 use std::fs::File;

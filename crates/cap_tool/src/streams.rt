@@ -1,15 +1,17 @@
 //! The files and the standard streams of a run.
 ghost use Rattle.std.specs.Prelude.{◌≡◌, ◌≢◌, ◌≤◌, codes, length, map, vec_len, IfOk, IfErr, IsErr, IsFalse, IsTrue, option_map, Some, None};
+ghost use Rattle.cap_tasks.specs.Watched.{inner_of};
 ghost use Rattle.cap_tool.specs.Streams.{IsOutFile, IsStandardOut, StopsOpening, StopsCreating, is_dash, is_standard, standards_of};
 
 use crate::regular::{FileId, Regular, id_of, is_input, regular_at, regular_file, regular_of};
 use cap_bytes::{Fault, Tracked};
-use cap_tasks::Outcome;
+use cap_tasks::{Outcome, Progress, Watched};
 use std::alloc::Global;
 use std::fs::{File, OpenOptions};
 use std::io;
 use std::io::{ErrorKind, IsTerminal, Read, Stdin, Stdout, Write};
 use std::rt::Files;
+use std::time::Clock;
 
 /// What a capture is read from.
 #[derive(Drop)]
@@ -196,4 +198,24 @@ pub fn open_all<R: Files<File = File>>(
         }
     }
     Ok(Inputs { sources, ids, size })
+}
+
+/// The inputs of a run, watched, in the same order. Answers `Fault::Memory`, and no other outcome, if a growth is
+/// refused.
+pub fn watch_all<'a, C: Clock>(
+    alloc: Global,
+    sources: Vec<Tracked<Input>>,
+    progress: &'a Progress<'a, C>,
+) -> Result<Vec<Watched<'a, Tracked<Input>, C>>, Outcome>
+    ensures same { IfOk result (λ watched. map inner_of watched.items ≡ sources.items) }
+    ensures len { IfOk result (λ watched. vec_len watched ≡ vec_len sources) }
+    ensures stops { IfErr result (λ outcome. outcome ≡ Outcome.Fault Fault.Memory) }
+{
+    let mut watched = Vec::new(alloc);
+    for source in sources {
+        if watched.push(Watched::new(source, progress)).is_err() {
+            return Err(Outcome::Fault(Fault::Memory));
+        }
+    }
+    Ok(watched)
 }

@@ -1,7 +1,6 @@
 //! Command lines; the opening of files, and of the output.
 
 mod command_lines;
-mod progress;
 
 use crate::regular::{FileId, is_input};
 use crate::streams::{create_output, open_all};

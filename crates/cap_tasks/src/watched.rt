@@ -1,12 +1,9 @@
 //! A device whose bytes are counted for the line that shows how far a run is.
-ghost use Rattle.std.specs.Prelude.{◌≡◌, IfOk, IfErr, map, vec_len};
-ghost use Rattle.cap_tool.specs.Watched.{inner_of};
+ghost use Rattle.std.specs.Prelude.{◌≡◌};
+ghost use Rattle.cap_tasks.specs.Watched.{inner_of};
 
 use crate::progress::Progress;
-use crate::streams::Input;
-use cap_bytes::{Broken, Device, Fault, Sink, Source, Tracked};
-use cap_tasks::Outcome;
-use std::alloc::Global;
+use cap_bytes::{Broken, Device, Sink, Source};
 use std::time::Clock;
 
 /// A device that does what `inner` does. Of a reader the progress is told how many bytes came, and of a writer
@@ -66,24 +63,4 @@ impl<'a, T: Sink, C: Clock> Sink for Watched<'a, T, C> {
         self.progress.make_way();
         self.inner.give(bytes)
     }
-}
-
-/// The inputs of a run, watched, in the same order. Answers `Fault::Memory`, and no other outcome, if a growth is
-/// refused.
-pub fn watch_all<'a, C: Clock>(
-    alloc: Global,
-    sources: Vec<Tracked<Input>>,
-    progress: &'a Progress<'a, C>,
-) -> Result<Vec<Watched<'a, Tracked<Input>, C>>, Outcome>
-    ensures same { IfOk result (λ watched. map inner_of watched.items ≡ sources.items) }
-    ensures len { IfOk result (λ watched. vec_len watched ≡ vec_len sources) }
-    ensures stops { IfErr result (λ outcome. outcome ≡ Outcome.Fault Fault.Memory) }
-{
-    let mut watched = Vec::new(alloc);
-    for source in sources {
-        if watched.push(Watched::new(source, progress)).is_err() {
-            return Err(Outcome::Fault(Fault::Memory));
-        }
-    }
-    Ok(watched)
 }
