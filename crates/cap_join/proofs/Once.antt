@@ -1,18 +1,17 @@
 -- No fragment is in two groups, open or completed; and the groups that were completed, by places.
-use Rattle.std.proofs.Common.{◌≡◌, ℕ, ◌+◌, ◌≤◌, ◌<◌, Bool, true, false, List, [], ◌∷◌, ◌++◌, length, refl, sym, ◌∙◌, ap, subst, arith, cond, not, true≢false, Option, Some, None}
-use Rattle.std.specs.Prelude.{nat_lt, ◌==◌, if◌then◌else◌, filter}
-use Rattle.std.proofs.lemmas.Bool.Decides.{nat_tests}
+use Rattle.std.proofs.Common.{◌≡◌, ℕ, ◌+◌, ◌≤◌, Bool, true, false, List, [], ◌∷◌, ◌++◌, length, refl, sym, ◌∙◌, ap, subst, arith, cond, not, Option, Some, None}
+use Rattle.std.specs.Prelude.{nat_lt, if◌then◌else◌, filter}
 use Rattle.cap_time.specs.declared.stamps.Stamp.{Stamp}
 use Rattle.cap_ip.specs.declared.headers.Key.{Key}
 use Rattle.cap_join.specs.Fragments.{Piece}
 use Rattle.cap_join.specs.ByteMap.{completes}
 use Rattle.cap_join.specs.Frames.{is_too_old}
 use Rattle.cap_join.specs.History.{Event, arrives, flushes, OpenGroup, same_key, key_of, opened, with_piece, live_at, group_at, without, extended, without_oldest, trimmed, pieces_with, opens_with, state_of, step, joined_pieces}
-use Rattle.cap_join.specs.Places.{marks, AreInOrder, group_by, goes_on}
+use Rattle.cap_join.specs.Places.{marks, group_by, goes_on}
 use Rattle.cap_join.proofs.ByPlaces.{agree}
 use Rattle.cap_join.proofs.Entries.{same_key-is}
 use Rattle.cap_join.proofs.OpenGroups.{IsApart, apart-filter, apart-extended, apart-push, group_at-filter-none, filter-true, filter-false}
-use Rattle.cap_join.specs.Completed.{if_complete, completed_of, completed_at, CompletedLaw, one_at, occurs, occurs_open, occurs_in, comes, OnceLaw}
+use Rattle.cap_join.specs.Completed.{if_complete, completed_of, CompletedLaw, one_at, occurs, occurs_open, occurs_in, OnceLaw}
 
 -- ---- keys
 

@@ -1,4 +1,5 @@
 pub mod Holes
+pub mod Incoming
 pub mod Fragments
 pub mod ByteMap
 pub mod Buffers

@@ -1,5 +1,8 @@
 //! What goes into a joiner and what comes out of it.
-use cap_ip::Header;
+ghost use Rattle.std.specs.Prelude.{◌≡◌, ◌<◌, ◌^◌, Some, length};
+ghost use Rattle.cap_ip.specs.Header.{IsPiece};
+
+use cap_ip::{Fragment, Header};
 use cap_time::Stamp;
 
 /// What is told of a fragment's frame: its own time, its place in the list of packets, and its original
@@ -12,6 +15,22 @@ pub struct Stamped {
     pub place: u64,
     /// How many bytes the frame had on the wire.
     pub original: u32,
+}
+
+/// A fragment on its way into its group.
+#[derive(Clone, Copy)]
+pub(crate) struct Incoming<'a> {
+    /// Its header.
+    pub(crate) header: &'a Header,
+    /// What the header says of it as a fragment.
+    pub(crate) fragment: Fragment,
+    /// All of its data.
+    pub(crate) data: &'a [u8],
+    /// What is told of its frame.
+    pub(crate) stamped: Stamped,
+    ghost found: { header.now.fragment ≡ Some fragment },
+    ghost shape: { IsPiece (length data.now) fragment },
+    ghost fits: { stamped.original < 2 ^ 32 },
 }
 
 /// A datagram that was joined from fragments.

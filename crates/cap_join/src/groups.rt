@@ -1,16 +1,16 @@
 //! A group of fragments that aren't a whole datagram yet.
 ghost use Rattle.std.specs.Prelude.{◌≡◌, ℕ, List, [], ◌∷◌, ◌+◌, ◌==◌, ◌≤◌, ◌<◌, ◌<ℤ◌, ◌^◌, pos, true, length, Some, IsSome, IsTrue, IfSome, OnOk, OnErr, if◌then◌else◌};
 ghost use Rattle.cap_time.specs.Stamp.{seconds_of};
-ghost use Rattle.cap_ip.specs.Header.{IsPiece};
 ghost use Rattle.cap_join.specs.Fitting.{FitsDatagram};
-ghost use Rattle.cap_join.specs.Fragments.{Piece, piece_of};
+ghost use Rattle.cap_join.specs.Fragments.{Piece};
+ghost use Rattle.cap_join.specs.Incoming.{piece_in};
 ghost use Rattle.cap_join.specs.ByteMap.{completes};
 ghost use Rattle.cap_join.specs.Frames.{timed, earlier, later, is_too_old};
 ghost use Rattle.cap_join.specs.Ages.{deadline_of};
 ghost use Rattle.cap_join.specs.Groups.{IsGroupOf, IsDatagramOf};
 
 use crate::buffers::put_data;
-use crate::datagrams::{Datagram, Stamped};
+use crate::datagrams::{Datagram, Incoming, Stamped};
 use crate::holes::{HoleList, NO_HOLE};
 use cap_ip::{Fragment, Header};
 use cap_time::Stamp;
@@ -141,26 +141,20 @@ impl Group {
     }
 
     /// Puts a fragment with its data into the group. An `Err` leaves the group as it was.
-    pub(crate) fn put(
-        &mut self,
-        header: &Header,
-        fragment: Fragment,
-        piece: &[u8],
-        stamped: Stamped,
-    ) -> Result<(), AllocError>
-        requires fragment { header.now.fragment ≡ Some fragment }
-        requires shape { IsPiece (length piece.now) fragment }
+    pub(crate) fn put(&mut self, incoming: &Incoming<'_>) -> Result<(), AllocError>
         requires few { self.old.frames < 2 ^ 63 }
         ensures ok { OnOk result ((ps : List Piece) → IsGroupOf self.old ps →
-            IsGroupOf self.new (piece_of header.now piece.now stamped ∷ ps)) }
+            IsGroupOf self.new (piece_in incoming.now ∷ ps)) }
         ensures frames { OnOk result (self.new.frames ≡ self.old.frames + 1) }
         ensures clock { self.new.clock ≡ self.old.clock }
         ensures place { self.new.place ≡ self.old.place }
         ensures err { OnErr result (self.new ≡ self.old) }
     {
-        self.holes = put_data(&mut self.buffer, self.holes, fragment.start, piece)?;
+        let fragment = incoming.fragment;
+        let stamped = incoming.stamped;
+        self.holes = put_data(&mut self.buffer, self.holes, fragment.start, incoming.data)?;
         self.total = total_after(self.total, fragment);
-        self.header = header_after(self.header, fragment.start, header);
+        self.header = header_after(self.header, fragment.start, incoming.header);
         self.frames += 1;
         self.bytes += u128::from(stamped.original);
         self.first = earlier(self.first, timed(stamped));

@@ -8,7 +8,7 @@ ghost use Rattle.cap_join.specs.History.{Event, arrives, flushes, state_of, join
 ghost use Rattle.cap_join.specs.Joiners.{StandsFor, IsAnswer, most_bytes, held_of, open_limit};
 ghost use Rattle.cap_join.specs.declared.datagrams.JoinFault.TheVariants.{Memory};
 
-use crate::datagrams::{JoinFault, Put, Stamped};
+use crate::datagrams::{Incoming, JoinFault, Put, Stamped};
 use crate::tables::{Table, drop_group, put_fragment};
 use cap_ip::{Header, Key};
 use cap_time::Stamp;
@@ -90,15 +90,13 @@ impl Joiner {
         let Some(fragment) = header.fragment() else {
             unreachable!();
         };
-        match put_fragment(
-            &mut self.table,
-            self.alloc,
-            clock,
+        let incoming = Incoming {
             header,
             fragment,
-            bytes,
+            data: bytes,
             stamped,
-        ) {
+        };
+        match put_fragment(&mut self.table, self.alloc, clock, &incoming) {
             Err(_) => Err(JoinFault::Memory),
             Ok((put, gave_up)) => {
                 self.next = stamped.place + 1;

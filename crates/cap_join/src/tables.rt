@@ -1,9 +1,8 @@
 //! The table of open groups, in the order in which they were opened.
 ghost use Rattle.std.specs.Prelude.{◌≡◌, ℕ, List, [], ◌∷◌, ◌++◌, ◌+◌, ◌<◌, ◌≤◌, ◌<ℤ◌, ◌^◌, pos, true, false, not, length, Some, None, IsTrue, IsSome, IfSome, IfNone, IsSomeAnd, IfOk, OnOk, OnErr, remove, nat_lt, if◌then◌else◌};
 ghost use Rattle.cap_time.specs.Stamp.{seconds_of};
-ghost use Rattle.cap_ip.specs.Header.{IsPiece};
 ghost use Rattle.cap_join.specs.Fitting.{FitsPut};
-ghost use Rattle.cap_join.specs.Fragments.{piece_of};
+ghost use Rattle.cap_join.specs.Incoming.{key_in, piece_in, place_in};
 ghost use Rattle.cap_join.specs.Frames.{is_too_old};
 ghost use Rattle.std.specs.List.{IsDistinct};
 ghost use Rattle.std.specs.Map.{keys_of, remove_entry};
@@ -13,9 +12,9 @@ ghost use Rattle.cap_join.specs.Ages.{NoneOld, IsDeadline, AreInTurn};
 ghost use Rattle.cap_join.specs.Tables.{entries_of, entry_at, live_entries, has_live, PutsAt, Puts};
 
 use crate::ages::{is_past, latest_of, sooner, stays_in_order};
-use crate::datagrams::{Put, Stamped};
+use crate::datagrams::{Incoming, Put};
 use crate::groups::Group;
-use cap_ip::{Fragment, Header, Key};
+use cap_ip::Key;
 use cap_time::Stamp;
 use lru::LruCache;
 use std::alloc::{AllocError, Global};
@@ -119,22 +118,12 @@ impl Table {
 
     // Puts a fragment into the group of its key, and answers whether that is complete. An `Err` leaves the
     // groups as they were.
-    fn put_at(
-        &mut self,
-        key: &Key,
-        header: &Header,
-        fragment: Fragment,
-        piece: &[u8],
-        stamped: Stamped,
-    ) -> Result<bool, AllocError>
+    fn put_at(&mut self, key: &Key, incoming: &Incoming<'_>) -> Result<bool, AllocError>
         requires there { IsSomeAnd (entry_at key.now self.old) (λ s. s.frames < 2 ^ 63) }
-        requires fragment { header.now.fragment ≡ Some fragment }
-        requires shape { IsPiece (length piece.now) fragment }
-        ensures ok { IfOk result (λ complete.
-            PutsAt key.now (piece_of header.now piece.now stamped) self.old complete self.new) }
+        ensures ok { IfOk result (λ complete. PutsAt key.now (piece_in incoming.now) self.old complete self.new) }
         ensures err { OnErr result (self.new ≡ self.old) }
     {
-        put_in(&mut self.groups, key, header, fragment, piece, stamped)
+        put_in(&mut self.groups, key, incoming)
     }
 
     /// Takes the group of a key out.
@@ -203,23 +192,18 @@ impl Table {
 fn put_in(
     groups: &mut LruCache<Key, Group>,
     key: &Key,
-    header: &Header,
-    fragment: Fragment,
-    piece: &[u8],
-    stamped: Stamped,
+    incoming: &Incoming<'_>,
 ) -> Result<bool, AllocError>
     requires there { IsSomeAnd (entry_at key.now groups.old.entries) (λ s. s.frames < 2 ^ 63) }
-    requires fragment { header.now.fragment ≡ Some fragment }
-    requires shape { IsPiece (length piece.now) fragment }
     ensures ok { IfOk result (λ complete.
-        PutsAt key.now (piece_of header.now piece.now stamped) groups.old.entries complete groups.new.entries) }
+        PutsAt key.now (piece_in incoming.now) groups.old.entries complete groups.new.entries) }
     ensures err { OnErr result (groups.new.entries ≡ groups.old.entries) }
     ensures cap { groups.new.cap ≡ groups.old.cap }
 {
     match groups.peek_mut(key) {
         None => unreachable!(),
         Some(group) => {
-            group.put(header, fragment, piece, stamped)?;
+            group.put(incoming)?;
             Ok(group.is_complete())
         }
     }
@@ -257,102 +241,84 @@ fn append(groups: &mut LruCache<Key, Group>, key: &Key, group: Group) -> Result<
 // Puts a fragment into the group of its key, which isn't too old, and drops the groups that are.
 fn extend(
     groups: &mut Table,
-    key: &Key,
     clock: Option<Stamp>,
-    header: &Header,
-    fragment: Fragment,
-    piece: &[u8],
-    stamped: Stamped,
+    incoming: &Incoming<'_>,
 ) -> Result<Put, AllocError>
-    requires live { has_live key.now clock groups.old ≡ true }
-    requires key { header.now.key ≡ key.now }
-    requires fragment { header.now.fragment ≡ Some fragment }
-    requires shape { IsPiece (length piece.now) fragment }
-    requires table { IsTable stamped.place groups.old }
-    requires last { stamped.place < 2 ^ 63 }
+    requires live { has_live (key_in incoming.now) clock groups.old ≡ true }
+    requires table { IsTable (place_in incoming.now) groups.old }
+    requires last { place_in incoming.now < 2 ^ 63 }
     ensures ok { IfOk result (λ put. (os : List OpenGroup) → AreEntriesOf groups.old os →
-        Puts clock (piece_of header.now piece.now stamped) os put false groups.new) }
+        Puts clock (piece_in incoming.now) os put false groups.new) }
     ensures fits { IfOk result FitsPut }
-    ensures table { OnOk result (IsTable (stamped.place + 1) groups.new) }
+    ensures table { OnOk result (IsTable (place_in incoming.now + 1) groups.new) }
     ensures err { OnErr result (groups.new ≡ groups.old) }
 {
-    let complete = groups.put_at(key, header, fragment, piece, stamped)?;
+    let key = incoming.header.key();
+    let complete = groups.put_at(&key, incoming)?;
     groups.drop_old(clock);
     if !complete {
         return Ok(Put::Kept);
     }
-    match groups.remove(key) {
+    match groups.remove(&key) {
         None => unreachable!(),
         Some(group) => Ok(Put::Joined(group.into_datagram())),
     }
 }
 
 // Opens a group with a fragment whose key has none, or one that is too old, and drops the groups that
-// are. Where as many are open as may be the oldest is given up; answers whether it was. The group is
+// are. If as many are open as may be, the oldest is given up; answers whether it was. The group is
 // added before any is dropped, so that no memory is asked for after.
 fn open(
     groups: &mut Table,
     alloc: Global,
-    key: &Key,
     clock: Option<Stamp>,
-    header: &Header,
-    fragment: Fragment,
-    piece: &[u8],
-    stamped: Stamped,
+    incoming: &Incoming<'_>,
 ) -> Result<(Put, bool), AllocError>
-    requires live { has_live key.now clock groups.old ≡ false }
-    requires key { header.now.key ≡ key.now }
-    requires fragment { header.now.fragment ≡ Some fragment }
-    requires shape { IsPiece (length piece.now) fragment }
+    requires live { has_live (key_in incoming.now) clock groups.old ≡ false }
     requires clock { IfSome clock (λ c. seconds_of c <ℤ pos (2 ^ 65)) }
-    requires table { IsTable stamped.place groups.old }
+    requires table { IsTable (place_in incoming.now) groups.old }
     ensures ok { IfOk result (λ put. (os : List OpenGroup) → AreEntriesOf groups.old os →
-        Puts clock (piece_of header.now piece.now stamped) os put.0 put.1 groups.new) }
+        Puts clock (piece_in incoming.now) os put.0 put.1 groups.new) }
     ensures fits { IfOk result (λ put. FitsPut put.0) }
-    ensures table { OnOk result (IsTable (stamped.place + 1) groups.new) }
+    ensures table { OnOk result (IsTable (place_in incoming.now + 1) groups.new) }
     ensures err { OnErr result (groups.new ≡ groups.old) }
 {
-    let mut group = Group::new(alloc, header, clock, stamped.place);
-    group.put(header, fragment, piece, stamped)?;
+    let key = incoming.header.key();
+    let mut group = Group::new(alloc, incoming.header, clock, incoming.stamped.place);
+    group.put(incoming)?;
     if group.is_complete() {
         groups.drop_old(clock);
         return Ok((Put::Joined(group.into_datagram()), false));
     }
-    groups.add(key, group)?;
+    groups.add(&key, group)?;
     groups.drop_old(clock);
     let gave_up = groups.make_place();
     Ok((Put::Kept, gave_up))
 }
 
 // Puts a fragment at a clock: into the group of its key, unless that is too old, else into a new one.
-// Groups that are too old are dropped, and the oldest is given up where a new one would be too many:
+// Groups that are too old are dropped, and the oldest is given up if a new one would be too many:
 // answers whether it was. An `Err` leaves the groups as they were.
 fn put_into(
     groups: &mut Table,
     alloc: Global,
     clock: Option<Stamp>,
-    header: &Header,
-    fragment: Fragment,
-    piece: &[u8],
-    stamped: Stamped,
+    incoming: &Incoming<'_>,
 ) -> Result<(Put, bool), AllocError>
-    requires fragment { header.now.fragment ≡ Some fragment }
-    requires shape { IsPiece (length piece.now) fragment }
     requires clock { IfSome clock (λ c. seconds_of c <ℤ pos (2 ^ 65)) }
-    requires table { IsTable stamped.place groups.old }
-    requires last { stamped.place < 2 ^ 63 }
+    requires table { IsTable (place_in incoming.now) groups.old }
+    requires last { place_in incoming.now < 2 ^ 63 }
     ensures ok { IfOk result (λ put. (os : List OpenGroup) → AreEntriesOf groups.old os →
-        Puts clock (piece_of header.now piece.now stamped) os put.0 put.1 groups.new) }
+        Puts clock (piece_in incoming.now) os put.0 put.1 groups.new) }
     ensures fits { IfOk result (λ put. FitsPut put.0) }
-    ensures table { OnOk result (IsTable (stamped.place + 1) groups.new) }
+    ensures table { OnOk result (IsTable (place_in incoming.now + 1) groups.new) }
     ensures err { OnErr result (groups.new ≡ groups.old) }
 {
-    let key = header.key();
-    if groups.has_live(&key, clock) {
-        let put = extend(groups, &key, clock, header, fragment, piece, stamped)?;
+    if groups.has_live(&incoming.header.key(), clock) {
+        let put = extend(groups, clock, incoming)?;
         Ok((put, false))
     } else {
-        open(groups, alloc, &key, clock, header, fragment, piece, stamped)
+        open(groups, alloc, clock, incoming)
     }
 }
 
@@ -374,26 +340,21 @@ pub(crate) fn put_fragment(
     table: &mut Option<Table>,
     alloc: Global,
     clock: Option<Stamp>,
-    header: &Header,
-    fragment: Fragment,
-    piece: &[u8],
-    stamped: Stamped,
+    incoming: &Incoming<'_>,
 ) -> Result<(Put, bool), AllocError>
-    requires fragment { header.now.fragment ≡ Some fragment }
-    requires shape { IsPiece (length piece.now) fragment }
     requires clock { IfSome clock (λ c. seconds_of c <ℤ pos (2 ^ 65)) }
-    requires table { IsTable stamped.place (entries_of table.old) }
-    requires last { stamped.place < 2 ^ 63 }
+    requires table { IsTable (place_in incoming.now) (entries_of table.old) }
+    requires last { place_in incoming.now < 2 ^ 63 }
     ensures ok { IfOk result (λ put. (os : List OpenGroup) → AreEntriesOf (entries_of table.old) os →
-        Puts clock (piece_of header.now piece.now stamped) os put.0 put.1 (entries_of table.new)) }
+        Puts clock (piece_in incoming.now) os put.0 put.1 (entries_of table.new)) }
     ensures fits { IfOk result (λ put. FitsPut put.0) }
-    ensures table { OnOk result (IsTable (stamped.place + 1) (entries_of table.new)) }
+    ensures table { OnOk result (IsTable (place_in incoming.now + 1) (entries_of table.new)) }
     ensures err { OnErr result (entries_of table.new ≡ entries_of table.old) }
 {
     make_table(table, alloc)?;
     match table {
         None => unreachable!(),
-        Some(groups) => put_into(groups, alloc, clock, header, fragment, piece, stamped),
+        Some(groups) => put_into(groups, alloc, clock, incoming),
     }
 }
 

@@ -5,5 +5,6 @@ pub mod Names
 pub mod Numbering
 pub mod Pcap
 pub mod Rounds
+pub mod RunPackets
 pub mod Texts
 pub mod Times

@@ -8,8 +8,10 @@ ghost use Rattle.cap_join.specs.Joiners.{StandsFor};
 ghost use Rattle.cap_merge.specs.Parts.{meta_time};
 ghost use Rattle.cap_time.specs.Stamp.{seconds_of};
 ghost use Rattle.cap_write.specs.Datagrams.{IsFilled, IsShort, Stands, answered};
-ghost use Rattle.cap_write.specs.Joined.{header_with, header_text, has_form, complete_of, completed_in, completed, events_after, stamped_of};
+ghost use Rattle.cap_write.specs.RunPackets.{stamped_in, whole_in};
+ghost use Rattle.cap_write.specs.Joined.{header_with, header_text, has_form, complete_of, completed_in, completed, events_after};
 
+use crate::run_packets::{Joining, RunPacket};
 use cap_bytes::Fault;
 use cap_ip::{Header, Transport, header_checksum, transport};
 use cap_join::{Arrived, Joiner, Stamped};
@@ -152,33 +154,6 @@ fn fill_answered(packet: &mut Vec<u8>, arrived: Arrived<'_>) -> Result<bool, Fau
     }
 }
 
-// Takes an IPv4 packet, and puts the datagram that it completes into the packet, where it does.
-fn take_ipv4(
-    joiner: &mut Joiner,
-    clock: Option<Stamp>,
-    bytes: &[u8],
-    whole: bool,
-    stamped: Stamped,
-    packet: &mut Vec<u8>,
-) -> Result<bool, Fault>
-    requires stands { Stands joiner.old }
-    requires clock { IfSome clock (λ c. seconds_of c <ℤ pos (2 ^ 65)) }
-    requires place { joiner.old.next ≤ stamped.place }
-    requires last { stamped.place < 2 ^ 63 }
-    ensures filled { IfOk result (λ some. (events : List Event) → StandsFor joiner.old events →
-        IsFilled (completed_in (read_of bytes.now whole) clock stamped events) some packet.new.items) }
-    ensures stands { OnOk result ((events : List Event) → StandsFor joiner.old events →
-        StandsFor joiner.new (events_with (read_of bytes.now whole) clock stamped events)) }
-    ensures next { OnOk result (joiner.new.next ≤ stamped.place + 1) }
-    ensures short { IfOk result (λ some. IsTrue some → length packet.new.items ≤ 65535) }
-    ensures fault { IsOkUnless result Fault.Memory }
-{
-    match joiner.take(clock, bytes, whole, stamped) {
-        Ok(arrived) => fill_answered(packet, arrived),
-        Err(_) => Err(Fault::Memory),
-    }
-}
-
 // The time of a packet, where it has one.
 fn time_of(meta: &Meta) -> Option<Stamp>
     ensures { result ≡ meta_time meta.now }
@@ -189,39 +164,57 @@ fn time_of(meta: &Meta) -> Option<Stamp>
     }
 }
 
-/// Takes a packet, which has that place in its run and that clock, and puts the bytes of the datagram that
-/// it completes into `packet`. Answers whether there is one: a whole datagram, or one whose last missing
-/// fragment this is, of which all data was captured and has the form of its protocol. `Memory` comes where
-/// a growth was refused.
-#[tactic(auto, unfolding(crate::specs::Joined::completed, crate::specs::Joined::events_after))]
-pub fn take_packet(
-    joiner: &mut Joiner,
-    clock: Option<Stamp>,
-    place: u64,
-    meta: &Meta,
-    frame: &[u8],
-    packet: &mut Vec<u8>,
-) -> Result<bool, Fault>
-    requires stands { Stands joiner.old }
-    requires clock { IfSome clock (λ c. seconds_of c <ℤ pos (2 ^ 65)) }
-    requires place { joiner.old.next ≤ place }
-    requires last { place < 2 ^ 63 }
-    ensures filled { IfOk result (λ some. (events : List Event) → StandsFor joiner.old events →
-        IsFilled (completed place events clock meta.now frame.now) some packet.new.items) }
-    ensures stands { OnOk result ((events : List Event) → StandsFor joiner.old events →
-        StandsFor joiner.new (events_after place events clock meta.now frame.now)) }
-    ensures next { OnOk result (joiner.new.next ≤ place + 1) }
-    ensures short { IfOk result (λ some. IsTrue some → length packet.new.items ≤ 65535) }
+// What is told of a packet's frame.
+fn stamped_of(run: &RunPacket<'_>) -> Stamped
+    ensures { result ≡ stamped_in run.now }
+{
+    Stamped {
+        time: time_of(run.meta),
+        place: run.place,
+        original: run.meta.original,
+    }
+}
+
+// Takes the IPv4 packet that a packet of a run carries, and makes room hold the datagram that it completes, if it does.
+fn take_ipv4(joining: &mut Joining, run: &RunPacket<'_>, bytes: &[u8]) -> Result<bool, Fault>
+    requires stands { Stands joining.old.joiner }
+    requires place { joining.old.joiner.next ≤ run.now.place }
+    ensures filled { IfOk result (λ some. (events : List Event) → StandsFor joining.old.joiner events →
+        IsFilled (completed_in (read_of bytes.now (whole_in run.now)) run.now.clock (stamped_in run.now) events) some joining.new.packet.items) }
+    ensures stands { OnOk result ((events : List Event) → StandsFor joining.old.joiner events →
+        StandsFor joining.new.joiner (events_with (read_of bytes.now (whole_in run.now)) run.now.clock (stamped_in run.now) events)) }
+    ensures next { OnOk result (joining.new.joiner.next ≤ run.now.place + 1) }
+    ensures short { IfOk result (λ some. IsTrue some → length joining.new.packet.items ≤ 65535) }
     ensures fault { IsOkUnless result Fault.Memory }
 {
-    let stamped = Stamped {
-        time: time_of(meta),
-        place,
-        original: meta.original,
-    };
-    let whole = frame.len() >= meta.original as usize;
-    match network(meta.interface.link, frame, meta.original) {
-        Network::Ipv4(bytes) => take_ipv4(joiner, clock, bytes, whole, stamped, packet),
+    let whole = run.frame.len() >= run.meta.original as usize;
+    match joining
+        .joiner
+        .take(run.clock, bytes, whole, stamped_of(run))
+    {
+        Ok(arrived) => fill_answered(&mut joining.packet, arrived),
+        Err(_) => Err(Fault::Memory),
+    }
+}
+
+/// Takes a packet of a run, and makes `joining.packet` the datagram that it completes. Answers whether there is
+/// one: a whole datagram, or one whose last missing fragment this is, of which all data was captured and has
+/// the form of its protocol. `Memory` comes if a growth was refused.
+#[tactic(auto, unfolding(crate::specs::Joined::completed, crate::specs::Joined::events_after))]
+pub fn take_packet(joining: &mut Joining, run: &RunPacket<'_>) -> Result<bool, Fault>
+    requires stands { Stands joining.old.joiner }
+    requires place { joining.old.joiner.next ≤ run.now.place }
+    ensures filled { IfOk result (λ some. (events : List Event) → StandsFor joining.old.joiner events →
+        IsFilled (completed run.now.place events run.now.clock run.now.meta.now run.now.frame.now) some joining.new.packet.items) }
+    ensures stands { OnOk result ((events : List Event) → StandsFor joining.old.joiner events →
+        StandsFor joining.new.joiner (events_after run.now.place events run.now.clock run.now.meta.now run.now.frame.now)) }
+    ensures next { OnOk result (joining.new.joiner.next ≤ run.now.place + 1) }
+    ensures short { IfOk result (λ some. IsTrue some → length joining.new.packet.items ≤ 65535) }
+    ensures fault { IsOkUnless result Fault.Memory }
+{
+    let meta = run.meta;
+    match network(meta.interface.link, run.frame, meta.original) {
+        Network::Ipv4(bytes) => take_ipv4(joining, run, bytes),
         Network::OtherLink => Ok(false),
         Network::NotIpv4 => Ok(false),
         Network::Short => Ok(false),

@@ -6,23 +6,24 @@ ghost use Rattle.cap_join.specs.History.{Event};
 ghost use Rattle.cap_join.specs.Joiners.{StandsFor};
 ghost use Rattle.cap_merge.specs.Parts.{feed_of, run_of};
 ghost use Rattle.cap_merge.specs.View.{parts_of};
-ghost use Rattle.cap_time.specs.Stamp.{seconds_of};
 ghost use Rattle.cap_source.specs.Feed.{Keeps};
 ghost use Rattle.cap_source.specs.Walk.{Walks};
 ghost use Rattle.cap_write.specs.Datagrams.{Stands, names_behind};
-ghost use Rattle.cap_write.specs.Joined.{datagram_meta, items_of_packet, events_after, joined_items, joined_text, joined_refusal};
+ghost use Rattle.cap_write.specs.Joined.{datagram_meta, events_after, joined_items, joined_text, joined_refusal};
 ghost use Rattle.cap_write.specs.Numbering.{refusal_in};
+ghost use Rattle.cap_write.specs.RunPackets.{items_in};
 ghost use Rattle.cap_write.specs.Texts.{text_behind};
 
 use crate::datagrams::take_packet;
 use crate::names::{Names, units_of};
 use crate::packets::put_one;
+use crate::run_packets::{Joining, RunPacket};
 use cap_blocks::put_section;
 use cap_bytes::{Fault, Order, Sink};
 use cap_join::Joiner;
 use cap_merge::{Merged, next_of};
 use cap_source::{Meta, PacketFeed};
-use cap_time::{Interface, Stamp};
+use cap_time::Interface;
 use std::alloc::Global;
 
 /// LINKTYPE_RAW: no link header, an IPv4 or IPv6 packet.
@@ -50,42 +51,35 @@ fn datagram_meta(meta: &Meta, size: u32) -> Meta
     }
 }
 
-// Writes the datagram that a packet completes, if it does. The packet has that place in its run and that
-// clock; `packet` is room for the datagram.
+// Writes the datagram that a packet of a run completes, if it does.
 fn put_completed<W: Sink>(
     names: &mut Names,
-    joiner: &mut Joiner,
+    joining: &mut Joining,
     order: Order,
-    clock: Option<Stamp>,
-    place: u64,
-    meta: &Meta,
-    frame: &[u8],
-    packet: &mut Vec<u8>,
+    run: &RunPacket<'_>,
     writer: &mut W,
 ) -> Result<(), Fault>
     requires limit { length names.old.keys ≤ 1024 }
-    requires stands { Stands joiner.old }
-    requires clock { IfSome clock (λ c. seconds_of c <ℤ pos (2 ^ 65)) }
-    requires place { joiner.old.next ≤ place }
-    requires last { place < 2 ^ 63 }
-    ensures text { IsTrue (W.tells_held writer.old) → (events : List Event) → StandsFor joiner.old events
-        → Prints (text_behind order names.old.keys (items_of_packet place events clock meta.now frame.now))
-        (refusal_in names.old.keys (items_of_packet place events clock meta.now frame.now))
+    requires stands { Stands joining.old.joiner }
+    requires place { joining.old.joiner.next ≤ run.now.place }
+    ensures text { IsTrue (W.tells_held writer.old) → (events : List Event) → StandsFor joining.old.joiner events
+        → Prints (text_behind order names.old.keys (items_in run.now events))
+        (refusal_in names.old.keys (items_in run.now events))
         (W.held writer.old) result (W.held writer.new) }
-    ensures names { OnOk result ((events : List Event) → StandsFor joiner.old events
-        → (names.new.keys ≡ names_behind names.old.keys (items_of_packet place events clock meta.now frame.now))
-        × (refusal_in names.old.keys (items_of_packet place events clock meta.now frame.now) ≡ None)) }
-    ensures stands { OnOk result ((events : List Event) → StandsFor joiner.old events
-        → StandsFor joiner.new (events_after place events clock meta.now frame.now)) }
-    ensures next { OnOk result (joiner.new.next ≤ place + 1) }
+    ensures names { OnOk result ((events : List Event) → StandsFor joining.old.joiner events
+        → (names.new.keys ≡ names_behind names.old.keys (items_in run.now events))
+        × (refusal_in names.old.keys (items_in run.now events) ≡ None)) }
+    ensures stands { OnOk result ((events : List Event) → StandsFor joining.old.joiner events
+        → StandsFor joining.new.joiner (events_after run.now.place events run.now.clock run.now.meta.now run.now.frame.now)) }
+    ensures next { OnOk result (joining.new.joiner.next ≤ run.now.place + 1) }
     ensures limit { length names.new.keys ≤ 1024 }
     ensures writer { WriterKeeps (writer_of W.Sink writer.old) (is_write result) (writer_of W.Sink writer.new) }
     ensures read { IsRead result → ⊥ }
 {
-    units_of(meta)?;
-    if take_packet(joiner, clock, place, meta, frame, packet)? {
-        let meta = datagram_meta(meta, packet.len() as u32);
-        put_one(names, order, &meta, packet.as_slice(), writer)
+    units_of(run.meta)?;
+    if take_packet(joining, run)? {
+        let meta = datagram_meta(run.meta, joining.packet.len() as u32);
+        put_one(names, order, &meta, joining.packet.as_slice(), writer)
     } else {
         Ok(())
     }
@@ -108,23 +102,21 @@ fn put_joined<F: PacketFeed, W: Sink>(
     ensures walks { Walks (feed_of (parts_of merged.old)) result (feed_of (parts_of merged.new)) }
     ensures keeps { Keeps (feed_of (parts_of merged.old)) (feed_of (parts_of merged.new)) }
 {
-    let mut joiner = Joiner::new(alloc);
-    let mut packet = Vec::new(alloc);
+    let mut joining = Joining {
+        joiner: Joiner::new(alloc),
+        packet: Vec::new(alloc),
+    };
     let mut place: u64 = 0;
     // 32 files at most, of fewer than 2^40 packets each: so the place stays below 2^63
     let _ = merged.files();
     while let Some(meta) = next_of(merged)? {
-        put_completed(
-            names,
-            &mut joiner,
-            order,
-            merged.clock(),
+        let run = RunPacket {
             place,
-            &meta,
-            merged.frame(),
-            &mut packet,
-            writer,
-        )?;
+            clock: merged.clock(),
+            meta: &meta,
+            frame: merged.frame(),
+        };
+        put_completed(names, &mut joining, order, &run, writer)?;
         merged.pass();
         place += 1;
     }

@@ -9,6 +9,7 @@ mod names;
 mod packets;
 mod pcap;
 mod pcapng;
+mod run_packets;
 
 pub use crate::joined::write_joined;
 pub use crate::merged::write_merged;

@@ -33,26 +33,38 @@ fn put_new_interface<W: Sink>(
     }
 }
 
-// Writes a packet, behind its interface where that is the next one.
-fn put_numbered<W: Sink>(
-    writer: &mut W,
-    order: Order,
-    is_new: bool,
+// A packet that can be written.
+#[derive(Clone, Copy)]
+struct Numbered<'a> {
+    meta: &'a Meta,
+    frame: &'a [u8],
+    // the number of its interface
     number: u32,
+    // whether that is described first
+    is_new: bool,
+    // its time in units of the interface's clock
     units: u64,
-    meta: &Meta,
-    frame: &[u8],
-) -> Result<(), Fault>
-    requires captured { length frame.now ≤ 262144 }
+    ghost captured: { length frame.now ≤ 262144 },
+}
+
+// Writes a packet, after its interface if that is the next one.
+fn put_numbered<W: Sink>(writer: &mut W, order: Order, packet: &Numbered<'_>) -> Result<(), Fault>
     ensures bytes { IsTrue (W.tells_held writer.old)
         → Puts (W.held writer.old) result (W.held writer.new)
-        ((if is_new then interface_text order meta.now.interface else [])
-        ++ packet_text order number units meta.now.original frame.now) }
+        ((if packet.now.is_new then interface_text order packet.now.meta.now.interface else [])
+        ++ packet_text order packet.now.number packet.now.units packet.now.meta.now.original packet.now.frame.now) }
     ensures writer { WriterKeeps (writer_of W.Sink writer.old) (is_err result) (writer_of W.Sink writer.new) }
     ensures fault { IsOkUnless result Fault.Write }
 {
-    put_new_interface(writer, order, is_new, meta)?;
-    put_packet(writer, order, number, units, meta.original, frame)
+    put_new_interface(writer, order, packet.is_new, packet.meta)?;
+    put_packet(
+        writer,
+        order,
+        packet.number,
+        packet.units,
+        packet.meta.original,
+        packet.frame,
+    )
 }
 
 /// Writes a packet, or answers why it isn't written.
@@ -77,15 +89,14 @@ pub fn put_one<W: Sink>(
     let units = units_of(meta)?;
     let count = names.len();
     let number = number_of(names, meta)?;
-    put_numbered(
-        writer,
-        order,
-        number as usize == count,
-        number,
-        units,
+    let packet = Numbered {
         meta,
         frame,
-    )
+        number,
+        is_new: number as usize == count,
+        units,
+    };
+    put_numbered(writer, order, &packet)
 }
 
 /// Writes the packets of a feed, where the interfaces of `names` were described before.

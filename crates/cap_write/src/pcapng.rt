@@ -16,13 +16,20 @@ use cap_source::{Capture, PacketFeed};
 use cap_time::Interface;
 use std::alloc::Global;
 
+// A file by its number and its first interface, if one stands before the first packet.
+#[derive(Clone, Copy)]
+struct Begun {
+    file: u32,
+    first: Option<Interface>,
+}
+
 // The interfaces that are described before the first packet.
-fn first_names(alloc: Global, file: u32, first: Option<Interface>) -> Result<Names, Fault>
-    ensures names { Holds (λ names. names.keys) (first_names file first) result }
+fn first_names(alloc: Global, begun: Begun) -> Result<Names, Fault>
+    ensures names { Holds (λ names. names.keys) (first_names begun.file begun.first) result }
 {
     let mut names = Names::new(alloc);
-    match first {
-        Some(_) => match names.insert((file, 0)) {
+    match begun.first {
+        Some(_) => match names.insert((begun.file, 0)) {
             Ok(_) => Ok(names),
             Err(_) => Err(Fault::Memory),
         },
@@ -76,27 +83,26 @@ pub fn to_pcapng<R: Source, W: Sink>(
 {
     let file = capture.file();
     let first = capture.first()?;
-    put_pcapng(alloc, capture, file, first, order, writer)
+    put_pcapng(alloc, capture, Begun { file, first }, order, writer)
 }
 
 // Writes the packets of a feed as the pcapng file of a file of that number with that first interface.
 fn put_pcapng<F: PacketFeed, W: Sink>(
     alloc: Global,
     feed: &mut F,
-    file: u32,
-    first: Option<Interface>,
+    begun: Begun,
     order: Order,
     writer: &mut W,
 ) -> Result<(), Fault>
     ensures text { IsTrue (F.feed feed.old).told → IsTrue (W.tells_held writer.old)
-        → Prints (pcapng_text order file first (F.feed feed.old).items)
-        (pcapng_refusal file first (F.feed feed.old).items)
+        → Prints (pcapng_text order begun.file begun.first (F.feed feed.old).items)
+        (pcapng_refusal begun.file begun.first (F.feed feed.old).items)
         (W.held writer.old) result (W.held writer.new) }
     ensures writer { WriterKeeps (writer_of W.Sink writer.old) (is_write result) (writer_of W.Sink writer.new) }
     ensures walks { Walks (F.feed feed.old) result (F.feed feed.new) }
     ensures keeps { Keeps (F.feed feed.old) (F.feed feed.new) }
 {
-    let mut names = first_names(alloc, file, first)?;
-    put_front(writer, order, first)?;
+    let mut names = first_names(alloc, begun)?;
+    put_front(writer, order, begun.first)?;
     put_packets(feed, order, &mut names, writer)
 }

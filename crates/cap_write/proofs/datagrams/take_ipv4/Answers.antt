@@ -4,16 +4,17 @@ use Rattle.cap_write.proofs.Completed.{answered-is, filled-all}
 use Rattle.cap_write.proofs.Lengths.{arrived-short}
 use Rattle.cap_write.specs.Datagrams.{answered}
 use Rattle.cap_write.specs.Joined.{completed_in}
+use Rattle.cap_write.specs.RunPackets.{stamped_in, whole_in}
 use Rattle.cap_write.proofs.datagrams.take_ipv4.Goals as goal
 
 pub fill_answered-requires : goal.fill_answered-requires
 fill_answered-requires c =
     let s = c.requires.stands in
-    record { short = arrived-short c.args.bytes.now c.args.whole c.args.clock c.args.stamped s.0 c.args.joiner.now c.in-Ok.arrived s.1 (c.in-Ok.ensures.answer s.0 s.1) }
+    record { short = arrived-short c.args.bytes.now (whole_in c.args.run.now) c.args.run.now.clock (stamped_in c.args.run.now) s.0 c.args.joining.now.joiner c.in-Ok.arrived s.1 (rw c.stamped_of.ensures at (c.in-Ok.ensures.answer s.0 s.1)) }
 
 pub returns-in-Ok-clause-filled : goal.returns-in-Ok-clause-filled
 returns-in-Ok-clause-filled c =
-    filled-all c.fill_answered.result (answered c.in-Ok.arrived) (completed_in (read_of c.args.bytes.now c.args.whole) c.args.clock c.args.stamped)
-    (StandsFor c.args.joiner.now) c.fill_answered.new.packet.items
-    (λ events stands. answered-is (read_of c.args.bytes.now c.args.whole) c.in-Ok.arrived c.args.clock c.args.stamped events (c.in-Ok.ensures.answer events stands))
+    filled-all c.fill_answered.result (answered c.in-Ok.arrived) (completed_in (read_of c.args.bytes.now (whole_in c.args.run.now)) c.args.run.now.clock (stamped_in c.args.run.now))
+    (StandsFor c.args.joining.now.joiner) c.fill_answered.new.packet.items
+    (λ events stands. answered-is (read_of c.args.bytes.now (whole_in c.args.run.now)) c.in-Ok.arrived c.args.run.now.clock (stamped_in c.args.run.now) events (rw c.stamped_of.ensures at (c.in-Ok.ensures.answer events stands)))
     c.fill_answered.ensures.filled

@@ -11,28 +11,28 @@ use Rattle.cap_write.proofs.joined.put_joined.Goals as goal
 pub returns-in_err-meta-clause-text : goal.returns-in_err-meta-clause-text
 returns-in_err-meta-clause-text g c = λ t w.
     let p = err_from_is_err_and c.from_residual.result c.from_residual.ensures.1 in
-    let i = c.loop-packet.invariant in
+    let i = c.loop-joining.invariant in
     rw (p.1, p.2)
-    (Joining-fault c.args.order c.in_err-meta.field-0.0 (parts_of c.args.merged.now) (parts_of c.loop-packet.merged) (feed_of (parts_of c.next_of.new.merged))
-    c.args.names.now.keys c.loop-packet.names.keys c.loop-packet.joiner c.loop-packet.place _ _ _ _ i t w (c.in_err-meta.ensures.items (i.told t)))
+    (Joining-fault c.args.order c.in_err-meta.field-0.0 (parts_of c.args.merged.now) (parts_of c.loop-joining.merged) (feed_of (parts_of c.next_of.new.merged))
+    c.args.names.now.keys c.loop-joining.names.keys c.loop-joining.joining.joiner c.loop-joining.place _ _ _ _ i t w (c.in_err-meta.ensures.items (i.told t)))
 
-pub put_completed-requires-clause-last : goal.put_completed-requires-clause-last
-put_completed-requires-clause-last g c =
+pub invariant_of-run-clause-last : goal.invariant_of-run-clause-last
+invariant_of-run-clause-last g c =
     let m = c.args.merged.now in
     let law = merged-is-feed g.F.PacketFeed.feed g.met.F.PacketFeed.lawful m.lanes.items m.feeds.items m.alike m.numbered m.agrees m.reached in
-    place-small c.loop-packet.place (feed_of (parts_of c.loop-packet.merged)).left (feed_of (parts_of m)).left _ c.loop-packet.invariant.places law.most
+    place-small c.loop-joining.place (feed_of (parts_of c.loop-joining.merged)).left (feed_of (parts_of m)).left _ c.loop-joining.invariant.places law.most
     (omega (arith, c.files.ensures.files, c.files.ensures.most))
 
 pub returns-in_err-put_completed-clause-text : goal.returns-in_err-put_completed-clause-text
 returns-in_err-put_completed-clause-text g c = λ t w.
     let p = err_from_is_err_and c.from_residual-in_err-put_completed.result c.from_residual-in_err-put_completed.ensures.1 in
-    let i = c.loop-packet.invariant in
-    let mid = parts_of c.loop-packet.merged in
+    let i = c.loop-joining.invariant in
+    let mid = parts_of c.loop-joining.merged in
     let shown = parts_of c.next_of.new.merged in
     let shows : ShowsItem (feed_of mid) (Ok (Some c.in-Some.meta)) (feed_of shown) = rw c.in-Some.is at (c.in_ok-meta.ensures.items (i.told t)) in
     rw (p.1, p.2)
     (Joining-part c.args.order c.in_err-put_completed.field-0.0 (parts_of c.args.merged.now) mid shown
-    c.args.names.now.keys c.loop-packet.names.keys c.loop-packet.joiner c.loop-packet.place _ _ _ _ (g.W.Sink.held c.put_completed.new.writer)
+    c.args.names.now.keys c.loop-joining.names.keys c.loop-joining.joining.joiner c.loop-joining.place _ _ _ _ (g.W.Sink.held c.put_completed.new.writer)
     c.in-Some.meta c.frame.result.now c.clock.result c.frame.ensures.frame i t w
     shows.1 (c.in_ok-meta.ensures.run (i.told t)) (c.clock.ensures.run (c.next_of.ensures.keeps.told (i.told t)))
     (λ events stands. c.in_err-put_completed.ensures.text (i.writer_told w) events stands))
@@ -41,18 +41,18 @@ pub overflow_add-place : goal.overflow_add-place
 overflow_add-place g c =
     let m = c.args.merged.now in
     let law = merged-is-feed g.F.PacketFeed.feed g.met.F.PacketFeed.lawful m.lanes.items m.feeds.items m.alike m.numbered m.agrees m.reached in
-    let small : c.loop-packet.place < 2 ^ 63 = place-small c.loop-packet.place (feed_of (parts_of c.loop-packet.merged)).left (feed_of (parts_of m)).left _ c.loop-packet.invariant.places law.most
+    let small : c.loop-joining.place < 2 ^ 63 = place-small c.loop-joining.place (feed_of (parts_of c.loop-joining.merged)).left (feed_of (parts_of m)).left _ c.loop-joining.invariant.places law.most
     (omega (arith, c.files.ensures.files, c.files.ensures.most)) in
     omega (arith, small)
 
-pub loop-packet-preserved : goal.loop-packet-preserved
-loop-packet-preserved g c =
-    let i = c.loop-packet.invariant in
-    let mid = parts_of c.loop-packet.merged in
+pub loop-joining-preserved : goal.loop-joining-preserved
+loop-joining-preserved g c =
+    let i = c.loop-joining.invariant in
+    let mid = parts_of c.loop-joining.merged in
     let shown = parts_of c.next_of.new.merged in
     let e = c.in_ok-put_completed.ensures in
     Joining-more c.args.order (parts_of c.args.merged.now) mid shown (parts_of c.pass.new.self)
-    c.args.names.now.keys c.loop-packet.names.keys c.put_completed.new.names.keys c.loop-packet.joiner c.put_completed.new.joiner c.loop-packet.place _ _ _ _ _ _
+    c.args.names.now.keys c.loop-joining.names.keys c.put_completed.new.names.keys c.loop-joining.joining.joiner c.put_completed.new.joining.joiner c.loop-joining.place _ _ _ _ _ _
     c.in-Some.meta c.frame.result.now c.clock.result c.frame.ensures.frame i
     (rw c.in-Some.is at c.in_ok-meta.ensures.answer) c.in_ok-meta.ensures.keeps (λ t. rw c.in-Some.is at (c.in_ok-meta.ensures.items t)) (λ t. c.in_ok-meta.ensures.run t)
     (λ t. c.clock.ensures.run t) c.pass.ensures.keeps c.pass.ensures.passes (λ t. c.pass.ensures.run t)
@@ -61,42 +61,42 @@ loop-packet-preserved g c =
 
 pub returns-clause-text : goal.returns-clause-text
 returns-clause-text g c = λ t w.
-    let i = c.loop-packet.invariant in
-    let mid = parts_of c.loop-packet.merged in
+    let i = c.loop-joining.invariant in
+    let mid = parts_of c.loop-joining.merged in
     let shown = parts_of c.next_of.new.merged in
     let shows : ShowsItem (feed_of mid) (Ok None) (feed_of shown) = rw c.in_default.is at (c.in_ok-meta.ensures.items (i.told t)) in
-    Joining-end c.args.order (parts_of c.args.merged.now) mid (feed_of shown) c.args.names.now.keys c.loop-packet.names.keys c.loop-packet.joiner c.loop-packet.place _ _ _ _ i t w shows
+    Joining-end c.args.order (parts_of c.args.merged.now) mid (feed_of shown) c.args.names.now.keys c.loop-joining.names.keys c.loop-joining.joining.joiner c.loop-joining.place _ _ _ _ i t w shows
 
 pub returns-in_err-meta-clause-walks : goal.returns-in_err-meta-clause-walks
 returns-in_err-meta-clause-walks g c =
     let p = err_from_is_err_and c.from_residual.result c.from_residual.ensures.1 in
     rw (p.1, p.2)
-    (Walks-fault (feed_of (parts_of c.args.merged.now)) (feed_of (parts_of c.loop-packet.merged)) (feed_of (parts_of c.next_of.new.merged)) c.in_err-meta.field-0.0
-    c.loop-packet.invariant.went c.in_err-meta.ensures.answer)
+    (Walks-fault (feed_of (parts_of c.args.merged.now)) (feed_of (parts_of c.loop-joining.merged)) (feed_of (parts_of c.next_of.new.merged)) c.in_err-meta.field-0.0
+    c.loop-joining.invariant.went c.in_err-meta.ensures.answer)
 
 pub returns-in_err-meta-clause-keeps : goal.returns-in_err-meta-clause-keeps
 returns-in_err-meta-clause-keeps g c =
-    Keeps-trans (feed_of (parts_of c.args.merged.now)) (feed_of (parts_of c.loop-packet.merged)) (feed_of (parts_of c.next_of.new.merged))
-    c.loop-packet.invariant.went.keeps c.in_err-meta.ensures.keeps
+    Keeps-trans (feed_of (parts_of c.args.merged.now)) (feed_of (parts_of c.loop-joining.merged)) (feed_of (parts_of c.next_of.new.merged))
+    c.loop-joining.invariant.went.keeps c.in_err-meta.ensures.keeps
 
 pub returns-in_err-put_completed-clause-walks : goal.returns-in_err-put_completed-clause-walks
 returns-in_err-put_completed-clause-walks g c =
     let p = err_from_is_err_and c.from_residual-in_err-put_completed.result c.from_residual-in_err-put_completed.ensures.1 in
     rw (p.1, p.2)
-    (Walks-stop (feed_of (parts_of c.args.merged.now)) (feed_of (parts_of c.loop-packet.merged)) (feed_of (parts_of c.next_of.new.merged)) c.in-Some.meta
-    c.in_err-put_completed.field-0.0 c.loop-packet.invariant.went (rw c.in-Some.is at c.in_ok-meta.ensures.answer) c.in_err-put_completed.ensures.read)
+    (Walks-stop (feed_of (parts_of c.args.merged.now)) (feed_of (parts_of c.loop-joining.merged)) (feed_of (parts_of c.next_of.new.merged)) c.in-Some.meta
+    c.in_err-put_completed.field-0.0 c.loop-joining.invariant.went (rw c.in-Some.is at c.in_ok-meta.ensures.answer) c.in_err-put_completed.ensures.read)
 
 pub returns-in_err-put_completed-clause-keeps : goal.returns-in_err-put_completed-clause-keeps
 returns-in_err-put_completed-clause-keeps g c =
-    Keeps-trans (feed_of (parts_of c.args.merged.now)) (feed_of (parts_of c.loop-packet.merged)) (feed_of (parts_of c.next_of.new.merged))
-    c.loop-packet.invariant.went.keeps c.in_ok-meta.ensures.keeps
+    Keeps-trans (feed_of (parts_of c.args.merged.now)) (feed_of (parts_of c.loop-joining.merged)) (feed_of (parts_of c.next_of.new.merged))
+    c.loop-joining.invariant.went.keeps c.in_ok-meta.ensures.keeps
 
 pub returns-clause-walks : goal.returns-clause-walks
 returns-clause-walks g c =
-    Walks-end (feed_of (parts_of c.args.merged.now)) (feed_of (parts_of c.loop-packet.merged)) (feed_of (parts_of c.next_of.new.merged))
-    c.loop-packet.invariant.went (rw c.in_default.is at c.in_ok-meta.ensures.answer)
+    Walks-end (feed_of (parts_of c.args.merged.now)) (feed_of (parts_of c.loop-joining.merged)) (feed_of (parts_of c.next_of.new.merged))
+    c.loop-joining.invariant.went (rw c.in_default.is at c.in_ok-meta.ensures.answer)
 
 pub returns-clause-keeps : goal.returns-clause-keeps
 returns-clause-keeps g c =
-    Keeps-trans (feed_of (parts_of c.args.merged.now)) (feed_of (parts_of c.loop-packet.merged)) (feed_of (parts_of c.next_of.new.merged))
-    c.loop-packet.invariant.went.keeps c.in_ok-meta.ensures.keeps
+    Keeps-trans (feed_of (parts_of c.args.merged.now)) (feed_of (parts_of c.loop-joining.merged)) (feed_of (parts_of c.next_of.new.merged))
+    c.loop-joining.invariant.went.keeps c.in_ok-meta.ensures.keeps

@@ -1,5 +1,5 @@
 use Rattle.std.proofs.Common.{ℕ, ◌+◌, ◌∷◌, sym, ◌∙◌, subst, ap, refl, arith}
-use Rattle.cap_join.specs.Fragments.{piece_of}
+use Rattle.cap_join.specs.Incoming.{piece_in}
 use Rattle.cap_join.specs.Frames.{earlier, later}
 use Rattle.cap_join.specs.Groups.{GroupState, IsGroupOf}
 use Rattle.cap_join.specs.GroupView.{group_view}
@@ -13,15 +13,15 @@ put_data-requires-clause-bounded c =
 pub invariant_of-self-2 : goal.invariant_of-self-2
 invariant_of-self-2 c = record {
   sound = record {
-    pieces = piece_of c.args.header.now c.args.piece.now c.args.stamped ∷ c.self.invariant.sound.pieces;
-    group = IsGroupOf-put (group_view c.self.inside) _ c.args.header.now c.args.piece.now c.args.stamped c.args.fragment c.requires.fragment c.requires.shape
+    pieces = piece_in c.args.incoming.now ∷ c.self.invariant.sound.pieces;
+    group = IsGroupOf-put (group_view c.self.inside) _ c.args.incoming.now.header.now c.args.incoming.now.data.now c.args.incoming.now.stamped c.args.incoming.now.fragment c.args.incoming.now.found c.args.incoming.now.shape
         c.in_ok-self-inside.ensures.ok c.total_after-self-inside.ensures c.header_after-self-inside.ensures refl
         (ap (λ (n : ℕ). c.self.inside.bytes + n) c.from.ensures)
         (c.earlier-self-inside.ensures ∙ ap (earlier c.self.inside.first) c.timed.ensures)
         (c.later-self-inside.ensures ∙ ap (later c.self.inside.last) c.timed-2.ensures)
         c.self.invariant.sound.pieces c.self.invariant.sound.group;
-    few = omega (arith, c.requires.few, ap (λ (s : GroupState). s.frames) c.self.view_is);
-    bounded = omega (arith, c.from.ensures, c.self.invariant.sound.bounded);
+    few = omega (arith, c.requires, ap (λ (s : GroupState). s.frames) c.self.view_is);
+    bounded = omega (arith, c.args.incoming.now.fits, c.from.ensures, c.self.invariant.sound.bounded);
     clock = c.self.invariant.sound.clock;
   };
   cursor = c.in_ok-self-inside.ensures.cursor;
@@ -29,9 +29,12 @@ invariant_of-self-2 c = record {
 
 pub returns-clause-ok : goal.returns-clause-ok
 returns-clause-ok c = λ ps group.
-    IsGroupOf-put (group_view c.self.inside) _ c.args.header.now c.args.piece.now c.args.stamped c.args.fragment c.requires.fragment c.requires.shape
+    IsGroupOf-put (group_view c.self.inside) _ c.args.incoming.now.header.now c.args.incoming.now.data.now c.args.incoming.now.stamped c.args.incoming.now.fragment c.args.incoming.now.found c.args.incoming.now.shape
     c.in_ok-self-inside.ensures.ok c.total_after-self-inside.ensures c.header_after-self-inside.ensures refl
     (ap (λ (n : ℕ). c.self.inside.bytes + n) c.from.ensures)
     (c.earlier-self-inside.ensures ∙ ap (earlier c.self.inside.first) c.timed.ensures)
     (c.later-self-inside.ensures ∙ ap (later c.self.inside.last) c.timed-2.ensures)
     ps (subst (λ (s : GroupState). IsGroupOf s ps) (sym c.self.view_is) group)
+
+pub overflow_add-self-2 : goal.overflow_add-self-2
+overflow_add-self-2 c = omega (arith, c.args.incoming.now.fits, c.from.ensures, c.self.invariant.sound.bounded)

@@ -1,7 +1,7 @@
 use Rattle.std.proofs.Common.{◌<◌, ℕ, sym, ◌∙◌, ap, subst}
 use Rattle.std.specs.List.{IsDistinct}
 use Rattle.std.specs.Map.{keys_of}
-use Rattle.cap_join.specs.Fragments.{piece_of}
+use Rattle.cap_join.specs.Incoming.{piece_in}
 use Rattle.cap_join.specs.History.{same_key}
 use Rattle.cap_join.specs.Joiners.{open_limit}
 use Rattle.cap_join.specs.Ages.{IsDeadline, AreInTurn, AreUpTo}
@@ -15,7 +15,7 @@ invariant_of-self c =
     let key = c.args.key.now in
     let es = t.groups.entries in
     let new = c.put_in.new.groups.entries in
-    let p = piece_of c.args.header.now c.args.piece.now c.args.stamped in
+    let p = piece_in c.args.incoming.now in
     let ok = c.put_in.ensures.ok in
     let err = c.put_in.ensures.err in
     record {
