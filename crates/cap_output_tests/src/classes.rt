@@ -1,5 +1,6 @@
 //! The class of each packet: worked frames of each link type, fragments, and groups that are given up.
 
+use crate::conversations::CONVERSATIONS;
 use crate::files::{bytes_of, told};
 use crate::vectors::{
     AFTER_31, AT_1, AT_2, AT_3, AT_4, AT_31, FIRST, File, ICMP, LAST, PCAP, RAW, UDP, WHOLE,
@@ -216,9 +217,9 @@ const GROUPS: [(u16, File, &str); 5] = [
 ];
 
 #[test]
-fn each_packet_has_its_class(rt: HostRuntime) -> Result<(), Fail> {
-    for (file, wanted) in CLASSES {
-        let report = told(rt.alloc(), bytes_of(rt.alloc(), file)?)?;
+fn each_packet_has_its_class_and_conversation(rt: HostRuntime) -> Result<(), Fail> {
+    for (file, wanted) in CLASSES.iter().chain(CONVERSATIONS.iter()) {
+        let report = told(rt.alloc(), bytes_of(rt.alloc(), *file)?)?;
         assert!(rt; report.bytes().ends_with(wanted.as_bytes()), "{wanted}");
     }
     Ok(())

@@ -6,8 +6,6 @@ ghost use Rattle.cap_line.specs.CommandLine.{IsWhole};
 
 mod hints;
 mod streams;
-#[cfg(test)]
-mod tests;
 
 use crate::hints::hint;
 use crate::streams::{create_output, open_all};

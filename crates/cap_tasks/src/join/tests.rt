@@ -2,8 +2,8 @@
 ghost use Rattle.std.specs.Prelude.{◌≤◌};
 
 use crate::join::join_to;
-use crate::tests::Disk;
-use cap_bytes::{Fault, Order, Pieces, Room, Sink, Tail, Tracked};
+use crate::tests::{decoded, roomy};
+use cap_bytes::{Fault, Order, Pieces, Room, Sink, Tail};
 use std::alloc::Global;
 use std::test::Fail;
 
@@ -52,42 +52,6 @@ fn always_memory_fragments_are_joined(rt: HostRuntime) -> Result<(), Fail> {
     Ok(())
 }
 
-#[test]
-fn a_write_that_fails_leaves_a_front(rt: HostRuntime) -> Result<(), Fail> {
-    let wanted = hex::decode(rt.alloc(), JOINED)?;
-    for length in 0..wanted.len() {
-        let mut writer = Room::new(Vec::with_capacity(rt.alloc(), length)?);
-        let answer = join(rt.alloc(), FRAGMENTS, 4096, &mut writer)?;
-        assert_eq!(rt; answer, Err(Fault::Write));
-        assert_eq!(rt; Some(writer.bytes()), wanted.as_slice().get(..length));
-        let mut taken = Vec::new(rt.alloc());
-        let mut writer = Tracked::new(Disk {
-            taken: &mut taken,
-            left: length,
-        });
-        let answer = join(rt.alloc(), FRAGMENTS, 4096, &mut writer)?;
-        assert_eq!(rt; answer, Err(Fault::Write));
-        assert_eq!(rt; Some(taken.as_slice()), wanted.as_slice().get(..length));
-    }
-    Ok(())
-}
-
-// The bytes of a text in hex, where at most one growth is refused.
-fn decoded(alloc: Global, text: &str) -> Result<Vec<u8>, Fail> {
-    match hex::decode(alloc, text) {
-        Ok(bytes) => Ok(bytes),
-        Err(_) => Ok(hex::decode(alloc, text)?),
-    }
-}
-
-// Room for so many, where at most one growth is refused.
-fn roomy<T>(alloc: Global, count: usize) -> Result<Vec<T>, Fail> {
-    match Vec::with_capacity(alloc, count) {
-        Ok(room) => Ok(room),
-        Err(_) => Ok(Vec::with_capacity(alloc, count)?),
-    }
-}
-
 // The answer is as with memory, or `Memory` behind a front, whichever growth is refused.
 #[test]
 fn a_refused_growth_leaves_a_front(rt: HostRuntime) -> Result<(), Fail> {
@@ -111,35 +75,6 @@ fn a_refused_growth_leaves_a_front(rt: HostRuntime) -> Result<(), Fail> {
         assert_eq!(rt; taken, wanted.len());
     } else {
         assert_eq!(rt; answer, Err(Fault::Memory));
-    }
-    Ok(())
-}
-
-// Each read failing in turn: told with the header, the record or the end that was being read.
-#[test]
-fn a_read_that_fails_is_told_with_its_record(rt: HostRuntime) -> Result<(), Fail> {
-    let wanted = hex::decode(rt.alloc(), JOINED)?;
-    for failing in 1u64..=201 {
-        let mut sources = Vec::new(rt.alloc());
-        sources.push(Pieces::new(hex::decode(rt.alloc(), FRAGMENTS)?, 1, Some(failing)))?;
-        if sources.len() != 1 {
-            return Ok(());
-        }
-        let mut writer = Room::new(Vec::with_capacity(rt.alloc(), 512)?);
-        let answer = join_to(
-            rt.alloc(),
-            sources,
-            Tail::Refuse,
-            Order::Little,
-            &mut writer,
-        );
-        let offset = if failing <= 24 {
-            0
-        } else {
-            (failing - 25) / 44 * 44 + 24
-        };
-        assert_eq!(rt; answer, Err(Fault::Read { file: 1, offset }), "{failing}");
-        assert!(rt; wanted.as_slice().starts_with(writer.bytes()));
     }
     Ok(())
 }
