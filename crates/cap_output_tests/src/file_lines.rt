@@ -59,7 +59,7 @@ fn tell(
 ) -> Result<(Result<(), Fault>, Room), Fail>
     requires { 1 ≤ piece }
 {
-    let sources = sources_of(alloc, files, piece, None)?;
+    let sources = sources_of(alloc, files, piece)?;
     if sources.is_empty() || sources.len() > 32 {
         return Err(Fail::from("1 to 32 files"));
     }

@@ -102,6 +102,31 @@ const MERGED: [(Side, Side, &[Came], Option<(u32, u64)>); 6] = [
     ),
 ];
 
+// The file and the clock of the packet that comes, which has no bytes and is passed.
+fn next_of(feed: &mut Merged<Listed>) -> Result<(u32, Option<Stamp>), Fail> {
+    let Head::Packet(meta) = feed.head()? else {
+        return Err(Fail::from("no packet"));
+    };
+    let clock = feed.clock();
+    if !feed.frame().is_empty() {
+        return Err(Fail::from("bytes"));
+    }
+    feed.pass();
+    Ok((meta.file, clock))
+}
+
+// A refusal of a cut file at a place, or the end.
+fn end_of(refusal: Option<(u32, u64)>) -> Head {
+    match refusal {
+        Some((file, offset)) => Head::Refused(Refusal {
+            file,
+            offset,
+            rule: Rule::Cut,
+        }),
+        None => Head::End,
+    }
+}
+
 #[test]
 fn two_files_in_order(rt: HostRuntime) -> Result<(), Fail> {
     for ((one, times, broken), (two, others, is_broken), came, refusal) in MERGED {
@@ -109,23 +134,10 @@ fn two_files_in_order(rt: HostRuntime) -> Result<(), Fail> {
         let second = make_listed(rt.alloc(), 2, two, others, is_broken)?;
         let mut feed = merge_of(rt.alloc(), first, second)?;
         assert_eq!(rt; feed.files(), 2);
-        for (file, units, code) in came {
-            let Head::Packet(meta) = feed.head()? else {
-                return Err(Fail::from("no packet"));
-            };
-            assert_eq!(rt; meta.file, *file);
-            assert_eq!(rt; feed.clock(), time(*units, *code));
-            assert!(rt; feed.frame().is_empty());
-            feed.pass();
+        for packet in came {
+            assert_eq!(rt; next_of(&mut feed)?, (packet.0, time(packet.1, packet.2)));
         }
-        let end = match refusal {
-            Some((file, offset)) => Head::Refused(Refusal {
-                file,
-                offset,
-                rule: Rule::Cut,
-            }),
-            None => Head::End,
-        };
+        let end = end_of(refusal);
         assert_eq!(rt; feed.head(), Ok(end));
         assert_eq!(rt; feed.head(), Ok(end), "again");
     }
@@ -159,7 +171,7 @@ const TWO_INTERFACES: File = &[SECTION, PLAIN, PLAIN, PACKET];
 #[test]
 fn what_is_held(rt: HostRuntime) -> Result<(), Fail> {
     let files = [ONE_INTERFACE, RUNS_BACK, TWO_INTERFACES, RUNS_ON];
-    let mut feed = merged_of(rt.alloc(), sources_of(rt.alloc(), &files, 1, None)?)?;
+    let mut feed = merged_of(rt.alloc(), sources_of(rt.alloc(), &files, 1)?)?;
     let held = feed.feed_held();
     assert_eq!(rt; (held.window, held.interfaces, held.failed), (0, 0, false));
     feed.head()?;

@@ -67,7 +67,7 @@ fn always_memory_a_packet_goes_both_ways(rt: HostRuntime) -> Result<(), Fail> {
 
 // What a merge of files answers and writes.
 fn merged(alloc: Global, files: &[File]) -> Result<(Result<(), Fault>, Room), Fail> {
-    let mut merged = merged_of(alloc, sources_of(alloc, files, 1, None)?)?;
+    let mut merged = merged_of(alloc, sources_of(alloc, files, 1)?)?;
     let mut writer = Room::new(Vec::with_capacity(alloc, 512)?);
     let answer = write_merged(alloc, &mut merged, Order::Little, &mut writer);
     Ok((answer, writer))
@@ -161,7 +161,7 @@ const CUT_SHORT: File = &[
 
 // What is joined of a file that is read one byte at a time.
 fn joined_file(alloc: Global, file: File) -> Result<(Result<(), Fault>, Room), Fail> {
-    let mut merged = merged_of(alloc, sources_of(alloc, &[file], 1, None)?)?;
+    let mut merged = merged_of(alloc, sources_of(alloc, &[file], 1)?)?;
     let mut writer = Room::new(Vec::with_capacity(alloc, 512)?);
     let answer = write_joined(alloc, &mut merged, Order::Little, &mut writer);
     Ok((answer, writer))

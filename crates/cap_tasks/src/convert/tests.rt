@@ -3,7 +3,7 @@ ghost use Rattle.std.specs.Prelude.{◌≤◌};
 
 use crate::convert::convert_to;
 use crate::tests::refused;
-use cap_bytes::{Fault, Order, Pieces, Room, Rule, Sink, Tail};
+use cap_bytes::{Fault, Order, Pieces, Room, Rule, Tail};
 use cap_source::Format;
 use std::alloc::Global;
 use std::test::Fail;
@@ -135,27 +135,27 @@ const WRITTEN: [(&str, Order, Format, &str, Result<(), (u64, Rule)>); 13] = [
     ),
 ];
 
-// Converts a capture in hex that is given by `piece` bytes at a time.
-fn convert<W: Sink>(
+// What is written of a capture in hex that is given by `piece` bytes at a time, and what is answered.
+fn convert(
     alloc: Global,
     capture: &str,
     piece: usize,
     order: Order,
     format: Format,
-    writer: &mut W,
-) -> Result<Result<(), Fault>, Fail>
+) -> Result<(Room, Result<(), Fault>), Fail>
     requires { 1 ≤ piece }
 {
     let pieces = Pieces::new(hex::decode(alloc, capture)?, piece, None);
-    Ok(convert_to(alloc, pieces, Tail::Refuse, order, format, writer))
+    let mut writer = Room::new(Vec::with_capacity(alloc, 256)?);
+    let answer = convert_to(alloc, pieces, Tail::Refuse, order, format, &mut writer);
+    Ok((writer, answer))
 }
 
 #[test]
 fn always_memory_captures_are_written_in_either_format(rt: HostRuntime) -> Result<(), Fail> {
     for (capture, order, format, wanted, ending) in WRITTEN {
         for piece in [1, 4096] {
-            let mut writer = Room::new(Vec::with_capacity(rt.alloc(), 256)?);
-            let answer = convert(rt.alloc(), capture, piece, order, format, &mut writer)?;
+            let (writer, answer) = convert(rt.alloc(), capture, piece, order, format)?;
             let ending = ending.map_err(|(offset, rule)| refused(1, offset, rule));
             assert_eq!(rt; answer, ending, "{capture}");
             let wanted = hex::decode(rt.alloc(), wanted)?;

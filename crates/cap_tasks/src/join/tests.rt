@@ -3,7 +3,7 @@ ghost use Rattle.std.specs.Prelude.{◌≤◌};
 
 use crate::join::join_to;
 use crate::tests::{decoded, roomy};
-use cap_bytes::{Fault, Order, Pieces, Room, Sink, Tail};
+use cap_bytes::{Fault, Order, Pieces, Room, Tail};
 use std::alloc::Global;
 use std::test::Fail;
 
@@ -23,29 +23,25 @@ const JOINED: &str = "0a0d0d0a1c0000004d3c2b1a01000000ffffffffffffffff1c00000001
     401166b80a0000010a00000203e907d100180000a0a1a2a3a4a5a6a7b0b1b2b3\
     b4b5b6b74c000000";
 
-// Joins a file in hex that is given by `piece` bytes at a time.
-fn join<W: Sink>(
-    alloc: Global,
-    file: &str,
-    piece: usize,
-    writer: &mut W,
-) -> Result<Result<(), Fault>, Fail>
+// What is written of a file in hex that is given by `piece` bytes at a time, and what is answered.
+fn join(alloc: Global, file: &str, piece: usize) -> Result<(Room, Result<(), Fault>), Fail>
     requires { 1 ≤ piece }
 {
     let mut sources = Vec::new(alloc);
     sources.push(Pieces::new(hex::decode(alloc, file)?, piece, None))?;
     if sources.len() != 1 {
-        return Ok(Ok(()));
+        return Err(Fail::from("one file"));
     }
-    Ok(join_to(alloc, sources, Tail::Refuse, Order::Little, writer))
+    let mut writer = Room::new(Vec::with_capacity(alloc, 512)?);
+    let answer = join_to(alloc, sources, Tail::Refuse, Order::Little, &mut writer);
+    Ok((writer, answer))
 }
 
 #[test]
 fn always_memory_fragments_are_joined(rt: HostRuntime) -> Result<(), Fail> {
     let wanted = hex::decode(rt.alloc(), JOINED)?;
     for piece in [1, 4096] {
-        let mut writer = Room::new(Vec::with_capacity(rt.alloc(), 512)?);
-        let answer = join(rt.alloc(), FRAGMENTS, piece, &mut writer)?;
+        let (writer, answer) = join(rt.alloc(), FRAGMENTS, piece)?;
         assert_eq!(rt; answer, Ok(()));
         assert_eq!(rt; writer.bytes(), wanted.as_slice());
     }

@@ -3,7 +3,7 @@ ghost use Rattle.std.specs.Prelude.{◌≤◌};
 
 use crate::merge::merge_to;
 use crate::tests::{decoded, refused, roomy};
-use cap_bytes::{Fault, Order, Pieces, Room, Rule, Sink, Tail};
+use cap_bytes::{Fault, Order, Pieces, Room, Rule, Tail};
 use std::alloc::Global;
 use std::test::Fail;
 
@@ -76,13 +76,8 @@ const MERGED: [(&[&str], &str, Result<(), (u32, u64, Rule)>); 8] = [
     (&[UNTIMED], SECTION, Err((1, 48, Rule::NoTime))),
 ];
 
-// Merges files in hex that are given by `piece` bytes at a time.
-fn merge<W: Sink>(
-    alloc: Global,
-    files: &[&str],
-    piece: usize,
-    writer: &mut W,
-) -> Result<Result<(), Fault>, Fail>
+// What is written of files in hex that are given by `piece` bytes at a time, and what is answered.
+fn merge(alloc: Global, files: &[&str], piece: usize) -> Result<(Room, Result<(), Fault>), Fail>
     requires { 1 ≤ piece }
 {
     let mut sources = Vec::new(alloc);
@@ -90,17 +85,18 @@ fn merge<W: Sink>(
         sources.push(Pieces::new(hex::decode(alloc, *file)?, piece, None))?;
     }
     if sources.is_empty() || sources.len() > 32 {
-        return Ok(Ok(()));
+        return Err(Fail::from("1 to 32 files"));
     }
-    Ok(merge_to(alloc, sources, Tail::Refuse, Order::Little, writer))
+    let mut writer = Room::new(Vec::with_capacity(alloc, 512)?);
+    let answer = merge_to(alloc, sources, Tail::Refuse, Order::Little, &mut writer);
+    Ok((writer, answer))
 }
 
 #[test]
 fn always_memory_files_are_merged_by_time(rt: HostRuntime) -> Result<(), Fail> {
     for (files, wanted, ending) in MERGED {
         for piece in [1, 4096] {
-            let mut writer = Room::new(Vec::with_capacity(rt.alloc(), 512)?);
-            let answer = merge(rt.alloc(), files, piece, &mut writer)?;
+            let (writer, answer) = merge(rt.alloc(), files, piece)?;
             let ending = ending.map_err(|(file, offset, rule)| refused(file, offset, rule));
             assert_eq!(rt; answer, ending);
             let wanted = hex::decode(rt.alloc(), wanted)?;
