@@ -3,8 +3,7 @@
 ghost use Rattle.std.specs.Prelude.{◌≤◌, ◌≡◌};
 ghost use Rattle.cap_blocks.specs.Grammar.{is_known};
 
-use crate::making::Making;
-use crate::vectors::{CARRY_PCAPNG, OPTIONS_PCAPNG, last_of, refused};
+use crate::vectors::{CARRY_PCAPNG, OPTIONS_PCAPNG, refused};
 use cap_blocks::{Block, BlockReader, Options, put_interface, put_packet, put_section};
 use cap_bytes::{Device, Fault, Order, Pieces, Room, Rule, Sink, Source, Tail, Window};
 use cap_time::{Interface, Resolution};
@@ -47,12 +46,11 @@ fn reader(
     alloc: Global,
     bytes: &[u8],
     piece: usize,
-    failing: Option<u64>,
     tail: Tail,
 ) -> Result<BlockReader<Pieces>, AllocError>
     requires { 1 ≤ piece }
 {
-    let pieces = Pieces::new(bytes.to_vec(alloc)?, piece, failing);
+    let pieces = Pieces::new(bytes.to_vec(alloc)?, piece, None);
     Ok(BlockReader::new(Window::new(alloc, pieces, 7), tail))
 }
 
@@ -65,14 +63,16 @@ fn block(kind: u32, offset: u64, total: u32, order: Order) -> Block {
     }
 }
 
-// The blocks of a file of at most six, counted, and whether a rest was dropped.
-fn count<R: Source>(reader: &mut BlockReader<R>) -> Result<(u32, bool), Fault> {
-    for blocks in 0..7 {
-        if reader.next_block()?.is_none() {
-            return Ok((blocks, reader.was_cut()));
+// The fault that ends a file of at most six blocks, or none.
+fn fault_of<R: Source>(reader: &mut BlockReader<R>) -> Option<Fault> {
+    for _ in 0..7 {
+        match reader.next_block() {
+            Ok(Some(_)) => {}
+            Ok(None) => return None,
+            Err(fault) => return Some(fault),
         }
     }
-    Ok((7, reader.was_cut()))
+    None
 }
 
 #[test]
@@ -92,18 +92,19 @@ fn always_memory_blocks_in_order(rt: HostRuntime) -> Result<(), Fail> {
         block(1, 112, 20, big),
         block(6, 132, 36, big),
     ];
-    for (file, blocks) in [
-        (OPTIONS_PCAPNG.as_slice(), options.as_slice()),
-        (TWO_SECTIONS.as_slice(), two_sections.as_slice()),
+    for (file, blocks, was_cut) in [
+        (OPTIONS_PCAPNG.as_slice(), options.as_slice(), false),
+        (OPTIONS_PCAPNG.split_at(167).0, options.split_at(3).0, true),
+        (TWO_SECTIONS.as_slice(), two_sections.as_slice(), false),
     ] {
         for piece in [1, 4_096] {
-            let mut reader = reader(rt.alloc(), file, piece, None, Tail::Refuse)?;
+            let mut reader = reader(rt.alloc(), file, piece, Tail::Accept)?;
             for block in blocks {
                 assert_eq!(rt; reader.next_block()?, Some(*block));
             }
             assert_eq!(rt; reader.next_block()?, None);
             assert_eq!(rt; reader.next_block()?, None);
-            assert!(rt; !reader.was_cut());
+            assert_eq!(rt; reader.was_cut(), was_cut);
             assert!(rt; !reader.window().failed());
         }
     }
@@ -121,7 +122,7 @@ fn is_lent(kind: u32) -> bool
 #[test]
 fn bodies(rt: HostRuntime) -> Result<(), Fail> {
     let mut rest = CARRY_PCAPNG.as_slice();
-    let mut reader = reader(rt.alloc(), &CARRY_PCAPNG, 1, None, Tail::Refuse)?;
+    let mut reader = reader(rt.alloc(), &CARRY_PCAPNG, 1, Tail::Refuse)?;
     for size in [16, 20, 24] {
         let Some(block) = reader.next_block()? else {
             break;
@@ -133,49 +134,6 @@ fn bodies(rt: HostRuntime) -> Result<(), Fail> {
         rest = rest.split_at(size + 12).1;
     }
     assert!(rt; rest.is_empty());
-    Ok(())
-}
-
-// Every length below the whole: the ends of blocks are accepted, all others are cut.
-#[test]
-fn cut_files(rt: HostRuntime) -> Result<(), Fail> {
-    for (file, ends) in [
-        (CARRY_PCAPNG.as_slice(), [28, 60, 96, 96].as_slice()),
-        (OPTIONS_PCAPNG.as_slice(), [44, 96, 144, 168].as_slice()),
-    ] {
-        for n in 0..file.len() {
-            let last = last_of(ends, n);
-            let (bytes, _) = file.split_at(n);
-            let cut = refused(last as u64, Rule::Cut);
-            let mut refusing = reader(rt.alloc(), bytes, 1, None, Tail::Refuse)?;
-            let wanted = if n > 0 && last == n {
-                Ok(false)
-            } else {
-                Err(cut)
-            };
-            assert_eq!(rt; count(&mut refusing).map(|seen| seen.1), wanted, "{n}");
-            assert_eq!(rt; count(&mut refusing).map(|seen| seen.1), wanted, "{n}");
-            let mut accepting = reader(rt.alloc(), bytes, 4_096, None, Tail::Accept)?;
-            let wanted = if last == 0 { Err(cut) } else { Ok(last < n) };
-            assert_eq!(rt; count(&mut accepting).map(|seen| seen.1), wanted, "{n}");
-        }
-    }
-    Ok(())
-}
-
-// A read that fails is told with the offset of the block that was being read, and comes again.
-#[test]
-fn failing_reads(rt: HostRuntime) -> Result<(), Fail> {
-    for k in 1..170 {
-        let offset = last_of(&[0, 44, 96, 144, 168], k - 1) as u64;
-        let fault = Err(Fault::Read { file: 7, offset });
-        let mut reader = reader(rt.alloc(), &OPTIONS_PCAPNG, 1, Some(k as u64), Tail::Accept)?;
-        assert_eq!(rt; count(&mut reader), fault, "{k}");
-        assert_eq!(rt; count(&mut reader), fault, "{k}");
-        assert!(rt; reader.window().failed());
-    }
-    let mut reader = reader(rt.alloc(), &OPTIONS_PCAPNG, 1, Some(170), Tail::Accept)?;
-    assert_eq!(rt; count(&mut reader), Ok((4, false)));
     Ok(())
 }
 
@@ -255,80 +213,30 @@ fn refused_blocks(rt: HostRuntime) -> Result<(), Fail> {
         for piece in [1, 4_096] {
             let mut bytes = CARRY_PCAPNG.split_at(min(n, 28)).0.to_vec(rt.alloc())?;
             bytes.extend_from_slice(behind)?;
-            let mut reader = reader(rt.alloc(), &bytes, piece, None, Tail::Refuse)?;
-            let fault = Err(refused(offset, rule));
-            assert_eq!(rt; count(&mut reader), fault, "{n}");
-            assert_eq!(rt; reader.next_block().map(|_| (0, false)), fault, "{n}");
+            let mut reader = reader(rt.alloc(), &bytes, piece, Tail::Refuse)?;
+            let fault = Some(refused(offset, rule));
+            assert_eq!(rt; fault_of(&mut reader), fault, "{n}");
+            assert_eq!(rt; fault_of(&mut reader), fault, "{n}");
             assert!(rt; !reader.was_cut());
         }
     }
     Ok(())
 }
 
-// A long block of another kind is skipped in pieces, and its trailer looked at.
 #[test]
-fn skipped_blocks(rt: HostRuntime) -> Result<(), Fail> {
-    for (total, trailer) in [(0x20_0000, 0x1F_FFFC), (0x400_0000, 0x400_0000)] {
-        let window = Window::new(rt.alloc(), Making::new(total, trailer), 7);
-        let mut reader = BlockReader::new(window, Tail::Refuse);
-        let mut ended = Ok(());
-        let mut offset = 0;
-        for _ in 0..5 {
-            match reader.next_block() {
-                Ok(Some(block)) => offset = block.offset,
-                Ok(None) => break,
-                Err(fault) => ended = Err(fault),
-            }
-            assert!(rt; reader.window().held() <= 524_288);
-        }
-        if total == trailer {
-            assert_eq!(rt; (offset, ended), (67_108_924, Ok(())));
-        } else {
-            assert_eq!(rt; (offset, ended), (0, Err(refused(28, Rule::BlockTrailer))));
-        }
-    }
-    Ok(())
-}
-
-// A block of a known kind may have 524,288 bytes and no more.
-#[test]
-fn the_longest_known_block(rt: HostRuntime) -> Result<(), Fail> {
-    let longer = Err(refused(28, Rule::BlockLength));
-    for (total, wanted) in [(524_288_u32, Ok((2, false))), (524_292, longer)] {
-        let mut bytes = CARRY_PCAPNG.split_at(28).0.to_vec(rt.alloc())?;
-        bytes.extend_from_slice(&[1, 0, 0, 0])?;
-        bytes.extend_from_slice(&total.to_le_bytes())?;
-        bytes.resize((total as usize).saturating_add(24), 0)?;
-        bytes.extend_from_slice(&total.to_le_bytes())?;
-        let mut reader = reader(rt.alloc(), &bytes, 65_536, None, Tail::Refuse)?;
-        assert_eq!(rt; count(&mut reader), wanted);
-    }
-    Ok(())
-}
-
-// Writes CARRY_PCAPNG.
-fn put_carry<W: Sink>(writer: &mut W, resolution: Resolution) -> Result<(), Fault> {
-    put_section(writer, Order::Little)?;
+fn written_blocks(rt: HostRuntime) -> Result<(), Fail> {
+    let resolution = Resolution::from_code(6).expect(&rt, "a millionth of a second");
     let interface = Interface {
         link: 1,
         snaplen: 262_144,
         resolution,
         offset: 0,
     };
-    put_interface(writer, Order::Little, &interface)?;
-    put_packet(writer, Order::Little, 0, 2_500_000, 4, &[1, 2, 3, 4])
-}
-
-#[test]
-fn written_blocks(rt: HostRuntime) -> Result<(), Fail> {
-    let resolution = Resolution::from_code(6).expect(&rt, "a millionth of a second");
-    for room in 0..97 {
-        let mut writer = Room::new(Vec::with_capacity(rt.alloc(), room)?);
-        let wanted = if room < 96 { Err(Fault::Write) } else { Ok(()) };
-        assert_eq!(rt; put_carry(&mut writer, resolution), wanted);
-        assert_eq!(rt; writer.bytes().len(), room);
-        assert!(rt; CARRY_PCAPNG.starts_with(writer.bytes()));
-    }
+    let mut writer = Room::new(Vec::with_capacity(rt.alloc(), 96)?);
+    put_section(&mut writer, Order::Little)?;
+    put_interface(&mut writer, Order::Little, &interface)?;
+    put_packet(&mut writer, Order::Little, 0, 2_500_000, 4, &[1, 2, 3, 4])?;
+    assert_eq!(rt; writer.bytes(), CARRY_PCAPNG.as_slice());
     let resolution = Resolution::from_code(0x8a).expect(&rt, "a 1,024th of a second");
     let interface = Interface {
         link: 101,

@@ -126,21 +126,33 @@ fn two_fragments(alloc: Global) -> Result<(Vec<u8>, Vec<u8>), Fail> {
     ))
 }
 
+/// Clocks of the two fragments, and whether they are joined: at 30 seconds, past them, and without a first clock.
+const THIRTY_SECONDS: [(Option<u64>, u64, bool); 3] = [
+    (Some(SECOND), 31 * SECOND, true),
+    (Some(SECOND), 31 * SECOND + 1, false),
+    (None, 1_000 * SECOND, true),
+];
+
 #[test]
 fn always_memory_thirty_seconds(rt: HostRuntime) -> Result<(), Fail> {
     let (last, front) = two_fragments(rt.alloc())?;
-    let mut run = Run::new(rt.alloc());
-    assert!(rt; is_kept(run.put(&rt, Some(SECOND), &last)));
-    let datagram = joined(&rt, run.put(&rt, Some(31 * SECOND), &front));
-    assert_eq!(rt; datagram.frames, 2);
-    assert_eq!(rt; datagram.payload.len(), 16);
-
-    let mut late = Run::new(rt.alloc());
-    assert!(rt; is_kept(late.put(&rt, Some(SECOND), &last)));
-    assert!(rt; is_kept(late.put(&rt, Some(31 * SECOND + 1), &front)));
-    assert_eq!(rt; late.joiner.open_count(), 1);
-    assert_eq!(rt; late.joiner.held_bytes(), 8);
-    assert_eq!(rt; late.joiner.given_up(), 0);
+    for (first, second, is_joined) in THIRTY_SECONDS {
+        let mut run = Run::new(rt.alloc());
+        assert!(rt; is_kept(run.put(&rt, first, &last)));
+        match run.put(&rt, Some(second), &front)? {
+            Put::Joined(datagram) => {
+                assert_eq!(rt; datagram.frames, 2);
+                assert_eq!(rt; datagram.payload.len(), 16);
+                assert!(rt; is_joined, "{second}");
+            }
+            Put::Kept => {
+                assert_eq!(rt; run.joiner.open_count(), 1);
+                assert_eq!(rt; run.joiner.held_bytes(), 8);
+                assert_eq!(rt; run.joiner.given_up(), 0);
+                assert!(rt; !is_joined, "{second}");
+            }
+        }
+    }
     Ok(())
 }
 
@@ -154,18 +166,6 @@ fn a_whole_datagram_flushes(rt: HostRuntime) -> Result<(), Fail> {
     assert!(rt; is_kept(run.put(&rt, Some(3 * SECOND), &front)));
     run.joiner.flush(key(8));
     assert_eq!(rt; run.joiner.open_count(), 1);
-    Ok(())
-}
-
-#[test]
-fn without_a_clock_a_group_never_grows_old(rt: HostRuntime) -> Result<(), Fail> {
-    let (last, front) = two_fragments(rt.alloc())?;
-    let mut run = Run::new(rt.alloc());
-    assert!(rt; is_kept(run.put(&rt, None, &last)));
-    assert_eq!(rt;
-        joined(&rt, run.put(&rt, Some(1_000 * SECOND), &front)).frames,
-        2
-    );
     Ok(())
 }
 
@@ -205,22 +205,6 @@ fn open_limit(rt: HostRuntime) -> Result<(), Fail> {
     assert!(rt; is_kept(late.put(&rt, Some(31 * SECOND + 1), &next)));
     assert_eq!(rt; late.joiner.given_up(), 0);
     assert_eq!(rt; late.joiner.open_count(), 1);
-    Ok(())
-}
-
-#[test]
-fn given_up_groups(rt: HostRuntime) -> Result<(), Fail> {
-    let mut run = many_groups(&rt, rt.alloc(), 1025)?;
-    assert_eq!(rt; run.joiner.given_up(), 1);
-    let second = packet(rt.alloc(), 1, 1, false, &[0, 1, 2, 3, 4, 5, 6, 7])?;
-    assert_eq!(rt; joined(&rt, run.put(&rt, Some(SECOND), &second)).frames, 2);
-    assert_eq!(rt; run.joiner.given_up(), 1);
-
-    let mut again = many_groups(&rt, rt.alloc(), 1025)?;
-    let first = packet(rt.alloc(), 0, 1, false, &[0, 1, 2, 3, 4, 5, 6, 7])?;
-    assert!(rt; is_kept(again.put(&rt, Some(SECOND), &first)));
-    assert_eq!(rt; again.joiner.given_up(), 2);
-    assert_eq!(rt; again.joiner.open_count(), 1024);
     Ok(())
 }
 
@@ -287,79 +271,37 @@ fn joins_in(rt: &impl Abort, alloc: Global, order: &[u16]) -> Result<(), Fail> {
     Ok(())
 }
 
-#[test]
-fn blocks_in_rising_order(rt: HostRuntime) -> Result<(), Fail> {
-    let mut order = Vec::new(rt.alloc());
-    for block in 0..=LAST_BLOCK {
-        order.push(block)?;
+/// The nth block of an order: rising, falling, the even ones and then the odd ones, also falling, and any, by a number. What
+/// is above the last block has no place in it.
+fn block_of(order: u8, n: u16, any: u16) -> u16 {
+    let half = LAST_BLOCK / 2;
+    match order {
+        0 => n,
+        1 => LAST_BLOCK.wrapping_sub(n),
+        2 if n > half => (n - half).wrapping_mul(2).wrapping_sub(1),
+        3 if n > half => LAST_BLOCK
+            .wrapping_add(1)
+            .wrapping_sub((n - half).wrapping_mul(2)),
+        2 | 3 => n.wrapping_mul(2),
+        _ => any,
     }
-    joins_in(&rt, rt.alloc(), &order)
 }
 
 #[test]
-fn blocks_in_falling_order(rt: HostRuntime) -> Result<(), Fail> {
-    let mut order = Vec::new(rt.alloc());
-    for block in 0..=LAST_BLOCK {
-        order.push(LAST_BLOCK - block)?;
-    }
-    joins_in(&rt, rt.alloc(), &order)
-}
-
-#[test]
-fn even_blocks_then_odd(rt: HostRuntime) -> Result<(), Fail> {
-    let mut order = Vec::new(rt.alloc());
-    for pair in 0..=LAST_BLOCK / 2 {
-        order.push(2 * pair)?;
-    }
-    for pair in 0..LAST_BLOCK / 2 {
-        order.push(2 * pair + 1)?;
-    }
-    joins_in(&rt, rt.alloc(), &order)
-}
-
-#[test]
-fn even_blocks_then_odd_falling(rt: HostRuntime) -> Result<(), Fail> {
-    let mut order = Vec::new(rt.alloc());
-    for pair in 0..=LAST_BLOCK / 2 {
-        order.push(2 * pair)?;
-    }
-    for pair in 0..LAST_BLOCK / 2 {
-        order.push(LAST_BLOCK - 1 - 2 * pair)?;
-    }
-    joins_in(&rt, rt.alloc(), &order)
-}
-
-#[test]
-fn blocks_in_random_order(rt: HostRuntime) -> Result<(), Fail> {
-    // a generator whose period is all of 2^13 numbers
-    let mut number: u32 = 815;
-    let mut order = Vec::new(rt.alloc());
-    for _ in 0..8_192 {
-        number = number.wrapping_mul(1_397).wrapping_add(4_051) % 8_192;
-        let block = u16::try_from(number)?;
-        if block <= LAST_BLOCK {
-            order.push(block)?;
+fn blocks_in_any_order(rt: HostRuntime) -> Result<(), Fail> {
+    for order in 0..5 {
+        // a generator whose period is all of 2^13 numbers
+        let mut number: u32 = 815;
+        let mut blocks = Vec::new(rt.alloc());
+        for n in 0..8_192 {
+            number = number.wrapping_mul(1_397).wrapping_add(4_051) % 8_192;
+            let block = block_of(order, n, number as u16);
+            if block <= LAST_BLOCK {
+                blocks.push(block)?;
+            }
         }
+        joins_in(&rt, rt.alloc(), &blocks)?;
     }
-    joins_in(&rt, rt.alloc(), &order)
-}
-
-#[test]
-fn a_cursor_is_left_and_found_again(rt: HostRuntime) -> Result<(), Fail> {
-    let mut run = Run::new(rt.alloc());
-    // the first and the last block in turn, with holes between them
-    for block in [8, 2, 6, 0, 8, 4, 0, 8, 1, 7, 3] {
-        let piece = packet(rt.alloc(), 5, block, block != 8, &block_data(block))?;
-        assert!(rt; is_kept(run.put(&rt, None, &piece)));
-    }
-    let rest = packet(rt.alloc(), 5, 5, true, &block_data(5))?;
-    let datagram = joined(&rt, run.put(&rt, None, &rest));
-    let mut expected = Vec::new(rt.alloc());
-    for block in 0..9 {
-        expected.extend_from_slice(&block_data(block))?;
-    }
-    assert!(rt; datagram.payload.as_slice() == expected.as_slice());
-    assert_eq!(rt; datagram.frames, 12);
     Ok(())
 }
 

@@ -1,4 +1,5 @@
-//! Tests of reading: the records of pcap, the blocks of pcapng, the packets of a file, and fragments.
+//! Tests of reading and of what it stands on: times, link headers, IPv4 headers, printed lines, the records of pcap, the
+//! blocks of pcapng, the packets of a file, and fragments.
 #![tactic(auto)]
 
 #[cfg(test)]
@@ -6,16 +7,22 @@ mod arrivals;
 #[cfg(test)]
 mod blocks;
 #[cfg(test)]
-mod endless;
+mod ip;
 #[cfg(test)]
 mod join;
+#[cfg(test)]
+mod link;
 #[cfg(test)]
 mod making;
 #[cfg(test)]
 mod pcap;
 #[cfg(test)]
+mod print;
+#[cfg(test)]
 mod runs;
 #[cfg(test)]
 mod source;
+#[cfg(test)]
+mod time;
 #[cfg(test)]
 mod vectors;

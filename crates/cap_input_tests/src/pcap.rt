@@ -2,7 +2,7 @@
 //! hand from draft-ietf-opsawg-pcap.
 ghost use Rattle.std.specs.Prelude.{◌≤◌};
 
-use crate::vectors::{CARRY_PCAP, last_of, refused};
+use crate::vectors::{CARRY_PCAP, refused};
 use cap_bytes::{Device, Fault, Order, Pieces, Room, Rule, Source, Tail, Window};
 use cap_pcap::{PcapHeader, PcapReader, Record, put_header, put_record};
 use cap_time::Unit;
@@ -40,23 +40,12 @@ fn reader(
     alloc: Global,
     bytes: &[u8],
     piece: usize,
-    failing: Option<u64>,
     tail: Tail,
 ) -> Result<PcapReader<Pieces>, AllocError>
     requires { 1 ≤ piece }
 {
-    let pieces = Pieces::new(bytes.to_vec(alloc)?, piece, failing);
+    let pieces = Pieces::new(bytes.to_vec(alloc)?, piece, None);
     Ok(PcapReader::new(Window::new(alloc, pieces, 7), tail))
-}
-
-// The header, the first record and whether a rest was dropped, of a file of at most one record.
-fn read<R: Source>(
-    reader: &mut PcapReader<R>,
-) -> Result<(PcapHeader, Option<Record>, bool), Fault> {
-    let header = reader.header()?;
-    let first = reader.next_record()?;
-    reader.next_record()?;
-    Ok((header, first, reader.was_cut()))
 }
 
 // Each file with one packet of 4 bytes: its order, unit and link, and the packet's units and length.
@@ -92,7 +81,7 @@ fn always_memory_six_spellings(rt: HostRuntime) -> Result<(), Fail> {
             original,
         };
         for piece in [1, 4_096] {
-            let mut reader = reader(rt.alloc(), &bytes, piece, None, Tail::Refuse)?;
+            let mut reader = reader(rt.alloc(), &bytes, piece, Tail::Refuse)?;
             assert_eq!(rt; reader.header()?, wanted);
             assert_eq!(rt; reader.next_record()?, Some(record));
             assert_eq!(rt; reader.header()?, wanted);
@@ -111,7 +100,7 @@ fn records_in_order(rt: HostRuntime) -> Result<(), Fail> {
     bytes.extend_from_slice(&[3, 0, 0, 0, 5, 0, 0, 0, 2, 0, 0, 0, 60, 0, 0, 0, 0xfe, 0xff])?;
     bytes.extend_from_slice(CARRIED.split_at(12).0)?;
     for piece in [1, 4_096] {
-        let mut reader = reader(rt.alloc(), &bytes, piece, None, Tail::Accept)?;
+        let mut reader = reader(rt.alloc(), &bytes, piece, Tail::Accept)?;
         reader.header()?;
         let record = Record {
             offset: 24,
@@ -135,95 +124,30 @@ fn records_in_order(rt: HostRuntime) -> Result<(), Fail> {
     Ok(())
 }
 
-// Every length below the whole: the end of the header is accepted, all others are cut.
-#[test]
-fn cut_files(rt: HostRuntime) -> Result<(), Fail> {
-    for n in 0..44 {
-        let (bytes, _) = CARRY_PCAP.split_at(n);
-        for piece in [1, 4_096] {
-            let offset = if n < 24 { 0 } else { 24 };
-            let cut = Err(refused(offset, Rule::Cut));
-            let mut refusing = reader(rt.alloc(), bytes, piece, None, Tail::Refuse)?;
-            let seen = read(&mut refusing).map(|(_, first, was_cut)| (first, was_cut));
-            let wanted = if n == 24 { Ok((None, false)) } else { cut };
-            assert_eq!(rt; seen, wanted, "{n}");
-            let again = read(&mut refusing).map(|(_, first, was_cut)| (first, was_cut));
-            assert_eq!(rt; again, wanted, "{n}");
-            let mut accepting = reader(rt.alloc(), bytes, piece, None, Tail::Accept)?;
-            let seen = read(&mut accepting).map(|(_, first, was_cut)| (first, was_cut));
-            let wanted = if n < 24 { cut } else { Ok((None, n > 24)) };
-            assert_eq!(rt; seen, wanted, "{n}");
-        }
-    }
-    Ok(())
-}
+// Files whose header is refused, and the rule: cut, of another format, and of another version.
+const REFUSED: [(&[u8], Rule); 4] = [
+    (&[], Rule::Cut),
+    (&[0; 4], Rule::Magic),
+    (&[0x0a, 0x0d, 0x0d, 0x0a], Rule::Magic),
+    (
+        &[
+            0xd4, 0xc3, 0xb2, 0xa1, 2, 0, 3, 0, 0, 0, 0, 0, 0, 0, 0, 0, 0, 0, 4, 0, 1, 0, 0, 0,
+        ],
+        Rule::Version,
+    ),
+];
 
 #[test]
 fn refused_files(rt: HostRuntime) -> Result<(), Fail> {
-    let (cut_header, _) = CARRY_PCAP.split_at(20);
-    let mut version = CARRY_PCAP;
-    version[6] = 3;
-    let mut long = CARRY_PCAP;
-    long[32] = 1;
-    long[34] = 4;
-    let (long, _) = long.split_at(40);
-    let magics = [0; 4];
-    let pcapng = [0x0a, 0x0d, 0x0d, 0x0a];
-    let files = [
-        ([].as_slice(), 0, Rule::Cut),
-        (cut_header, 0, Rule::Cut),
-        (magics.as_slice(), 0, Rule::Magic),
-        (pcapng.as_slice(), 0, Rule::Magic),
-        (version.as_slice(), 0, Rule::Version),
-        (long, 24, Rule::PacketLong),
-    ];
-    for (bytes, offset, rule) in files {
-        for piece in [1, 4_096] {
-            for tail in [Tail::Refuse, Tail::Accept] {
-                let mut reader = reader(rt.alloc(), bytes, piece, None, tail)?;
-                assert_eq!(rt; read(&mut reader), Err(refused(offset, rule)));
-                assert_eq!(rt; reader.header(), Err(refused(offset, rule)));
-                assert!(rt; !reader.was_cut());
-            }
-        }
+    for (bytes, rule) in REFUSED {
+        let mut reader = reader(rt.alloc(), bytes, 1, Tail::Accept)?;
+        assert_eq!(rt; reader.header(), Err(refused(0, rule)));
+        assert_eq!(rt; reader.header(), Err(refused(0, rule)));
+        assert!(rt; !reader.was_cut());
     }
     Ok(())
 }
 
-#[test]
-fn the_longest_packet(rt: HostRuntime) -> Result<(), Fail> {
-    let mut long = CARRY_PCAP;
-    long[32] = 0;
-    long[34] = 4;
-    let (head, _) = long.split_at(40);
-    let mut bytes = head.to_vec(rt.alloc())?;
-    bytes.resize(40 + 262_144, 0)?;
-    for piece in [1, 4_096] {
-        let mut reader = reader(rt.alloc(), &bytes, piece, None, Tail::Refuse)?;
-        let (_, record, was_cut) = read(&mut reader)?;
-        let record = record.ok_or("a record comes")?;
-        assert_eq!(rt; record.captured, 262_144);
-        assert!(rt; !was_cut);
-        assert!(rt; reader.window().held() <= 524_288);
-    }
-    Ok(())
-}
-
-// The read number k fails: the file by one byte a read has 44 reads, and one that finds its end.
-#[test]
-fn failing_reads(rt: HostRuntime) -> Result<(), Fail> {
-    for k in 1..46 {
-        let offset = last_of(&[0, 24, 44], k - 1) as u64;
-        let fault = Err(Fault::Read { file: 7, offset });
-        let mut reader = reader(rt.alloc(), &CARRY_PCAP, 1, Some(k as u64), Tail::Accept)?;
-        assert_eq!(rt; read(&mut reader), fault, "{k}");
-        assert_eq!(rt; read(&mut reader), fault, "{k}");
-        assert!(rt; reader.window().failed());
-    }
-    Ok(())
-}
-
-// The writer has room for n bytes: it takes the first n, and the rest is a fault.
 #[test]
 fn written_files(rt: HostRuntime) -> Result<(), Fail> {
     let files = [
@@ -239,21 +163,10 @@ fn written_files(rt: HostRuntime) -> Result<(), Fail> {
             snaplen: 262_144,
             link: 1,
         };
-        for n in 0..45 {
-            let mut room = Room::new(Vec::with_capacity(rt.alloc(), n)?);
-            let mut result = put_header(&mut room, &header);
-            if result.is_ok() {
-                result = put_record(&mut room, order, 2, fraction, 4, &[1, 2, 3, 4]);
-            }
-            let (written, _) = bytes.split_at(n);
-            assert_eq!(rt; room.bytes(), written, "{n}");
-            assert_eq!(rt;
-                result,
-                if n == 44 { Ok(()) } else { Err(Fault::Write) },
-                "{n}"
-            );
-            assert_eq!(rt; room.failed(), n < 44, "{n}");
-        }
+        let mut room = Room::new(Vec::with_capacity(rt.alloc(), 44)?);
+        put_header(&mut room, &header)?;
+        put_record(&mut room, order, 2, fraction, 4, &[1, 2, 3, 4])?;
+        assert_eq!(rt; room.bytes(), bytes.as_slice());
     }
     Ok(())
 }

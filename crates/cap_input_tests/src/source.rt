@@ -314,24 +314,6 @@ fn refused_files(rt: HostRuntime) -> Result<(), Fail> {
     Ok(())
 }
 
-// 1,024 interfaces are accepted, and one more is refused.
-#[test]
-fn interface_limit(rt: HostRuntime) -> Result<(), Fail> {
-    let mut bytes = SECTION.to_vec(rt.alloc())?;
-    for _ in 0..1_024 {
-        bytes.extend_from_slice(&INTERFACE)?;
-    }
-    begins(&rt, rt.alloc(), &bytes, Head::End)?;
-    bytes.extend_from_slice(&INTERFACE)?;
-    begins(
-        &rt,
-        rt.alloc(),
-        &bytes,
-        refused(20_508, Rule::InterfaceLimit),
-    )?;
-    Ok(())
-}
-
 // A rest that is cut is dropped where that is asked for.
 #[test]
 fn cut_rest(rt: HostRuntime) -> Result<(), Fail> {
@@ -370,56 +352,6 @@ fn failing_reads(rt: HostRuntime) -> Result<(), Fail> {
         assert_eq!(rt; feed.head(), fault, "{call}");
         assert!(rt; feed.feed_held().failed);
     }
-    Ok(())
-}
-
-// The same of a pcap file: the fault is told at the header, or at the record.
-#[test]
-fn failing_reads_of_pcap(rt: HostRuntime) -> Result<(), Fail> {
-    for call in 1..=45 {
-        let pieces = Pieces::new(CARRY_PCAP.to_vec(rt.alloc())?, 1, Some(call as u64));
-        let mut feed = Capture::new(rt.alloc(), pieces, 7, Tail::Refuse);
-        if call > 44 {
-            takes(
-                &rt,
-                &mut feed,
-                carried(&rt, 24, Format::Pcap),
-                &[1, 2, 3, 4],
-            )?;
-        }
-        let offset = last_of(&[0, 24, 44], call - 1) as u64;
-        let fault = Err(Fault::Read { file: 7, offset });
-        assert_eq!(rt; feed.head(), fault, "{call}");
-        assert_eq!(rt; feed.head(), fault, "{call}");
-    }
-    Ok(())
-}
-
-// Version 1.2 is read as 1.0 is.
-#[test]
-fn version_1_2(rt: HostRuntime) -> Result<(), Fail> {
-    let mut bytes = in_section(rt.alloc(), &[&INTERFACE, &PACKET])?;
-    if let Some(minor) = bytes.get_mut(14) {
-        *minor = 2;
-    }
-    let head = Head::Packet(carried(&rt, 48, Format::Pcapng));
-    begins(&rt, rt.alloc(), &bytes, head)?;
-    Ok(())
-}
-
-// A packet of 262,145 captured bytes, in a block that is there whole.
-#[test]
-fn a_long_packet(rt: HostRuntime) -> Result<(), Fail> {
-    let mut bytes = in_section(rt.alloc(), &[&INTERFACE])?;
-    let (total, captured) = (262_180_u32, 262_145_u32);
-    bytes.extend_from_slice(&[6, 0, 0, 0])?;
-    bytes.extend_from_slice(&total.to_le_bytes())?;
-    bytes.extend_from_slice(&[0; 12])?;
-    bytes.extend_from_slice(&captured.to_le_bytes())?;
-    bytes.extend_from_slice(&captured.to_le_bytes())?;
-    bytes.resize(262_224, 0)?;
-    bytes.extend_from_slice(&total.to_le_bytes())?;
-    begins(&rt, rt.alloc(), &bytes, refused(48, Rule::PacketLong))?;
     Ok(())
 }
 

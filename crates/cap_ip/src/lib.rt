@@ -11,6 +11,3 @@ pub use crate::checksums::{checksum_law, header_checksum};
 pub use crate::headers::{Fragment, Header, HeaderOr, Key};
 pub use crate::ports::transport;
 pub use crate::transports::Transport;
-
-#[cfg(test)]
-mod tests;

@@ -8,6 +8,3 @@ mod tags;
 
 pub use crate::links::{network, tags_law};
 pub use crate::networks::Network;
-
-#[cfg(test)]
-mod tests;

@@ -1,9 +1,11 @@
 //! The class of each packet: worked frames of each link type, fragments, and groups that are given up.
 
+use crate::conversations::CONVERSATIONS;
 use crate::files::{bytes_of, told};
 use crate::vectors::{
     AFTER_31, AT_1, AT_2, AT_3, AT_4, AT_31, FIRST, File, ICMP, LAST, PCAP, RAW, UDP, WHOLE,
 };
+use std::alloc::Global;
 use std::test::Fail;
 
 // A frame of 1,514 bytes, of which 54 and 53 were captured, and its first 53 bytes.
@@ -216,30 +218,32 @@ const GROUPS: [(u16, File, &str); 5] = [
 ];
 
 #[test]
-fn each_packet_has_its_class(rt: HostRuntime) -> Result<(), Fail> {
-    for (file, wanted) in CLASSES {
-        let report = told(rt.alloc(), bytes_of(rt.alloc(), file)?)?;
+fn each_packet_has_its_class_and_conversation(rt: HostRuntime) -> Result<(), Fail> {
+    for (file, wanted) in CLASSES.iter().chain(CONVERSATIONS.iter()) {
+        let report = told(rt.alloc(), bytes_of(rt.alloc(), *file)?)?;
         assert!(rt; report.bytes().ends_with(wanted.as_bytes()), "{wanted}");
     }
     Ok(())
 }
 
+// A file of fragments at 1 second that each open a group, and of a last packet.
+fn opening(alloc: Global, count: u16, last: File) -> Result<Vec<u8>, Fail> {
+    let before = bytes_of(alloc, &[AT_1, "4500001c"])?;
+    let after = bytes_of(alloc, &["2000401100000a0000010a000002", "03e807d000100000"])?;
+    let mut file = bytes_of(alloc, &[RAW])?;
+    for identification in 0..count {
+        file.extend_from_slice(before.as_slice())?;
+        file.extend_from_slice(&identification.to_be_bytes())?;
+        file.extend_from_slice(after.as_slice())?;
+    }
+    file.extend_from_slice(bytes_of(alloc, last)?.as_slice())?;
+    Ok(file)
+}
+
 #[test]
 fn the_oldest_group_is_given_up(rt: HostRuntime) -> Result<(), Fail> {
-    let before = bytes_of(rt.alloc(), &[AT_1, "4500001c"])?;
-    let after = bytes_of(
-        rt.alloc(),
-        &["2000401100000a0000010a000002", "03e807d000100000"],
-    )?;
-    for (opening, last, wanted) in GROUPS {
-        let mut file = bytes_of(rt.alloc(), &[RAW])?;
-        for identification in 0..opening {
-            file.extend_from_slice(before.as_slice())?;
-            file.extend_from_slice(&identification.to_be_bytes())?;
-            file.extend_from_slice(after.as_slice())?;
-        }
-        file.extend_from_slice(bytes_of(rt.alloc(), last)?.as_slice())?;
-        let report = told(rt.alloc(), file)?;
+    for (count, last, wanted) in GROUPS {
+        let report = told(rt.alloc(), opening(rt.alloc(), count, last)?)?;
         assert!(rt; report.bytes().ends_with(wanted.as_bytes()), "{wanted}");
     }
     Ok(())

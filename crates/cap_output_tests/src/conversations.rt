@@ -1,8 +1,6 @@
 //! Conversations: worked packets of each kind of ends, and frames of equal times.
 
-use crate::files::{bytes_of, told};
 use crate::vectors::{FIRST, File, ICMP, LAST, SECTION, UDP};
-use std::test::Fail;
 
 // An interface of IP alone in millionths, in 1/1024 of a second and in tenths.
 const MILLIONTHS: &str = "0100000014000000650000000000000014000000";
@@ -71,7 +69,7 @@ const TENTHS_FIRST: File = &[
 ];
 
 // Files, and the end of their reports.
-const REPORTS: [(File, &str); 3] = [
+pub(crate) const CONVERSATIONS: [(File, &str); 3] = [
     (ALL_KINDS, ALL_TALKS),
     (
         BINARY_FIRST,
@@ -84,12 +82,3 @@ const REPORTS: [(File, &str); 3] = [
         talk udp 10.0.0.1:1000 10.0.0.2:2000 forward 3 86 backward 0 0 first 0+5/10 last 0+5/10\n",
     ),
 ];
-
-#[test]
-fn conversations_are_reported(rt: HostRuntime) -> Result<(), Fail> {
-    for (file, wanted) in REPORTS {
-        let report = told(rt.alloc(), bytes_of(rt.alloc(), file)?)?;
-        assert!(rt; report.bytes().ends_with(wanted.as_bytes()), "{wanted}");
-    }
-    Ok(())
-}

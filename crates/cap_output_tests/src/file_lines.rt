@@ -5,7 +5,7 @@ use crate::files::sources_of;
 use crate::vectors::{
     CARRY_PCAP, CUT_PCAP, EMPTY, File, HEADER_ONLY, OPTIONS_PCAPNG, RUNS_BACK, SIMPLE_PACKET,
 };
-use cap_bytes::{Fault, Refusal, Room, Rule, Sink, Tail};
+use cap_bytes::{Fault, Refusal, Room, Rule, Tail};
 use cap_talks::file_lines;
 use std::alloc::Global;
 use std::test::Fail;
@@ -50,30 +50,29 @@ const REFUSED: [(&[File], (u32, u64, Rule)); 4] = [
     (&[CARRY_PCAP, CUT_PCAP, NO_MAGIC], (2, 24, Rule::Cut)),
 ];
 
-// Tells of files that are given by `piece` bytes at a time; where one is named, its read of that number fails.
-fn tell<W: Sink>(
+// What is told of files that are given by `piece` bytes at a time, and what is answered.
+fn tell(
     alloc: Global,
     files: &[File],
     tail: Tail,
     piece: usize,
-    failing: Option<(usize, u64)>,
-    writer: &mut W,
-) -> Result<Result<(), Fault>, Fail>
+) -> Result<(Result<(), Fault>, Room), Fail>
     requires { 1 ≤ piece }
 {
-    let sources = sources_of(alloc, files, piece, failing)?;
+    let sources = sources_of(alloc, files, piece)?;
     if sources.is_empty() || sources.len() > 32 {
-        return Ok(Ok(()));
+        return Err(Fail::from("1 to 32 files"));
     }
-    Ok(file_lines(alloc, sources, tail, writer))
+    let mut writer = Room::new(Vec::with_capacity(alloc, 512)?);
+    let answer = file_lines(alloc, sources, tail, &mut writer);
+    Ok((answer, writer))
 }
 
 #[test]
 fn always_memory_files_are_told(rt: HostRuntime) -> Result<(), Fail> {
     for (files, tail, wanted) in TOLD {
         for piece in [1, 4096] {
-            let mut writer = Room::new(Vec::with_capacity(rt.alloc(), 512)?);
-            let answer = tell(rt.alloc(), files, tail, piece, None, &mut writer)?;
+            let (answer, writer) = tell(rt.alloc(), files, tail, piece)?;
             assert_eq!(rt; answer, Ok(()));
             assert_eq!(rt; writer.bytes(), wanted.as_bytes());
         }
@@ -84,43 +83,10 @@ fn always_memory_files_are_told(rt: HostRuntime) -> Result<(), Fail> {
 #[test]
 fn the_first_refusal_is_told_and_nothing_written(rt: HostRuntime) -> Result<(), Fail> {
     for (files, (file, offset, rule)) in REFUSED {
-        let mut writer = Room::new(Vec::with_capacity(rt.alloc(), 512)?);
-        let answer = tell(rt.alloc(), files, Tail::Refuse, 4096, None, &mut writer)?;
+        let (answer, writer) = tell(rt.alloc(), files, Tail::Refuse, 4096)?;
         let refusal = Refusal { file, offset, rule };
         assert_eq!(rt; answer, Err(Fault::Refused(refusal)));
         assert_eq!(rt; writer.bytes().len(), 0);
-    }
-    Ok(())
-}
-
-#[test]
-fn a_read_that_fails_is_told_and_nothing_written(rt: HostRuntime) -> Result<(), Fail> {
-    let files = [HEADER_ONLY, CARRY_PCAP];
-    for (read, offset) in [(1u64, 0u64), (24, 0), (25, 24), (44, 24)] {
-        let mut writer = Room::new(Vec::with_capacity(rt.alloc(), 512)?);
-        let answer = tell(
-            rt.alloc(),
-            &files,
-            Tail::Refuse,
-            1,
-            Some((1, read)),
-            &mut writer,
-        )?;
-        assert_eq!(rt; answer, Err(Fault::Read { file: 2, offset }));
-        assert_eq!(rt; writer.bytes().len(), 0);
-    }
-    Ok(())
-}
-
-#[test]
-fn a_write_that_fails_leaves_a_front(rt: HostRuntime) -> Result<(), Fail> {
-    let files = [RUNS_BACK, OPTIONS_PCAPNG];
-    let wanted = TWO_LINES.as_bytes();
-    for length in 0..wanted.len() {
-        let mut writer = Room::new(Vec::with_capacity(rt.alloc(), length)?);
-        let answer = tell(rt.alloc(), &files, Tail::Refuse, 4096, None, &mut writer)?;
-        assert_eq!(rt; answer, Err(Fault::Write));
-        assert_eq!(rt; Some(writer.bytes()), wanted.get(..length));
     }
     Ok(())
 }

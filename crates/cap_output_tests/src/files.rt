@@ -2,7 +2,7 @@
 ghost use Rattle.std.specs.Prelude.{◌≤◌};
 
 use crate::vectors::File;
-use cap_bytes::{Fault, Pieces, Room, Sink, Tail};
+use cap_bytes::{Fault, Pieces, Room, Tail};
 use cap_merge::{Merged, merge_files};
 use cap_source::Capture;
 use cap_talks::report;
@@ -18,22 +18,13 @@ pub(crate) fn bytes_of(alloc: Global, file: File) -> Result<Vec<u8>, Fail> {
     Ok(bytes)
 }
 
-/// Readers of files by `piece` bytes at a time; if one is named, its read of that number fails.
-pub(crate) fn sources_of(
-    alloc: Global,
-    files: &[File],
-    piece: usize,
-    failing: Option<(usize, u64)>,
-) -> Result<Vec<Pieces>, Fail>
+/// Readers of files by `piece` bytes at a time.
+pub(crate) fn sources_of(alloc: Global, files: &[File], piece: usize) -> Result<Vec<Pieces>, Fail>
     requires { 1 ≤ piece }
 {
     let mut sources = Vec::new(alloc);
-    for (place, file) in files.iter().enumerate() {
-        let failing = match failing {
-            Some((named, read)) => if named == place { Some(read) } else { None },
-            None => None,
-        };
-        sources.push(Pieces::new(bytes_of(alloc, *file)?, piece, failing))?;
+    for file in files {
+        sources.push(Pieces::new(bytes_of(alloc, *file)?, piece, None))?;
     }
     Ok(sources)
 }
@@ -49,24 +40,25 @@ pub(crate) fn merged_of(
     Ok(merge_files(alloc, sources, Tail::Refuse)?)
 }
 
-/// Reports of some readers.
-pub(crate) fn report_of<W: Sink>(
+/// What is reported of 1 to 32 files, and what is answered.
+pub(crate) fn report_of(
     alloc: Global,
     sources: Vec<Pieces>,
     tail: Tail,
-    writer: &mut W,
-) -> Result<(), Fault> {
+) -> Result<(Room, Result<(), Fault>), Fail> {
     if sources.is_empty() || sources.len() > 32 {
-        return Ok(());
+        return Err(Fail::from("1 to 32 files"));
     }
-    report(alloc, sources, tail, writer)
+    let mut writer = Room::new(Vec::with_capacity(alloc, 1024)?);
+    let answer = report(alloc, sources, tail, &mut writer);
+    Ok((writer, answer))
 }
 
 /// The report of one file.
 pub(crate) fn told(alloc: Global, file: Vec<u8>) -> Result<Room, Fail> {
     let mut sources = Vec::new(alloc);
     sources.push(Pieces::new(file, 4096, None))?;
-    let mut writer = Room::new(Vec::with_capacity(alloc, 1024)?);
-    report_of(alloc, sources, Tail::Refuse, &mut writer)?;
+    let (writer, answer) = report_of(alloc, sources, Tail::Refuse)?;
+    answer?;
     Ok(writer)
 }

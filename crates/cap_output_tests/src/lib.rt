@@ -6,13 +6,9 @@ mod classes;
 #[cfg(test)]
 mod conversations;
 #[cfg(test)]
-mod devices;
-#[cfg(test)]
 mod file_lines;
 #[cfg(test)]
 mod files;
-#[cfg(test)]
-mod limits;
 #[cfg(test)]
 mod merge;
 #[cfg(test)]

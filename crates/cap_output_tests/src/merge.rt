@@ -51,25 +51,6 @@ fn merge_of(alloc: Global, first: Listed, second: Listed) -> Result<Merged<Liste
     Ok(Merged::new(feeds))
 }
 
-// What comes: for each packet its file and its clock, and then the refusal that ends them, or none.
-fn all_of(
-    alloc: Global,
-    feed: &mut Merged<Listed>,
-) -> Result<(Vec<(u32, Option<Stamp>)>, Option<Refusal>), Fail> {
-    let mut seen = Vec::new(alloc);
-    for _ in 0..100 {
-        match feed.head()? {
-            Head::Packet(meta) => {
-                seen.push((meta.file, feed.clock()))?;
-                feed.pass();
-            }
-            Head::Refused(refusal) => return Ok((seen, Some(refusal))),
-            Head::End => return Ok((seen, None)),
-        }
-    }
-    Ok((seen, None))
-}
-
 // An interface whose clock counts as the code says.
 fn interface_of(code: u8) -> Option<Interface> {
     Some(Interface {
@@ -85,71 +66,81 @@ fn time(units: u64, code: u8) -> Option<Stamp> {
     Some(Stamp::new(units, &interface_of(code)?))
 }
 
-#[test]
-fn runs_back(rt: HostRuntime) -> Result<(), Fail> {
-    let first = make_listed(rt.alloc(), 1, 0, &[5, 1], false)?;
-    let second = make_listed(rt.alloc(), 2, 0, &[2, 5], false)?;
-    let mut feed = merge_of(rt.alloc(), first, second)?;
-    assert_eq!(rt; feed.files(), 2);
-    let (seen, refusal) = all_of(rt.alloc(), &mut feed)?;
-    let wanted = [
-        (2, time(2, 0)),
-        (1, time(5, 0)),
-        (1, time(5, 0)),
-        (2, time(5, 0)),
-    ];
-    assert_eq!(rt; seen.as_slice(), wanted.as_slice());
-    assert_eq!(rt; refusal, None);
-    Ok(())
+// Two files, each by the code of its clock, its times and whether it is broken; the files and the times of the packets that
+// come, and the file and the offset of the refusal that ends them. Row by row: files that run back; refusals that are read
+// ahead; equal times of different forms, where the file decides; a file without packets.
+type Side = (u8, &'static [u64], bool);
+
+type Came = (u32, u64, u8);
+
+const MERGED: [(Side, Side, &[Came], Option<(u32, u64)>); 6] = [
+    (
+        (0, &[5, 1], false),
+        (0, &[2, 5], false),
+        &[(2, 2, 0), (1, 5, 0), (1, 5, 0), (2, 5, 0)],
+        None,
+    ),
+    ((0, &[5], true), (0, &[1], true), &[(2, 1, 0)], Some((2, 1))),
+    ((0, &[1], true), (0, &[5], true), &[(1, 1, 0)], Some((1, 1))),
+    (
+        (0x8a, &[512], false),
+        (1, &[5], false),
+        &[(1, 512, 0x8a), (2, 5, 1)],
+        None,
+    ),
+    (
+        (1, &[5], false),
+        (0x8a, &[512], false),
+        &[(1, 5, 1), (2, 512, 0x8a)],
+        None,
+    ),
+    (
+        (0, &[], false),
+        (0, &[7, 8, 9], false),
+        &[(2, 7, 0), (2, 8, 0), (2, 9, 0)],
+        None,
+    ),
+];
+
+// The file and the clock of the packet that comes, which has no bytes and is passed.
+fn next_of(feed: &mut Merged<Listed>) -> Result<(u32, Option<Stamp>), Fail> {
+    let Head::Packet(meta) = feed.head()? else {
+        return Err(Fail::from("no packet"));
+    };
+    let clock = feed.clock();
+    if !feed.frame().is_empty() {
+        return Err(Fail::from("bytes"));
+    }
+    feed.pass();
+    Ok((meta.file, clock))
 }
 
-#[test]
-fn refusal_order(rt: HostRuntime) -> Result<(), Fail> {
-    let rows = [(5, 1, 2, (2, time(1, 0))), (1, 5, 1, (1, time(1, 0)))];
-    for (one, two, file, taken) in rows {
-        let first = make_listed(rt.alloc(), 1, 0, &[one], true)?;
-        let second = make_listed(rt.alloc(), 2, 0, &[two], true)?;
-        let mut feed = merge_of(rt.alloc(), first, second)?;
-        let (seen, refusal) = all_of(rt.alloc(), &mut feed)?;
-        let wanted = Refusal {
+// A refusal of a cut file at a place, or the end.
+fn end_of(refusal: Option<(u32, u64)>) -> Head {
+    match refusal {
+        Some((file, offset)) => Head::Refused(Refusal {
             file,
-            offset: 1,
+            offset,
             rule: Rule::Cut,
-        };
-        assert_eq!(rt; seen.as_slice(), [taken].as_slice());
-        assert_eq!(rt; refusal, Some(wanted));
-        assert_eq!(rt; feed.head(), Ok(Head::Refused(wanted)), "again");
+        }),
+        None => Head::End,
     }
-    Ok(())
 }
 
-// 512 units of 1/1024 second are 5 units of 1/10 second: the file decides.
 #[test]
-fn equal_resolutions(rt: HostRuntime) -> Result<(), Fail> {
-    let rows = [((512, 0x8a), (5, 1)), ((5, 1), (512, 0x8a))];
-    for ((one, first_code), (two, second_code)) in rows {
-        let first = make_listed(rt.alloc(), 1, first_code, &[one], false)?;
-        let second = make_listed(rt.alloc(), 2, second_code, &[two], false)?;
+fn two_files_in_order(rt: HostRuntime) -> Result<(), Fail> {
+    for ((one, times, broken), (two, others, is_broken), came, refusal) in MERGED {
+        let first = make_listed(rt.alloc(), 1, one, times, broken)?;
+        let second = make_listed(rt.alloc(), 2, two, others, is_broken)?;
         let mut feed = merge_of(rt.alloc(), first, second)?;
-        let (seen, refusal) = all_of(rt.alloc(), &mut feed)?;
-        let wanted = [(1, time(one, first_code)), (2, time(two, second_code))];
-        assert_eq!(rt; seen.as_slice(), wanted.as_slice());
-        assert_eq!(rt; refusal, None);
+        assert_eq!(rt; feed.files(), 2);
+        for packet in came {
+            assert_eq!(rt; next_of(&mut feed)?, (packet.0, time(packet.1, packet.2)));
+        }
+        let end = end_of(refusal);
+        assert_eq!(rt; feed.head(), Ok(end));
+        assert_eq!(rt; feed.head(), Ok(end), "again");
     }
-    Ok(())
-}
-
-#[test]
-fn ended_files(rt: HostRuntime) -> Result<(), Fail> {
-    let first = make_listed(rt.alloc(), 1, 0, &[], false)?;
-    let second = make_listed(rt.alloc(), 2, 0, &[7, 8, 9], false)?;
-    let mut feed = merge_of(rt.alloc(), first, second)?;
-    if let Head::Packet(meta) = feed.head()? {
-        assert_eq!(rt; (meta.file, meta.units), (2, Some(7)));
-        assert_eq!(rt; feed.frame(), [].as_slice());
-    }
-    let (seen, _) = all_of(rt.alloc(), &mut feed)?;
-    assert_eq!(rt; seen.len(), 3);
     Ok(())
 }
 
@@ -180,7 +171,7 @@ const TWO_INTERFACES: File = &[SECTION, PLAIN, PLAIN, PACKET];
 #[test]
 fn what_is_held(rt: HostRuntime) -> Result<(), Fail> {
     let files = [ONE_INTERFACE, RUNS_BACK, TWO_INTERFACES, RUNS_ON];
-    let mut feed = merged_of(rt.alloc(), sources_of(rt.alloc(), &files, 1, None)?)?;
+    let mut feed = merged_of(rt.alloc(), sources_of(rt.alloc(), &files, 1)?)?;
     let held = feed.feed_held();
     assert_eq!(rt; (held.window, held.interfaces, held.failed), (0, 0, false));
     feed.head()?;

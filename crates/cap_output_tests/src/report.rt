@@ -4,7 +4,7 @@ use crate::files::{report_of, sources_of};
 use crate::vectors::{
     CUT_PCAP, EARLY, EMPTY, FRAGMENT_FRAMES, File, HEADER_ONLY, LATE, SECTION, TAGGED_FRAMES,
 };
-use cap_bytes::{Fault, Refusal, Room, Rule, Tail};
+use cap_bytes::{Fault, Refusal, Rule, Tail};
 use std::test::Fail;
 
 // An interface of IP alone.
@@ -131,9 +131,9 @@ const REFUSED: [(&[File], Tail, (u32, u64, Rule)); 6] = [
 fn always_memory_worked_files_are_reported(rt: HostRuntime) -> Result<(), Fail> {
     for (files, tail, wanted) in REPORTED {
         for piece in [1, 4096] {
-            let sources = sources_of(rt.alloc(), files, piece, None)?;
-            let mut writer = Room::new(Vec::with_capacity(rt.alloc(), 1024)?);
-            assert_eq!(rt; report_of(rt.alloc(), sources, tail, &mut writer), Ok(()));
+            let sources = sources_of(rt.alloc(), files, piece)?;
+            let (writer, answer) = report_of(rt.alloc(), sources, tail)?;
+            assert_eq!(rt; answer, Ok(()));
             assert_eq!(rt; writer.bytes(), wanted.as_bytes());
         }
     }
@@ -146,9 +146,8 @@ fn the_refusal_of_the_lowest_place_is_told_and_nothing_written(
 ) -> Result<(), Fail> {
     for (files, tail, (file, offset, rule)) in REFUSED {
         for piece in [1, 4096] {
-            let sources = sources_of(rt.alloc(), files, piece, None)?;
-            let mut writer = Room::new(Vec::with_capacity(rt.alloc(), 1024)?);
-            let answer = report_of(rt.alloc(), sources, tail, &mut writer);
+            let sources = sources_of(rt.alloc(), files, piece)?;
+            let (writer, answer) = report_of(rt.alloc(), sources, tail)?;
             let refusal = Refusal { file, offset, rule };
             assert_eq!(rt; answer, Err(Fault::Refused(refusal)));
             assert_eq!(rt; writer.bytes().len(), 0);

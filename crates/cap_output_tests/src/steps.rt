@@ -9,7 +9,7 @@ use crate::vectors::{
 };
 use cap_bytes::{Fault, Pieces, Room, Tail};
 use cap_merge::merge_files;
-use cap_source::{Capture, PacketFeed};
+use cap_source::Capture;
 use cap_talks::{Step, Table};
 use std::alloc::{AllocError, Global};
 use std::process::Abort;
@@ -61,18 +61,25 @@ const OVERLAP_REPORT: &str = "files 1\n\
     talks 1\n\
     talk udp 10.0.0.1:1000 10.0.0.2:2000 forward 4 107 backward 0 0 first 1+0/1000000 last 4+0/1000000\n";
 
-// The table of some files, if memory is found.
+// The bytes of a file, if memory is found.
+fn bytes_once(alloc: Global, file: File) -> Option<Vec<u8>> {
+    let mut bytes = Vec::new(alloc);
+    for part in file {
+        let decoded = hex::decode(alloc, *part).ok()?;
+        bytes.extend_from_slice(decoded.as_slice()).ok()?;
+    }
+    Some(bytes)
+}
+
+// The table of 1 to 32 files, if memory is found.
 fn table_once(alloc: Global, files: &[File], piece: usize) -> Option<Table<Capture<Pieces>>>
     requires { 1 ≤ piece }
 {
     let mut sources = Vec::new(alloc);
     for file in files {
-        let mut bytes = Vec::with_capacity(alloc, 512).ok()?;
-        for part in *file {
-            let decoded = hex::decode(alloc, *part).ok()?;
-            bytes.extend_from_slice(decoded.as_slice()).ok()?;
-        }
-        sources.push(Pieces::new(bytes, piece, None)).ok()?;
+        sources
+            .push(Pieces::new(bytes_once(alloc, *file)?, piece, None))
+            .ok()?;
     }
     if sources.is_empty() || sources.len() > 32 {
         return None;
@@ -103,42 +110,49 @@ fn room_of(alloc: Global) -> Result<Vec<u8>, AllocError> {
 }
 
 // What a table writes, where at most two growths are refused.
-fn text_of<F: PacketFeed>(alloc: Global, table: &Table<F>) -> Result<Room, Fail> {
+fn text_of(alloc: Global, table: &Table<Capture<Pieces>>) -> Result<Room, Fail> {
     let mut writer = Room::new(room_of(alloc)?);
     table.write_so_far(&mut writer)?;
     Ok(writer)
 }
 
+// How many interfaces, groups, bytes of a group and conversations a table holds.
+type Lengths = (u64, u64, u64, u64);
+
 // Holds a table to what it writes, and to the interfaces, groups, bytes of a group and conversations that it holds.
-fn check<F: PacketFeed>(
+fn check(
     rt: &impl Abort,
     alloc: Global,
-    table: &Table<F>,
+    table: &Table<Capture<Pieces>>,
     wanted: &str,
-    held: [u64; 4],
+    held: Lengths,
 ) -> Result<(), Fail> {
     assert_eq!(rt; text_of(alloc, table)?.bytes(), wanted.as_bytes());
     let now = table.held();
-    let lengths = [now.interfaces, now.groups, now.group_bytes, now.talks];
-    assert_eq!(rt; lengths, held);
+    assert_eq!(rt; (now.interfaces, now.groups), (held.0, held.1));
+    assert_eq!(rt; (now.group_bytes, now.talks), (held.2, held.3));
     Ok(())
 }
+
+// How often a step is taken, what it answers, what the table then writes, and what it holds.
+const STEPS: [(u32, Step, &str, Lengths); 5] = [
+    (0, Step::Took, BEFORE, (0, 0, 0, 0)),
+    (2, Step::Took, AFTER_TWO, (0, 1, 24, 0)),
+    (2, Step::Took, FRAGMENT_REPORT, (0, 0, 0, 1)),
+    (1, Step::Done, FRAGMENT_REPORT, (0, 0, 0, 1)),
+    (1, Step::Done, FRAGMENT_REPORT, (0, 0, 0, 1)),
+];
 
 #[test]
 fn always_memory_step_by_step(rt: HostRuntime) -> Result<(), Fail> {
     for piece in [1, 4096] {
         let mut table = table_of(&rt, rt.alloc(), &[FRAGMENT_FRAMES], piece);
-        check(&rt, rt.alloc(), &table, BEFORE, [0, 0, 0, 0])?;
         assert_eq!(rt; table.held().window, 0);
-        assert_eq!(rt; table.step(), Ok(Step::Took));
-        assert_eq!(rt; table.step(), Ok(Step::Took));
-        check(&rt, rt.alloc(), &table, AFTER_TWO, [0, 1, 24, 0])?;
-        assert_eq!(rt; table.step(), Ok(Step::Took));
-        assert_eq!(rt; table.step(), Ok(Step::Took));
-        check(&rt, rt.alloc(), &table, FRAGMENT_REPORT, [0, 0, 0, 1])?;
-        for _ in 0..2 {
-            assert_eq!(rt; table.step(), Ok(Step::Done));
-            check(&rt, rt.alloc(), &table, FRAGMENT_REPORT, [0, 0, 0, 1])?;
+        for (count, step, text, held) in STEPS {
+            for _ in 0..count {
+                assert_eq!(rt; table.step(), Ok(step));
+            }
+            check(&rt, rt.alloc(), &table, text, held)?;
         }
     }
     Ok(())
@@ -166,10 +180,10 @@ fn a_table_is_dropped_after_any_number_of_steps(rt: HostRuntime) -> Result<(), F
 }
 
 // A step, taken again where a growth was refused, which leaves the table as it was.
-fn step_again<F: PacketFeed>(
+fn step_again(
     rt: &impl Abort,
     alloc: Global,
-    table: &mut Table<F>,
+    table: &mut Table<Capture<Pieces>>,
 ) -> Result<Step, Fail> {
     let before = text_of(alloc, table)?;
     let held = table.held();

@@ -1,10 +1,10 @@
-//! Two files of which a reader or a writer fails, at each read and at each byte.
+//! Two files of which a reader fails, at each read.
 
-use crate::files::{bytes_of, merged_of, sources_of};
-use crate::vectors::{File, INTERFACE, OPTIONS_PCAPNG, PACKET, RUNS_BACK, SECTION};
-use cap_bytes::{Fault, Order, Room};
-use cap_source::{Head, PacketFeed};
-use cap_write::write_merged;
+use crate::files::{bytes_of, merged_of};
+use crate::vectors::{File, OPTIONS_PCAPNG, RUNS_BACK};
+use cap_bytes::{Fault, Pieces};
+use cap_merge::Merged;
+use cap_source::{Capture, Head, PacketFeed};
 use std::alloc::Global;
 use std::test::Fail;
 
@@ -14,41 +14,37 @@ const FILES: [File; 2] = [RUNS_BACK, OPTIONS_PCAPNG];
 // Their packets in the order of clocks: the file, and where in it the packet begins.
 const PACKETS: [(u32, u64); 3] = [(2, 96), (1, 24), (1, 40)];
 
-// What is written of them, and how much of it for each number of packets.
-const TEXT: File = &[
-    SECTION,
-    INTERFACE,
-    PACKET,
-    INTERFACE,
-    "06000000200000000100000000000000404b4c00000000000000000020000000",
-    "0600000020000000010000000000000040420f00000000000000000020000000",
-];
-
-const LENGTHS: [usize; 4] = [28, 96, 160, 192];
-
 // Which file's reads fail, from which read to which, the offset that is told, and how many packets are given before.
 // Each byte is a read of its own, and the end of a file one more. Of a file nothing is read before both files' first
 // packets are looked for, or before the packet in front is passed.
-const FAILING: [(usize, u64, u64, u64, usize); 9] = [
-    (0, 1, 24, 0, 0),
-    (0, 25, 40, 24, 0),
-    (0, 41, 56, 40, 2),
-    (0, 57, 57, 56, 3),
-    (1, 1, 44, 0, 0),
-    (1, 45, 96, 44, 0),
-    (1, 97, 144, 96, 0),
-    (1, 145, 168, 144, 1),
-    (1, 169, 169, 168, 1),
+const FAILING: [(u32, u64, u64, u64, usize); 9] = [
+    (1, 1, 24, 0, 0),
+    (1, 25, 40, 24, 0),
+    (1, 41, 56, 40, 2),
+    (1, 57, 57, 56, 3),
+    (2, 1, 44, 0, 0),
+    (2, 45, 96, 44, 0),
+    (2, 97, 144, 96, 0),
+    (2, 145, 168, 144, 1),
+    (2, 169, 169, 168, 1),
 ];
 
-// The fault of a read of a file, by its place.
-fn fault_of(named: usize, offset: u64) -> Fault {
-    let file = if named == 0 { 1 } else { 2 };
-    Fault::Read { file, offset }
+// The run of both files, read one byte at a time, where one read of one of them fails.
+fn merged_with(alloc: Global, file: u32, read: u64) -> Result<Merged<Capture<Pieces>>, Fail> {
+    let [first, second] = FILES;
+    let (one, two) = if file == 1 {
+        (Some(read), None)
+    } else {
+        (None, Some(read))
+    };
+    let mut sources = Vec::new(alloc);
+    sources.push(Pieces::new(bytes_of(alloc, first)?, 1, one))?;
+    sources.push(Pieces::new(bytes_of(alloc, second)?, 1, two))?;
+    merged_of(alloc, sources)
 }
 
 // Passes the packets that come, at most that many, and answers how many came, and the fault that then came.
-fn walk<F: PacketFeed>(feed: &mut F) -> (usize, Option<Fault>) {
+fn walk(feed: &mut Merged<Capture<Pieces>>) -> (usize, Option<Fault>) {
     for (given, place) in PACKETS.iter().enumerate() {
         match feed.head() {
             Err(fault) => return (given, Some(fault)),
@@ -67,69 +63,14 @@ fn walk<F: PacketFeed>(feed: &mut F) -> (usize, Option<Fault>) {
 // A failed read is told by file and offset, and again, after the packets before it.
 #[test]
 fn each_read_of_two_files(rt: HostRuntime) -> Result<(), Fail> {
-    for (named, first, last, offset, packets) in FAILING {
+    for (file, first, last, offset, packets) in FAILING {
         for read in first..=last {
-            let sources = sources_of(rt.alloc(), &FILES, 1, Some((named, read)))?;
-            let mut merged = merged_of(rt.alloc(), sources)?;
-            let fault = fault_of(named, offset);
-            assert_eq!(rt; walk(&mut merged), (packets, Some(fault)), "{named} {read}");
-            assert_eq!(rt; merged.head(), Err(fault), "{named} {read}");
+            let mut merged = merged_with(rt.alloc(), file, read)?;
+            let fault = Fault::Read { file, offset };
+            assert_eq!(rt; walk(&mut merged), (packets, Some(fault)), "{file} {read}");
+            assert_eq!(rt; merged.head(), Err(fault), "{file} {read}");
             assert!(rt; merged.feed_held().failed);
         }
     }
-    Ok(())
-}
-
-// So many packets are given where no read fails, up to one read more than there are.
-#[test]
-fn no_read_of_two_files(rt: HostRuntime) -> Result<(), Fail> {
-    for failing in [None, Some((0, 58)), Some((1, 170))] {
-        let sources = sources_of(rt.alloc(), &FILES, 1, failing)?;
-        let mut merged = merged_of(rt.alloc(), sources)?;
-        assert_eq!(rt; walk(&mut merged), (3, None));
-        assert_eq!(rt; merged.head(), Ok(Head::End));
-    }
-    Ok(())
-}
-
-// Writes what the files give, which are read one byte at a time.
-fn write(
-    alloc: Global,
-    failing: Option<(usize, u64)>,
-    room: usize,
-) -> Result<(Result<(), Fault>, Room), Fail> {
-    let mut merged = merged_of(alloc, sources_of(alloc, &FILES, 1, failing)?)?;
-    let mut writer = Room::new(Vec::with_capacity(alloc, room)?);
-    let answer = write_merged(alloc, &mut merged, Order::Little, &mut writer);
-    Ok((answer, writer))
-}
-
-// What is written where a read fails is the text of the packets before it.
-#[test]
-fn each_read_of_two_files_that_are_written(rt: HostRuntime) -> Result<(), Fail> {
-    let text = bytes_of(rt.alloc(), TEXT)?;
-    for (named, first, last, offset, packets) in FAILING {
-        for read in first..=last {
-            let (answer, writer) = write(rt.alloc(), Some((named, read)), 192)?;
-            assert_eq!(rt; answer, Err(fault_of(named, offset)), "{named} {read}");
-            let length = LENGTHS.get(packets).copied().unwrap_or(0);
-            assert_eq!(rt; Some(writer.bytes()), text.as_slice().get(..length));
-        }
-    }
-    Ok(())
-}
-
-// A writer that fails after some bytes has just these.
-#[test]
-fn each_write_of_two_files(rt: HostRuntime) -> Result<(), Fail> {
-    let text = bytes_of(rt.alloc(), TEXT)?;
-    for length in 0..text.len() {
-        let (answer, writer) = write(rt.alloc(), None, length)?;
-        assert_eq!(rt; answer, Err(Fault::Write));
-        assert_eq!(rt; Some(writer.bytes()), text.as_slice().get(..length));
-    }
-    let (answer, writer) = write(rt.alloc(), None, text.len())?;
-    assert_eq!(rt; answer, Ok(()));
-    assert_eq!(rt; writer.bytes(), text.as_slice());
     Ok(())
 }

@@ -4,6 +4,3 @@
 mod lines;
 
 pub use crate::lines::{LINE, Line, put_field, put_text, put_time};
-
-#[cfg(test)]
-mod tests;

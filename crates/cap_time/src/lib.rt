@@ -6,6 +6,3 @@ mod stamps;
 
 pub use crate::resolutions::{Interface, Resolution};
 pub use crate::stamps::{Stamp, Unit};
-
-#[cfg(test)]
-mod tests;

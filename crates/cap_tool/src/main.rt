@@ -7,8 +7,6 @@ ghost use Rattle.cap_line.specs.CommandLine.{IsWhole};
 mod hints;
 mod regular;
 mod streams;
-#[cfg(test)]
-mod tests;
 
 use crate::hints::hint;
 use crate::streams::{Output, create_output, open_all, watch_all};

@@ -2,8 +2,8 @@
 ghost use Rattle.std.specs.Prelude.{◌≤◌};
 
 use crate::join::join_to;
-use crate::tests::Disk;
-use cap_bytes::{Fault, Order, Pieces, Room, Sink, Tail, Tracked};
+use crate::tests::{decoded, roomy};
+use cap_bytes::{Fault, Order, Pieces, Room, Tail};
 use std::alloc::Global;
 use std::test::Fail;
 
@@ -23,69 +23,29 @@ const JOINED: &str = "0a0d0d0a1c0000004d3c2b1a01000000ffffffffffffffff1c00000001
     401166b80a0000010a00000203e907d100180000a0a1a2a3a4a5a6a7b0b1b2b3\
     b4b5b6b74c000000";
 
-// Joins a file in hex that is given by `piece` bytes at a time.
-fn join<W: Sink>(
-    alloc: Global,
-    file: &str,
-    piece: usize,
-    writer: &mut W,
-) -> Result<Result<(), Fault>, Fail>
+// What is written of a file in hex that is given by `piece` bytes at a time, and what is answered.
+fn join(alloc: Global, file: &str, piece: usize) -> Result<(Room, Result<(), Fault>), Fail>
     requires { 1 ≤ piece }
 {
     let mut sources = Vec::new(alloc);
     sources.push(Pieces::new(hex::decode(alloc, file)?, piece, None))?;
     if sources.len() != 1 {
-        return Ok(Ok(()));
+        return Err(Fail::from("one file"));
     }
-    Ok(join_to(alloc, sources, Tail::Refuse, Order::Little, writer))
+    let mut writer = Room::new(Vec::with_capacity(alloc, 512)?);
+    let answer = join_to(alloc, sources, Tail::Refuse, Order::Little, &mut writer);
+    Ok((writer, answer))
 }
 
 #[test]
 fn always_memory_fragments_are_joined(rt: HostRuntime) -> Result<(), Fail> {
     let wanted = hex::decode(rt.alloc(), JOINED)?;
     for piece in [1, 4096] {
-        let mut writer = Room::new(Vec::with_capacity(rt.alloc(), 512)?);
-        let answer = join(rt.alloc(), FRAGMENTS, piece, &mut writer)?;
+        let (writer, answer) = join(rt.alloc(), FRAGMENTS, piece)?;
         assert_eq!(rt; answer, Ok(()));
         assert_eq!(rt; writer.bytes(), wanted.as_slice());
     }
     Ok(())
-}
-
-#[test]
-fn a_write_that_fails_leaves_a_front(rt: HostRuntime) -> Result<(), Fail> {
-    let wanted = hex::decode(rt.alloc(), JOINED)?;
-    for length in 0..wanted.len() {
-        let mut writer = Room::new(Vec::with_capacity(rt.alloc(), length)?);
-        let answer = join(rt.alloc(), FRAGMENTS, 4096, &mut writer)?;
-        assert_eq!(rt; answer, Err(Fault::Write));
-        assert_eq!(rt; Some(writer.bytes()), wanted.as_slice().get(..length));
-        let mut taken = Vec::new(rt.alloc());
-        let mut writer = Tracked::new(Disk {
-            taken: &mut taken,
-            left: length,
-        });
-        let answer = join(rt.alloc(), FRAGMENTS, 4096, &mut writer)?;
-        assert_eq!(rt; answer, Err(Fault::Write));
-        assert_eq!(rt; Some(taken.as_slice()), wanted.as_slice().get(..length));
-    }
-    Ok(())
-}
-
-// The bytes of a text in hex, where at most one growth is refused.
-fn decoded(alloc: Global, text: &str) -> Result<Vec<u8>, Fail> {
-    match hex::decode(alloc, text) {
-        Ok(bytes) => Ok(bytes),
-        Err(_) => Ok(hex::decode(alloc, text)?),
-    }
-}
-
-// Room for so many, where at most one growth is refused.
-fn roomy<T>(alloc: Global, count: usize) -> Result<Vec<T>, Fail> {
-    match Vec::with_capacity(alloc, count) {
-        Ok(room) => Ok(room),
-        Err(_) => Ok(Vec::with_capacity(alloc, count)?),
-    }
 }
 
 // The answer is as with memory, or `Memory` behind a front, whichever growth is refused.
@@ -111,35 +71,6 @@ fn a_refused_growth_leaves_a_front(rt: HostRuntime) -> Result<(), Fail> {
         assert_eq!(rt; taken, wanted.len());
     } else {
         assert_eq!(rt; answer, Err(Fault::Memory));
-    }
-    Ok(())
-}
-
-// Each read failing in turn: told with the header, the record or the end that was being read.
-#[test]
-fn a_read_that_fails_is_told_with_its_record(rt: HostRuntime) -> Result<(), Fail> {
-    let wanted = hex::decode(rt.alloc(), JOINED)?;
-    for failing in 1u64..=201 {
-        let mut sources = Vec::new(rt.alloc());
-        sources.push(Pieces::new(hex::decode(rt.alloc(), FRAGMENTS)?, 1, Some(failing)))?;
-        if sources.len() != 1 {
-            return Ok(());
-        }
-        let mut writer = Room::new(Vec::with_capacity(rt.alloc(), 512)?);
-        let answer = join_to(
-            rt.alloc(),
-            sources,
-            Tail::Refuse,
-            Order::Little,
-            &mut writer,
-        );
-        let offset = if failing <= 24 {
-            0
-        } else {
-            (failing - 25) / 44 * 44 + 24
-        };
-        assert_eq!(rt; answer, Err(Fault::Read { file: 1, offset }), "{failing}");
-        assert!(rt; wanted.as_slice().starts_with(writer.bytes()));
     }
     Ok(())
 }

@@ -3,7 +3,8 @@ ghost use Rattle.std.specs.Prelude.{◌≤◌};
 
 use crate::list::list_to;
 use crate::outcomes::{Outcome, outcome_line, status_of};
-use cap_bytes::{Fault, Pieces, Refusal, Room, Rule, Tail};
+use crate::tests::refused;
+use cap_bytes::{Fault, Pieces, Room, Rule, Tail};
 use std::alloc::Global;
 use std::test::Fail;
 
@@ -22,9 +23,6 @@ const ABOVE_LINE: &str = "packet 1 offset 24 time 4294967296+500000/1000000 capt
 
 const LONGEST_LINE: &str = "packet 1 offset 24 time 0+0/1000000 captured 262144 \
     original 262144 link 1 data 00000000000000000000000000000000\n";
-
-const LONG_BLOCK_LINE: &str = "packet 1 offset 524316 time 2+500000/1000000 captured 4 original 4 \
-    link 1 data 01020304\n";
 
 // The same packet at 2 seconds and a half: a pcap file's four magics.
 const SPELLINGS: [(&str, &str); 4] = [
@@ -125,79 +123,90 @@ const BLOCKS: [(&str, &str); 10] = [
     ),
 ];
 
-// What stands behind a section header of 28 bytes, and where and why it is refused.
-const BLOCKS_REFUSED: [(&str, u64, Rule); 7] = [
+// Captures that are refused: the tail, and where and why.
+const REFUSED: [(&str, Tail, u64, Rule); 14] = [
+    ("", Tail::Refuse, 0, Rule::Cut),
+    ("", Tail::Accept, 0, Rule::Cut),
     (
-        "010000001c000000010000000000040009000200060600001c000000",
-        28,
-        Rule::OptionLength,
+        "d4c3b2a102000400000000000000000000000400010000000100000060e316000400000004000000010203",
+        Tail::Refuse,
+        24,
+        Rule::Cut,
     ),
     (
-        "010000001c000000010000000000040009000100140000001c000000",
-        28,
-        Rule::Resolution,
+        "d4c3b2a102000400000000000000000000000400",
+        Tail::Accept,
+        0,
+        Rule::Cut,
     ),
-    (
-        "010000001c000000010000000000040009000100c00000001c000000",
-        28,
-        Rule::Resolution,
-    ),
-    (
-        "010000001c000000010000000000040002000900010203041c000000",
-        28,
-        Rule::OptionEnd,
-    ),
-    (
-        "0100000014000000010000000000040014000000\
-        060000002400000001000000000000000000000004000000040000000102030424000000",
-        48,
-        Rule::InterfaceUnknown,
-    ),
-    (
-        "0100000014000000010000000000040014000000\
-        060000002400000000000000000000000000000005000000040000000102030424000000",
-        48,
-        Rule::Captured,
-    ),
-    (
-        "0300000014000000040000000102030414000000",
-        28,
-        Rule::InterfaceUnknown,
-    ),
-];
-
-// Captures that are refused: how many bytes of which, the tail, and where and why.
-const REFUSED: [(&str, usize, Tail, u64, Rule); 7] = [
-    (CARRY_PCAP, 0, Tail::Refuse, 0, Rule::Cut),
-    (CARRY_PCAP, 0, Tail::Accept, 0, Rule::Cut),
-    (CARRY_PCAP, 43, Tail::Refuse, 24, Rule::Cut),
-    (CARRY_PCAP, 20, Tail::Accept, 0, Rule::Cut),
     (
         "d4c3b2a102000300000000000000000000000400010000000100000060e31600040000000400000001020304",
-        44,
         Tail::Refuse,
         0,
         Rule::Version,
     ),
-    ("00000000", 4, Tail::Refuse, 0, Rule::Magic),
+    ("00000000", Tail::Refuse, 0, Rule::Magic),
     // 262,145 captured bytes, and the end of the input.
     (
-        "d4c3b2a102000400000000000000000000000400010000000000000000000000\
-        0100040001000400",
-        40,
+        "d4c3b2a1020004000000000000000000000004000100000000000000000000000100040001000400",
         Tail::Refuse,
         24,
         Rule::PacketLong,
     ),
+    // A resolution of two bytes, two that are too fine, and an option past the end of its block.
+    (
+        "0a0d0d0a1c0000004d3c2b1a01000000ffffffffffffffff1c000000\
+        010000001c000000010000000000040009000200060600001c000000",
+        Tail::Refuse,
+        28,
+        Rule::OptionLength,
+    ),
+    (
+        "0a0d0d0a1c0000004d3c2b1a01000000ffffffffffffffff1c000000\
+        010000001c000000010000000000040009000100140000001c000000",
+        Tail::Refuse,
+        28,
+        Rule::Resolution,
+    ),
+    (
+        "0a0d0d0a1c0000004d3c2b1a01000000ffffffffffffffff1c000000\
+        010000001c000000010000000000040009000100c00000001c000000",
+        Tail::Refuse,
+        28,
+        Rule::Resolution,
+    ),
+    (
+        "0a0d0d0a1c0000004d3c2b1a01000000ffffffffffffffff1c000000\
+        010000001c000000010000000000040002000900010203041c000000",
+        Tail::Refuse,
+        28,
+        Rule::OptionEnd,
+    ),
+    // A packet of interface 1, where there is interface 0, one of 5 captured bytes in 4, and a simple one without an interface.
+    (
+        "0a0d0d0a1c0000004d3c2b1a01000000ffffffffffffffff1c000000\
+        0100000014000000010000000000040014000000\
+        060000002400000001000000000000000000000004000000040000000102030424000000",
+        Tail::Refuse,
+        48,
+        Rule::InterfaceUnknown,
+    ),
+    (
+        "0a0d0d0a1c0000004d3c2b1a01000000ffffffffffffffff1c000000\
+        0100000014000000010000000000040014000000\
+        060000002400000000000000000000000000000005000000040000000102030424000000",
+        Tail::Refuse,
+        48,
+        Rule::Captured,
+    ),
+    (
+        "0a0d0d0a1c0000004d3c2b1a01000000ffffffffffffffff1c000000\
+        0300000014000000040000000102030414000000",
+        Tail::Refuse,
+        28,
+        Rule::InterfaceUnknown,
+    ),
 ];
-
-fn refused(offset: u64, rule: Rule) -> Fault {
-    Fault::Refused(Refusal {
-        file: 1,
-        offset,
-        rule,
-    })
-}
 
 // What `list` writes of a capture that is given by `piece` bytes at a time, and what it answers.
 fn list(
@@ -230,26 +239,13 @@ fn always_memory_a_packet_is_listed_in_every_spelling(rt: HostRuntime) -> Result
 
 #[test]
 fn a_faulty_capture_is_refused(rt: HostRuntime) -> Result<(), Fail> {
-    for (capture, length, tail, offset, rule) in REFUSED {
+    for (capture, tail, offset, rule) in REFUSED {
         for piece in [1, 4096] {
-            let mut bytes = hex::decode(rt.alloc(), capture)?;
-            bytes.truncate(length);
+            let bytes = hex::decode(rt.alloc(), capture)?;
             let (writer, answer) = list(rt.alloc(), bytes, piece, tail)?;
-            assert_eq!(rt; answer, Err(refused(offset, rule)));
+            assert_eq!(rt; answer, Err(refused(1, offset, rule)), "{capture}");
             assert!(rt; writer.bytes().is_empty());
         }
-    }
-    Ok(())
-}
-
-#[test]
-fn a_cut_record_may_be_dropped(rt: HostRuntime) -> Result<(), Fail> {
-    for length in 24..44 {
-        let mut bytes = hex::decode(rt.alloc(), CARRY_PCAP)?;
-        bytes.truncate(length);
-        let (writer, answer) = list(rt.alloc(), bytes, 1, Tail::Accept)?;
-        assert_eq!(rt; answer, Ok(()));
-        assert!(rt; writer.bytes().is_empty());
     }
     Ok(())
 }
@@ -266,129 +262,6 @@ fn the_longest_packet_is_listed(rt: HostRuntime) -> Result<(), Fail> {
         let (writer, answer) = list(rt.alloc(), bytes, piece, Tail::Refuse)?;
         assert_eq!(rt; answer, Ok(()));
         assert_eq!(rt; writer.bytes(), LONGEST_LINE.as_bytes());
-    }
-    Ok(())
-}
-
-#[test]
-fn a_read_that_fails_is_told_with_its_record(rt: HostRuntime) -> Result<(), Fail> {
-    for failing in 1u64..=45 {
-        let bytes = hex::decode(rt.alloc(), CARRY_PCAP)?;
-        let pieces = Pieces::new(bytes, 1, Some(failing));
-        let mut writer = Room::new(Vec::with_capacity(rt.alloc(), 512)?);
-        let answer = list_to(rt.alloc(), pieces, Tail::Refuse, &mut writer);
-        let (offset, line) = match failing {
-            1..=24 => (0, ""),
-            25..=44 => (24, ""),
-            _ => (44, CARRY_LINE),
-        };
-        assert_eq!(rt; answer, Err(Fault::Read { file: 1, offset }));
-        assert_eq!(rt; writer.bytes(), line.as_bytes());
-    }
-    Ok(())
-}
-
-// An interface of 524,288 bytes, which are those of its options: the longest block that is held whole.
-#[test]
-fn the_longest_block_is_read(rt: HostRuntime) -> Result<(), Fail> {
-    let mut bytes = hex::decode(
-        rt.alloc(),
-        "0a0d0d0a1c0000004d3c2b1a01000000ffffffffffffffff1c000000\
-        01000000000008000100000000000400",
-    )?;
-    for _ in 0..7 {
-        bytes.extend_from_slice(&[1, 0, 0xfc, 0xff])?;
-        let length = bytes.len().saturating_add(65_532);
-        bytes.resize(length, 0)?;
-    }
-    bytes.extend_from_slice(&[1, 0, 0xe4, 0xff])?;
-    bytes.resize(524_308, 0)?;
-    bytes.extend_from_slice(&[0, 0, 0, 0, 0, 0, 8, 0])?;
-    let packet = hex::decode(
-        rt.alloc(),
-        "06000000240000000000000000000000a025260004000000040000000102030424000000",
-    )?;
-    bytes.extend_from_slice(packet.as_slice())?;
-    let (writer, answer) = list(rt.alloc(), bytes, 4096, Tail::Refuse)?;
-    assert_eq!(rt; answer, Ok(()));
-    assert_eq!(rt; writer.bytes(), LONG_BLOCK_LINE.as_bytes());
-    Ok(())
-}
-
-#[test]
-fn a_write_that_fails_leaves_a_front(rt: HostRuntime) -> Result<(), Fail> {
-    for room in 0..CARRY_LINE.len() {
-        let pieces = Pieces::new(hex::decode(rt.alloc(), CARRY_PCAP)?, 4096, None);
-        let mut writer = Room::new(Vec::with_capacity(rt.alloc(), room)?);
-        let answer = list_to(rt.alloc(), pieces, Tail::Refuse, &mut writer);
-        assert_eq!(rt; answer, Err(Fault::Write));
-        assert_eq!(rt; writer.bytes().len(), room);
-        assert!(rt; CARRY_LINE.as_bytes().starts_with(writer.bytes()));
-    }
-    Ok(())
-}
-
-#[test]
-fn a_faulty_block_is_refused(rt: HostRuntime) -> Result<(), Fail> {
-    for (blocks, offset, rule) in BLOCKS_REFUSED {
-        for piece in [1, 4096] {
-            let mut bytes = hex::decode(rt.alloc(), CARRY_PCAPNG)?;
-            bytes.truncate(28);
-            let behind = hex::decode(rt.alloc(), blocks)?;
-            bytes.extend_from_slice(behind.as_slice())?;
-            let (writer, answer) = list(rt.alloc(), bytes, piece, Tail::Refuse)?;
-            assert_eq!(rt; answer, Err(refused(offset, rule)));
-            assert!(rt; writer.bytes().is_empty());
-        }
-    }
-    Ok(())
-}
-
-// The last of 0, 44, 96, 144 and 168, where the blocks of OPTIONS begin, that isn't above n.
-fn last_of(n: u64) -> u64 {
-    let mut last = 0;
-    for place in [44, 96, 144, 168] {
-        if place <= n {
-            last = place;
-        }
-    }
-    last
-}
-
-// What is printed of OPTIONS once the blocks before that place were read.
-fn line_at(offset: u64) -> &'static str {
-    if offset >= 144 { OPTIONS_LINE } else { "" }
-}
-
-#[test]
-fn a_cut_block_is_refused_or_dropped(rt: HostRuntime) -> Result<(), Fail> {
-    for length in 0u64..168 {
-        let offset = last_of(length);
-        let cut = Err(refused(offset, Rule::Cut));
-        let whole = offset == length && offset > 0;
-        let refusing = if whole { Ok(()) } else { cut };
-        let accepting = if offset > 0 { Ok(()) } else { cut };
-        for (tail, wanted) in [(Tail::Refuse, refusing), (Tail::Accept, accepting)] {
-            let mut bytes = hex::decode(rt.alloc(), OPTIONS)?;
-            bytes.truncate(length as usize);
-            let (writer, answer) = list(rt.alloc(), bytes, 1, tail)?;
-            assert_eq!(rt; answer, wanted);
-            assert_eq!(rt; writer.bytes(), line_at(offset).as_bytes());
-        }
-    }
-    Ok(())
-}
-
-#[test]
-fn a_read_that_fails_is_told_with_its_block(rt: HostRuntime) -> Result<(), Fail> {
-    for failing in 1u64..=169 {
-        let bytes = hex::decode(rt.alloc(), OPTIONS)?;
-        let pieces = Pieces::new(bytes, 1, Some(failing));
-        let mut writer = Room::new(Vec::with_capacity(rt.alloc(), 512)?);
-        let answer = list_to(rt.alloc(), pieces, Tail::Refuse, &mut writer);
-        let offset = last_of(failing - 1);
-        assert_eq!(rt; answer, Err(Fault::Read { file: 1, offset }));
-        assert_eq!(rt; writer.bytes(), line_at(offset).as_bytes());
     }
     Ok(())
 }

@@ -2,8 +2,8 @@
 ghost use Rattle.std.specs.Prelude.{◌≤◌};
 
 use crate::merge::merge_to;
-use crate::tests::Disk;
-use cap_bytes::{Fault, Order, Pieces, Refusal, Room, Rule, Sink, Tail, Tracked};
+use crate::tests::{decoded, refused, roomy};
+use cap_bytes::{Fault, Order, Pieces, Room, Rule, Tail};
 use std::alloc::Global;
 use std::test::Fail;
 
@@ -46,6 +46,17 @@ const BY_CLOCK: &str = "0a0d0d0a1c0000004d3c2b1a01000000ffffffffffffffff1c000000
     0600000024000000010000000000000040420f000100000001000000a100000024000000\
     06000000240000000000000000000000404b4c000100000001000000b500000024000000";
 
+// They and CARRY, whose packet at 2.5 seconds comes after the one at 2 seconds.
+const OF_THREE: &str = "0a0d0d0a1c0000004d3c2b1a01000000ffffffffffffffff1c000000\
+    0100000020000000010000000000040009000100060000000000000020000000\
+    0600000024000000000000000000000080841e000100000001000000b200000024000000\
+    0100000020000000010000000000040009000100060000000000000020000000\
+    06000000240000000100000000000000a025260004000000040000000102030424000000\
+    0100000020000000010000000000040009000100060000000000000020000000\
+    06000000240000000200000000000000404b4c000100000001000000a500000024000000\
+    0600000024000000020000000000000040420f000100000001000000a100000024000000\
+    06000000240000000000000000000000404b4c000100000001000000b500000024000000";
+
 const EARLY_ALONE: &str = "0a0d0d0a1c0000004d3c2b1a01000000ffffffffffffffff1c000000\
     0100000020000000010000000000040009000100060000000000000020000000\
     0600000020000000000000000000000040420f00000000000000000020000000";
@@ -53,22 +64,20 @@ const EARLY_ALONE: &str = "0a0d0d0a1c0000004d3c2b1a01000000ffffffffffffffff1c000
 const SECTION: &str = "0a0d0d0a1c0000004d3c2b1a01000000ffffffffffffffff1c000000";
 
 // Files, what is written of them, and how that ends.
-const MERGED: [(&[&str], &str, Result<(), (u32, u64, Rule)>); 6] = [
+const MERGED: [(&[&str], &str, Result<(), (u32, u64, Rule)>); 8] = [
     (&[CARRY, CARRY], TWICE, Ok(())),
     (&[RUNS_BACK, RUNS_ON], BY_CLOCK, Ok(())),
     (&[BY_CLOCK], BY_CLOCK, Ok(())),
+    // three files at once, and the first two first: the same bytes
+    (&[RUNS_BACK, RUNS_ON, CARRY], OF_THREE, Ok(())),
+    (&[BY_CLOCK, CARRY], OF_THREE, Ok(())),
     (&[LATE, EARLY], EARLY_ALONE, Err((2, 40, Rule::Cut))),
     (&[EARLY, LATE], EARLY_ALONE, Err((1, 40, Rule::Cut))),
     (&[UNTIMED], SECTION, Err((1, 48, Rule::NoTime))),
 ];
 
-// Merges files in hex that are given by `piece` bytes at a time.
-fn merge<W: Sink>(
-    alloc: Global,
-    files: &[&str],
-    piece: usize,
-    writer: &mut W,
-) -> Result<Result<(), Fault>, Fail>
+// What is written of files in hex that are given by `piece` bytes at a time, and what is answered.
+fn merge(alloc: Global, files: &[&str], piece: usize) -> Result<(Room, Result<(), Fault>), Fail>
     requires { 1 ≤ piece }
 {
     let mut sources = Vec::new(alloc);
@@ -76,46 +85,23 @@ fn merge<W: Sink>(
         sources.push(Pieces::new(hex::decode(alloc, *file)?, piece, None))?;
     }
     if sources.is_empty() || sources.len() > 32 {
-        return Ok(Ok(()));
+        return Err(Fail::from("1 to 32 files"));
     }
-    Ok(merge_to(alloc, sources, Tail::Refuse, Order::Little, writer))
+    let mut writer = Room::new(Vec::with_capacity(alloc, 512)?);
+    let answer = merge_to(alloc, sources, Tail::Refuse, Order::Little, &mut writer);
+    Ok((writer, answer))
 }
 
 #[test]
 fn always_memory_files_are_merged_by_time(rt: HostRuntime) -> Result<(), Fail> {
     for (files, wanted, ending) in MERGED {
         for piece in [1, 4096] {
-            let mut writer = Room::new(Vec::with_capacity(rt.alloc(), 512)?);
-            let answer = merge(rt.alloc(), files, piece, &mut writer)?;
-            let ending = ending.map_err(|(file, offset, rule)| Fault::Refused(Refusal {
-                file,
-                offset,
-                rule,
-            }));
+            let (writer, answer) = merge(rt.alloc(), files, piece)?;
+            let ending = ending.map_err(|(file, offset, rule)| refused(file, offset, rule));
             assert_eq!(rt; answer, ending);
             let wanted = hex::decode(rt.alloc(), wanted)?;
             assert_eq!(rt; writer.bytes(), wanted.as_slice());
         }
-    }
-    Ok(())
-}
-
-#[test]
-fn a_write_that_fails_leaves_a_front(rt: HostRuntime) -> Result<(), Fail> {
-    let wanted = hex::decode(rt.alloc(), BY_CLOCK)?;
-    for length in 0..wanted.len() {
-        let mut writer = Room::new(Vec::with_capacity(rt.alloc(), length)?);
-        let answer = merge(rt.alloc(), &[RUNS_BACK, RUNS_ON], 4096, &mut writer)?;
-        assert_eq!(rt; answer, Err(Fault::Write));
-        assert_eq!(rt; Some(writer.bytes()), wanted.as_slice().get(..length));
-        let mut taken = Vec::new(rt.alloc());
-        let mut writer = Tracked::new(Disk {
-            taken: &mut taken,
-            left: length,
-        });
-        let answer = merge(rt.alloc(), &[RUNS_BACK, RUNS_ON], 4096, &mut writer)?;
-        assert_eq!(rt; answer, Err(Fault::Write));
-        assert_eq!(rt; Some(taken.as_slice()), wanted.as_slice().get(..length));
     }
     Ok(())
 }
@@ -147,36 +133,6 @@ fn a_read_that_fails_is_told_with_its_file(rt: HostRuntime) -> Result<(), Fail> 
     let wanted = hex::decode(rt.alloc(), BY_CLOCK)?;
     assert_eq!(rt; Some(writer.bytes()), wanted.as_slice().get(..164));
     Ok(())
-}
-
-// Three files at once, and the first two first: the same bytes.
-#[test]
-fn files_are_merged_in_rounds(rt: HostRuntime) -> Result<(), Fail> {
-    let mut once = Room::new(Vec::with_capacity(rt.alloc(), 512)?);
-    let answer = merge(rt.alloc(), &[RUNS_BACK, RUNS_ON, CARRY], 4096, &mut once)?;
-    assert_eq!(rt; answer, Ok(()));
-    let mut rounds = Room::new(Vec::with_capacity(rt.alloc(), 512)?);
-    let answer = merge(rt.alloc(), &[BY_CLOCK, CARRY], 4096, &mut rounds)?;
-    assert_eq!(rt; answer, Ok(()));
-    assert_eq!(rt; once.bytes(), rounds.bytes());
-    assert_eq!(rt; once.bytes().len(), 28 + 3 * 32 + 5 * 36);
-    Ok(())
-}
-
-// The bytes of a text in hex, where at most one growth is refused.
-fn decoded(alloc: Global, text: &str) -> Result<Vec<u8>, Fail> {
-    match hex::decode(alloc, text) {
-        Ok(bytes) => Ok(bytes),
-        Err(_) => Ok(hex::decode(alloc, text)?),
-    }
-}
-
-// Room for so many, where at most one growth is refused.
-fn roomy<T>(alloc: Global, count: usize) -> Result<Vec<T>, Fail> {
-    match Vec::with_capacity(alloc, count) {
-        Ok(room) => Ok(room),
-        Err(_) => Ok(Vec::with_capacity(alloc, count)?),
-    }
 }
 
 // The answer is as with memory, or `Memory` behind a front, whichever growth is refused.

@@ -1,11 +1,13 @@
 //! Headers field by field, the seven steps at their edges, ports and checksums.
 mod vectors;
 
-use crate::tests::vectors::{
+use crate::ip::vectors::{
     FIRST_FRAGMENT, FIRST_FRAGMENT_AGAIN, JOINED_HEADER, LAST_FRAGMENT, MIDDLE_FRAGMENT,
     PADDED_ANSWER, PADDED_OVERLONG, PADDED_PACKET, TCP_PACKET, WHOLE_PACKET,
 };
-use crate::{Fragment, Header, HeaderOr, Key, Transport, checksum_law, header_checksum, transport};
+use cap_ip::{
+    Fragment, Header, HeaderOr, Key, Transport, checksum_law, header_checksum, transport,
+};
 use std::process::Abort;
 
 /// The names of what reading answers.

@@ -1,5 +1,5 @@
 //! Lines of numbers and times.
-use crate::{Line, put_field, put_text, put_time};
+use cap_print::{Line, put_field, put_text, put_time};
 use cap_time::{Interface, Resolution, Stamp};
 
 #[test]

@@ -1,4 +1,5 @@
-use super::*;
+//! Times, their order and their printed forms, worked out by exact arithmetic outside.
+use cap_time::{Interface, Resolution, Stamp, Unit};
 use std::cmp::Ordering;
 use std::hash::{DefaultHasher, Hash, Hasher};
 use std::test::Fail;
