@@ -6,7 +6,7 @@ ghost use Rattle.cap_source.specs.Feed.{Feed, IsPacket, Passes, Keeps};
 ghost use Rattle.cap_merge.specs.Parts.{parts, head_time, known_time, is_bounded, has_next, known_of, IsFirstLane, passed_lane, new_lane, both_held};
 ghost use Rattle.cap_source.specs.declared.feeds.Head.{Head};
 ghost use Rattle.cap_merge.specs.First.{lane_at, comes_before, sooner_place, first_place, known_but, IsFound, OthersKnown};
-ghost use Rattle.cap_merge.specs.Merge.{learned, Asks, AsksAll, IsPacketAt, PassesAt};
+ghost use Rattle.cap_merge.specs.Merge.{Asks, AsksAll, IsPacketAt, PassesAt};
 
 use arrayvec::ArrayVec;
 use cap_bytes::Fault;
@@ -79,15 +79,6 @@ fn reach(lane: &mut Lane)
     lane.clock = later(lane.clock, known_time(&lane.head));
 }
 
-// Takes note of what comes next.
-fn learn(lane: &mut Lane, head: Head)
-    ensures lane { lane.new ≡ learned lane.old head }
-    ensures bounded { is_bounded lane.old.clock ≡ true → is_bounded lane.new.clock ≡ true }
-{
-    lane.head = Some(head);
-    reach(lane);
-}
-
 // Asks a feed what comes next, unless that is known.
 fn ask<F: PacketFeed>(lane: &mut Lane, feed: &mut F) -> Result<(), Fault>
     ensures { Asks (record { lane = lane.old; feed = F.feed feed.old }) result
@@ -96,8 +87,8 @@ fn ask<F: PacketFeed>(lane: &mut Lane, feed: &mut F) -> Result<(), Fault>
     match lane.head {
         Some(_) => Ok(()),
         None => {
-            let head = feed.head()?;
-            learn(lane, head);
+            lane.head = Some(feed.head()?);
+            reach(lane);
             Ok(())
         }
     }
