@@ -427,6 +427,7 @@ pub fn next_of<R: Source>(
 }
 
 /// What comes next of a file, which is kept once it is known.
+#[inline(always)]
 pub fn learn<R: Source>(
     reader: &mut Reader<R>,
     reached: &mut Reached,
