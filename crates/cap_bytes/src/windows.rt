@@ -67,7 +67,7 @@ impl<R: Source> Window<R> {
 
     /// Reads on until the next n bytes are shown, and no further: where they are, nothing changes.
     /// Answers whether they are shown: if not, the input ends first. `Memory` leaves the bytes to come.
-    #[inline]
+    #[inline(always)]
     pub fn need(&mut self, n: usize) -> Result<bool, Fault>
         requires { n ≤ 524288 }
         ensures same { n ≤ length self.old.shown → self.old.broken ≡ None → self.new ≡ self.old }
@@ -75,20 +75,31 @@ impl<R: Source> Window<R> {
         ensures asked { length self.old.shown < n → IsWithin self.old.most n (length self.new.shown) }
         ensures keeps { Keeps self.old self.new }
     {
-        if let Some(offset) = self.broken {
-            return Err(Fault::Read {
-                file: self.file,
-                offset,
-            });
-        }
-        if n <= self.end - self.start {
+        if self.broken.is_none() && n <= self.end - self.start {
             return Ok(true);
         }
-        self.read_further(n)
+        self.need_more(n)
     }
 
-    // What `need` does where fewer bytes are shown and no read has failed.
+    // The same, where fewer bytes are shown or a read has failed.
     #[inline(never)]
+    fn need_more(&mut self, n: usize) -> Result<bool, Fault>
+        requires limit { n ≤ 524288 }
+        requires fewer { self.old.broken ≡ None → length self.old.shown ≤ n }
+        ensures answer { Needs n self.old result self.new }
+        ensures asked { length self.old.shown < n → IsWithin self.old.most n (length self.new.shown) }
+        ensures keeps { Keeps self.old self.new }
+    {
+        match self.broken {
+            Some(offset) => Err(Fault::Read {
+                file: self.file,
+                offset,
+            }),
+            None => self.read_further(n),
+        }
+    }
+
+    // The same, where fewer bytes are shown and no read has failed.
     fn read_further(&mut self, n: usize) -> Result<bool, Fault>
         requires limit { n ≤ 524288 }
         requires fewer { length self.old.shown ≤ n }

@@ -102,6 +102,7 @@ fn key_of(bytes: &[u8]) -> Key
 }
 
 #[tactic(auto, unfolding(crate::specs::Read::fragment_of))]
+#[inline(always)]
 fn fragment_of(bytes: &[u8]) -> Option<Fragment>
     requires least { 20 ≤ length bytes.now }
     requires within { header_length bytes.now ≤ total_length bytes.now }
@@ -188,6 +189,7 @@ fn data_of(bytes: &[u8]) -> &[u8]
 
 /// What a well-formed header says.
 #[tactic(auto, unfolding(crate::specs::Read::fields_of))]
+#[inline(always)]
 fn header_of(bytes: &[u8]) -> Header
     requires least { 20 ≤ length bytes.now }
     requires shortest { 20 ≤ header_length bytes.now }
@@ -228,6 +230,7 @@ impl Header {
     /// The data that comes with a fragment is all of its data, so it isn't empty, and `fragment` says
     /// where it lies.
     #[tactic(auto, unfolding(crate::specs::Read::read_of))]
+    #[inline(always)]
     pub fn read(bytes: &[u8], captured_whole: bool) -> HeaderOr<'_>
         ensures value { seen result ≡ read_of bytes.now captured_whole }
         ensures shaped { IfFound (seen result) IsShaped }

@@ -60,6 +60,7 @@ fn raw(whole: bool, frame: &[u8]) -> Network<'_>
 /// where fewer bytes were captured than its `original` length, else `Short`; a captured length above
 /// the original is whole.
 #[tactic(auto, unfolding(crate::specs::Links::network_of))]
+#[inline(always)]
 pub fn network(link: u16, frame: &[u8], original: u32) -> Network<'_>
     ensures { seen result ≡ network_of link frame.now original }
 {

@@ -24,7 +24,7 @@ use Rattle.cap_merge.proofs.Calls.{told_all}
 use Rattle.cap_merge.proofs.FromClock.{each-from, from-each}
 use Rattle.cap_merge.proofs.Moving.{Each, each-itself, Kept, kept-itself}
 use Rattle.cap_merge.proofs.Passing.{passes-first, passed-keeps, passed-sound, run-passed, clocks-first, clocks-passed}
-use Rattle.cap_merge.proofs.Placing.{leads-split, placed-split, parts-each}
+use Rattle.cap_merge.proofs.Placing.{leads-split, placed-split, parts-each, lane-there}
 
 known_parts : (ps : List Part) (b : Bool) → is_known ps ≡ b → (Holds : Option Head → Type 0) → (Holds None → ⊥) → Holds (cond b (head_by (first_of ps)) None)
     → (is_known ps ≡ true) × Holds (head_by (first_of ps))
@@ -395,6 +395,25 @@ passes-each (suc place) (p ∷ ps) (q ∷ qs) h = (subst (λ (w : Part). Kept p 
 pub packet-here : {F : Type 0} (f : F → Feed) (ls : List Lane) (fs : List F) (first : First) (x : F) → x ≡ get_or fs first.place x → length ls ≡ length fs → Leads ls first.place first.clock
     → Agrees (parts ls (map f fs)) → HasReached (parts ls (map f fs)) → IsPacket (feed_of (parts ls (map f fs))).known → IsPacket (f x).known
 packet-here {F} f ls fs first x is e s agrees reached p = subst (λ (w : F). IsPacket (f w).known) (sym is) (packet-known f ls fs first x e s agrees reached p)
+
+-- The packet that comes next of all is that of the first lane.
+pub packet-lane : {F : Type 0} (f : F → Feed) (ls : List Lane) (fs : List F) (first : First) (d : Lane) → 1 ≤ length fs → length ls ≡ length fs → Leads ls first.place first.clock
+    → IsPacket (feed_of (parts ls (map f fs))).known → IsPacket (get_or ls first.place d).head
+packet-lane f ls [] first d n e s p = absurd (omega arith)
+packet-lane f ls (x ∷ xs) first d n e s p =
+    let held = packet-of-first (parts ls (map f (x ∷ xs))) (first_part f s.lane (x ∷ xs) first.place x) (split-of f ls (x ∷ xs) first x e s) p in
+    subst (λ (o : Option Head). IsPacket o) (sym (ap (λ (w : Lane). w.head) (lane-there ls first.place first.clock d s) ∙ held.1.1)) tt
+
+known_lane : (ps : List Part) (first : Part) → Split ps first → IsPacket (feed_of ps).known → (feed_of ps).known ≡ first.lane.head
+unfolding feed_of known_of
+known_lane ps first s p = rw (known-holds ps IsPacket (λ never. never) p).0 (ap head_by (first-split ps first s))
+
+pub lane-known : {F : Type 0} (f : F → Feed) (ls : List Lane) (fs : List F) (first : First) (d : Lane) → 1 ≤ length fs → length ls ≡ length fs → Leads ls first.place first.clock
+    → IsPacket (feed_of (parts ls (map f fs))).known → (feed_of (parts ls (map f fs))).known ≡ (get_or ls first.place d).head
+lane-known f ls [] first d n e s p = absurd (omega arith)
+lane-known f ls (x ∷ xs) first d n e s p =
+    known_lane (parts ls (map f (x ∷ xs))) (first_part f s.lane (x ∷ xs) first.place x) (split-of f ls (x ∷ xs) first x e s) p
+    ∙ ap (λ (w : Lane). w.head) (sym (lane-there ls first.place first.clock d s))
 
 pub frame-here : {F : Type 0} (f : F → Feed) (ls : List Lane) (fs : List F) (first : First) (x : F) → x ≡ get_or fs first.place x → length ls ≡ length fs → Leads ls first.place first.clock
     → (f x).frame ≡ (feed_of (parts ls (map f fs))).frame

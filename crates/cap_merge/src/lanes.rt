@@ -3,13 +3,14 @@ ghost use Rattle.std.specs.Prelude.{◌≡◌, ◌<◌, ◌≤◌, List, replica
 ghost use Rattle.std.specs.List.{list_all};
 ghost use Rattle.cap_merge.specs.Clock.{later};
 ghost use Rattle.cap_source.specs.Feed.{Feed, IsPacket, Passes, Keeps};
-ghost use Rattle.cap_merge.specs.Parts.{parts, head_time, is_bounded, has_next, known_of, IsFirstLane, passed_lane, new_lane, both_held};
-ghost use Rattle.cap_merge.specs.First.{comes_before, sooner_place, first_place, known_but, IsFound, OthersKnown};
-ghost use Rattle.cap_merge.specs.Merge.{learned, Asks, AsksAll, IsPacketAt, PassesAt};
+ghost use Rattle.cap_merge.specs.Parts.{parts, head_time, known_time, is_bounded, has_next, known_of, IsFirstLane, passed_lane, new_lane, both_held};
+ghost use Rattle.cap_source.specs.declared.feeds.Head.{Head};
+ghost use Rattle.cap_merge.specs.First.{lane_at, comes_before, sooner_place, first_place, known_but, IsFound, OthersKnown};
+ghost use Rattle.cap_merge.specs.Merge.{Asks, AsksAll, IsPacketAt, PassesAt};
 
 use arrayvec::ArrayVec;
 use cap_bytes::Fault;
-use cap_source::{FeedHeld, Head, PacketFeed};
+use cap_source::{FeedHeld, Head, Meta, PacketFeed};
 use cap_time::Stamp;
 
 /// What is known of a feed: what comes next, where that was asked for, and the clock that the feed has
@@ -58,16 +59,24 @@ fn later(a: Option<Stamp>, b: Option<Stamp>) -> Option<Stamp>
     if a < b { b } else { a }
 }
 
-// Takes note of what comes next.
-fn learn(lane: &mut Lane, head: Head)
-    ensures lane { lane.new ≡ learned lane.old head }
+// The time of what comes next, if that is known.
+fn known_time(head: &Option<Head>) -> Option<Stamp>
+    ensures time { result ≡ known_time head.now }
+    ensures bounded { is_bounded result ≡ true }
+{
+    match head {
+        Some(head) => time_of(head),
+        None => None,
+    }
+}
+
+// Moves the clock to the time of what comes next, if that is later. The head is read where the lane keeps it.
+#[inline(never)]
+fn reach(lane: &mut Lane)
+    ensures lane { lane.new ≡ record { clock = later lane.old.clock (known_time lane.old.head); head = lane.old.head } }
     ensures bounded { is_bounded lane.old.clock ≡ true → is_bounded lane.new.clock ≡ true }
 {
-    let clock = later(lane.clock, time_of(&head));
-    *lane = Lane {
-        clock,
-        head: Some(head),
-    };
+    lane.clock = later(lane.clock, known_time(&lane.head));
 }
 
 // Asks a feed what comes next, unless that is known.
@@ -78,8 +87,8 @@ fn ask<F: PacketFeed>(lane: &mut Lane, feed: &mut F) -> Result<(), Fault>
     match lane.head {
         Some(_) => Ok(()),
         None => {
-            let head = feed.head()?;
-            learn(lane, head);
+            lane.head = Some(feed.head()?);
+            reach(lane);
             Ok(())
         }
     }
@@ -201,8 +210,8 @@ pub(crate) fn first_lane(lanes: &[Lane]) -> Option<usize>
     first
 }
 
-// The place of the lane whose item comes first, where that isn't known yet.
-fn found(lanes: &[Lane], known: Option<usize>) -> Option<usize>
+/// The same, which may be known.
+pub(crate) fn found(lanes: &[Lane], known: Option<usize>) -> Option<usize>
     requires { IsFound lanes.now known }
     ensures place { result ≡ first_place lanes.now }
     ensures within { IfSome result (λ n. n < length lanes.now) }
@@ -225,6 +234,18 @@ pub(crate) fn first_of(lanes: &[Lane], known: Option<usize>) -> Option<First>
             clock: lanes[place].clock,
         }),
         None => None,
+    }
+}
+
+/// The packet that is known to come next of the lane at a place.
+pub(crate) fn packet_at(lanes: &[Lane], place: usize) -> &Meta
+    requires place { place < length lanes.now }
+    requires packet { IsPacket (lane_at lanes.now place).head }
+    ensures { (lane_at lanes.now place).head ≡ Some (Head.Packet result.now) }
+{
+    match &lanes[place].head {
+        Some(Head::Packet(meta)) => meta,
+        _ => unreachable!(),
     }
 }
 

@@ -5,6 +5,7 @@ ghost use Rattle.std.specs.Ordering.{is_gt};
 ghost use Rattle.cap_time.specs.declared.stamps.Stamp.{Stamp};
 ghost use Rattle.cap_time.specs.Stamp.{seconds_of};
 ghost use Rattle.cap_merge.specs.Clock.{clock_cmp};
+ghost use Rattle.cap_source.specs.declared.feeds.Head.{Head};
 ghost use Rattle.cap_source.specs.Feed.{GivesHead, Keeps, KeepsItems, Passes, IsPacket, HasFile, IsFeed};
 ghost use Rattle.cap_merge.specs.Run.{opened, run};
 ghost use Rattle.cap_merge.specs.Parts.{item_time, is_refusal, parts, IsNumbered, Agrees, HasReached, AreBounded, feed_of, new_parts, clock_of, run_of, has_next, ClocksFrom, MovesClocks, KeepsRun, BeginsAt};
@@ -12,10 +13,12 @@ ghost use Rattle.cap_merge.specs.First.{IsFound, IsFound-prop, OthersKnown, Othe
 ghost use Rattle.cap_merge.specs.Merge.{AsksAll};
 ghost use Rattle.cap_merge.specs.PartsProps.{IsNumbered-prop, Agrees-prop, HasReached-prop, AreBounded-prop};
 
-use crate::lanes::{Lane, ask_all, first_lane, first_of, greater, head_of, new_lanes, pass_first};
+use crate::lanes::{
+    Lane, ask_all, first_lane, first_of, found, greater, head_of, new_lanes, packet_at, pass_first,
+};
 use arrayvec::ArrayVec;
 use cap_bytes::Fault;
-use cap_source::{Ending, FeedHeld, Head, PacketFeed};
+use cap_source::{Ending, FeedHeld, Head, Meta, PacketFeed};
 use cap_time::Stamp;
 
 /// The packets of several feeds in the order of exact time: by the greatest time so far in a packet's
@@ -69,6 +72,17 @@ impl<F: PacketFeed> Merged<F> {
         self.feeds.len() as u32
     }
 
+    /// The packet that is known to come next, without its bytes: what `head` answered, and not a copy of it.
+    pub fn packet(&self) -> &Meta
+        requires { IsPacket (feed_of (parts_of self.now)).known }
+        ensures { (feed_of (parts_of self.now)).known ≡ Some (Head.Packet result.now) }
+    {
+        match found(self.lanes.as_slice(), self.first) {
+            Some(place) => packet_at(self.lanes.as_slice(), place),
+            None => unreachable!(),
+        }
+    }
+
     /// The clock of what comes next: the greatest time of the packets of its file up to it, and none
     /// where there is no such time. Its seconds are below 2^65.
     pub fn clock(&self) -> Option<Stamp>
@@ -118,8 +132,8 @@ impl<F: PacketFeed> PacketFeed for Merged<F> {
     }
 
     fn frame(&self) -> &[u8] {
-        match first_of(self.lanes.as_slice(), self.first) {
-            Some(first) => self.feeds[first.place].frame(),
+        match found(self.lanes.as_slice(), self.first) {
+            Some(place) => self.feeds[place].frame(),
             None => &[],
         }
     }
@@ -134,11 +148,11 @@ impl<F: PacketFeed> PacketFeed for Merged<F> {
             → run_of (parts_of self.new) ≡ drop 1 (run_of (parts_of self.old)) }
         ensures clocks { ClocksFrom (clock_of (parts_of self.old)) (parts_of self.new) }
     {
-        match first_of(self.lanes.as_slice(), self.first) {
-            Some(first) => {
+        match found(self.lanes.as_slice(), self.first) {
+            Some(place) => {
                 self.first = None;
-                self.passed = Some(first.place);
-                pass_first(&mut self.lanes, &mut self.feeds, first.place);
+                self.passed = Some(place);
+                pass_first(&mut self.lanes, &mut self.feeds, place);
             }
             None => {}
         }

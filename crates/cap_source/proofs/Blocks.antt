@@ -19,7 +19,7 @@ use Rattle.cap_source.specs.Clocks.{options_fault, interface_at, interface_or, i
 use Rattle.cap_source.specs.Contents.{fitting, of_interface, timed_in, simple_in, of_body, content_in}
 use Rattle.cap_source.specs.Feed as feeds
 use Rattle.cap_source.specs.Items.{Progress, after, behind, meta_in, frame_in, items_at, items_in, ending_with, ending_in, unless_faulty, first_in, unless_item, is_cut}
-use Rattle.cap_source.specs.Lanes.{pcapng_lane, size_of, part_of, Learns, LaneKeeps, GoesOn, Steps, next_at}
+use Rattle.cap_source.specs.Lanes.{pcapng_lane, size_of, part_of, Learns, LaneKeeps, GoesOn, StepsTo, next_at}
 use Rattle.cap_source.specs.Reached.{counted}
 use Rattle.cap_source.specs.declared.contents.Content.{Content}
 use Rattle.cap_source.specs.declared.contents.Content.TheVariants as contents
@@ -145,7 +145,7 @@ pub block_steps : (file : ℕ) (old new : State) (p : Progress) (block : Block) 
     → file ≡ old.file → GivesBlock old block new → Keeps old new
     → (IsTrue old.told → items_of old ≡ given block (body_in block.total old.coming) ∷ items_of new)
     → content ≡ content_in p.interfaces block.kind block.order (unwrap_or new.body [])
-    → Steps (pcapng_lane old p) (Ok (next_at file p block content)) (pcapng_lane new (behind p content))
+    → StepsTo (pcapng_lane old p) (next_at file p block content) (pcapng_lane new (behind p content))
 block_steps file old new p block content named g k taken is =
     by content is
     (subst (IsFit (length p.interfaces) (unwrap_or new.body [])) (sym is) (content_fit p.interfaces block.kind block.order (unwrap_or new.body [])))
@@ -175,7 +175,7 @@ block_steps file old new p block content named g k taken is =
         → (IsTrue old.told → items_at new.file p block (body_in block.total old.coming) c (items_in new.file (behind p c) (items_of new)) ≡ items_in old.file p (items_of old))
         → (IsTrue old.told → unless_faulty c (ending_with p false) (ending_in (behind p c) (items_of new)) ≡ ending_in p (items_of old))
         → (IsTrue old.told → unless_item c p.first (first_in (behind p c) (items_of new)) ≡ first_in p (items_of old))
-        → Steps (pcapng_lane old p) (Ok (next_at file p block c)) (pcapng_lane new (behind p c))
+        → StepsTo (pcapng_lane old p) (next_at file p block c) (pcapng_lane new (behind p c))
     by (Ok contents.Section) same fit items ending first = goes (after p contents.Section) items ending first
     by (Ok (contents.Interface interface)) same fit items ending first = goes (after p (contents.Interface interface)) items ending first
     by (Ok contents.Other) same fit items ending first = goes (after p contents.Other) items ending first
@@ -313,10 +313,10 @@ pub block_stepped : (file : ℕ) (old new : State) (p q : Progress) (block : Blo
     → file ≡ old.file → GivesBlock old block new → Keeps old new
     → (IsTrue old.told → items_of old ≡ given block (body_in block.total old.coming) ∷ items_of new)
     → content ≡ content_in p.interfaces block.kind block.order (unwrap_or new.body [])
-    → Steps (pcapng_lane old p) (Ok next) (pcapng_lane new q)
+    → StepsTo (pcapng_lane old p) next (pcapng_lane new q)
 block_stepped file old new p q block content next is_next is_q named g k taken is =
-    subst (λ (n : Option Next). Steps (pcapng_lane old p) (Ok n) (pcapng_lane new q)) (sym is_next)
-    (subst (λ (r : Progress). Steps (pcapng_lane old p) (Ok (next_at file p block content)) (pcapng_lane new r)) (sym is_q)
+    subst (λ (n : Option Next). StepsTo (pcapng_lane old p) n (pcapng_lane new q)) (sym is_next)
+    (subst (λ (r : Progress). StepsTo (pcapng_lane old p) (next_at file p block content) (pcapng_lane new r)) (sym is_q)
     (block_steps file old new p block content named g k taken is))
 
 pub block_kept : (old new : State) (p q : Progress) (block : Block) (content : Result Content Rule) → q ≡ behind p content → GivesBlock old block new → Keeps old new

@@ -2,7 +2,7 @@
 use Rattle.std.proofs.Common.{◌≡◌, ◌≤◌, ℕ, Option, Some, None, IfSome, IfNone, Result, Ok, Err, refl, sym, subst, ◌∙◌, arith}
 use Rattle.cap_bytes.specs.declared.faults.Fault.{Fault}
 use Rattle.cap_bytes.specs.declared.faults.Fault.TheVariants.{Refused, Read, Write, Memory}
-use Rattle.cap_source.specs.Lanes.{Lane, LaneKeeps, SameRest, Waits, Answers}
+use Rattle.cap_source.specs.Lanes.{Lane, LaneKeeps, SameRest, Waits, Learns, Fails, Answers}
 use Rattle.cap_source.specs.declared.readers.Next.{Next}
 
 pub LaneKeeps-refl : (a : Lane) → LaneKeeps a a
@@ -45,8 +45,8 @@ behind_first a b c offset le None h = omega (arith, le, h)
 behind_first a b c offset le (Some first) h = tt
 
 -- What is answered behind something that left what is to come.
-pub Answers-behind : (a b c : Lane) (result : Result Next Fault) → Waits a b → LaneKeeps a b → Answers b result c → Answers a result c
-Answers-behind a b c (Ok next) w k h = record {
+Learns-behind : (a b c : Lane) (next : Next) → Waits a b → LaneKeeps a b → Learns b next c → Learns a next c
+Learns-behind a b c next w k h = record {
   is = h.is;
   place = omega (arith, h.place, k.offset);
   free = h.free;
@@ -55,8 +55,9 @@ Answers-behind a b c (Ok next) w k h = record {
   ending = λ t. h.ending (k.told t) ∙ (w.rest t).ending;
   first = λ t. h.first (k.told t) ∙ (w.rest t).first;
 }
-Answers-behind a b c (Err (Refused refusal)) w k h = absurd h
-Answers-behind a b c (Err (Read file offset)) w k h = record {
+
+Fails-behind : (a b c : Lane) (file offset : ℕ) → Waits a b → LaneKeeps a b → Fails b file offset c → Fails a file offset c
+Fails-behind a b c file offset w k h = record {
   stops = h.stops;
   file_is = h.file_is ∙ k.file;
   again = subst (λ (b : Option ℕ). IfSome b (λ first. offset ≡ first)) w.broken h.again;
@@ -65,5 +66,10 @@ Answers-behind a b c (Err (Read file offset)) w k h = record {
   failed = h.failed;
   can_fail = k.can_fail h.can_fail;
 }
-Answers-behind a b c (Err Write) w k h = absurd h
-Answers-behind a b c (Err Memory) w k h = (Waits-trans a b c w k h.0, sym w.broken ∙ h.1)
+
+pub Answers-behind : {A : Type 0} (a b c : Lane) (result : Result A Fault) (after : Option Next) → Waits a b → LaneKeeps a b → Answers b result after c → Answers a result after c
+Answers-behind a b c (Ok x) after w k h = (h.0, h.1, Learns-behind a b c h.0 w k h.2)
+Answers-behind a b c (Err (Refused refusal)) after w k h = absurd h
+Answers-behind a b c (Err (Read file offset)) after w k h = (h.0, Fails-behind a b c file offset w k h.1)
+Answers-behind a b c (Err Write) after w k h = absurd h
+Answers-behind a b c (Err Memory) after w k h = (h.0, Waits-trans a b c w k h.1, sym w.broken ∙ h.2)

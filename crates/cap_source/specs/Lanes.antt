@@ -300,26 +300,29 @@ pub record Waits (old new : Lane) : Type 0 where
   pub failed : new.failed ≡ old.failed
   pub rest : IsTrue old.told → SameRest old new
 
--- what a look at what comes next answers
-abbrev pub Answers : Lane → Result Next Fault → Lane → Type 0
-Answers old (Ok next) new = Learns old next new
-Answers old (Err (Refused refusal)) new = ⊥
-Answers old (Err (Read file offset)) new = Fails old file offset new
-Answers old (Err Write) new = ⊥
-Answers old (Err Memory) new = Waits old new × (old.broken ≡ None)
+-- what a look at what comes next answers, and what is known of that after it
+abbrev pub Answers : {A : Type 0} → Lane → Result A Fault → Option Next → Lane → Type 0
+Answers old (Ok x) after new = (next : Next) × (after ≡ Some next) × Learns old next new
+Answers old (Err (Refused refusal)) after new = ⊥
+Answers old (Err (Read file offset)) after new = (after ≡ None) × Fails old file offset new
+Answers old (Err Write) after new = ⊥
+Answers old (Err Memory) after new = (after ≡ None) × Waits old new × (old.broken ≡ None)
 
 -- the same of a look at one block, behind which a pcapng file may go on
 pub record GoesOn (old new : Lane) : Type 0 where
   pub waits : Waits old new
   pub further : old.offset < new.offset
 
-abbrev pub Steps : Lane → Result (Option Next) Fault → Lane → Type 0
-Steps old (Ok (Some next)) new = Learns old next new
-Steps old (Ok None) new = GoesOn old new
-Steps old (Err (Refused refusal)) new = ⊥
-Steps old (Err (Read file offset)) new = Fails old file offset new
-Steps old (Err Write) new = ⊥
-Steps old (Err Memory) new = Waits old new × (old.broken ≡ None)
+abbrev pub StepsTo : Lane → Option Next → Lane → Type 0
+StepsTo old (Some next) new = Learns old next new
+StepsTo old None new = GoesOn old new
+
+abbrev pub Steps : {A : Type 0} → Lane → Result A Fault → Option Next → Lane → Type 0
+Steps old (Ok x) after new = StepsTo old after new
+Steps old (Err (Refused refusal)) after new = ⊥
+Steps old (Err (Read file offset)) after new = (after ≡ None) × Fails old file offset new
+Steps old (Err Write) after new = ⊥
+Steps old (Err Memory) after new = (after ≡ None) × Waits old new × (old.broken ≡ None)
 
 -- what comes next where a block says that, if anything does
 abbrev pub next_at : ℕ → Progress → Block → Result Content Rule → Option Next
@@ -346,8 +349,8 @@ LearnsOr old None next new = Learns old next new
 LearnsOr old (Some known) next new = (next ≡ known) × (new ≡ old)
 
 -- what asking for what comes next answers
-abbrev pub Tells : Lane → Option Next → Result Next Fault → Lane → Option Next → Type 0
-Tells old known (Ok next) new after = (after ≡ Some next) × LearnsOr old known next new
+abbrev pub Tells : {A : Type 0} → Lane → Option Next → Result A Fault → Lane → Option Next → Type 0
+Tells old known (Ok x) new after = (next : Next) × (after ≡ Some next) × LearnsOr old known next new
 Tells old known (Err (Refused refusal)) new after = ⊥
 Tells old known (Err (Read file offset)) new after = (known ≡ None) × (after ≡ None) × Fails old file offset new
 Tells old known (Err Write) new after = ⊥

@@ -113,18 +113,32 @@ fn meta_of_record(file: u32, header: PcapHeader, given: Record) -> Meta
 }
 
 // What comes next of a pcap file whose header is known.
-fn next_record_of<R: Source>(reader: &mut PcapReader<R>, header: PcapHeader) -> Result<Next, Fault>
+fn next_record_of<R: Source>(
+    reader: &mut PcapReader<R>,
+    header: PcapHeader,
+    known: &mut Option<Next>,
+) -> Result<(), Fault>
+    requires unknown { known.old ≡ None }
     requires header { reader.old.header ≡ Some header }
     requires free { reader.old.stop ≡ None }
     ensures answer { (progress : Progress) → progress.first ≡ Some (interface_of header)
-        → Answers (pcap_lane reader.old progress) result (pcap_lane reader.new progress) }
+        → Answers (pcap_lane reader.old progress) result known.new (pcap_lane reader.new progress) }
     ensures keeps { (progress : Progress) → LaneKeeps (pcap_lane reader.old progress) (pcap_lane reader.new progress) }
 {
     let file = reader.window().file();
     match reader.next_record() {
-        Ok(Some(record)) => Ok(Next::Packet(meta_of_record(file, header, record), 0)),
-        Ok(None) => Ok(Next::End(ending_of_pcap(reader.was_cut()))),
-        Err(Fault::Refused(refusal)) => Ok(Next::Refused(refusal, ending_of_pcap(false))),
+        Ok(Some(record)) => {
+            *known = Some(Next::Packet(meta_of_record(file, header, record), 0));
+            Ok(())
+        }
+        Ok(None) => {
+            *known = Some(Next::End(ending_of_pcap(reader.was_cut())));
+            Ok(())
+        }
+        Err(Fault::Refused(refusal)) => {
+            *known = Some(Next::Refused(refusal, ending_of_pcap(false)));
+            Ok(())
+        }
         Err(Fault::Read { file, offset }) => Err(Fault::Read { file, offset }),
         Err(Fault::Write) => Err(Fault::Write),
         Err(Fault::Memory) => Err(Fault::Memory),
@@ -132,19 +146,25 @@ fn next_record_of<R: Source>(reader: &mut PcapReader<R>, header: PcapHeader) -> 
 }
 
 // What comes next of a pcap file.
-fn next_of_pcap<R: Source>(reader: &mut PcapReader<R>, reached: &mut Reached) -> Result<Next, Fault>
-    requires { reader.old.stop ≡ None }
-    ensures answer { Answers (pcap_lane reader.old (progress_of reached.old)) result (pcap_lane reader.new (progress_of reached.new)) }
+fn next_of_pcap<R: Source>(
+    reader: &mut PcapReader<R>,
+    reached: &mut Reached,
+    known: &mut Option<Next>,
+) -> Result<(), Fault>
+    requires unknown { known.old ≡ None }
+    requires free { reader.old.stop ≡ None }
+    ensures answer { Answers (pcap_lane reader.old (progress_of reached.old)) result known.new (pcap_lane reader.new (progress_of reached.new)) }
     ensures keeps { LaneKeeps (pcap_lane reader.old (progress_of reached.old)) (pcap_lane reader.new (progress_of reached.new)) }
 {
     match reader.header() {
         Ok(header) => {
             reached.first = Some(interface_of_pcap(header));
-            next_record_of(reader, header)
+            next_record_of(reader, header, known)
         }
         Err(Fault::Refused(refusal)) => {
             reached.first = None;
-            Ok(Next::Refused(refusal, ending_of_pcap(false)))
+            *known = Some(Next::Refused(refusal, ending_of_pcap(false)));
+            Ok(())
         }
         Err(Fault::Read { file, offset }) => Err(Fault::Read { file, offset }),
         Err(Fault::Write) => Err(Fault::Write),
@@ -216,29 +236,31 @@ fn take_content(
     file: u32,
     block: Block,
     content: Result<Content, Rule>,
-) -> Option<Next>
+    known: &mut Option<Next>,
+)
     requires room { vec_len reached.old.interfaces < vec_capacity reached.old.interfaces }
     requires limit { counted (progress_of reached.old) < 2 ^ 40 }
-    ensures next { result ≡ next_at file (progress_of reached.old) block content }
+    requires unknown { known.old ≡ None }
+    ensures next { known.new ≡ next_at file (progress_of reached.old) block content }
     ensures behind { progress_of reached.new ≡ behind (progress_of reached.old) content }
 {
     match content {
-        Ok(Content::Packet(packet)) => Some(Next::Packet(
-            meta_of_packet(file, block, reached, packet),
-            packet.place,
-        )),
+        Ok(Content::Packet(packet)) => {
+            *known = Some(Next::Packet(meta_of_packet(file, block, reached, packet), packet.place));
+        }
         Ok(content) => {
             go_on(reached, content);
-            None
         }
-        Err(rule) => Some(Next::Refused(
-            Refusal {
-                file,
-                offset: block.offset,
-                rule,
-            },
-            ending_of_blocks(reached, false),
-        )),
+        Err(rule) => {
+            *known = Some(Next::Refused(
+                Refusal {
+                    file,
+                    offset: block.offset,
+                    rule,
+                },
+                ending_of_blocks(reached, false),
+            ));
+        }
     }
 }
 
@@ -247,11 +269,13 @@ fn take_content(
 fn take_block<R: Source>(
     reader: &mut BlockReader<R>,
     reached: &mut Reached,
-) -> Result<Option<Next>, Fault>
+    known: &mut Option<Next>,
+) -> Result<(), Fault>
     requires room { vec_len reached.old.interfaces < vec_capacity reached.old.interfaces }
+    requires unknown { known.old ≡ None }
     requires counted { counted (progress_of reached.old) ≤ reader.old.offset }
     requires free { reader.old.stop ≡ None }
-    ensures answer { Steps (pcapng_lane reader.old (progress_of reached.old)) result (pcapng_lane reader.new (progress_of reached.new)) }
+    ensures answer { Steps (pcapng_lane reader.old (progress_of reached.old)) result known.new (pcapng_lane reader.new (progress_of reached.new)) }
     ensures keeps { LaneKeeps (pcapng_lane reader.old (progress_of reached.old)) (pcapng_lane reader.new (progress_of reached.new)) }
     ensures room { IsTrue (has_room reader.new.broken reached.new) }
 {
@@ -259,13 +283,17 @@ fn take_block<R: Source>(
     match reader.next_block() {
         Ok(Some(block)) => {
             let content = read_content(reader, block, &reached.interfaces);
-            Ok(take_content(reached, file, block, content))
+            take_content(reached, file, block, content, known);
+            Ok(())
         }
-        Ok(None) => Ok(Some(Next::End(ending_of_blocks(reached, reader.was_cut())))),
-        Err(Fault::Refused(refusal)) => Ok(Some(Next::Refused(
-            refusal,
-            ending_of_blocks(reached, false),
-        ))),
+        Ok(None) => {
+            *known = Some(Next::End(ending_of_blocks(reached, reader.was_cut())));
+            Ok(())
+        }
+        Err(Fault::Refused(refusal)) => {
+            *known = Some(Next::Refused(refusal, ending_of_blocks(reached, false)));
+            Ok(())
+        }
         Err(Fault::Read { file, offset }) => Err(Fault::Read { file, offset }),
         Err(Fault::Write) => Err(Fault::Write),
         Err(Fault::Memory) => Err(Fault::Memory),
@@ -276,34 +304,40 @@ fn take_block<R: Source>(
 fn step<R: Source>(
     reader: &mut BlockReader<R>,
     reached: &mut Reached,
-) -> Result<Option<Next>, Fault>
+    known: &mut Option<Next>,
+) -> Result<(), Fault>
+    requires unknown { known.old ≡ None }
     requires counted { counted (progress_of reached.old) ≤ reader.old.offset }
     requires free { reader.old.stop ≡ None }
     requires room { IsTrue (has_room reader.old.broken reached.old) }
-    ensures answer { Steps (pcapng_lane reader.old (progress_of reached.old)) result (pcapng_lane reader.new (progress_of reached.new)) }
+    ensures answer { Steps (pcapng_lane reader.old (progress_of reached.old)) result known.new (pcapng_lane reader.new (progress_of reached.new)) }
     ensures keeps { LaneKeeps (pcapng_lane reader.old (progress_of reached.old)) (pcapng_lane reader.new (progress_of reached.new)) }
     ensures room { IsTrue (has_room reader.new.broken reached.new) }
 {
     reached.interfaces.reserve(1)?;
-    take_block(reader, reached)
+    take_block(reader, reached, known)
 }
 
 // What comes next of a pcapng file.
 fn next_of_blocks<R: Source>(
     reader: &mut BlockReader<R>,
     reached: &mut Reached,
-) -> Result<Next, Fault>
+    known: &mut Option<Next>,
+) -> Result<(), Fault>
+    requires unknown { known.old ≡ None }
     requires counted { counted (progress_of reached.old) ≤ reader.old.offset }
     requires free { reader.old.stop ≡ None }
     requires limit { reader.old.offset ≤ 2 ^ 40 }
     requires room { IsTrue (has_room reader.old.broken reached.old) }
-    ensures answer { Answers (pcapng_lane reader.old (progress_of reached.old)) result (pcapng_lane reader.new (progress_of reached.new)) }
+    ensures answer { Answers (pcapng_lane reader.old (progress_of reached.old)) result known.new (pcapng_lane reader.new (progress_of reached.new)) }
     ensures keeps { LaneKeeps (pcapng_lane reader.old (progress_of reached.old)) (pcapng_lane reader.new (progress_of reached.new)) }
     ensures room { IsTrue (has_room reader.new.broken reached.new) }
 {
     loop {
-        if let Some(next) = step(reader, reached)? {
-            return Ok(next);
+        step(reader, reached, known)?;
+        match known {
+            Some(_) => return Ok(()),
+            None => {}
         }
     }
 }
@@ -368,31 +402,37 @@ fn open<R: Source>(reader: &mut Reader<R>) -> Result<(), Fault>
 }
 
 /// What comes next of a file.
-pub fn next_of<R: Source>(reader: &mut Reader<R>, reached: &mut Reached) -> Result<Next, Fault>
+pub fn next_of<R: Source>(
+    reader: &mut Reader<R>,
+    reached: &mut Reached,
+    known: &mut Option<Next>,
+) -> Result<(), Fault>
+    requires unknown { known.old ≡ None }
     requires there { IsTrue (is_there reader.old) }
     requires free { is_stopped reader.old ≡ false }
     requires limit { (lane_of reader.old (progress_of reached.old)).offset ≤ 2 ^ 40 }
     requires counted { counted (progress_of reached.old) ≤ (lane_of reader.old (progress_of reached.old)).offset }
     requires room { IsTrue (reader_room reader.old reached.old) }
     ensures there { IsTrue (is_there reader.new) }
-    ensures answer { Answers (lane_of reader.old (progress_of reached.old)) result (lane_of reader.new (progress_of reached.new)) }
+    ensures answer { Answers (lane_of reader.old (progress_of reached.old)) result known.new (lane_of reader.new (progress_of reached.new)) }
     ensures keeps { LaneKeeps (lane_of reader.old (progress_of reached.old)) (lane_of reader.new (progress_of reached.new)) }
     ensures room { IsTrue (reader_room reader.new reached.new) }
 {
     open(reader)?;
     match reader {
-        Reader::Pcap(reader) => next_of_pcap(reader, reached),
-        Reader::Pcapng(reader) => next_of_blocks(reader, reached),
+        Reader::Pcap(reader) => next_of_pcap(reader, reached, known),
+        Reader::Pcapng(reader) => next_of_blocks(reader, reached, known),
         _ => unreachable!(),
     }
 }
 
 /// What comes next of a file, which is kept once it is known.
+#[inline(always)]
 pub fn learn<R: Source>(
     reader: &mut Reader<R>,
     reached: &mut Reached,
     known: &mut Option<Next>,
-) -> Result<Next, Fault>
+) -> Result<(), Fault>
     requires there { IsTrue (is_there reader.old) }
     requires sound { IsSound (lane_of reader.old (progress_of reached.old)) known.old }
     requires room { IsTrue (reader_room reader.old reached.old) }
@@ -403,13 +443,9 @@ pub fn learn<R: Source>(
     ensures keeps { LaneKeeps (lane_of reader.old (progress_of reached.old)) (lane_of reader.new (progress_of reached.new)) }
     ensures room { IsTrue (reader_room reader.new reached.new) }
 {
-    match *known {
-        Some(next) => Ok(next),
-        None => {
-            let next = next_of(reader, reached)?;
-            *known = Some(next);
-            Ok(next)
-        }
+    match known {
+        Some(_) => Ok(()),
+        None => next_of(reader, reached, known),
     }
 }
 

@@ -7,7 +7,8 @@ use Rattle.std.specs.Option.{option_cmp}
 use Rattle.std.specs.Cmp.Lexicographic.{options_total}
 use Rattle.std.proofs.lemmas.Cmp.{then_total, on_total, nat_cmp_total}
 use Rattle.std.proofs.lemmas.Map.Lookups.{CmpEqualImpliesEq, exact_unsigned, exact_pairs}
-use Rattle.cap_talks.proofs.Talking.{same_end-is, same_end-self, and_left, and_right, and_true}
+use Rattle.cap_talks.proofs.Talking.{same_end-self, and_true}
+use Rattle.cap_talks.specs.Keys.{same_end-is, and_left, and_right}
 use Rattle.cap_talks.specs.TalkLaws.{KeyLaw, goes_along, goes_back}
 use Rattle.cap_talks.specs.Talks.{is_forward, key_of, same_end, same_talk}
 use Rattle.cap_talks.specs.Units.{end_cmp}

@@ -242,5 +242,9 @@ of-file feed meta count law known files = subst (λ l. HasFile l meta.file) file
 pub is-left : (feed : Feed) (meta : Meta) → IsFeed feed → feed.known ≡ Some (heads.Packet meta) → 1 ≤ feed.left
 is-left feed meta law known = (packet-law feed meta law known).left
 
+-- the packet that is lent is the one that was answered
+pub packet-is : (feed : Feed) (head : Head) (meta : Meta) → feed.known ≡ Some head → feed.known ≡ Some (heads.Packet meta) → head ≡ heads.Packet meta
+packet-is feed head meta h m = let e : Some head ≡ Some (heads.Packet meta) = sym h ∙ m in cc
+
 pub is-packet : (feed : Feed) (meta : Meta) → feed.known ≡ Some (heads.Packet meta) → IsPacket feed.known
 is-packet feed meta known = subst IsPacket (sym known) tt

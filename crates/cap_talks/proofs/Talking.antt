@@ -7,6 +7,7 @@ use Rattle.indexmap.specs.IndexMap.{insert_entry}
 use Rattle.std.proofs.lemmas.Bool.{eqb-true, eq-eqb}
 use Rattle.cap_talks.proofs.FrameOrder.{least-more, greatest-more}
 use Rattle.cap_talks.specs.Talks.{Talk, is_forward, backward, by_time, by_time_down, earlier_frame, later_frame, least_frame, greatest_frame, frame_time, place_or, key_of, frames_of, bytes_of, row_of, same_end, same_talk, units_of, keys_of, rows_of}
+use Rattle.cap_talks.specs.Keys.{same_talk-is}
 use Rattle.cap_talks.specs.Rows.{frame_of, with_unit, or_empty, row_at, with_talk}
 use Rattle.cap_talks.specs.declared.rows.TalkKey.{TalkKey}
 use Rattle.cap_talks.specs.declared.rows.TalkRow.{TalkRow}
@@ -14,36 +15,6 @@ use Rattle.cap_talks.specs.declared.units.TimedFrame.{TimedFrame}
 use Rattle.std.specs.Ordering.{is_lt}
 use Rattle.cap_talks.specs.declared.units.CountedUnit.{CountedUnit}
 use Rattle.cap_talks.specs.declared.units.End.{End}
-
--- Keys that name the same conversation are one.
-
-pub and_left : (x y : Bool) → (x && y) ≡ true → x ≡ true
-and_left true y h = refl
-and_left false y h = h
-
-pub and_right : (x y : Bool) → (x && y) ≡ true → y ≡ true
-and_right true y h = h
-and_right false y h = absurd (true≢false (sym h))
-
-same_port-is : (a b : Option ℕ) → option_eq nat_eq a b ≡ true → a ≡ b
-same_port-is None None h = refl
-same_port-is None (Some b) h = absurd (true≢false (sym h))
-same_port-is (Some a) None h = absurd (true≢false (sym h))
-same_port-is (Some a) (Some b) h = ap Some (eqb-true a b h)
-
-pub same_end-is : (a b : End) → same_end a b ≡ true → a ≡ b
-same_end-is a b h =
-    let address = eqb-true a.address b.address (and_left (a.address == b.address) (option_eq nat_eq a.port b.port) h) in
-    let port = same_port-is a.port b.port (and_right (a.address == b.address) (option_eq nat_eq a.port b.port) h) in
-    λ i. record { address = address i; port = port i }
-
-pub same_talk-is : (a b : TalkKey) → same_talk a b ≡ true → a ≡ b
-same_talk-is a b h =
-    let protocol = eqb-true a.protocol b.protocol (and_left (a.protocol == b.protocol) (same_end a.lesser b.lesser && same_end a.greater b.greater) h) in
-    let ends = and_right (a.protocol == b.protocol) (same_end a.lesser b.lesser && same_end a.greater b.greater) h in
-    let lesser = same_end-is a.lesser b.lesser (and_left (same_end a.lesser b.lesser) (same_end a.greater b.greater) ends) in
-    let greater = same_end-is a.greater b.greater (and_right (same_end a.lesser b.lesser) (same_end a.greater b.greater) ends) in
-    λ i. record { protocol = protocol i; lesser = lesser i; greater = greater i }
 
 same_number : (n : ℕ) → (n == n) ≡ true
 same_number n = eq-eqb n n refl

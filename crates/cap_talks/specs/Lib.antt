@@ -4,6 +4,7 @@ pub mod Reading
 pub mod Telling
 pub mod Units
 pub mod Talks
+pub mod Keys
 pub mod Rows
 pub mod TalksView
 pub mod TalkText

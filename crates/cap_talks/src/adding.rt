@@ -43,11 +43,16 @@ pub fn class_of(transport: Transport) -> Class
 }
 
 /// The unit that a whole datagram is, of which some data was captured.
-pub fn whole_unit(header: &Header, captured: &[u8], stamped: Stamped) -> Option<CountedUnit>
+pub fn whole_unit(
+    header: &Header,
+    captured: &[u8],
+    seen: Transport,
+    stamped: Stamped,
+) -> Option<CountedUnit>
+    requires { seen ≡ transport_of header.now.key.protocol captured.now header.now.data_length }
     ensures { result ≡ whole_unit header.now captured.now stamped }
 {
     let key = header.key();
-    let seen = transport(key.protocol, captured, header.data_length());
     let (source, destination) = ends_of(key.source, key.destination, seen)?;
     Some(CountedUnit {
         protocol: key.protocol,
@@ -92,16 +97,16 @@ pub fn joined_class(datagram: &Datagram) -> Class
 }
 
 /// Adds a unit to the conversations, where there is one.
-pub fn add_unit(talks: &mut Talks, unit: Option<CountedUnit>) -> Result<(), TallyFault>
-    requires frames { frames_in talks.old.rows + frames_of (listed unit) < 2 ^ 64 }
-    requires bytes { bytes_in talks.old.rows + bytes_of (listed unit) < 2 ^ 128 }
-    ensures stands { OnOk result ((units : List CountedUnit) → StandsFor talks.old units → StandsFor talks.new (units ++ listed unit)) }
-    ensures frames { OnOk result (frames_in talks.new.rows ≡ frames_in talks.old.rows + frames_of (listed unit)) }
-    ensures bytes { OnOk result (bytes_in talks.new.rows ≡ bytes_in talks.old.rows + bytes_of (listed unit)) }
-    ensures limit { LimitBy result (is_over talks.old.rows unit) }
+pub fn add_unit(talks: &mut Talks, unit: &Option<CountedUnit>) -> Result<(), TallyFault>
+    requires frames { frames_in talks.old.rows + frames_of (listed unit.now) < 2 ^ 64 }
+    requires bytes { bytes_in talks.old.rows + bytes_of (listed unit.now) < 2 ^ 128 }
+    ensures stands { OnOk result ((units : List CountedUnit) → StandsFor talks.old units → StandsFor talks.new (units ++ listed unit.now)) }
+    ensures frames { OnOk result (frames_in talks.new.rows ≡ frames_in talks.old.rows + frames_of (listed unit.now)) }
+    ensures bytes { OnOk result (bytes_in talks.new.rows ≡ bytes_in talks.old.rows + bytes_of (listed unit.now)) }
+    ensures limit { LimitBy result (is_over talks.old.rows unit.now) }
     ensures err { OnErr result (talks.new ≡ talks.old) }
 {
-    match &unit {
+    match unit {
         None => Ok(()),
         Some(unit) => match talks.add(unit) {
             Ok(()) => Ok(()),

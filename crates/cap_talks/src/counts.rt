@@ -42,6 +42,7 @@ impl Counts {
     }
 
     /// Takes one more packet, behind those that were taken.
+    #[inline(always)]
     pub fn take(&mut self, meta: &Meta)
         requires packets { self.old.packets < 2 ^ 45 }
         requires bytes { self.old.bytes ≤ 2 ^ 45 * 2 ^ 32 }
@@ -54,6 +55,7 @@ impl Counts {
 }
 
 // Counts one packet more.
+#[inline(always)]
 fn count(counts: &mut Counts, meta: &Meta)
     requires packets { counts.old.packets < 2 ^ 45 }
     requires bytes { counts.old.bytes ≤ 2 ^ 45 * 2 ^ 32 }

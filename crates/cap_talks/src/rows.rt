@@ -1,13 +1,16 @@
 //! The row of a conversation: what is counted of its units.
 ghost use Rattle.std.specs.Prelude.{◌≡◌, ◌+◌, ◌<◌, ◌^◌, []};
 ghost use Rattle.cap_talks.specs.Talks.{key_of, is_forward, earlier_frame, later_frame, frame_time, place_or, row_of};
+ghost use Rattle.cap_talks.specs.Keys.{end_number};
 ghost use Rattle.cap_talks.specs.Rows.{with_unit, frames_of_row, bytes_of_row, frame_of, is_earlier, is_later};
 
 use crate::units::{CountedUnit, End, TimedFrame};
 use cap_time::Stamp;
+use std::cmp::Ordering;
+use std::hash::{Hash, Hasher};
 
 /// What names a conversation: a protocol and two ends, whichever of them is the source.
-#[derive(Clone, Copy, Debug, PartialEq, Eq, Hash)]
+#[derive(Clone, Copy, Debug, PartialEq, Eq)]
 pub struct TalkKey {
     /// The number of the protocol: 6 TCP, 17 UDP.
     pub protocol: u8,
@@ -15,6 +18,33 @@ pub struct TalkKey {
     pub lesser: End,
     /// The other end, which is the same where a datagram goes from an end to itself.
     pub greater: End,
+}
+
+// An end as one number. No port reads as 0.
+fn end_number(end: &End) -> u64
+    ensures value { result ≡ end_number end.now }
+    ensures bound { result < 2 ^ 48 }
+{
+    let port = match end.port {
+        Some(port) => port,
+        None => 0,
+    };
+    u64::from(end.address) * 65_536 + u64::from(port)
+}
+
+impl Hash for TalkKey {
+    ghost use Rattle.cap_talks.specs.Keys.{talk_hash, talk_hash-same};
+
+    ghost hash_input = { talk_hash };
+
+    ghost respects_eq = { talk_hash-same };
+
+    // Two numbers: a write costs the same whether it has 1 byte or 8.
+    fn hash<H: Hasher>(&self, state: &mut H) {
+        let protocol = self.protocol;
+        state.write_u64(end_number(&self.lesser) * 256 + u64::from(protocol));
+        state.write_u64(end_number(&self.greater));
+    }
 }
 
 impl TalkKey {
@@ -108,7 +138,11 @@ fn is_earlier(frame: &TimedFrame, first: &Option<Stamp>, place: u64) -> bool
 {
     match first {
         None => true,
-        Some(first) => frame.time.cmp(first).then(frame.place.cmp(&place)).is_lt(),
+        Some(first) => match frame.time.cmp(first) {
+            Ordering::Less => true,
+            Ordering::Equal => frame.place < place,
+            Ordering::Greater => false,
+        },
     }
 }
 
@@ -118,7 +152,11 @@ fn is_later(frame: &TimedFrame, last: &Option<Stamp>, place: u64) -> bool
 {
     match last {
         None => true,
-        Some(last) => last.cmp(&frame.time).then(frame.place.cmp(&place)).is_lt(),
+        Some(last) => match last.cmp(&frame.time) {
+            Ordering::Less => true,
+            Ordering::Equal => frame.place < place,
+            Ordering::Greater => false,
+        },
     }
 }
 

@@ -102,23 +102,24 @@ impl<F: PacketFeed> Table<F> {
         ensures keeps { StepKeeps (table_of self.old) (table_of self.new) }
         ensures again { AnswersAgain (feed_of (table_of self.old).parts).known result }
     {
-        let meta = match self.merged.head()? {
-            Head::Packet(meta) => meta,
+        match self.merged.head()? {
+            Head::Packet(_) => {}
             Head::Refused(refusal) => return Err(Fault::Refused(refusal)),
             Head::End => {
                 self.done = true;
                 return Ok(Step::Done);
             }
-        };
+        }
+        let meta = self.merged.packet();
         let clock = self.merged.clock();
         let frame = self.merged.frame();
-        match self.tally.take(clock, &meta, frame) {
+        match self.tally.take(clock, meta, frame) {
             Ok(()) => {
-                self.totals.take(&meta, frame);
+                self.totals.take(meta, frame);
                 self.merged.pass();
                 Ok(Step::Took)
             }
-            Err(TallyFault::Limit) => Err(Fault::Refused(talk_limit(&meta))),
+            Err(TallyFault::Limit) => Err(Fault::Refused(talk_limit(meta))),
             Err(TallyFault::Memory) => Err(Fault::Memory),
         }
     }

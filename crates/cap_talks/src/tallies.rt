@@ -179,9 +179,12 @@ impl Tally {
                 Ok(false)
             }
             Seen::Datagram(header, captured) => {
-                add_unit(&mut self.talks, whole_unit(&header, captured, stamped))?;
-                self.joiner.flush(header.key());
                 let seen = transport(header.key().protocol, captured, header.data_length());
+                add_unit(
+                    &mut self.talks,
+                    &whole_unit(&header, captured, seen, stamped),
+                )?;
+                self.joiner.flush(header.key());
                 self.classes = with_frames(self.classes, class_of(seen), 1);
                 self.place += 1;
                 Ok(false)
@@ -216,7 +219,7 @@ impl Tally {
         let Some(datagram) = &self.waiting else {
             unreachable!();
         };
-        add_unit(&mut self.talks, joined_unit(datagram))?;
+        add_unit(&mut self.talks, &joined_unit(datagram))?;
         let class = joined_class(datagram);
         let frames = datagram.frames;
         self.classes = with_group(self.classes, class, frames);

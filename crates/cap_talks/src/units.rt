@@ -8,7 +8,7 @@ use cap_time::Stamp;
 
 /// An end of a conversation: an IPv4 address (RFC 791, 3.1), and a port where the protocol has ports
 /// (RFC 768; RFC 9293, 3.1). Ends compare as pairs of numbers, by address and then by port.
-#[derive(Clone, Copy, Debug, PartialEq, Eq, Hash, PartialOrd, Ord)]
+#[derive(Clone, Copy, Debug, PartialEq, Eq, PartialOrd, Ord)]
 pub struct End {
     /// The address, its first byte the highest.
     pub address: u32,

@@ -3,8 +3,9 @@ use Rattle.cap_source.specs.Lanes.{LaneKeeps, Waits, pcapng_lane}
 use Rattle.cap_source.specs.Reached.{progress_of, counted, has_room}
 use Rattle.cap_source.proofs.readers.next_of_blocks.Given as goal
 
-abbrev pub invariant-loop-next : goal.invariant-loop-next
-invariant-loop-next g l = record {
+abbrev pub invariant-loop : goal.invariant-loop
+invariant-loop g l = record {
+  unknown : l.known ≡ None;
   waits : Waits (pcapng_lane l.initial.reader (progress_of l.initial.reached)) (pcapng_lane l.reader (progress_of l.reached));
   keeps : LaneKeeps (pcapng_lane l.initial.reader (progress_of l.initial.reached)) (pcapng_lane l.reader (progress_of l.reached));
   room : IsTrue (has_room l.reader.broken l.reached);
@@ -13,5 +14,5 @@ invariant-loop-next g l = record {
   limit : l.reader.offset ≤ 2 ^ 40;
 }
 
-abbrev pub decreases-loop-next : goal.decreases-loop-next
-decreases-loop-next g l = 2 ^ 40 - l.reader.offset
+abbrev pub decreases-loop : goal.decreases-loop
+decreases-loop g l = 2 ^ 40 - l.reader.offset

@@ -4,14 +4,15 @@ use Rattle.cap_source.proofs.Pcaps.{header_refused, header_waits, pcap_keeps}
 use Rattle.cap_source.specs.Items.{Progress}
 use Rattle.cap_source.specs.Lanes.{pcap_lane}
 use Rattle.cap_source.specs.Reached.{progress_of}
+use Rattle.cap_source.specs.declared.readers.Next.TheVariants as nexts
 use Rattle.cap_source.proofs.readers.next_of_pcap.Goals as goal
 
 pub returns-in-Ok-clause-answer : goal.returns-in-Ok-clause-answer
 returns-in-Ok-clause-answer g c =
     let p = progress_of c.args.reached.now in
     let q : Progress = record { interfaces = p.interfaces; base = p.base; skipped = p.skipped; first = Some c.interface_of_pcap.result } in
-    Answers-behind (pcap_lane c.args.reader.now p) (pcap_lane c.header.new.self q) (pcap_lane c.next_record_of.new.reader q) c.next_record_of.result
-    (header_waits c.in-Ok.header c.args.reader.now c.header.new.self p q c.requires c.in-Ok.ensures.answer c.in-Ok.ensures.keeps c.in-Ok.ensures.items)
+    Answers-behind (pcap_lane c.args.reader.now p) (pcap_lane c.header.new.self q) (pcap_lane c.next_record_of.new.reader q) c.next_record_of.result c.next_record_of.new.known
+    (header_waits c.in-Ok.header c.args.reader.now c.header.new.self p q c.requires.free c.in-Ok.ensures.answer c.in-Ok.ensures.keeps c.in-Ok.ensures.items)
     (pcap_keeps c.args.reader.now c.header.new.self p q refl refl refl c.in-Ok.ensures.keeps)
     (c.next_record_of.ensures.answer q (ap Some c.interface_of_pcap.ensures))
 
@@ -27,6 +28,9 @@ pub returns-in-Err-Refused-clause-answer : goal.returns-in-Err-Refused-clause-an
 returns-in-Err-Refused-clause-answer g c =
     let p = progress_of c.args.reached.now in
     let q : Progress = record { interfaces = p.interfaces; base = p.base; skipped = p.skipped; first = None } in
-    let e = rw c.in-Err-Refused.field-0-is at c.in-Err-Refused.ensures in
-    rw c.ending_of_pcap.ensures
-    (header_refused c.in-Err-Refused.refusal c.args.reader.now c.header.new.self p q refl c.requires e.answer e.keeps (λ t. (e.items t).0))
+    let e = rw c.in-Err-Refused.field-0-is at c.in-Err-Refused.ensures in (
+      nexts.Refused c.in-Err-Refused.refusal c.ending_of_pcap.result,
+      refl,
+      rw c.ending_of_pcap.ensures
+          (header_refused c.in-Err-Refused.refusal c.args.reader.now c.header.new.self p q refl c.requires.free e.answer e.keeps (λ t. (e.items t).0)),
+    )

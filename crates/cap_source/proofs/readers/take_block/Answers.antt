@@ -9,7 +9,7 @@ returns-in-Ok-Some-clause-answer g c =
     let e = rw c.in-Ok-Some.field-0-is at c.in-Ok-Some.ensures in
     let block = c.in-Ok-Some.block in
     block_stepped c.file-file.result c.args.reader.now c.next_block.new.self (progress_of c.args.reached.now) (progress_of c.take_content.new.reached)
-    block c.read_content-content.result c.take_content.result
+    block c.read_content-content.result c.take_content.new.known
     c.take_content.ensures.next c.take_content.ensures.behind
     (c.file-file.ensures ∙ c.window.ensures.window.file) e.answer e.keeps e.items
     (c.read_content-content.ensures ∙ ap (λ l. content_in l block.kind block.order (unwrap_or c.next_block.new.self.body [])) c.deref.ensures.value)

@@ -10,10 +10,10 @@ returns-clause-answer g c =
     let old = lane_of was.reader (progress_of was.reached) in
     let new = lane_of c.learn.new.reader (progress_of c.learn.new.reached) in
     let tells = c.in_ok-learn.ensures.answer in
-    let next = c.in_ok-learn.field-0 in (
+    let next = tells.0 in (
       head_of next,
-      knows old new was.next c.learn.new.known next was.whole tells.0 tells.1,
-      first_told old c.learn.new.reader (progress_of c.learn.new.reached) was.next c.learn.new.known next c.learn.ensures.there tells.0 tells.1,
+      knows old new was.next c.learn.new.known next was.whole tells.1 tells.2,
+      first_told old c.learn.new.reader (progress_of c.learn.new.reached) was.next c.learn.new.known next c.learn.ensures.there tells.1 tells.2,
     )
 
 pub returns-clause-items : goal.returns-clause-items
@@ -22,7 +22,7 @@ returns-clause-items g c = λ t.
     let old = lane_of was.reader (progress_of was.reached) in
     let new = lane_of c.learn.new.reader (progress_of c.learn.new.reached) in
     let tells = c.in_ok-learn.ensures.answer in
-    let next = c.in_ok-learn.field-0 in (
-      same_items old new was.next c.learn.new.known next tells.0 tells.1 t,
-      same_first old new was.next c.learn.new.known next tells.0 tells.1 t,
+    let next = tells.0 in (
+      same_items old new was.next c.learn.new.known next tells.1 tells.2 t,
+      same_first old new was.next c.learn.new.known next tells.1 tells.2 t,
     )

@@ -11,7 +11,7 @@ use Rattle.cap_talks.specs.Stepping.{next_taken, clocked}
 use Rattle.cap_talks.specs.Taken.{Taken}
 use Rattle.cap_talks.specs.Tallies.{LimitBy, Stands}
 use Rattle.cap_talks.specs.CountedUnits.{is_limit_at}
-use Rattle.cap_talks.proofs.Stepping.{asked, stands-asked, next-is, first-asked, run-packet, run-end, run-refused, of-file, is-left, is-packet}
+use Rattle.cap_talks.proofs.Stepping.{packet-is, asked, stands-asked, next-is, first-asked, run-packet, run-end, run-refused, of-file, is-left, is-packet}
 use Rattle.cap_merge.proofs.Unread.{numbers-within}
 use Rattle.cap_talks.proofs.tables.Table.step.Goals as goal
 
@@ -20,7 +20,7 @@ returns-in-Refused-clause-step g c =
     let m = c.head.new.self in
     let p = parts_of c.args.self.now.merged in
     let q = parts_of m in
-    let e = c.in_ok-meta.ensures in
+    let e = c.in_ok-head.ensures in
     let known = subst (λ h. Knows (feed_of p) h (feed_of q)) c.in-Refused.is e.answer in
     let law = merged-is-feed g.F.PacketFeed.feed g.met.F.PacketFeed.lawful m.lanes.items m.feeds.items m.alike m.numbered m.agrees m.reached in
     inl (record {
@@ -38,7 +38,7 @@ returns-in-End-clause-step g c =
     let m = c.head.new.self in
     let p = parts_of c.args.self.now.merged in
     let q = parts_of m in
-    let e = c.in_ok-meta.ensures in
+    let e = c.in_ok-head.ensures in
     let known = subst (λ h. Knows (feed_of p) h (feed_of q)) c.in-End.is e.answer in
     let law = merged-is-feed g.F.PacketFeed.feed g.met.F.PacketFeed.lawful m.lanes.items m.feeds.items m.alike m.numbered m.agrees m.reached in
     record {
@@ -56,26 +56,28 @@ take-requires-in-Ok-clause-first g c =
     let m = c.head.new.self in
     let p = parts_of c.args.self.now.merged in
     let q = parts_of m in
-    let e = c.in_ok-meta.ensures in
-    let known = subst (λ h. Knows (feed_of p) h (feed_of q)) c.in-Packet.is e.answer in
+    let e = c.in_ok-head.ensures in
+    let meta = c.packet-meta.result.now in
+    let known = subst (λ h. Knows (feed_of p) h (feed_of q)) (packet-is (feed_of q) c.in_ok-head.field-0 meta e.answer.known c.packet-meta.ensures) e.answer in
     let law = merged-is-feed g.F.PacketFeed.feed g.met.F.PacketFeed.lawful m.lanes.items m.feeds.items m.alike m.numbered m.agrees m.reached in
     let t = c.args.self.now in
-    (numbers-within 1 (length t.totals.files) c.in-Packet.meta.file
-    (of-file (feed_of q) c.in-Packet.meta (length t.totals.files) law known.known (e.keeps.files ∙ t.numbered))).0
+    (numbers-within 1 (length t.totals.files) meta.file
+    (of-file (feed_of q) meta (length t.totals.files) law known.known (e.keeps.files ∙ t.numbered))).0
 
 pub take-requires-in-Ok-clause-last : goal.take-requires-in-Ok-clause-last
 take-requires-in-Ok-clause-last g c =
     let m = c.head.new.self in
     let p = parts_of c.args.self.now.merged in
     let q = parts_of m in
-    let e = c.in_ok-meta.ensures in
-    let known = subst (λ h. Knows (feed_of p) h (feed_of q)) c.in-Packet.is e.answer in
+    let e = c.in_ok-head.ensures in
+    let meta = c.packet-meta.result.now in
+    let known = subst (λ h. Knows (feed_of p) h (feed_of q)) (packet-is (feed_of q) c.in_ok-head.field-0 meta e.answer.known c.packet-meta.ensures) e.answer in
     let law = merged-is-feed g.F.PacketFeed.feed g.met.F.PacketFeed.lawful m.lanes.items m.feeds.items m.alike m.numbered m.agrees m.reached in
     let t = c.args.self.now in
     omega (
       arith,
-      (numbers-within 1 (length t.totals.files) c.in-Packet.meta.file
-          (of-file (feed_of q) c.in-Packet.meta (length t.totals.files) law known.known (e.keeps.files ∙ t.numbered))).1,
+      (numbers-within 1 (length t.totals.files) meta.file
+          (of-file (feed_of q) meta (length t.totals.files) law known.known (e.keeps.files ∙ t.numbered))).1,
     )
 
 pub take-requires-in-Ok-clause-few : goal.take-requires-in-Ok-clause-few
@@ -83,22 +85,24 @@ take-requires-in-Ok-clause-few g c =
     let m = c.head.new.self in
     let p = parts_of c.args.self.now.merged in
     let q = parts_of m in
-    let e = c.in_ok-meta.ensures in
-    let known = subst (λ h. Knows (feed_of p) h (feed_of q)) c.in-Packet.is e.answer in
+    let e = c.in_ok-head.ensures in
+    let meta = c.packet-meta.result.now in
+    let known = subst (λ h. Knows (feed_of p) h (feed_of q)) (packet-is (feed_of q) c.in_ok-head.field-0 meta e.answer.known c.packet-meta.ensures) e.answer in
     let law = merged-is-feed g.F.PacketFeed.feed g.met.F.PacketFeed.lawful m.lanes.items m.feeds.items m.alike m.numbered m.agrees m.reached in
     let t = c.args.self.now in
-    omega (arith, t.counted, t.places, e.keeps.left, is-left (feed_of q) c.in-Packet.meta law known.known)
+    omega (arith, t.counted, t.places, e.keeps.left, is-left (feed_of q) meta law known.known)
 
 pub returns-in-Ok-clause-step : goal.returns-in-Ok-clause-step
 returns-in-Ok-clause-step g c =
     let m = c.head.new.self in
     let p = parts_of c.args.self.now.merged in
     let q = parts_of m in
-    let e = c.in_ok-meta.ensures in
-    let known = subst (λ h. Knows (feed_of p) h (feed_of q)) c.in-Packet.is e.answer in
+    let e = c.in_ok-head.ensures in
+    let meta = c.packet-meta.result.now in
+    let known = subst (λ h. Knows (feed_of p) h (feed_of q)) (packet-is (feed_of q) c.in_ok-head.field-0 meta e.answer.known c.packet-meta.ensures) e.answer in
     let law = merged-is-feed g.F.PacketFeed.feed g.met.F.PacketFeed.lawful m.lanes.items m.feeds.items m.alike m.numbered m.agrees m.reached in
-    let x = taken c.clock-clock.result c.in-Packet.meta c.frame-frame.result.now in
-    let next = next-is q c.in-Packet.meta c.clock-clock.result c.frame-frame.result.now known.known c.clock-clock.ensures.clock c.frame-frame.ensures.frame in
+    let x = taken c.clock-clock.result meta c.frame-frame.result.now in
+    let next = next-is q meta c.clock-clock.result c.frame-frame.result.now known.known c.clock-clock.ensures.clock c.frame-frame.ensures.frame in
     let after = parts_of c.pass.new.self in
     record {
       item = x;
@@ -106,7 +110,7 @@ returns-in-Ok-clause-step g c =
       left = omega (arith, c.pass.ensures.passes.left, e.keeps.left);
       run = λ t.
           let told = e.keeps.told t in
-          let first = run-packet p q c.in-Packet.meta c.clock-clock.result c.frame-frame.result.now law told known.known c.frame-frame.ensures.frame (c.clock-clock.ensures.run told) (e.run t) in
+          let first = run-packet p q meta c.clock-clock.result c.frame-frame.result.now law told known.known c.frame-frame.ensures.frame (c.clock-clock.ensures.run told) (e.run t) in
           first ∙ ap (λ l. clocked x ∷ l) (sym (c.pass.ensures.run told ∙ ap (drop 1) (e.run t)));
       goes = record { before = known.goes.before; after = c.pass.ensures.passes.broken; failed = ap (λ (h : FeedHeld). h.failed) c.pass.ensures.passes.held ∙ known.goes.failed };
       endings = λ t file. c.pass.ensures.passes.endings (e.keeps.told t) file ∙ (e.items t).endings file;
@@ -123,11 +127,12 @@ returns-in-Err-Limit-clause-step g c =
     let m = c.head.new.self in
     let p = parts_of c.args.self.now.merged in
     let q = parts_of m in
-    let e = c.in_ok-meta.ensures in
-    let known = subst (λ h. Knows (feed_of p) h (feed_of q)) c.in-Packet.is e.answer in
+    let e = c.in_ok-head.ensures in
+    let meta = c.packet-meta.result.now in
+    let known = subst (λ h. Knows (feed_of p) h (feed_of q)) (packet-is (feed_of q) c.in_ok-head.field-0 meta e.answer.known c.packet-meta.ensures) e.answer in
     let law = merged-is-feed g.F.PacketFeed.feed g.met.F.PacketFeed.lawful m.lanes.items m.feeds.items m.alike m.numbered m.agrees m.reached in
-    let x = taken c.clock-clock.result c.in-Packet.meta c.frame-frame.result.now in
-    let next = next-is q c.in-Packet.meta c.clock-clock.result c.frame-frame.result.now known.known c.clock-clock.ensures.clock c.frame-frame.ensures.frame in
+    let x = taken c.clock-clock.result meta c.frame-frame.result.now in
+    let next = next-is q meta c.clock-clock.result c.frame-frame.result.now known.known c.clock-clock.ensures.clock c.frame-frame.ensures.frame in
     let now = λ (xs : List Taken) (h : Stands c.args.self.now.tally xs (next_taken p)).
     subst (λ (n : Option Taken). Stands c.args.self.now.tally xs n) next (stands-asked c.args.self.now.tally p q xs e.asks h) in
     inr (record {
@@ -136,7 +141,7 @@ returns-in-Err-Limit-clause-step g c =
       first = first-asked p q x e.asks next;
       next = next;
       run = λ t.
-          run-packet p q c.in-Packet.meta c.clock-clock.result c.frame-frame.result.now law (e.keeps.told t) known.known c.frame-frame.ensures.frame
+          run-packet p q meta c.clock-clock.result c.frame-frame.result.now law (e.keeps.told t) known.known c.frame-frame.ensures.frame
           (c.clock-clock.ensures.run (e.keeps.told t)) (e.run t);
       same = λ t. record { run = e.run t; endings = (e.items t).endings };
       goes = known.goes;
@@ -155,12 +160,13 @@ returns-in-Err-Memory-clause-step g c =
     let m = c.head.new.self in
     let p = parts_of c.args.self.now.merged in
     let q = parts_of m in
-    let e = c.in_ok-meta.ensures in
-    let known = subst (λ h. Knows (feed_of p) h (feed_of q)) c.in-Packet.is e.answer in
+    let e = c.in_ok-head.ensures in
+    let meta = c.packet-meta.result.now in
+    let known = subst (λ h. Knows (feed_of p) h (feed_of q)) (packet-is (feed_of q) c.in_ok-head.field-0 meta e.answer.known c.packet-meta.ensures) e.answer in
     let law = merged-is-feed g.F.PacketFeed.feed g.met.F.PacketFeed.lawful m.lanes.items m.feeds.items m.alike m.numbered m.agrees m.reached in
-    let next = next-is q c.in-Packet.meta c.clock-clock.result c.frame-frame.result.now known.known c.clock-clock.ensures.clock c.frame-frame.ensures.frame in
+    let next = next-is q meta c.clock-clock.result c.frame-frame.result.now known.known c.clock-clock.ensures.clock c.frame-frame.ensures.frame in
     record {
-      cause = inr (is-packet (feed_of q) c.in-Packet.meta known.known);
+      cause = inr (is-packet (feed_of q) meta known.known);
       same = λ t. record { run = e.run t; endings = (e.items t).endings };
       goes = known.goes;
       stays = record {

@@ -96,9 +96,9 @@ invariant_of-self-in-Datagram c =
     (λ place. sym (c.look.ensures.value c.args.clock place) ∙ ap (λ s. look_of s (stamped_of place c.args.meta.now)) c.in-Datagram.is)
     c.add_unit.new.talks c.flush.new.self
     (λ us stands. subst (λ u. StandsFor c.add_unit.new.talks (us ++ listed u)) unit (e.stands us stands))
-    (λ es stands. subst (λ (k : Key). joiners.StandsFor c.flush.new.self (flushes k ∷ es)) c.key.ensures (c.flush.ensures.stands es stands))
+    (λ es stands. subst (λ (k : Key). joiners.StandsFor c.flush.new.self (flushes k ∷ es)) c.key-in-Datagram.ensures (c.flush.ensures.stands es stands))
     _ (c.with_frames-self-inside-in-Datagram.ensures
-    ∙ (λ i. with_frames ((c.class_of.ensures ∙ ap class_of (c.transport-seen.ensures ∙ (λ j. transport_of (c.key-in-Datagram.ensures j).protocol captured (c.data_length.ensures.value j)))) i) 1 t.classes))
+    ∙ (λ i. with_frames ((c.class_of.ensures ∙ ap class_of (c.transport-seen.ensures ∙ (λ j. transport_of (c.key.ensures j).protocol captured (c.data_length.ensures.value j)))) i) 1 t.classes))
     s (omega (arith, c.requires.few, ap (λ (n : TallyState). n.place) c.self.view_is)) c.flush.ensures.next
     (omega (arith, e.frames, e.bytes, s.bytes, one.1, ap (λ u. bytes_of (listed u)) c.whole_unit.ensures, ap (λ u. frames_of (listed u)) c.whole_unit.ensures))
 
@@ -115,9 +115,9 @@ returns-in_ok-add_unit-in-Datagram-clause-looks c =
     (λ place. sym (c.look.ensures.value c.args.clock place) ∙ ap (λ s. look_of s (stamped_of place c.args.meta.now)) c.in-Datagram.is)
     c.add_unit.new.talks c.flush.new.self
     (λ us stands. subst (λ u. StandsFor c.add_unit.new.talks (us ++ listed u)) unit (e.stands us stands))
-    (λ es stands. subst (λ (k : Key). joiners.StandsFor c.flush.new.self (flushes k ∷ es)) c.key.ensures (c.flush.ensures.stands es stands))
+    (λ es stands. subst (λ (k : Key). joiners.StandsFor c.flush.new.self (flushes k ∷ es)) c.key-in-Datagram.ensures (c.flush.ensures.stands es stands))
     _ (c.with_frames-self-inside-in-Datagram.ensures
-    ∙ (λ i. with_frames ((c.class_of.ensures ∙ ap class_of (c.transport-seen.ensures ∙ (λ j. transport_of (c.key-in-Datagram.ensures j).protocol captured (c.data_length.ensures.value j)))) i) 1 t.classes))
+    ∙ (λ i. with_frames ((c.class_of.ensures ∙ ap class_of (c.transport-seen.ensures ∙ (λ j. transport_of (c.key.ensures j).protocol captured (c.data_length.ensures.value j)))) i) 1 t.classes))
     (sym (ap (is_over t.talks.rows) unit) ∙ e.limit))
 
 -- a fragment
