@@ -1,7 +1,6 @@
 //! Command lines; outcomes and what is told of them.
 
 mod command_lines;
-
 mod progress;
 
 use crate::outcomes::{Outcome, end_of, outcome_line, status_of, tell};
