@@ -3,19 +3,20 @@ use Rattle.std.proofs.Common.{◌≡◌, ℕ, ◌-◌, ◌≤◌, ◌<◌, ◌==
 use Rattle.std.proofs.lemmas.Bool.Decides.{nat_tests}
 use Rattle.std.proofs.lemmas.List.{take-append-drop, drop-append-le}
 use Rattle.cap_bytes.specs.Number.{number}
-use Rattle.cap_bytes.specs.Window.{State, Goes, Needs, Skips, Drops, DropsAll, Passes, coming}
+use Rattle.cap_bytes.specs.Sights.{Fails}
+use Rattle.cap_bytes.specs.Window.{State, Needs, Skips, Drops, DropsAll, Passes, FailsAt, coming}
+use Rattle.cap_bytes.proofs.Sights.{all_shown, Goes-trans, if_none, if_some}
 use Rattle.cap_bytes.specs.declared.faults.Fault.{Fault}
 use Rattle.cap_bytes.specs.declared.faults.Fault.TheVariants.{Refused, Read, Write, Memory}
 use Rattle.cap_bytes.specs.declared.faults.Rule.{Rule}
 use Rattle.cap_bytes.specs.declared.faults.Rule.TheVariants.{Cut, BlockTrailer, Version}
 use Rattle.cap_bytes.specs.declared.numbers.Order.{Order}
-use Rattle.cap_bytes.proofs.Spelling.{number-append}
+use Rattle.cap_bytes.proofs.Spelling.{number-append, number-drop_append}
 use Rattle.cap_blocks.specs.Grammar.{section_kind, is_known, is_version}
-use Rattle.cap_blocks.specs.Sights.{IsFront, SeesRest, LooksAtRest, SkipsRest, told_at}
+use Rattle.cap_blocks.specs.Sights.{IsFront, SeesRest, LooksAtRest, SkipsRest}
 use Rattle.cap_blocks.specs.Split.{kind_at, total_at, has_other_version, rest_fault}
 use Rattle.cap_blocks.specs.declared.blocks.Block.{Block}
-use Rattle.cap_blocks.proofs.Faults.{total-section, number-drop_append}
-use Rattle.cap_blocks.proofs.Looking.{all_shown}
+use Rattle.cap_blocks.proofs.Faults.{total-section}
 
 -- the rest of a block, condition by condition
 pub rest_fault-cut : (order : Order) (bytes : List ℕ) → length bytes < total_at order bytes → rest_fault order bytes ≡ Some Cut
@@ -147,9 +148,6 @@ skipped_total block old f = (IsFront-append block old.offset old.shown old.unrea
 pub skipped_kind : (block : Block) (old : State) → IsFront block old.offset old.shown → block.kind ≡ kind_at block.order (coming old)
 skipped_kind block old f = (IsFront-append block old.offset old.shown old.unread f).kind
 
-pub Goes-trans : (a b c : State) → Goes a b → Goes b c → Goes a c
-Goes-trans a b c p q = record { before = p.before; after = q.after; failed = q.failed ∙ p.failed }
-
 -- the input ends in the part that is skipped
 pub SeesRest-ended : (block : Block) (old new : State) → IsFront block old.offset old.shown → DropsAll (block.total - 4) old new
     → SeesRest block (Some Cut) old new
@@ -214,61 +212,25 @@ SeesRest-skipped block old mid new last f unknown d told n trailer p = record {
   );
 }
 
-pub if_none : (o : Option ℕ) (P : Type 0) → o ≡ None → P → IfNone o P
-if_none None P e h = h
-if_none (Some n) P e h = absurd (cc)
-
-pub from_none : (o : Option ℕ) (P : Type 0) → o ≡ None → IfNone o P → P
-from_none None P e h = h
-from_none (Some n) P e h = absurd (cc)
-
-pub if_some : (o : Option ℕ) (P : ℕ → Type 0) → o ≡ None → IfSome o P
-if_some None P e = tt
-if_some (Some n) P e = absurd (cc)
-
-if_none_map : (o : Option ℕ) (P Q : Type 0) → (P → Q) → IfNone o P → IfNone o Q
-if_none_map None P Q f h = f h
-if_none_map (Some n) P Q f h = tt
-
 some_is : (o : Option ℕ) (n : ℕ) → o ≡ Some n → IsSome o
 some_is o n e = rw e refl
 
--- a read fails
-pub LooksAtRest-fault : (block : Block) (old new : State) (fault : Fault) → is_known block.kind ≡ true → Needs block.total old (Err fault) new
-    → LooksAtRest block old (Err fault) new
-LooksAtRest-fault block old new (Read file offset) known (b, same, fewer) = record {
-  file_is = b.file_is;
-  again = b.again;
-  first = if_none_map old.broken ((offset ≡ new.offset) × IsTrue new.failed) (offset ≡ old.offset) (λ h. h.0 ∙ same) b.first;
-  after = some_is new.broken offset b.after;
-  failed = b.failed;
-  can_fail = b.can_fail;
-}
-LooksAtRest-fault block old new Memory known h = (h.0, h.1, known)
-LooksAtRest-fault block old new Write known h = absurd h
-LooksAtRest-fault block old new (Refused refusal) known h = absurd h
-
 -- a read fails in a block that is skipped
-pub SkipsRest-fault : (block : Block) (n : ℕ) (old new : State) (fault : Fault) → 12 ≤ old.room → old.broken ≡ None
+pub SkipsRest-fault : (block : Block) (n : ℕ) (old new : State) (fault : Fault) → 12 ≤ old.room
     → Skips n old (Err fault) new → SkipsRest block old (Err fault) new
-SkipsRest-fault block n old new (Read file offset) room whole (b, later) =
-    (b.file_is, whole, some_is new.broken offset b.after, b.failed, b.can_fail)
-SkipsRest-fault block n old new Memory room whole h = omega (arith, h.1)
-SkipsRest-fault block n old new Write room whole h = absurd h
-SkipsRest-fault block n old new (Refused refusal) room whole h = absurd h
+SkipsRest-fault block n old new (Read file offset) room (b, later) = (some_is new.broken offset b.after, b.failed, b.can_fail)
+SkipsRest-fault block n old new Memory room h = absurd (omega (arith, h.1))
+SkipsRest-fault block n old new Write room h = absurd h
+SkipsRest-fault block n old new (Refused refusal) room h = absurd h
 
 -- it is told with the block's own offset
-pub LooksAtRest-told : (block : Block) (old new : State) (answer : Result (Option Rule) Fault) → block.offset ≡ old.offset
-    → SkipsRest block old answer new → LooksAtRest block old (told_at block.offset answer) new
-LooksAtRest-told block old new (Ok fault) at s = s
-LooksAtRest-told block old new (Err (Read file offset)) at s = record {
-  file_is = s.0;
-  again = if_some old.broken (λ first. block.offset ≡ first) s.1;
-  first = if_none old.broken (block.offset ≡ old.offset) s.1 at;
-  after = s.2;
-  failed = s.3;
-  can_fail = s.4;
+pub Fails-told : (block : Block) (old mid new : State) (file : ℕ) (fault : Fault) → block.offset ≡ old.offset → old.broken ≡ None
+    → SkipsRest block old (Err fault) mid → mid.file ≡ old.file → FailsAt block.offset mid new → file ≡ new.file → Fails old file block.offset new
+Fails-told block old mid new file fault at whole s same f is = record {
+  file_is = is ∙ (f.file ∙ same);
+  again = if_some old.broken (λ first. block.offset ≡ first) whole;
+  first = if_none old.broken (block.offset ≡ old.offset) whole at;
+  after = f.broken;
+  failed = f.failed ∙ s.1;
+  can_fail = s.2;
 }
-LooksAtRest-told block old new (Err Memory) at s = absurd s
-LooksAtRest-told block old new (Err Write) at s = absurd s
-LooksAtRest-told block old new (Err (Refused refusal)) at s = absurd s

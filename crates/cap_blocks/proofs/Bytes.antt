@@ -6,7 +6,6 @@ use Rattle.cap_bytes.specs.declared.numbers.Order.{Order}
 use Rattle.cap_bytes.specs.declared.numbers.Order.TheVariants.{Big, Little}
 use Rattle.cap_blocks.specs.Grammar.{section_kind, order_magic}
 use Rattle.cap_blocks.specs.Split.{AreBytes}
-use Rattle.cap_blocks.proofs.Faults.{number-drop_append}
 
 -- the four bytes of a section header's kind
 big_kind : (a b c d : ℕ) → a < 256 → b < 256 → c < 256 → d < 256
@@ -45,10 +44,3 @@ magic_one bytes fits big little =
 
 pub AreBytes-drop : (n : ℕ) (bytes : List ℕ) → AreBytes bytes → AreBytes (drop n bytes)
 AreBytes-drop n bytes fits k = rw get_or-drop (fits (n + k))
-
--- a number in the first n bytes
-pub number-drop_take : (order : Order) (k i n : ℕ) (xs : List ℕ) → i + k ≤ n → n ≤ length xs
-    → number order k (drop i (take n xs)) ≡ number order k (drop i xs)
-number-drop_take order k i n xs h within =
-    sym (number-drop_append order k i (take n xs) (drop n xs) (omega (arith, length-take-le n xs within)))
-    ∙ ap (λ l. number order k (drop i l)) (take-append-drop n xs)

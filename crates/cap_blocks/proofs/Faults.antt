@@ -6,21 +6,12 @@ use Rattle.cap_bytes.specs.Number.{number}
 use Rattle.cap_bytes.specs.declared.faults.Rule.{Rule}
 use Rattle.cap_bytes.specs.declared.faults.Rule.TheVariants.{Cut, BlockLength, OrderMagic, FileLimit}
 use Rattle.cap_bytes.specs.declared.faults.Tail.{Tail}
-use Rattle.cap_bytes.specs.declared.faults.Tail.TheVariants.{Accept}
 use Rattle.cap_bytes.specs.declared.numbers.Order.{Order}
 use Rattle.cap_bytes.specs.declared.numbers.Order.TheVariants.{Big}
-use Rattle.cap_bytes.proofs.Spelling.{number-append}
+use Rattle.cap_bytes.proofs.Items.{stop_where-whole, no_fault}
+use Rattle.cap_bytes.proofs.Spelling.{number-append, number-drop_append}
 use Rattle.cap_blocks.specs.Grammar.{section_kind, is_total, is_known}
-use Rattle.cap_blocks.specs.Reader.{IsStopAt}
-use Rattle.cap_blocks.specs.Split.{kind_at, total_at, is_section, is_ordered, order_at, or_else, first_fault, head_fault, front_fault, rest_fault, block_fault, block_at, stop_by, stop_at}
-use Rattle.cap_blocks.specs.declared.blocks.Stop.TheVariants as stops
-
--- a number further on reads no byte past its end
-pub number-drop_append : (order : Order) (k i : ℕ) (xs ys : List ℕ) → i + k ≤ length xs
-    → number order k (drop i (xs ++ ys)) ≡ number order k (drop i xs)
-number-drop_append order k i xs ys h =
-    ap (number order k) (drop-append-le i xs ys (omega arith))
-    ∙ number-append order k (drop i xs) ys (omega (arith, length-drop i xs))
+use Rattle.cap_blocks.specs.Split.{kind_at, total_at, is_section, is_ordered, order_at, or_else, first_fault, head_fault, front_fault, rest_fault, block_fault, block_at, stop_at}
 
 -- what a total length that a kind allows is
 pub total-least : (kind total : ℕ) → is_total kind total ≡ true → 12 ≤ total
@@ -81,10 +72,6 @@ HeadFits-from_none order offset bytes h = record {
 }
 
 -- the conditions of a first block come before those of its first 12 bytes
-pub front_fault-first : (section : Option Order) (offset : ℕ) (bytes : List ℕ) (rule : Rule) → first_fault section bytes ≡ Some rule
-    → front_fault section offset bytes ≡ Some rule
-front_fault-first section offset bytes rule is = rw is refl
-
 pub front_fault-head : (section : Option Order) (offset : ℕ) (bytes : List ℕ) → first_fault section bytes ≡ None
     → front_fault section offset bytes ≡ head_fault (order_at section bytes) offset bytes
 front_fault-head section offset bytes is = rw is refl
@@ -108,10 +95,6 @@ HeadFits-from_front section offset bytes h =
 -- there are as many
 lt-ltb-false : (n : ℕ) → 12 ≤ n → nat_lt n 12 ≡ false
 lt-ltb-false n h = grind (arith, nat_tests)
-
-pub not_empty : (b : Bool) (n : ℕ) → 0 < n → (b && (n == 0)) ≡ false
-not_empty true n h = grind (arith, nat_tests)
-not_empty false n h = refl
 
 -- The first 12 bytes tell all of that.
 order_same : (section : Option Order) (xs zs : List ℕ) → ((order : Order) → number order 4 zs ≡ number order 4 xs)
@@ -174,44 +157,16 @@ pub block_fault-rest : (section : Option Order) (offset : ℕ) (bytes : List ℕ
 unfolding block_fault
 block_fault-rest section offset bytes fault none is = rw (none, is) refl
 
-pub stop_at-end : (section : Option Order) (tail : Tail) (file offset : ℕ) → IsSome section → stop_at section tail file offset [] ≡ Some stops.End
-unfolding stop_at
-stop_at-end None tail file offset some = absurd (cc)
-stop_at-end (Some section) tail file offset some = refl
-
-pub stop_at-fault : (section : Option Order) (tail : Tail) (file offset : ℕ) (bytes : List ℕ) (rule : Rule)
-    → (is_some section && (length bytes == 0)) ≡ false → block_fault section offset bytes ≡ Some rule
-    → stop_at section tail file offset bytes ≡ Some (stop_by section tail file offset rule)
-unfolding stop_at
-stop_at-fault section tail file offset bytes rule some is = rw (some, is) refl
-
+-- nothing ends the blocks where a whole one stands
 pub stop_at-whole : (section : Option Order) (tail : Tail) (file offset : ℕ) (bytes : List ℕ) → 0 < length bytes
     → block_fault section offset bytes ≡ None → stop_at section tail file offset bytes ≡ None
-unfolding stop_at
 stop_at-whole section tail file offset bytes some is =
-    let there : (is_some section && (length bytes == 0)) ≡ false = not_empty (is_some section) (length bytes) some in
-    rw (there, is) refl
-
--- a rule is told with its file and place
-pub IsStopAt-stop_by : (section : Option Order) (tail : Tail) (file offset : ℕ) (rule : Rule)
-    → IsStopAt section tail file offset (stop_by section tail file offset rule)
-IsStopAt-stop_by None tail file offset rule = (refl, refl, λ some accept cut. absurd (cc))
-IsStopAt-stop_by (Some section) Accept file offset Cut = (refl, refl)
-IsStopAt-stop_by (Some section) tail file offset rule = (refl, refl, λ some accept cut. cc)
-
--- nothing ends the blocks where a whole one stands
-none_of : (section : Option Order) (tail : Tail) (file offset : ℕ) (bytes : List ℕ) (empty : Bool) (fault : Option Rule)
-    → (is_some section && (length bytes == 0)) ≡ empty → block_fault section offset bytes ≡ fault
-    → stop_at section tail file offset bytes ≡ None → block_fault section offset bytes ≡ None
-unfolding stop_at
-none_of section tail file offset bytes true fault empty is h = let e = rw empty at h in absurd (cc)
-none_of section tail file offset bytes false None empty is h = is
-none_of section tail file offset bytes false (Some rule) empty is h = let e = rw (empty, is) at h in absurd (cc)
+    stop_where-whole (is_some section) tail file offset bytes (block_fault section offset bytes) some is
 
 pub block_fault-from_none : (section : Option Order) (tail : Tail) (file offset : ℕ) (bytes : List ℕ)
     → stop_at section tail file offset bytes ≡ None → block_fault section offset bytes ≡ None
 block_fault-from_none section tail file offset bytes h =
-    none_of section tail file offset bytes (is_some section && (length bytes == 0)) (block_fault section offset bytes) refl refl h
+    no_fault (is_some section) tail file offset bytes (block_fault section offset bytes) h
 
 pub faults-from_none : (section : Option Order) (offset : ℕ) (bytes : List ℕ) → block_fault section offset bytes ≡ None
     → (front_fault section offset bytes ≡ None) × (rest_fault (order_at section bytes) bytes ≡ None)

@@ -1,15 +1,18 @@
 -- What a window shows of a block.
 use Rattle.std.proofs.Common.{◌≡◌, ℕ, ◌==◌, ◌&&◌, List, [], ◌∷◌, ◌++◌, length, Option, Some, None, is_some, IsSome, Bool, true, false, IsTrue, Ok, refl, sym, ◌∙◌, ap, arith, append-nil, length-append}
 use Rattle.std.proofs.lemmas.Bool.Decides.{nat_tests}
-use Rattle.cap_bytes.specs.Window.{State, Shows, Needs, Keeps, coming}
+use Rattle.cap_bytes.specs.Items.{stop_by}
+use Rattle.cap_bytes.specs.Sights.{SeesStop}
+use Rattle.cap_bytes.specs.Window.{State, Needs, Keeps, coming}
+use Rattle.cap_bytes.proofs.Sights.{all_shown, some_left, SeesStop-fault, SeesStop-end}
 use Rattle.cap_bytes.specs.declared.faults.Rule.{Rule}
 use Rattle.cap_bytes.specs.declared.faults.Tail.{Tail}
 use Rattle.cap_bytes.specs.declared.numbers.Order.{Order}
-use Rattle.cap_blocks.specs.Sights.{FindsOwnOrder, FindsOrder, IsFront, SeesFront, SeesStop}
-use Rattle.cap_blocks.specs.Split.{is_section, own_order, order_at, front_fault, block_at, stop_at, stop_by}
+use Rattle.cap_blocks.specs.Sights.{FindsOwnOrder, FindsOrder, IsFront, SeesFront}
+use Rattle.cap_blocks.specs.Split.{is_section, own_order, order_at, front_fault, block_fault, block_at}
 use Rattle.cap_blocks.specs.declared.blocks.Block.{Block}
-use Rattle.cap_blocks.specs.declared.blocks.Stop.TheVariants as stops
-use Rattle.cap_blocks.proofs.Faults.{total-least, HeadFits-from_front, front_fault-append, block_at-append, block_fault-front, stop_at-end, stop_at-fault, IsStopAt-stop_by, not_empty}
+use Rattle.cap_bytes.specs.declared.stops.Stop.TheVariants as stops
+use Rattle.cap_blocks.proofs.Faults.{total-least, HeadFits-from_front, front_fault-append, block_at-append, block_fault-front}
 
 -- a section header's order is its own
 pub FindsOrder-own : (section : Option Order) (bytes : List ℕ) (found : Option Order) → order_at section bytes ≡ own_order bytes
@@ -33,10 +36,6 @@ IsFront-at section offset bytes none =
       limit = f.limit;
     }
 
--- where the input ends, what is shown is all that comes
-pub all_shown : (old new : State) → Shows old new → (IsTrue old.told → new.unread ≡ []) → IsTrue old.told → coming old ≡ new.shown
-all_shown old new s none t = sym (s.coming_same t) ∙ (ap (λ l. new.shown ++ l) (none t) ∙ append-nil new.shown)
-
 -- the first 12 bytes of a block are shown
 pub SeesFront-parsed : (there : Bool) (section : Option Order) (old new : State) (block : Block) → Needs 12 old (Ok there) new → Keeps old new
     → front_fault section old.offset new.shown ≡ None → block ≡ block_at section old.offset new.shown → SeesFront section block old new
@@ -53,21 +52,15 @@ SeesFront-parsed false section old new block n k none is =
 -- no block is there, since its first 12 bytes are refused
 pub SeesStop-front : (there : Bool) (section : Option Order) (tail : Tail) (old new : State) (rule : Rule) → Needs 12 old (Ok there) new
     → (is_some section && (length new.shown == 0)) ≡ false → front_fault section old.offset new.shown ≡ Some rule
-    → SeesStop section tail (stop_by section tail old.file old.offset rule) old new
-SeesStop-front true section tail old new rule n some fault = record {
-  goes = n.0.goes;
-  is_stop = IsStopAt-stop_by section tail old.file old.offset rule;
-  told_stop = λ t. ap (stop_at section tail old.file old.offset) (sym (n.0.coming_same t))
-      ∙ stop_at-fault section tail old.file old.offset (coming new) rule
-      (not_empty (is_some section) (length (coming new)) (omega (arith, n.1, length-append new.shown new.unread)))
-      (block_fault-front section old.offset (coming new) rule (front_fault-append section old.offset new.shown new.unread n.1 ∙ fault));
-}
-SeesStop-front false section tail old new rule n some fault = record {
-  goes = n.0.goes;
-  is_stop = IsStopAt-stop_by section tail old.file old.offset rule;
-  told_stop = λ t. ap (stop_at section tail old.file old.offset) (all_shown old new n.0 n.2 t)
-      ∙ stop_at-fault section tail old.file old.offset new.shown rule some (block_fault-front section old.offset new.shown rule fault);
-}
+    → SeesStop (is_some section) (block_fault section old.offset (coming old)) tail (stop_by (is_some section) tail old.file old.offset rule) old new
+SeesStop-front true section tail old new rule n some fault =
+    SeesStop-fault (is_some section) _ tail rule old new n.0.goes (some_left (is_some section) old new n.0 (omega (arith, n.1)))
+    (λ t. ap (block_fault section old.offset) (sym (n.0.coming_same t))
+    ∙ block_fault-front section old.offset (coming new) rule (front_fault-append section old.offset new.shown new.unread n.1 ∙ fault))
+SeesStop-front false section tail old new rule n some fault =
+    SeesStop-fault (is_some section) _ tail rule old new n.0.goes
+    (λ t. ap (λ l. is_some section && (length l == 0)) (all_shown old new n.0 n.2 t) ∙ some)
+    (λ t. ap (block_fault section old.offset) (all_shown old new n.0 n.2 t) ∙ block_fault-front section old.offset new.shown rule fault)
 
 -- no block is there, since nothing is
 ends_now : (section : Option Order) (xs : List ℕ) → (is_some section && (length xs == 0)) ≡ true → IsSome section × (xs ≡ [])
@@ -75,13 +68,10 @@ ends_now None xs h = absurd (cc)
 ends_now (Some section) [] h = (refl, refl)
 ends_now (Some section) (x ∷ xs) h = absurd (grind (arith, nat_tests))
 
-pub SeesStop-end : (there : Bool) (section : Option Order) (tail : Tail) (old new : State) → Needs 12 old (Ok there) new
-    → (is_some section && (length new.shown == 0)) ≡ true → SeesStop section tail stops.End old new
-SeesStop-end true section tail old new n ends = absurd (omega (arith, n.1, ap length (ends_now section new.shown ends).1))
-SeesStop-end false section tail old new n ends =
+pub SeesStop-none : (there : Bool) (section : Option Order) (tail : Tail) (old new : State) → Needs 12 old (Ok there) new
+    → (is_some section && (length new.shown == 0)) ≡ true
+    → SeesStop (is_some section) (block_fault section old.offset (coming old)) tail stops.End old new
+SeesStop-none true section tail old new n ends = absurd (omega (arith, n.1, ap length (ends_now section new.shown ends).1))
+SeesStop-none false section tail old new n ends =
     let e = ends_now section new.shown ends in
-    record {
-      goes = n.0.goes;
-      is_stop = e.0;
-      told_stop = λ t. ap (stop_at section tail old.file old.offset) (all_shown old new n.0 n.2 t ∙ e.1) ∙ stop_at-end section tail old.file old.offset e.0;
-    }
+    SeesStop-end (is_some section) _ tail old new n.0.goes e.0 (λ t. all_shown old new n.0 n.2 t ∙ e.1)

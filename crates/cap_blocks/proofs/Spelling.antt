@@ -5,11 +5,11 @@ use Rattle.std.proofs.lemmas.List.{drop-take}
 use Rattle.cap_bytes.specs.Number.{number}
 use Rattle.cap_bytes.specs.declared.numbers.Order.{Order}
 use Rattle.cap_bytes.specs.declared.numbers.Order.TheVariants.{Big, Little}
-use Rattle.cap_bytes.proofs.Spelling.{number-take}
+use Rattle.cap_bytes.proofs.Spelling.{number-take, number-drop_take}
 use Rattle.cap_blocks.specs.Grammar.{section_kind, order_magic, is_total, is_version, SpellsSection, SpellsBlock}
 use Rattle.cap_blocks.specs.Split.{kind_at, total_at, is_section, is_ordered, own_order, order_at, first_fault, front_fault, rest_fault, has_other_version, block_fault, body_in, body_at, Piece, piece_size, MayFollow, Begins, AreBytes}
 use Rattle.cap_blocks.proofs.Behind.{same, differs, there, rest_fault-whole, no_version, version_is}
-use Rattle.cap_blocks.proofs.Bytes.{kind_same, magic_one, AreBytes-drop, number-drop_take}
+use Rattle.cap_blocks.proofs.Bytes.{kind_same, magic_one, AreBytes-drop}
 use Rattle.cap_blocks.proofs.Faults.{HeadFits, HeadFits-from_front, head_fault-fits, front_fault-head, block_fault-rest, faults-from_none, first_fault-section, total-least, total-section, or_else-none}
 
 -- the piece at the front of some bytes

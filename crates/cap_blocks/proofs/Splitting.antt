@@ -2,17 +2,18 @@
 use Rattle.std.proofs.Common.{◌≡◌, ℕ, zero, suc, IsSome, false, length-drop, ◌+◌, ◌≤◌, ◌<◌, ◌==◌, ◌&&◌, List, [], ◌∷◌, ◌++◌, length, take, drop, Option, Some, None, is_some, refl, sym, ◌∙◌, ap, subst, arith}
 use Rattle.std.proofs.lemmas.Bool.Decides.{nat_tests}
 use Rattle.std.proofs.lemmas.List.{take_at, drop_at}
+use Rattle.cap_bytes.specs.Items.{given, stopped}
 use Rattle.cap_bytes.specs.Number.{number}
 use Rattle.cap_bytes.specs.declared.faults.Tail.{Tail}
 use Rattle.cap_bytes.specs.declared.faults.Tail.TheVariants.{Refuse}
 use Rattle.cap_bytes.specs.declared.numbers.Order.{Order}
-use Rattle.cap_bytes.proofs.Spelling.{number-lt}
+use Rattle.cap_bytes.proofs.Spelling.{number-lt, number-drop_append}
 use Rattle.cap_blocks.specs.Grammar.{SpellsBlock}
 use Rattle.cap_blocks.specs.Laws.{OneBlock, OneSplit, EverySplit, SplitItems, ItemsAtFault, ItemsAtBlock, BlockRead, BlockThere, block_of}
-use Rattle.cap_blocks.specs.Split.{block_at, Piece, piece_size, MayFollow, Begins, Splits, AreBytes, stop_at, given, stopped, items_from}
-use Rattle.cap_blocks.specs.declared.blocks.Stop.{Stop}
+use Rattle.cap_blocks.specs.Split.{block_at, Piece, piece_size, MayFollow, Begins, Splits, AreBytes, stop_at, items_from}
+use Rattle.cap_bytes.specs.declared.stops.Stop.{Stop}
 use Rattle.cap_blocks.proofs.Bytes.{AreBytes-drop}
-use Rattle.cap_blocks.proofs.Faults.{number-drop_append, block_fault-from_none, faults-from_none, HeadFits-from_front, stop_at-whole}
+use Rattle.cap_blocks.proofs.Faults.{block_fault-from_none, faults-from_none, HeadFits-from_front, stop_at-whole}
 use Rattle.cap_blocks.proofs.Items.{items_from-stop, items_from-fault, items_from-block}
 use Rattle.cap_blocks.proofs.Spelling.{piece_at, Begins-at, Reads, Reads-spelled, plain}
 

@@ -1,6 +1,7 @@
 -- What is true of the grammar of pcapng files, whatever reads or writes them.
-use Rattle.std.specs.Prelude.{◌≡◌, ◌==◌, if◌then◌else◌, ◌+◌, ◌*◌, ◌^◌, ◌≤◌, ◌<◌, ℕ, List, [], ◌∷◌, ◌++◌, length, drop, take, Option, Some, None, IsSome, Ok}
+use Rattle.std.specs.Prelude.{◌≡◌, ◌==◌, if◌then◌else◌, ◌+◌, ◌*◌, ◌^◌, ◌≤◌, ◌<◌, ℕ, List, [], ◌∷◌, ◌++◌, length, drop, take, Option, Some, None, is_some, IsSome, Ok}
 use Rattle.std.specs.Int.{w64, cast_unsigned}
+use Rattle.cap_bytes.specs.Items.{stop_by, Item, given, stopped}
 use Rattle.cap_bytes.specs.Number.{number, bytes_of}
 use Rattle.cap_bytes.specs.declared.numbers.Order.{Order}
 use Rattle.cap_bytes.specs.declared.faults.Rule.{Rule}
@@ -9,10 +10,10 @@ use Rattle.cap_time.specs.Resolution.{code_of}
 use Rattle.cap_time.specs.declared.resolutions.Interface.{Interface}
 use Rattle.cap_blocks.specs.Grammar.{section_kind, interface_kind, enhanced_kind, SpellsBlock, section_body, section_text, interface_body, interface_text, packet_body, packet_text}
 use Rattle.cap_blocks.specs.OptionList.{OptionItem, options_of}
-use Rattle.cap_blocks.specs.Split.{Piece, piece_size, MayFollow, Begins, Splits, AreBytes, order_at, total_at, body_at, block_fault, block_at, stop_by, stop_at, Item, given, stopped, items_from}
+use Rattle.cap_blocks.specs.Split.{Piece, piece_size, MayFollow, Begins, Splits, AreBytes, order_at, total_at, body_at, block_fault, block_at, stop_at, items_from}
 use Rattle.cap_blocks.specs.declared.blocks.Block.{Block}
-use Rattle.cap_blocks.specs.declared.blocks.Stop.{Stop}
-use Rattle.cap_blocks.specs.declared.blocks.Stop.TheVariants as stops
+use Rattle.cap_bytes.specs.declared.stops.Stop.{Stop}
+use Rattle.cap_bytes.specs.declared.stops.Stop.TheVariants as stops
 
 -- the block that a piece is, which begins at that offset
 abbrev pub block_of : ℕ → Piece → Block
@@ -57,7 +58,7 @@ section_behind section [] = section
 section_behind section (piece ∷ pieces) = section_behind (Some piece.order) pieces
 
 -- the items of some pieces, and what ends them
-abbrev pub items_with : ℕ → List Piece → Stop → List Item
+abbrev pub items_with : ℕ → List Piece → Stop → List (Item Block)
 items_with offset [] stop = stopped stop ∷ []
 items_with offset (piece ∷ pieces) stop =
     given (block_of offset piece) piece.body ∷ items_with (offset + piece_size piece) pieces stop
@@ -86,7 +87,7 @@ abbrev pub ItemsAtFault : Type 0
 ItemsAtFault =
     (section : Option Order) (tail : Tail) (file offset : ℕ) (bytes : List ℕ) (rule : Rule)
     → (IsSome section → bytes ≡ [] → ⊥) → block_fault section offset bytes ≡ Some rule
-    → items_from section tail file offset bytes ≡ stopped (stop_by section tail file offset rule) ∷ []
+    → items_from section tail file offset bytes ≡ stopped (stop_by (is_some section) tail file offset rule) ∷ []
 
 abbrev pub ItemsAtBlock : Type 0
 ItemsAtBlock =

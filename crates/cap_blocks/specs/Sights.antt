@@ -1,18 +1,16 @@
 -- What is seen at the front of the bytes that a window shows.
-use Rattle.std.specs.Prelude.{◌≡◌, ◌&&◌, not, true, false, Bool, ◌≤◌, ◌<◌, ◌+◌, ◌^◌, ℕ, List, length, drop, IsTrue, Option, Some, None, IfSome, IfNone, IsSome, Result, Ok, Err}
+use Rattle.std.specs.Prelude.{◌≡◌, ◌&&◌, not, true, false, Bool, ◌≤◌, ◌<◌, ◌+◌, ◌^◌, ℕ, List, length, drop, IsTrue, Option, Some, None, is_some, IsSome, Result, Ok, Err, ⊤}
+use Rattle.cap_bytes.specs.Sights.{FailsBy, LooksFor}
 use Rattle.cap_bytes.specs.Window.{State, Goes, Shows, coming}
 use Rattle.cap_bytes.specs.declared.faults.Fault.{Fault}
 use Rattle.cap_bytes.specs.declared.faults.Fault.TheVariants.{Refused, Read, Write, Memory}
 use Rattle.cap_bytes.specs.declared.faults.Rule.{Rule}
 use Rattle.cap_bytes.specs.declared.faults.Tail.{Tail}
 use Rattle.cap_bytes.specs.declared.numbers.Order.{Order}
+use Rattle.cap_bytes.specs.declared.stops.Stop.{Stop}
 use Rattle.cap_blocks.specs.Grammar.{is_known, is_total}
-use Rattle.cap_blocks.specs.Reader.{IsStopAt}
-use Rattle.cap_blocks.specs.Split.{kind_at, total_at, is_section, is_ordered, own_order, order_at, front_fault, rest_fault, block_at, stop_at, LacksRoom}
+use Rattle.cap_blocks.specs.Split.{kind_at, total_at, is_section, is_ordered, own_order, order_at, front_fault, rest_fault, block_fault, block_at, stop_at, LacksRoom}
 use Rattle.cap_blocks.specs.declared.blocks.Block.{Block}
-use Rattle.cap_blocks.specs.declared.blocks.Stop.{Stop}
-use Rattle.cap_blocks.specs.declared.blocks.Sight.{Sight}
-use Rattle.cap_blocks.specs.declared.blocks.Sight.TheVariants.{Whole, Stopped}
 
 -- the order in which the order magic of a section header reads, if it does in either
 abbrev pub FindsOwnOrder : List ℕ → Option Order → Type 0
@@ -49,15 +47,6 @@ pub record Stays (old new : State) : Type 0 where
   pub room : old.room ≤ new.room
   pub held : new.held ≤ 524288
 
--- A read fails while a block is looked for, or failed before.
-pub record Fails (old : State) (file offset : ℕ) (new : State) : Type 0 where
-  pub file_is : file ≡ old.file
-  pub again : IfSome old.broken (λ first. offset ≡ first)
-  pub first : IfNone old.broken (offset ≡ old.offset)
-  pub after : IsSome new.broken
-  pub failed : IsTrue new.failed
-  pub can_fail : IsTrue old.can_fail
-
 -- The first 12 bytes of a block are shown.
 pub record SeesFront (section : Option Order) (block : Block) (old new : State) : Type 0 where
   pub shows : Shows old new
@@ -66,20 +55,10 @@ pub record SeesFront (section : Option Order) (block : Block) (old new : State) 
   pub none : IsTrue old.told → front_fault section old.offset (coming old) ≡ None
   pub block_is : IsTrue old.told → block ≡ block_at section old.offset (coming old)
 
--- No block is there.
-pub record SeesStop (section : Option Order) (tail : Tail) (stop : Stop) (old new : State) : Type 0 where
-  pub goes : Goes old new
-  pub is_stop : IsStopAt section tail old.file old.offset stop
-  pub told_stop : IsTrue old.told → stop_at section tail old.file old.offset (coming old) ≡ Some stop
-
 -- what a look at the first 12 bytes answers
 abbrev pub LooksAtFront : Option Order → Tail → State → Result (Result Block Stop) Fault → State → Type 0
-LooksAtFront section tail old (Ok (Ok block)) new = SeesFront section block old new
-LooksAtFront section tail old (Ok (Err stop)) new = SeesStop section tail stop old new
-LooksAtFront section tail old (Err (Read file offset)) new = Fails old file offset new
-LooksAtFront section tail old (Err Memory) new = Shows old new × (old.room < 12)
-LooksAtFront section tail old (Err Write) new = ⊥
-LooksAtFront section tail old (Err (Refused refusal)) new = ⊥
+LooksAtFront section tail old result new =
+    LooksFor (λ block. SeesFront section block old new) (is_some section) (block_fault section old.offset (coming old)) 12 ⊤ tail old result new
 
 -- A block of a known kind is shown whole, and one of another kind is passed.
 abbrev pub Leaves : Bool → ℕ → State → State → Type 0
@@ -97,24 +76,13 @@ pub record SeesRest (block : Block) (fault : Option Rule) (old new : State) : Ty
 -- what a look at the rest of a block answers
 abbrev pub LooksAtRest : Block → State → Result (Option Rule) Fault → State → Type 0
 LooksAtRest block old (Ok fault) new = SeesRest block fault old new
-LooksAtRest block old (Err (Read file offset)) new = Fails old file offset new
-LooksAtRest block old (Err Memory) new = Shows old new × (old.room < block.total) × (is_known block.kind ≡ true)
-LooksAtRest block old (Err Write) new = ⊥
-LooksAtRest block old (Err (Refused refusal)) new = ⊥
+LooksAtRest block old (Err fault) new = FailsBy 524288 ((is_known block.kind ≡ true) × (old.room < block.total)) old fault new
 
--- the same of a block that is skipped, where a read may fail behind the block's beginning
+-- the same of a block that is skipped, where no fault but that of a read comes, which may fail behind the block's
+-- beginning
 abbrev pub SkipsRest : Block → State → Result (Option Rule) Fault → State → Type 0
 SkipsRest block old (Ok fault) new = SeesRest block fault old new
-SkipsRest block old (Err (Read file offset)) new =
-    (file ≡ old.file) × (old.broken ≡ None) × IsSome new.broken × IsTrue new.failed × IsTrue old.can_fail
-SkipsRest block old (Err Memory) new = ⊥
-SkipsRest block old (Err Write) new = ⊥
-SkipsRest block old (Err (Refused refusal)) new = ⊥
-
--- a read that failed is told with that offset
-abbrev pub told_at : ℕ → Result (Option Rule) Fault → Result (Option Rule) Fault
-told_at offset (Err (Read file later)) = Err (Read file offset)
-told_at offset answer = answer
+SkipsRest block old (Err fault) new = IsSome new.broken × IsTrue new.failed × IsTrue old.can_fail
 
 -- A block is there.
 pub record SeesBlock (section : Option Order) (tail : Tail) (block : Block) (old new : State) : Type 0 where
@@ -128,11 +96,7 @@ pub record SeesBlock (section : Option Order) (tail : Tail) (block : Block) (old
   pub block_is : IsTrue old.told → block ≡ block_at section old.offset (coming old)
 
 -- what a look for a block answers
-abbrev pub LooksForBlock : Option Order → Tail → State → Result Sight Fault → State → Type 0
-LooksForBlock section tail old (Ok (Whole block)) new = SeesBlock section tail block old new
-LooksForBlock section tail old (Ok (Stopped stop)) new = SeesStop section tail stop old new
-LooksForBlock section tail old (Err (Read file offset)) new = Fails old file offset new
-LooksForBlock section tail old (Err Memory) new =
-    Shows old new × (old.room < 524288) × (IsTrue old.told → LacksRoom section old.offset (coming old) old.room)
-LooksForBlock section tail old (Err Write) new = ⊥
-LooksForBlock section tail old (Err (Refused refusal)) new = ⊥
+abbrev pub LooksForBlock : Option Order → Tail → State → Result (Result Block Stop) Fault → State → Type 0
+LooksForBlock section tail old result new =
+    LooksFor (λ block. SeesBlock section tail block old new) (is_some section) (block_fault section old.offset (coming old))
+    524288 (LacksRoom section old.offset (coming old) old.room) tail old result new

@@ -1,16 +1,15 @@
 -- How a file splits into its blocks and a rest, and what the rest is refused by.
 use Rattle.std.specs.Prelude.{◌≡◌, ◌≢◌, ◌==◌, ◌&&◌, ◌⊎◌, not, ℕ, zero, suc, ◌+◌, ◌-◌, ◌^◌, ◌≤◌, ◌<◌, nat_lt, if◌then◌else◌, Bool, true, List, [], ◌∷◌, length, take, drop, slice_index, Option, Some, None, is_some, option_map}
+use Rattle.cap_bytes.specs.Items.{stop_where, Item, Format, items_in}
 use Rattle.cap_bytes.specs.Number.{number}
 use Rattle.cap_bytes.specs.declared.faults.Rule.{Rule}
 use Rattle.cap_bytes.specs.declared.faults.Rule.TheVariants.{Magic, Version, Cut, BlockLength, BlockTrailer, OrderMagic, FileLimit}
 use Rattle.cap_bytes.specs.declared.faults.Tail.{Tail}
-use Rattle.cap_bytes.specs.declared.faults.Tail.TheVariants.{Accept}
 use Rattle.cap_bytes.specs.declared.numbers.Order.{Order}
 use Rattle.cap_bytes.specs.declared.numbers.Order.TheVariants.{Big, Little}
+use Rattle.cap_bytes.specs.declared.stops.Stop.{Stop}
 use Rattle.cap_blocks.specs.Grammar.{section_kind, order_magic, is_known, is_total, is_version, SpellsBlock}
 use Rattle.cap_blocks.specs.declared.blocks.Block.{Block}
-use Rattle.cap_blocks.specs.declared.blocks.Stop.{Stop}
-use Rattle.cap_blocks.specs.declared.blocks.Stop.TheVariants as stops
 
 -- the kind and the total length of the block at the front
 abbrev pub kind_at : Order → List ℕ → ℕ
@@ -100,42 +99,26 @@ body_in total bytes = take (total - 12) (drop 8 bytes)
 abbrev pub body_at : Option Order → List ℕ → List ℕ
 body_at section bytes = body_in (total_at (order_at section bytes) bytes) bytes
 
--- What ends the blocks where a rule is broken: a rest that is cut is dropped where that is asked for, but
--- never within the first section header.
-abbrev pub stop_by : Option Order → Tail → ℕ → ℕ → Rule → Stop
-stop_by (Some section) Accept file offset Cut = stops.Cut
-stop_by section tail file offset rule = stops.Refused (record { file = file; offset = offset; rule = rule })
-
 -- What ends the blocks at some bytes, if anything does: none are left behind a whole block, or a rule is
--- broken.
-unfoldable pub stop_at : Option Order → Tail → ℕ → ℕ → List ℕ → Option Stop
-stop_at section tail file offset bytes =
-    if is_some section && (length bytes == 0) then Some stops.End else
-    option_map (stop_by section tail file offset) (block_fault section offset bytes)
+-- broken. A rest that is cut is never dropped within the first section header.
+abbrev pub stop_at : Option Order → Tail → ℕ → ℕ → List ℕ → Option Stop
+stop_at section tail file offset bytes = stop_where (is_some section) tail file offset bytes (block_fault section offset bytes)
 
--- what comes of a file: its blocks with their bodies, and in the end what ended them
-pub data Item : Type 0 where
-  given : Block → List ℕ → Item
-  stopped : Stop → Item
-
--- what comes where something ends the blocks, and where nothing does
-abbrev pub item_or : Option Stop → Item → List Item → List Item
-item_or (Some stop) item rest = stopped stop ∷ []
-item_or None item rest = item ∷ rest
-
--- the items of some bytes that begin at `offset`, as far as `fuel` goes
-unfoldable pub items_by : ℕ → Option Order → Tail → ℕ → ℕ → List ℕ → List Item
-items_by zero section tail file offset bytes = []
-items_by (suc fuel) section tail file offset bytes =
-    let order = order_at section bytes in
-    let total = total_at order bytes in
-    item_or (stop_at section tail file offset bytes) (given (block_at section offset bytes) (body_at section bytes))
-    (items_by fuel (Some order) tail file (offset + total) (drop total bytes))
+-- how a file goes on, in a section of that order; before the first, in none
+abbrev pub blocks : Format (Option Order) Block
+blocks =
+    record {
+      stop = stop_at;
+      piece = block_at;
+      lent = body_at;
+      size = λ section bytes. total_at (order_at section bytes) bytes;
+      next = λ section bytes. Some (order_at section bytes);
+    }
 
 -- The items of some bytes that begin at `offset`, in a section of that order; of a whole file, in none
 -- and from 0 on.
-unfoldable pub items_from : Option Order → Tail → ℕ → ℕ → List ℕ → List Item
-items_from section tail file offset bytes = items_by (suc (length bytes)) section tail file offset bytes
+abbrev pub items_from : Option Order → Tail → ℕ → ℕ → List ℕ → List (Item Block)
+items_from section tail file offset bytes = items_in blocks section tail file offset bytes
 
 -- A piece of a file: a block's order, kind and body.
 pub record Piece : Type 0 where

@@ -1,9 +1,8 @@
 //! Blocks, and what ends them. draft-ietf-opsawg-pcapng, 3.1.
 ghost use Rattle.std.specs.Prelude.{◌≡◌};
 ghost use Rattle.cap_blocks.specs.Grammar.{is_known, least_total, is_total, is_version};
-ghost use Rattle.cap_blocks.specs.Split.{stop_by};
 
-use cap_bytes::{Fault, Order, Refusal, Rule, Tail};
+use cap_bytes::Order;
 
 /// The kind of a section header, which reads the same in both orders.
 pub const SECTION: u32 = 0x0A0D_0D0A;
@@ -36,50 +35,6 @@ pub struct Block {
     pub total: u32,
     /// The order of the numbers in it, which is that of its section.
     pub order: Order,
-}
-
-/// What ended the blocks of a file.
-#[derive(Clone, Copy, Debug, PartialEq, Eq)]
-pub enum Stop {
-    /// No bytes were left.
-    End,
-    /// The bytes that were left were no whole block, and were dropped.
-    Cut,
-    /// The bytes that were left are refused.
-    Refused(Refusal),
-}
-
-impl Stop {
-    ghost use Rattle.cap_blocks.specs.Reader.{answer_of};
-
-    /// What a call for a block answers from then on.
-    pub fn answer(self) -> Result<Option<Block>, Fault>
-        ensures { result ≡ answer_of self }
-    {
-        match self {
-            Stop::End | Stop::Cut => Ok(None),
-            Stop::Refused(refusal) => Err(Fault::Refused(refusal)),
-        }
-    }
-}
-
-/// What stands at the front of the bytes to come.
-#[derive(Clone, Copy, Debug, PartialEq, Eq)]
-pub enum Sight {
-    /// A whole block.
-    Whole(Block),
-    /// Nothing more is given.
-    Stopped(Stop),
-}
-
-/// What ends the blocks where a rule is broken.
-pub fn stop_of(section: Option<Order>, tail: Tail, file: u32, offset: u64, rule: Rule) -> Stop
-    ensures { result ≡ stop_by section tail file offset rule }
-{
-    match (section, tail, rule) {
-        (Some(_), Tail::Accept, Rule::Cut) => Stop::Cut,
-        _ => Stop::Refused(Refusal { file, offset, rule }),
-    }
 }
 
 /// Whether blocks of a kind are known: section headers, interfaces and the three kinds of packets.

@@ -3,8 +3,8 @@ ghost use Rattle.std.specs.Prelude.{◌≡◌, ◌+◌, ◌≤◌, ◌^◌, ◌&
 ghost use Rattle.cap_blocks.specs.Sights.{FindsOwnOrder, FindsOrder, ParsesFront, LooksAtFront, Stays};
 ghost use Rattle.cap_blocks.specs.Split.{is_section, is_ordered, first_fault};
 
-use crate::blocks::{Block, FILE_LIMIT, ORDER_MAGIC, SECTION, Stop, is_total, stop_of};
-use cap_bytes::{Fault, Order, Rule, Source, Tail, Window, u32_at};
+use crate::blocks::{Block, FILE_LIMIT, ORDER_MAGIC, SECTION, is_total};
+use cap_bytes::{Fault, Order, Refusal, Rule, Source, Stop, Tail, Window, u32_at};
 
 /// How many bytes stand round the body of a block; its first ones tell its order and its total length.
 pub const FRAME_SIZE: usize = 12;
@@ -125,6 +125,6 @@ pub fn look_at_front<R: Source>(
     }
     match front_of(section, offset, window.bytes()) {
         Ok(block) => Ok(Ok(block)),
-        Err(rule) => Ok(Err(stop_of(section, tail, file, offset, rule))),
+        Err(rule) => Ok(Err(Stop::by(section.is_some(), tail, Refusal { file, offset, rule }))),
     }
 }

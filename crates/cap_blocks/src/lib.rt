@@ -10,7 +10,7 @@ mod rests;
 mod texts;
 mod writing;
 
-pub use crate::blocks::{Block, Stop};
+pub use crate::blocks::Block;
 pub use crate::options::Options;
 pub use crate::readers::BlockReader;
 pub use crate::writing::{put_interface, put_packet, put_section};

@@ -1,13 +1,14 @@
 //! A reader of pcapng files.
 ghost use Rattle.std.specs.Prelude.{◌≡◌, ◌↔◌, ◌≤◌, IsTrue, IsSome, Some};
-ghost use Rattle.cap_blocks.specs.Reader.{opened, Keeps, GivesNext, TakesItem, HasWindow, size_of, shown_size, told_first, broken_by};
+ghost use Rattle.cap_bytes.specs.Reader.{opened, Keeps, HasWindow};
+ghost use Rattle.cap_blocks.specs.Reader.{GivesNext, TakesItem, size_of, shown_size};
 ghost use Rattle.cap_blocks.specs.Grammar.{is_known};
 ghost use Rattle.cap_blocks.specs.Sights.{LooksForBlock, Stays};
 
-use crate::blocks::{Block, Sight, Stop, is_known, stop_of};
+use crate::blocks::{Block, is_known};
 use crate::fronts::{FRAME_SIZE, look_at_front};
 use crate::rests::look_at_rest;
-use cap_bytes::{Fault, Order, Source, Tail, Window};
+use cap_bytes::{Fault, Order, Refusal, Source, Stop, Tail, Window};
 use std::marker::Model;
 
 // How many bytes of a block stand in front of its body.
@@ -23,19 +24,19 @@ pub struct BlockReader<R: Source> {
     // the total length of the block that was given last, where the window still shows it
     given: Option<u32>,
     stop: Option<Stop>,
-    // where the block began at which a read failed
-    broken: Option<u64>,
 }
 
 impl<R: Source> Model for BlockReader<R> {
     ghost use Rattle.std.specs.Prelude.{length};
-    ghost use Rattle.cap_blocks.specs.Reader.{State, IsSound, state_of};
+    ghost use Rattle.cap_bytes.specs.Reader.{State};
+    ghost use Rattle.cap_bytes.specs.declared.numbers.Order.{Order};
+    ghost use Rattle.cap_blocks.specs.Reader.{IsSound, state_of};
 
-    ghost Value = { State };
+    ghost Value = { State Order };
 
-    ghost view = { λ r. state_of r.window r.tail r.section r.given r.stop r.broken };
+    ghost view = { λ r. state_of r.window r.tail r.section r.given r.stop };
 
-    ghost invariant = { λ r. IsSound r.given (length r.window.shown) r.window.offset r.window.held r.broken r.window.broken };
+    ghost invariant = { λ r. IsSound r.given (length r.window.shown) r.window.offset r.window.held };
 }
 
 // Looks for a block at the front of a window, which shows it whole then where its kind is known, and has
@@ -44,18 +45,19 @@ fn look_for_block<R: Source>(
     window: &mut Window<R>,
     section: Option<Order>,
     tail: Tail,
-) -> Result<Sight, Fault>
+) -> Result<Result<Block, Stop>, Fault>
     ensures answer { LooksForBlock section tail window.old result window.new }
     ensures stays { Stays window.old window.new }
 {
     let file = window.file();
     let block = match look_at_front(window, section, tail)? {
         Ok(block) => block,
-        Err(stop) => return Ok(Sight::Stopped(stop)),
+        Err(stop) => return Ok(Err(stop)),
     };
+    let offset = block.offset;
     match look_at_rest(window, block)? {
-        None => Ok(Sight::Whole(block)),
-        Some(rule) => Ok(Sight::Stopped(stop_of(section, tail, file, block.offset, rule))),
+        None => Ok(Ok(block)),
+        Some(rule) => Ok(Err(Stop::by(section.is_some(), tail, Refusal { file, offset, rule }))),
     }
 }
 
@@ -80,26 +82,6 @@ fn shown_of(block: Block) -> Option<u32>
     }
 }
 
-// A fault as it is told: a read that failed, with the offset that was told first.
-fn told_first(broken: Option<u64>, fault: Fault) -> Fault
-    ensures { result ≡ told_first broken fault }
-{
-    match (broken, fault) {
-        (Some(offset), Fault::Read { file, offset: _ }) => Fault::Read { file, offset },
-        (_, fault) => fault,
-    }
-}
-
-// Where a read failed, after a fault.
-fn broken_by(broken: Option<u64>, fault: Fault) -> Option<u64>
-    ensures { result ≡ broken_by broken fault }
-{
-    match fault {
-        Fault::Read { file: _, offset } => Some(offset),
-        _ => broken,
-    }
-}
-
 impl<R: Source> BlockReader<R> {
     /// A reader of the bytes that a window shows from now on. It reads nothing yet.
     pub fn new(window: Window<R>, tail: Tail) -> BlockReader<R>
@@ -113,7 +95,29 @@ impl<R: Source> BlockReader<R> {
             section: None,
             given: None,
             stop: None,
-            broken: None,
+        }
+    }
+
+    // Looks for the next block, behind the one that was given last.
+    fn read_block(&mut self) -> Result<Option<Block>, Fault>
+        ensures answer { GivesNext self.old result self.new }
+        ensures keeps { Keeps self.old self.new }
+    {
+        if let Some(stop) = self.stop {
+            return stop.answer();
+        }
+        self.window.pass(size_given(self.given));
+        self.given = None;
+        match look_for_block(&mut self.window, self.section, self.tail)? {
+            Ok(block) => {
+                self.section = Some(block.order);
+                self.given = shown_of(block);
+                Ok(Some(block))
+            }
+            Err(stop) => {
+                self.stop = Some(stop);
+                stop.answer()
+            }
         }
     }
 
@@ -127,33 +131,13 @@ impl<R: Source> BlockReader<R> {
         ensures keeps { Keeps self.old self.new }
         ensures items { IsTrue self.old.told → TakesItem self.old result self.new }
     {
-        if let Some(stop) = self.stop {
-            return stop.answer();
-        }
-        self.window.pass(size_given(self.given));
-        self.given = None;
-        match look_for_block(&mut self.window, self.section, self.tail) {
-            Ok(Sight::Whole(block)) => {
-                self.section = Some(block.order);
-                self.given = shown_of(block);
-                Ok(Some(block))
-            }
-            Ok(Sight::Stopped(stop)) => {
-                self.stop = Some(stop);
-                stop.answer()
-            }
-            Err(fault) => {
-                let fault = told_first(self.broken, fault);
-                self.broken = broken_by(self.broken, fault);
-                Err(fault)
-            }
-        }
+        self.read_block()
     }
 
     /// The body of the block that was given last, without the 8 bytes in front of it and the 4 behind.
     pub fn body(&self) -> &[u8]
-        requires known { IsSome self.now.body }
-        ensures body { self.now.body ≡ Some result.now }
+        requires known { IsSome self.now.lent }
+        ensures body { self.now.lent ≡ Some result.now }
     {
         let total = self.given.unwrap() as usize;
         let (_, behind) = self.window.bytes().split_at(HEAD_SIZE);

@@ -1,7 +1,7 @@
 //! The rest of a block, behind its first 12 bytes. draft-ietf-opsawg-pcapng, 3.1 and 4.1.
 ghost use Rattle.std.specs.Prelude.{◌≡◌, ◌≤◌, None, true, false, length};
 ghost use Rattle.cap_blocks.specs.Grammar.{is_known};
-ghost use Rattle.cap_blocks.specs.Sights.{IsFront, LooksAtRest, SkipsRest, Stays, told_at};
+ghost use Rattle.cap_blocks.specs.Sights.{IsFront, LooksAtRest, SkipsRest, Stays};
 ghost use Rattle.cap_blocks.specs.Split.{rest_fault};
 
 use crate::blocks::{Block, SECTION, is_known, is_version};
@@ -74,16 +74,16 @@ fn look_at_skipped<R: Source>(window: &mut Window<R>, block: Block) -> Result<Op
     ensures answer { LooksAtRest block window.old result window.new }
     ensures stays { Stays window.old window.new }
 {
-    told_at(block.offset, skip_rest(window, block))
-}
-
-// Tells a read that failed with that offset.
-fn told_at(offset: u64, answer: Result<Option<Rule>, Fault>) -> Result<Option<Rule>, Fault>
-    ensures { result ≡ told_at offset answer }
-{
-    match answer {
-        Err(Fault::Read { file, offset: _ }) => Err(Fault::Read { file, offset }),
-        answer => answer,
+    match skip_rest(window, block) {
+        Ok(fault) => Ok(fault),
+        Err(_) => {
+            let offset = block.offset;
+            window.fail_at(offset);
+            Err(Fault::Read {
+                file: window.file(),
+                offset,
+            })
+        }
     }
 }
 

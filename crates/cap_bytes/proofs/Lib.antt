@@ -1,4 +1,7 @@
+pub mod Items
 pub mod Lists
 pub mod Putting
+pub mod Readers
 pub mod Reading
+pub mod Sights
 pub mod Spelling

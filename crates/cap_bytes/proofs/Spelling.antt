@@ -1,5 +1,6 @@
 -- What the n bytes at the front of a list spell, and what spells a number.
-use Rattle.std.proofs.Common.{◌≡◌, ℕ, ◌^◌, ◌≤◌, ◌<◌, List, ◌++◌, length, take, slice_index, arith}
+use Rattle.std.proofs.Common.{◌≡◌, ℕ, ◌+◌, ◌^◌, ◌≤◌, ◌<◌, List, ◌++◌, length, take, drop, slice_index, sym, ◌∙◌, ap, arith, length-drop, length-take-le}
+use Rattle.std.proofs.lemmas.List.{drop-append-le, take-append-drop}
 use Rattle.byteorder.specs.Numbers.{big_from-append, big_from-lt, big_from-take, big_number-reads_back, length-bytes_high_first, length-bytes_low_first, little_from-append, little_from-lt, little_from-take, little_number-reads_back}
 use Rattle.cap_bytes.specs.Number.{number, bytes_of}
 use Rattle.cap_bytes.specs.declared.numbers.Order.{Order}
@@ -16,6 +17,20 @@ pub number-take : (order : Order) (n m : ℕ) (xs : List ℕ) → n ≤ m → nu
 unfolding number
 number-take Big n m xs few = big_from-take 0 n m xs (omega arith)
 number-take Little n m xs few = little_from-take 0 n m xs (omega arith)
+
+-- a number further on reads no byte past its end
+pub number-drop_append : (order : Order) (k i : ℕ) (xs ys : List ℕ) → i + k ≤ length xs
+    → number order k (drop i (xs ++ ys)) ≡ number order k (drop i xs)
+number-drop_append order k i xs ys h =
+    ap (number order k) (drop-append-le i xs ys (omega arith))
+    ∙ number-append order k (drop i xs) ys (omega (arith, length-drop i xs))
+
+-- a number in the first n bytes
+pub number-drop_take : (order : Order) (k i n : ℕ) (xs : List ℕ) → i + k ≤ n → n ≤ length xs
+    → number order k (drop i (take n xs)) ≡ number order k (drop i xs)
+number-drop_take order k i n xs h within =
+    sym (number-drop_append order k i (take n xs) (drop n xs) (omega (arith, length-take-le n xs within)))
+    ∙ ap (λ l. number order k (drop i l)) (take-append-drop n xs)
 
 -- n bytes spell a number below 256^n
 pub number-lt : (order : Order) (n : ℕ) (xs : List ℕ) → ((k : ℕ) → slice_index xs k < 256) → number order n xs < 256 ^ n

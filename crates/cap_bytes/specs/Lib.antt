@@ -1,8 +1,11 @@
 pub mod Calls
 pub mod Device
 pub mod Feed
+pub mod Items
 pub mod Number
 pub mod Printing
+pub mod Reader
 pub mod Rules
+pub mod Sights
 pub mod Tracked
 pub mod Window

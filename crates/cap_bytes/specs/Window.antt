@@ -126,6 +126,17 @@ Skips n old (Err Memory) new = Shows old new × (old.room < 12)
 Skips n old (Err Write) new = ⊥
 Skips n old (Err (Refused refusal)) new = ⊥
 
+-- A read that failed is told with that offset.
+pub record FailsAt (offset : ℕ) (old new : State) : Type 0 where
+  pub file : new.file ≡ old.file
+  pub offset_same : new.offset ≡ old.offset
+  pub told : new.told ≡ old.told
+  pub broken : new.broken ≡ Some offset
+  pub failed : new.failed ≡ old.failed
+  pub can_fail : IsTrue new.can_fail → IsTrue old.can_fail
+  pub held : new.held ≡ old.held
+  pub room : new.room ≡ old.room
+
 -- what a window's fields always meet
 pub record IsSound (start end length offset : ℕ) (broken : Option ℕ) (failed : Bool) : Type 0 where
   pub order : start ≤ end

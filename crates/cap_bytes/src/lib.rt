@@ -6,6 +6,7 @@ mod devices;
 mod faults;
 mod memory;
 mod numbers;
+mod stops;
 mod streams;
 mod windows;
 
@@ -13,6 +14,7 @@ pub use crate::devices::{Broken, Device, Sink, Source, put_all};
 pub use crate::faults::{Fault, Refusal, Rule, Tail};
 pub use crate::memory::{Pieces, Room};
 pub use crate::numbers::{Order, u16_at, u32_at, u64_at};
+pub use crate::stops::Stop;
 pub use crate::streams::Tracked;
 pub use crate::windows::Window;
 

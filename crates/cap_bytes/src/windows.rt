@@ -1,7 +1,7 @@
 //! A window over a reader: the one cursor by which bytes are read.
-ghost use Rattle.std.specs.Prelude.{◌≡◌, ℕ, ◌+◌, ◌^◌, ◌≤◌, ◌<◌, None, length};
+ghost use Rattle.std.specs.Prelude.{◌≡◌, ℕ, ◌+◌, ◌^◌, ◌≤◌, ◌<◌, IsSome, None, length};
 ghost use Rattle.cap_bytes.specs.Feed.{feed_of, IsWithin};
-ghost use Rattle.cap_bytes.specs.Window.{opened, Keeps, Needs, Passes, Skips};
+ghost use Rattle.cap_bytes.specs.Window.{opened, Keeps, Needs, Passes, Skips, FailsAt};
 
 use crate::buffers::{Filling, discard, make_room, read_on};
 use crate::devices::Source;
@@ -73,6 +73,7 @@ impl<R: Source> Window<R> {
         ensures same { n ≤ length self.old.shown → self.old.broken ≡ None → self.new ≡ self.old }
         ensures answer { Needs n self.old result self.new }
         ensures asked { length self.old.shown < n → IsWithin self.old.most n (length self.new.shown) }
+        ensures offset { self.new.offset ≡ self.old.offset }
         ensures keeps { Keeps self.old self.new }
     {
         if self.broken.is_none() && n <= self.end - self.start {
@@ -106,6 +107,7 @@ impl<R: Source> Window<R> {
         requires whole { self.old.broken ≡ None }
         ensures answer { Needs n self.old result self.new }
         ensures asked { length self.old.shown < n → IsWithin self.old.most n (length self.new.shown) }
+        ensures offset { self.new.offset ≡ self.old.offset }
         ensures keeps { Keeps self.old self.new }
     {
         let (end, filling) = read_on(&mut self.reader, &mut self.buffer, self.start, self.end, n)?;
@@ -181,6 +183,14 @@ impl<R: Source> Window<R> {
                 })
             }
         }
+    }
+
+    /// Tells a read that failed with that offset from now on: where the piece begins in which it failed.
+    pub fn fail_at(&mut self, offset: u64)
+        requires { IsSome self.old.broken }
+        ensures { FailsAt offset self.old self.new }
+    {
+        self.broken = Some(offset);
     }
 
     /// How many bytes were dropped so far: where the bytes that are shown begin in the input.

@@ -1,6 +1,7 @@
 -- The items of a file under another number are the same but for that number.
 use Rattle.std.proofs.Common.{◌≡◌, ℕ, zero, suc, ◌+◌, Bool, true, false, cond, List, [], ◌∷◌, length, drop, refl, ap, ◌∙◌, Option, Some, None, Result, Ok, Err}
 use Rattle.std.specs.Prelude.{map, option_map, is_some, ◌==◌, ◌&&◌}
+use Rattle.cap_bytes.specs.Items as pieces
 use Rattle.cap_bytes.specs.declared.faults.Rule.{Rule}
 use Rattle.cap_bytes.specs.declared.faults.Rule.TheVariants as rules
 use Rattle.cap_bytes.specs.declared.faults.Tail.{Tail}
@@ -9,176 +10,118 @@ use Rattle.cap_bytes.specs.declared.numbers.Order.{Order}
 use Rattle.cap_time.specs.declared.resolutions.Interface.{Interface}
 use Rattle.cap_time.specs.declared.stamps.Unit.{Unit as Fraction}
 use Rattle.cap_pcap.specs.Split as records
-use Rattle.cap_pcap.specs.declared.records.Stop.{Stop as RecordStop}
-use Rattle.cap_pcap.specs.declared.records.Stop.TheVariants as record_stops
+use Rattle.cap_bytes.specs.declared.stops.Stop.{Stop}
+use Rattle.cap_bytes.specs.declared.stops.Stop.TheVariants as stops
 use Rattle.cap_blocks.specs.Split as blocks
 use Rattle.cap_blocks.specs.declared.blocks.Block.{Block}
-use Rattle.cap_blocks.specs.declared.blocks.Stop.{Stop as BlockStop}
-use Rattle.cap_blocks.specs.declared.blocks.Stop.TheVariants as block_stops
+use Rattle.cap_pcap.specs.declared.records.Record.{Record}
 use Rattle.cap_source.specs.Contents.{content_in}
 use Rattle.cap_source.specs.Feed.{Item, packet}
-use Rattle.cap_source.specs.Items.{Progress, fresh, behind, items_at, items_of_stop, items_of_record_stop, items_in, pcap_items, interface_of, is_pcapng, items_from, file_items}
+use Rattle.cap_source.specs.Items.{Progress, fresh, behind, items_at, items_of_stop, items_in, pcap_items, interface_of, is_pcapng, items_from, file_items}
 use Rattle.cap_source.specs.declared.contents.Content.{Content}
 use Rattle.cap_source.specs.declared.contents.Content.TheVariants as contents
 use Rattle.cap_write.specs.Rounds.{in_file}
 
--- ---- records
+-- ---- pieces, of either format
 
-record_stop : ℕ → RecordStop → RecordStop
-record_stop n record_stops.End = record_stops.End
-record_stop n record_stops.Cut = record_stops.Cut
-record_stop n (record_stops.Refused r) = record_stops.Refused (record r { file = n })
+stop_in : ℕ → Stop → Stop
+stop_in n stops.End = stops.End
+stop_in n stops.Cut = stops.Cut
+stop_in n (stops.Refused r) = stops.Refused (record r { file = n })
 
-record_item : ℕ → records.Item → records.Item
-record_item n (records.given r f) = records.given r f
-record_item n (records.stopped s) = records.stopped (record_stop n s)
+item_in : {P : Type 0} → ℕ → pieces.Item P → pieces.Item P
+item_in n (pieces.given p f) = pieces.given p f
+item_in n (pieces.stopped s) = pieces.stopped (stop_in n s)
 
-record_stop_by : (tail : Tail) (n m offset : ℕ) (rule : Rule) → records.stop_by tail n offset rule ≡ record_stop n (records.stop_by tail m offset rule)
-unfolding record_stop
-record_stop_by Accept n m offset rules.Cut = refl
-record_stop_by tail n m offset rule = refl
+stop_by-in : (inside : Bool) (tail : Tail) (n m offset : ℕ) (rule : Rule)
+    → pieces.stop_by inside tail n offset rule ≡ stop_in n (pieces.stop_by inside tail m offset rule)
+unfolding stop_in
+stop_by-in true Accept n m offset rules.Cut = refl
+stop_by-in inside tail n m offset rule = refl
 
-mapped_stop : (tail : Tail) (n m offset : ℕ) (fault : Option Rule)
-    → option_map (records.stop_by tail n offset) fault ≡ option_map (record_stop n) (option_map (records.stop_by tail m offset) fault)
-mapped_stop tail n m offset None = refl
-mapped_stop tail n m offset (Some rule) = ap Some (record_stop_by tail n m offset rule)
+mapped_stop : (inside : Bool) (tail : Tail) (n m offset : ℕ) (fault : Option Rule)
+    → option_map (pieces.stop_by inside tail n offset) fault ≡ option_map (stop_in n) (option_map (pieces.stop_by inside tail m offset) fault)
+mapped_stop inside tail n m offset None = refl
+mapped_stop inside tail n m offset (Some rule) = ap Some (stop_by-in inside tail n m offset rule)
 
-chosen_stop : (b : Bool) (n : ℕ) (o p : Option RecordStop) → o ≡ option_map (record_stop n) p
-    → cond b (Some record_stops.End) o ≡ option_map (record_stop n) (cond b (Some record_stops.End) p)
-unfolding record_stop
+chosen_stop : (b : Bool) (n : ℕ) (o p : Option Stop) → o ≡ option_map (stop_in n) p
+    → cond b (Some stops.End) o ≡ option_map (stop_in n) (cond b (Some stops.End) p)
+unfolding stop_in
 chosen_stop true n o p e = refl
 chosen_stop false n o p e = e
 
-record_stop_at : (order : Order) (tail : Tail) (n m offset : ℕ) (bytes : List ℕ)
-    → records.stop_at order tail n offset bytes ≡ option_map (record_stop n) (records.stop_at order tail m offset bytes)
-unfolding records.stop_at
-record_stop_at order tail n m offset bytes =
-    chosen_stop (length bytes == 0) n (option_map (records.stop_by tail n offset) (records.record_fault order offset bytes))
-    (option_map (records.stop_by tail m offset) (records.record_fault order offset bytes)) (mapped_stop tail n m offset (records.record_fault order offset bytes))
+stop_where-in : (inside : Bool) (tail : Tail) (n m offset : ℕ) (bytes : List ℕ) (fault : Option Rule)
+    → pieces.stop_where inside tail n offset bytes fault ≡ option_map (stop_in n) (pieces.stop_where inside tail m offset bytes fault)
+unfolding pieces.stop_where
+stop_where-in inside tail n m offset bytes fault =
+    chosen_stop (inside && (length bytes == 0)) n (option_map (pieces.stop_by inside tail n offset) fault)
+    (option_map (pieces.stop_by inside tail m offset) fault) (mapped_stop inside tail n m offset fault)
 
-record_item_or : (n : ℕ) (o p : Option RecordStop) (r : Rattle.cap_pcap.specs.declared.records.Record.Record) (f : List ℕ) (xs ys : List records.Item)
-    → o ≡ option_map (record_stop n) p → xs ≡ map (record_item n) ys
-    → records.item_or o (records.given r f) xs ≡ map (record_item n) (records.item_or p (records.given r f) ys)
-unfolding record_item
-record_item_or n None None r f xs ys e h = ap (λ zs. records.given r f ∷ zs) h
-record_item_or n None (Some p) r f xs ys e h = absurd (cc)
-record_item_or n (Some o) None r f xs ys e h = absurd (cc)
-record_item_or n (Some o) (Some p) r f xs ys e h =
-    let same : o ≡ record_stop n p = cc in
-    ap (λ s. records.stopped s ∷ []) same
+item_or-in : {P : Type 0} (n : ℕ) (o p : Option Stop) (x : P) (f : List ℕ) (xs ys : List (pieces.Item P))
+    → o ≡ option_map (stop_in n) p → xs ≡ map (item_in n) ys
+    → pieces.item_or o (pieces.given x f) xs ≡ map (item_in n) (pieces.item_or p (pieces.given x f) ys)
+unfolding item_in
+item_or-in n None None x f xs ys e h = ap (λ zs. pieces.given x f ∷ zs) h
+item_or-in n None (Some p) x f xs ys e h = absurd (cc)
+item_or-in n (Some o) None x f xs ys e h = absurd (cc)
+item_or-in n (Some o) (Some p) x f xs ys e h =
+    let same : o ≡ stop_in n p = cc in
+    ap (λ s. pieces.stopped s ∷ []) same
 
-record_items_by : (fuel : ℕ) (order : Order) (unit : Fraction) (tail : Tail) (n m offset : ℕ) (bytes : List ℕ)
-    → records.items_by fuel order unit tail n offset bytes ≡ map (record_item n) (records.items_by fuel order unit tail m offset bytes)
-unfolding records.items_by
-record_items_by zero order unit tail n m offset bytes = refl
-record_items_by (suc fuel) order unit tail n m offset bytes =
-    record_item_or n (records.stop_at order tail n offset bytes) (records.stop_at order tail m offset bytes)
-    (records.record_at order unit offset bytes) (records.frame_at order bytes)
-    (records.items_by fuel order unit tail n (offset + (16 + records.captured_at order bytes)) (drop (16 + records.captured_at order bytes) bytes))
-    (records.items_by fuel order unit tail m (offset + (16 + records.captured_at order bytes)) (drop (16 + records.captured_at order bytes) bytes))
-    (record_stop_at order tail n m offset bytes)
-    (record_items_by fuel order unit tail n m (offset + (16 + records.captured_at order bytes)) (drop (16 + records.captured_at order bytes) bytes))
+items_by-in : {K P : Type 0} (format : pieces.Format K P)
+    → ((known : K) (tail : Tail) (n m offset : ℕ) (bytes : List ℕ)
+    → format.stop known tail n offset bytes ≡ option_map (stop_in n) (format.stop known tail m offset bytes))
+    → (fuel : ℕ) (known : K) (tail : Tail) (n m offset : ℕ) (bytes : List ℕ)
+    → pieces.items_by format fuel known tail n offset bytes ≡ map (item_in n) (pieces.items_by format fuel known tail m offset bytes)
+unfolding pieces.items_by
+items_by-in format stopped zero known tail n m offset bytes = refl
+items_by-in format stopped (suc fuel) known tail n m offset bytes =
+    let size = format.size known bytes in
+    let next = format.next known bytes in
+    item_or-in n (format.stop known tail n offset bytes) (format.stop known tail m offset bytes) (format.piece known offset bytes) (format.lent known bytes)
+    (pieces.items_by format fuel next tail n (offset + size) (drop size bytes)) (pieces.items_by format fuel next tail m (offset + size) (drop size bytes))
+    (stopped known tail n m offset bytes) (items_by-in format stopped fuel next tail n m (offset + size) (drop size bytes))
 
-refused_or : (o : Option Rule) (n m offset : ℕ) (xs ys : List records.Item) → xs ≡ map (record_item n) ys
-    → records.refused_or o n offset xs ≡ map (record_item n) (records.refused_or o m offset ys)
-unfolding record_item record_stop
+stop_items : (n : ℕ) (s : Stop) → items_of_stop (stop_in n s) ≡ map (in_file n) (items_of_stop s)
+unfolding stop_in
+stop_items n stops.End = refl
+stop_items n stops.Cut = refl
+stop_items n (stops.Refused r) = refl
+
+-- ---- records
+
+refused_or : (o : Option Rule) (n m offset : ℕ) (xs ys : List (pieces.Item Record)) → xs ≡ map (item_in n) ys
+    → records.refused_or o n offset xs ≡ map (item_in n) (records.refused_or o m offset ys)
+unfolding item_in stop_in
 refused_or (Some rule) n m offset xs ys e = refl
 refused_or None n m offset xs ys e = e
 
 record_items : (tail : Tail) (n m offset : ℕ) (bytes : List ℕ)
-    → records.file_items tail n offset bytes ≡ map (record_item n) (records.file_items tail m offset bytes)
-unfolding records.file_items records.items_from
+    → records.file_items tail n offset bytes ≡ map (item_in n) (records.file_items tail m offset bytes)
+unfolding records.file_items pieces.items_in
 record_items tail n m offset bytes =
     let header = records.header_at bytes in
     refused_or (records.header_fault offset bytes) n m offset
-    (records.items_by (suc (length (drop 24 bytes))) header.order header.unit tail n (offset + 24) (drop 24 bytes))
-    (records.items_by (suc (length (drop 24 bytes))) header.order header.unit tail m (offset + 24) (drop 24 bytes))
-    (record_items_by (suc (length (drop 24 bytes))) header.order header.unit tail n m (offset + 24) (drop 24 bytes))
+    (records.items_from header tail n (offset + 24) (drop 24 bytes)) (records.items_from header tail m (offset + 24) (drop 24 bytes))
+    (items_by-in records.records (λ known tail n m offset bytes. stop_where-in true tail n m offset bytes (records.record_fault known.order offset bytes))
+    (suc (length (drop 24 bytes))) header tail n m (offset + 24) (drop 24 bytes))
 
-stop_items : (n : ℕ) (s : RecordStop) → items_of_record_stop (record_stop n s) ≡ map (in_file n) (items_of_record_stop s)
-unfolding record_stop
-stop_items n record_stops.End = refl
-stop_items n record_stops.Cut = refl
-stop_items n (record_stops.Refused r) = refl
-
-pcap_numbered : (n m : ℕ) (interface : Interface) (xs : List records.Item)
-    → pcap_items n interface (map (record_item n) xs) ≡ map (in_file n) (pcap_items m interface xs)
-unfolding pcap_items record_item
+pcap_numbered : (n m : ℕ) (interface : Interface) (xs : List (pieces.Item Record))
+    → pcap_items n interface (map (item_in n) xs) ≡ map (in_file n) (pcap_items m interface xs)
+unfolding pcap_items item_in
 pcap_numbered n m interface [] = refl
-pcap_numbered n m interface (records.given r f ∷ xs) =
+pcap_numbered n m interface (pieces.given r f ∷ xs) =
     ap (λ zs. packet (Rattle.cap_source.specs.Items.meta_of n interface r) f ∷ zs) (pcap_numbered n m interface xs)
-pcap_numbered n m interface (records.stopped s ∷ xs) = stop_items n s
+pcap_numbered n m interface (pieces.stopped s ∷ xs) = stop_items n s
 
 -- ---- blocks
 
-block_stop : ℕ → BlockStop → BlockStop
-block_stop n block_stops.End = block_stops.End
-block_stop n block_stops.Cut = block_stops.Cut
-block_stop n (block_stops.Refused r) = block_stops.Refused (record r { file = n })
-
-block_item : ℕ → blocks.Item → blocks.Item
-block_item n (blocks.given b f) = blocks.given b f
-block_item n (blocks.stopped s) = blocks.stopped (block_stop n s)
-
-block_stop_by : (section : Option Order) (tail : Tail) (n m offset : ℕ) (rule : Rule)
-    → blocks.stop_by section tail n offset rule ≡ block_stop n (blocks.stop_by section tail m offset rule)
-unfolding block_stop
-block_stop_by (Some order) Accept n m offset rules.Cut = refl
-block_stop_by section tail n m offset rule = refl
-
-block_mapped_stop : (section : Option Order) (tail : Tail) (n m offset : ℕ) (fault : Option Rule)
-    → option_map (blocks.stop_by section tail n offset) fault ≡ option_map (block_stop n) (option_map (blocks.stop_by section tail m offset) fault)
-block_mapped_stop section tail n m offset None = refl
-block_mapped_stop section tail n m offset (Some rule) = ap Some (block_stop_by section tail n m offset rule)
-
-block_chosen_stop : (b : Bool) (n : ℕ) (o p : Option BlockStop) → o ≡ option_map (block_stop n) p
-    → cond b (Some block_stops.End) o ≡ option_map (block_stop n) (cond b (Some block_stops.End) p)
-unfolding block_stop
-block_chosen_stop true n o p e = refl
-block_chosen_stop false n o p e = e
-
-block_stop_at : (section : Option Order) (tail : Tail) (n m offset : ℕ) (bytes : List ℕ)
-    → blocks.stop_at section tail n offset bytes ≡ option_map (block_stop n) (blocks.stop_at section tail m offset bytes)
-unfolding blocks.stop_at
-block_stop_at section tail n m offset bytes =
-    block_chosen_stop (is_some section && (length bytes == 0)) n (option_map (blocks.stop_by section tail n offset) (blocks.block_fault section offset bytes))
-    (option_map (blocks.stop_by section tail m offset) (blocks.block_fault section offset bytes)) (block_mapped_stop section tail n m offset (blocks.block_fault section offset bytes))
-
-block_item_or : (n : ℕ) (o p : Option BlockStop) (b : Block) (f : List ℕ) (xs ys : List blocks.Item)
-    → o ≡ option_map (block_stop n) p → xs ≡ map (block_item n) ys
-    → blocks.item_or o (blocks.given b f) xs ≡ map (block_item n) (blocks.item_or p (blocks.given b f) ys)
-unfolding block_item
-block_item_or n None None b f xs ys e h = ap (λ zs. blocks.given b f ∷ zs) h
-block_item_or n None (Some p) b f xs ys e h = absurd (cc)
-block_item_or n (Some o) None b f xs ys e h = absurd (cc)
-block_item_or n (Some o) (Some p) b f xs ys e h =
-    let same : o ≡ block_stop n p = cc in
-    ap (λ s. blocks.stopped s ∷ []) same
-
-block_items_by : (fuel : ℕ) (section : Option Order) (tail : Tail) (n m offset : ℕ) (bytes : List ℕ)
-    → blocks.items_by fuel section tail n offset bytes ≡ map (block_item n) (blocks.items_by fuel section tail m offset bytes)
-unfolding blocks.items_by
-block_items_by zero section tail n m offset bytes = refl
-block_items_by (suc fuel) section tail n m offset bytes =
-    let order = blocks.order_at section bytes in
-    let total = blocks.total_at order bytes in
-    block_item_or n (blocks.stop_at section tail n offset bytes) (blocks.stop_at section tail m offset bytes)
-    (blocks.block_at section offset bytes) (blocks.body_at section bytes)
-    (blocks.items_by fuel (Some order) tail n (offset + total) (drop total bytes))
-    (blocks.items_by fuel (Some order) tail m (offset + total) (drop total bytes))
-    (block_stop_at section tail n m offset bytes)
-    (block_items_by fuel (Some order) tail n m (offset + total) (drop total bytes))
-
 block_items : (section : Option Order) (tail : Tail) (n m offset : ℕ) (bytes : List ℕ)
-    → blocks.items_from section tail n offset bytes ≡ map (block_item n) (blocks.items_from section tail m offset bytes)
-unfolding blocks.items_from
-block_items section tail n m offset bytes = block_items_by (suc (length bytes)) section tail n m offset bytes
-
-block_stop_items : (n : ℕ) (s : BlockStop) → items_of_stop (block_stop n s) ≡ map (in_file n) (items_of_stop s)
-unfolding block_stop
-block_stop_items n block_stops.End = refl
-block_stop_items n block_stops.Cut = refl
-block_stop_items n (block_stops.Refused r) = refl
+    → blocks.items_from section tail n offset bytes ≡ map (item_in n) (blocks.items_from section tail m offset bytes)
+unfolding pieces.items_in
+block_items section tail n m offset bytes =
+    items_by-in blocks.blocks (λ known tail n m offset bytes. stop_where-in (is_some known) tail n m offset bytes (blocks.block_fault known offset bytes))
+    (suc (length bytes)) section tail n m offset bytes
 
 content_items : (n m : ℕ) (progress : Progress) (block : Block) (body : List ℕ) (content : Result Content Rule) (xs ys : List Item)
     → xs ≡ map (in_file n) ys → items_at n progress block body content xs ≡ map (in_file n) (items_at m progress block body content ys)
@@ -189,14 +132,14 @@ content_items n m progress block body (Ok (contents.Packet p)) xs ys e =
 content_items n m progress block body (Ok contents.Other) xs ys e = e
 content_items n m progress block body (Err rule) xs ys e = refl
 
-pcapng_numbered : (n m : ℕ) (progress : Progress) (xs : List blocks.Item)
-    → items_in n progress (map (block_item n) xs) ≡ map (in_file n) (items_in m progress xs)
-unfolding items_in block_item
+pcapng_numbered : (n m : ℕ) (progress : Progress) (xs : List (pieces.Item Block))
+    → items_in n progress (map (item_in n) xs) ≡ map (in_file n) (items_in m progress xs)
+unfolding items_in item_in
 pcapng_numbered n m progress [] = refl
-pcapng_numbered n m progress (blocks.stopped s ∷ xs) = block_stop_items n s
-pcapng_numbered n m progress (blocks.given block body ∷ xs) =
+pcapng_numbered n m progress (pieces.stopped s ∷ xs) = stop_items n s
+pcapng_numbered n m progress (pieces.given block body ∷ xs) =
     let content = content_in progress.interfaces block.kind block.order body in
-    content_items n m progress block body content (items_in n (behind progress content) (map (block_item n) xs)) (items_in m (behind progress content) xs)
+    content_items n m progress block body content (items_in n (behind progress content) (map (item_in n) xs)) (items_in m (behind progress content) xs)
     (pcapng_numbered n m (behind progress content) xs)
 
 -- ---- files

@@ -13,7 +13,7 @@ use Rattle.cap_pcap.specs.Laws.{HeaderRead, HeaderAgain, RecordAgain}
 use Rattle.cap_pcap.specs.Split.{is_magic, order_at, unit_at, header_fault, header_at, file_items, items_from}
 use Rattle.cap_pcap.specs.declared.headers.PcapHeader.{PcapHeader}
 use Rattle.cap_pcap.proofs.Faults.{FitsHeader, header_fault-fits}
-use Rattle.cap_pcap.proofs.Numbers.{number-drop_append}
+use Rattle.cap_bytes.proofs.Spelling.{number-drop_append}
 use Rattle.cap_bytes.proofs.Spelling.{number-append, number-bytes_of, length-bytes_of}
 
 -- how a magic reads in the other order

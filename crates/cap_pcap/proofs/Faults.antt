@@ -6,13 +6,11 @@ use Rattle.cap_bytes.specs.Number.{number}
 use Rattle.cap_bytes.specs.declared.faults.Rule.{Rule}
 use Rattle.cap_bytes.specs.declared.faults.Rule.TheVariants.{Cut}
 use Rattle.cap_bytes.specs.declared.faults.Tail.{Tail}
-use Rattle.cap_bytes.specs.declared.faults.Tail.TheVariants.{Accept}
 use Rattle.cap_bytes.specs.declared.numbers.Order.{Order}
 use Rattle.cap_bytes.specs.declared.numbers.Order.TheVariants.{Big, Little}
-use Rattle.cap_pcap.specs.Reader.{IsStopAt}
-use Rattle.cap_pcap.specs.Split.{is_magic, is_version, order_at, record_fault, captured_at, header_fault, header_at, stop_at, stop_by}
-use Rattle.cap_pcap.specs.declared.records.Stop.TheVariants as stops
-use Rattle.cap_pcap.proofs.Numbers.{number-drop_append}
+use Rattle.cap_pcap.specs.Split.{is_magic, is_version, order_at, record_fault, captured_at, header_fault, header_at, stop_at}
+use Rattle.cap_bytes.proofs.Spelling.{number-drop_append}
+use Rattle.cap_bytes.proofs.Items.{stop_where-whole, no_fault}
 use Rattle.cap_bytes.proofs.Spelling.{number-append}
 
 -- no condition is met in a record's place
@@ -78,34 +76,14 @@ pub record_fault-cut : (order : Order) (offset : ℕ) (bytes : List ℕ) → 16 
 unfolding record_fault
 record_fault-cut order offset bytes head captured limit few = grind (arith, nat_tests)
 
--- what ends the records, by the condition that is met
-pub stop_at-none : (order : Order) (tail : Tail) (file offset : ℕ) → stop_at order tail file offset [] ≡ Some stops.End
-unfolding stop_at
-stop_at-none order tail file offset = refl
-
-pub stop_at-fault : (order : Order) (tail : Tail) (file offset : ℕ) (bytes : List ℕ) (rule : Rule) → 0 < length bytes
-    → record_fault order offset bytes ≡ Some rule → stop_at order tail file offset bytes ≡ Some (stop_by tail file offset rule)
-unfolding stop_at
-stop_at-fault order tail file offset bytes rule some h = rw h (grind (arith, nat_tests))
-
+-- where nothing ends the records, no condition is met
 pub stop_at-fits : (order : Order) (tail : Tail) (file offset : ℕ) (bytes : List ℕ) → Fits order offset bytes → stop_at order tail file offset bytes ≡ None
-unfolding stop_at
-stop_at-fits order tail file offset bytes f = rw (record_fault-fits order offset bytes f) (let head = f.head in grind (arith, nat_tests))
-
-none_of : (order : Order) (tail : Tail) (file offset : ℕ) (bytes : List ℕ) (fault : Option Rule) → record_fault order offset bytes ≡ fault
-    → stop_at order tail file offset bytes ≡ None → record_fault order offset bytes ≡ None
-unfolding stop_at
-none_of order tail file offset bytes None is h = is
-none_of order tail file offset bytes (Some rule) is h = let e = rw is at h in grind (arith, nat_tests)
+stop_at-fits order tail file offset bytes f =
+    stop_where-whole true tail file offset bytes (record_fault order offset bytes) (omega (arith, f.head)) (record_fault-fits order offset bytes f)
 
 pub Fits-from_stop_at : (order : Order) (tail : Tail) (file offset : ℕ) (bytes : List ℕ) → stop_at order tail file offset bytes ≡ None → Fits order offset bytes
 Fits-from_stop_at order tail file offset bytes h =
-    Fits-from_none order offset bytes (none_of order tail file offset bytes (record_fault order offset bytes) refl h)
-
--- a rule is told with its file and place
-pub IsStopAt-stop_by : (tail : Tail) (file offset : ℕ) (rule : Rule) → IsStopAt tail file offset (stop_by tail file offset rule)
-IsStopAt-stop_by Accept file offset Cut = refl
-IsStopAt-stop_by tail file offset rule = (refl, refl, λ accept cut. cc)
+    Fits-from_none order offset bytes (no_fault true tail file offset bytes (record_fault order offset bytes) h)
 
 -- The header is told by the first 24 bytes alone.
 same_fault : (offset : ℕ) (xs zs : List ℕ) → 24 ≤ length xs → 24 ≤ length zs

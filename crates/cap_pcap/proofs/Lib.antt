@@ -2,7 +2,6 @@ pub mod Again
 pub mod Faults
 pub mod Items
 pub mod Looking
-pub mod Numbers
 pub mod Reading
 pub mod Spelling
 pub mod Splitting

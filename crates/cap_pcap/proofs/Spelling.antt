@@ -11,7 +11,7 @@ use Rattle.cap_time.specs.declared.stamps.Unit.TheVariants.{Micro, Nano}
 use Rattle.cap_pcap.specs.Grammar.{magic_of, SpellsHeader, Packet, packet_size, SpellsRecord}
 use Rattle.cap_pcap.specs.Reader.{packet_of}
 use Rattle.cap_pcap.specs.Split.{is_magic, order_at, unit_at, header_at, captured_at, record_at, frame_at}
-use Rattle.cap_pcap.proofs.Numbers.{number-drop_take}
+use Rattle.cap_bytes.proofs.Spelling.{number-drop_take}
 use Rattle.cap_pcap.proofs.Faults.{Fits, FitsHeader}
 
 -- the magic of a unit, by the unit that it tells

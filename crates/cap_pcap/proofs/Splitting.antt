@@ -1,6 +1,7 @@
 -- A file splits in one way, and its items are those of the split.
 use Rattle.std.proofs.Common.{◌≡◌, ℕ, zero, suc, ◌+◌, ◌^◌, ◌≤◌, ◌<◌, List, [], ◌∷◌, ◌++◌, length, take, drop, Option, Some, None, refl, sym, ◌∙◌, ap, subst, arith, length-drop, length-take-le}
 use Rattle.std.proofs.lemmas.List.{take_at, drop_at, take-append-drop}
+use Rattle.cap_bytes.specs.Items.{given, stopped}
 use Rattle.cap_bytes.specs.Number.{number}
 use Rattle.cap_bytes.specs.declared.faults.Tail.{Tail}
 use Rattle.cap_bytes.specs.declared.faults.Tail.TheVariants.{Refuse}
@@ -9,12 +10,12 @@ use Rattle.cap_time.specs.declared.stamps.Unit.{Unit as Fraction}
 use Rattle.cap_pcap.specs.Grammar.{Packet, packet_size, SpellsRecord}
 use Rattle.cap_pcap.specs.Laws.{OneRecord, OneSplit, EverySplit, SplitItems, RecordRead}
 use Rattle.cap_pcap.specs.Reader.{packet_of}
-use Rattle.cap_pcap.specs.Split.{captured_at, record_at, frame_at, stop_at, given, stopped, items_from, HasNoRecord, Splits, record_of}
+use Rattle.cap_pcap.specs.Split.{captured_at, record_at, frame_at, stop_at, items_from, HasNoRecord, Splits, record_of}
 use Rattle.cap_pcap.specs.declared.headers.PcapHeader.{PcapHeader}
-use Rattle.cap_pcap.specs.declared.records.Stop.{Stop}
+use Rattle.cap_bytes.specs.declared.stops.Stop.{Stop}
 use Rattle.cap_pcap.proofs.Faults.{Fits-from_stop_at, stop_at-fits}
 use Rattle.cap_pcap.proofs.Items.{items_from-stop, items_from-record}
-use Rattle.cap_pcap.proofs.Numbers.{number-drop_append}
+use Rattle.cap_bytes.proofs.Spelling.{number-drop_append}
 use Rattle.cap_pcap.proofs.Spelling.{SpellsRecord-at, Reads-spelled}
 
 -- how many bytes spell a packet

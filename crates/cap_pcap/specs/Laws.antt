@@ -1,13 +1,14 @@
 -- What is true of the grammar of pcap files, whatever reads or writes them.
 use Rattle.std.specs.Prelude.{◌≡◌, ◌+◌, ◌*◌, ◌^◌, ◌≤◌, ◌<◌, ℕ, List, ◌∷◌, ◌++◌, length, slice_index, Some, None}
 use Rattle.cap_bytes.specs.declared.numbers.Order.{Order}
+use Rattle.cap_bytes.specs.Items.{given}
 use Rattle.cap_bytes.specs.declared.faults.Tail.{Tail}
 use Rattle.cap_time.specs.Unit.{in_second}
 use Rattle.cap_time.specs.declared.stamps.Unit.{Unit as Fraction}
 use Rattle.cap_pcap.specs.Grammar.{SpellsHeader, Packet, SpellsRecord, header_text, record_text}
-use Rattle.cap_pcap.specs.Split.{header_fault, header_at, stop_at, given, items_from, file_items, Splits, place_behind, record_of, items_with}
+use Rattle.cap_pcap.specs.Split.{header_fault, header_at, stop_at, items_from, file_items, Splits, place_behind, record_of, items_with}
 use Rattle.cap_pcap.specs.declared.headers.PcapHeader.{PcapHeader}
-use Rattle.cap_pcap.specs.declared.records.Stop.{Stop}
+use Rattle.cap_bytes.specs.declared.stops.Stop.{Stop}
 
 -- No record's spelling is a proper prefix of another's, and no bytes spell two packets.
 abbrev pub OneRecord : Type 0

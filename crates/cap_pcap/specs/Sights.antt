@@ -1,22 +1,22 @@
 -- What is seen at the front of the bytes that a window shows.
-use Rattle.std.specs.Prelude.{◌≡◌, ◌||◌, true, ◌≤◌, ◌<◌, ◌+◌, ◌^◌, ℕ, List, length, take, drop, IsTrue, Some, None, Result, Ok, Err}
-use Rattle.cap_bytes.specs.Window.{State, Shows, Breaks, coming}
+use Rattle.std.specs.Prelude.{◌≡◌, ◌||◌, true, false, ⊤, ◌≤◌, ◌<◌, ◌+◌, ◌^◌, ℕ, List, length, take, drop, IsTrue, Some, None, Result, Ok, Err}
+use Rattle.cap_bytes.specs.Sights.{SeesStop, FailsBy, LooksFor}
+use Rattle.cap_bytes.specs.Window.{State, Shows, coming}
 use Rattle.cap_bytes.specs.declared.faults.Fault.{Fault}
-use Rattle.cap_bytes.specs.declared.faults.Fault.TheVariants.{Refused, Read, Write, Memory}
+use Rattle.cap_bytes.specs.declared.faults.Refusal.{Refusal}
 use Rattle.cap_bytes.specs.declared.faults.Rule.{Rule}
 use Rattle.cap_bytes.specs.declared.faults.Rule.TheVariants.{Cut}
 use Rattle.cap_bytes.specs.declared.faults.Tail.{Tail}
 use Rattle.cap_bytes.specs.declared.numbers.Order.{Order}
 use Rattle.cap_bytes.specs.declared.numbers.Order.TheVariants.{Big, Little}
+use Rattle.cap_bytes.specs.declared.stops.Stop.{Stop}
+use Rattle.cap_bytes.specs.declared.stops.Stop.TheVariants as stops
 use Rattle.cap_time.specs.declared.stamps.Unit.{Unit as Fraction}
 use Rattle.cap_pcap.specs.Grammar.{SpellsRecord}
-use Rattle.cap_pcap.specs.Reader.{IsStopAt, packet_of}
+use Rattle.cap_pcap.specs.Reader.{packet_of}
 use Rattle.cap_pcap.specs.Split.{is_magic, order_at, unit_at, header_fault, header_at, captured_at, record_fault, stop_at}
 use Rattle.cap_pcap.specs.declared.headers.PcapHeader.{PcapHeader}
 use Rattle.cap_pcap.specs.declared.records.Record.{Record}
-use Rattle.cap_pcap.specs.declared.records.Stop.{Stop}
-use Rattle.cap_pcap.specs.declared.records.Sight.{Sight}
-use Rattle.cap_pcap.specs.declared.records.Sight.TheVariants.{Whole, Stopped}
 
 -- Some bytes begin with a magic, which reads in that order and tells that unit.
 pub record HasMagic (bytes : List ℕ) (order : Order) (unit : Fraction) : Type 0 where
@@ -38,13 +38,11 @@ pub record SeesHeader (header : PcapHeader) (old new : State) : Type 0 where
   pub header_is : IsTrue old.told → header ≡ header_at (coming old)
 
 -- what a look at the header answers
-abbrev pub LooksForHeader : State → Result (Result PcapHeader Rule) Fault → State → Type 0
+abbrev pub LooksForHeader : State → Result (Result PcapHeader Refusal) Fault → State → Type 0
 LooksForHeader old (Ok (Ok header)) new = SeesHeader header old new
-LooksForHeader old (Ok (Err rule)) new = Shows old new × (IsTrue old.told → header_fault old.offset (coming old) ≡ Some rule)
-LooksForHeader old (Err (Read file offset)) new = Breaks old file offset new × (new.offset ≡ old.offset)
-LooksForHeader old (Err Memory) new = Shows old new × (old.room < 24)
-LooksForHeader old (Err Write) new = ⊥
-LooksForHeader old (Err (Refused refusal)) new = ⊥
+LooksForHeader old (Ok (Err refusal)) new =
+    (tail : Tail) → SeesStop false (header_fault old.offset (coming old)) tail (stops.Refused refusal) old new
+LooksForHeader old (Err fault) new = FailsBy 24 ⊤ old fault new
 
 -- A record is shown whole.
 pub record SeesRecord (header : PcapHeader) (tail : Tail) (r : Record) (old new : State) : Type 0 where
@@ -56,21 +54,11 @@ pub record SeesRecord (header : PcapHeader) (tail : Tail) (r : Record) (old new 
   pub spelled : SpellsRecord header.order header.unit (packet_of r (take r.captured (drop 16 new.shown))) (take (16 + r.captured) new.shown)
   pub none : IsTrue old.told → stop_at header.order tail old.file old.offset (coming old) ≡ None
 
--- No record is there.
-pub record SeesStop (header : PcapHeader) (tail : Tail) (stop : Stop) (old new : State) : Type 0 where
-  pub shows : Shows old new
-  pub is_stop : IsStopAt tail old.file old.offset stop
-  pub told_stop : IsTrue old.told → stop_at header.order tail old.file old.offset (coming old) ≡ Some stop
-
 -- what a look at a record answers
-abbrev pub LooksForRecord : PcapHeader → Tail → State → Result Sight Fault → State → Type 0
-LooksForRecord header tail old (Ok (Whole r)) new = SeesRecord header tail r old new
-LooksForRecord header tail old (Ok (Stopped stop)) new = SeesStop header tail stop old new
-LooksForRecord header tail old (Err (Read file offset)) new = Breaks old file offset new × (new.offset ≡ old.offset)
-LooksForRecord header tail old (Err Memory) new =
-    Shows old new × (old.room < 262160) × (IsTrue old.told → old.room < 16 + captured_at header.order (coming old))
-LooksForRecord header tail old (Err Write) new = ⊥
-LooksForRecord header tail old (Err (Refused refusal)) new = ⊥
+abbrev pub LooksForRecord : PcapHeader → Tail → State → Result (Result Record Stop) Fault → State → Type 0
+LooksForRecord header tail old result new =
+    LooksFor (λ r. SeesRecord header tail r old new) true (record_fault header.order old.offset (coming old))
+    262160 (old.room < 16 + captured_at header.order (coming old)) tail old result new
 
 -- how many bytes the record takes whose first 16 bytes stand at the front, or the first condition that they meet
 abbrev pub Measures : Order → ℕ → List ℕ → Result ℕ Rule → Type 0

@@ -1,20 +1,21 @@
 -- How a file splits into its header, its records and a rest, and what the rest is refused by.
-use Rattle.std.specs.Prelude.{◌≡◌, ◌==◌, ◌||◌, ◌&&◌, not, ℕ, zero, suc, ◌+◌, ◌*◌, ◌%◌, ◌^◌, ◌≤◌, nat_lt, if◌then◌else◌, Bool, List, [], ◌∷◌, length, take, drop, Option, Some, None, option_map}
+use Rattle.std.specs.Prelude.{◌≡◌, ◌==◌, ◌||◌, ◌&&◌, not, ℕ, zero, suc, ◌+◌, ◌*◌, ◌%◌, ◌^◌, ◌≤◌, nat_lt, if◌then◌else◌, Bool, true, List, [], ◌∷◌, length, take, drop, Option, Some, None, option_map}
 use Rattle.cap_bytes.specs.Number.{number}
 use Rattle.cap_bytes.specs.declared.faults.Rule.{Rule}
 use Rattle.cap_bytes.specs.declared.faults.Rule.TheVariants.{Magic, Version, Cut, PacketLong, FileLimit}
 use Rattle.cap_bytes.specs.declared.faults.Tail.{Tail}
 use Rattle.cap_bytes.specs.declared.faults.Tail.TheVariants.{Accept}
+use Rattle.cap_bytes.specs.Items.{stop_where, Item, given, stopped, Format, items_in}
 use Rattle.cap_bytes.specs.declared.numbers.Order.{Order}
 use Rattle.cap_bytes.specs.declared.numbers.Order.TheVariants.{Big, Little}
+use Rattle.cap_bytes.specs.declared.stops.Stop.{Stop}
+use Rattle.cap_bytes.specs.declared.stops.Stop.TheVariants as stops
 use Rattle.cap_time.specs.Unit.{in_second}
 use Rattle.cap_time.specs.declared.stamps.Unit.{Unit as Fraction}
 use Rattle.cap_time.specs.declared.stamps.Unit.TheVariants.{Micro, Nano}
 use Rattle.cap_pcap.specs.Grammar.{magic_of, Packet, packet_size, SpellsRecord}
 use Rattle.cap_pcap.specs.declared.headers.PcapHeader.{PcapHeader}
 use Rattle.cap_pcap.specs.declared.records.Record.{Record}
-use Rattle.cap_pcap.specs.declared.records.Stop.{Stop}
-use Rattle.cap_pcap.specs.declared.records.Stop.TheVariants as stops
 
 -- Whether a file begins with one of the magics in that order.
 abbrev pub is_magic : Order → List ℕ → Bool
@@ -77,46 +78,32 @@ record_at order unit offset bytes =
 abbrev pub frame_at : Order → List ℕ → List ℕ
 frame_at order bytes = take (captured_at order bytes) (drop 16 bytes)
 
--- What ends the records where a rule is broken: a rest that is cut is dropped where that is asked for.
-abbrev pub stop_by : Tail → ℕ → ℕ → Rule → Stop
-stop_by Accept file offset Cut = stops.Cut
-stop_by tail file offset rule = stops.Refused (record { file = file; offset = offset; rule = rule })
-
 -- what ends the records at some bytes, if anything does: none are left, or a rule is broken
-unfoldable pub stop_at : Order → Tail → ℕ → ℕ → List ℕ → Option Stop
-stop_at order tail file offset bytes =
-    if length bytes == 0 then Some stops.End else option_map (stop_by tail file offset) (record_fault order offset bytes)
+abbrev pub stop_at : Order → Tail → ℕ → ℕ → List ℕ → Option Stop
+stop_at order tail file offset bytes = stop_where true tail file offset bytes (record_fault order offset bytes)
 
--- what comes of a file: its records with their captured bytes, and in the end what ended them
-pub data Item : Type 0 where
-  given : Record → List ℕ → Item
-  stopped : Stop → Item
-
--- what comes where something ends the records, and where nothing does
-abbrev pub item_or : Option Stop → Item → List Item → List Item
-item_or (Some stop) item rest = stopped stop ∷ []
-item_or None item rest = item ∷ rest
-
--- the items of some bytes that begin at `offset`, as far as `fuel` goes
-unfoldable pub items_by : ℕ → Order → Fraction → Tail → ℕ → ℕ → List ℕ → List Item
-items_by zero order unit tail file offset bytes = []
-items_by (suc fuel) order unit tail file offset bytes =
-    let size = 16 + captured_at order bytes in
-    item_or (stop_at order tail file offset bytes) (given (record_at order unit offset bytes) (frame_at order bytes))
-    (items_by fuel order unit tail file (offset + size) (drop size bytes))
+-- how a file goes on behind its header
+abbrev pub records : Format PcapHeader Record
+records =
+    record {
+      stop = λ header. stop_at header.order;
+      piece = λ header. record_at header.order header.unit;
+      lent = λ header. frame_at header.order;
+      size = λ header bytes. 16 + captured_at header.order bytes;
+      next = λ header bytes. header;
+    }
 
 -- the items of the bytes behind a header, which begin at `offset`
-unfoldable pub items_from : PcapHeader → Tail → ℕ → ℕ → List ℕ → List Item
-items_from header tail file offset bytes =
-    items_by (suc (length bytes)) header.order header.unit tail file offset bytes
+abbrev pub items_from : PcapHeader → Tail → ℕ → ℕ → List ℕ → List (Item Record)
+items_from header tail file offset bytes = items_in records header tail file offset bytes
 
 -- the items of a file whose header is refused, or isn't
-abbrev pub refused_or : Option Rule → ℕ → ℕ → List Item → List Item
+abbrev pub refused_or : Option Rule → ℕ → ℕ → List (Item Record) → List (Item Record)
 refused_or (Some rule) file offset items = stopped (stops.Refused (record { file = file; offset = offset; rule = rule })) ∷ []
 refused_or None file offset items = items
 
 -- the items of a file whose bytes begin at `offset`: 0 for a whole file
-unfoldable pub file_items : Tail → ℕ → ℕ → List ℕ → List Item
+unfoldable pub file_items : Tail → ℕ → ℕ → List ℕ → List (Item Record)
 file_items tail file offset bytes =
     refused_or (header_fault offset bytes) file offset
     (items_from (header_at bytes) tail file (offset + 24) (drop 24 bytes))
@@ -147,7 +134,7 @@ record_of offset packet =
     record { offset = offset; units = packet.units; captured = length packet.frame; original = packet.original }
 
 -- the items of some packets, and what ends them
-abbrev pub items_with : ℕ → List Packet → Stop → List Item
+abbrev pub items_with : ℕ → List Packet → Stop → List (Item Record)
 items_with offset [] stop = stopped stop ∷ []
 items_with offset (packet ∷ packets) stop =
     given (record_of offset packet) packet.frame ∷ items_with (offset + packet_size packet) packets stop

@@ -8,7 +8,7 @@ ghost use Rattle.cap_pcap.specs.Sights.{HasMagic, ParsesHeader, LooksForHeader};
 ghost use Rattle.cap_pcap.specs.Split.{is_magic, unit_at};
 
 use byteorder::{BigEndian, ByteOrder, LittleEndian};
-use cap_bytes::{Fault, Order, Rule, Sink, Source, Window, put_all, u16_at, u32_at};
+use cap_bytes::{Fault, Order, Refusal, Rule, Sink, Source, Window, put_all, u16_at, u32_at};
 use cap_time::Unit;
 
 /// How many bytes a file's header takes.
@@ -95,12 +95,20 @@ pub fn header_of(offset: u64, bytes: &[u8]) -> Result<PcapHeader, Rule>
 }
 
 /// Looks for the header at the front of a window, which shows it then.
-pub fn look_for_header<R: Source>(window: &mut Window<R>) -> Result<Result<PcapHeader, Rule>, Fault>
+pub fn look_for_header<R: Source>(
+    window: &mut Window<R>,
+) -> Result<Result<PcapHeader, Refusal>, Fault>
     ensures answer { LooksForHeader window.old result window.new }
+    ensures offset { window.new.offset ≡ window.old.offset }
     ensures keeps { Keeps window.old window.new }
 {
+    let file = window.file();
+    let offset = window.offset();
     window.need(HEADER_SIZE)?;
-    Ok(header_of(window.offset(), window.bytes()))
+    match header_of(offset, window.bytes()) {
+        Ok(header) => Ok(Ok(header)),
+        Err(rule) => Ok(Err(Refusal { file, offset, rule })),
+    }
 }
 
 /// Puts a number into the 4 bytes from `place` on.

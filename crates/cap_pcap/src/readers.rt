@@ -1,10 +1,11 @@
 //! A reader of pcap files.
-ghost use Rattle.std.specs.Prelude.{◌≡◌, ◌↔◌, ◌≤◌, length, IsTrue, IsSome, Some, IfSome};
-ghost use Rattle.cap_pcap.specs.Reader.{opened, items_of, Keeps, GivesHeader, GivesNext, KeepsItems, TakesItem, HasWindow, RefusesAgain, size_of};
+ghost use Rattle.std.specs.Prelude.{◌≡◌, ◌↔◌, ◌≤◌, ◌+◌, length, IsTrue, IsSome, Some, IfSome, OnErr, is_some};
+ghost use Rattle.cap_bytes.specs.Reader.{opened, Keeps, HasWindow};
+ghost use Rattle.cap_pcap.specs.Reader.{items_of, GivesHeader, GivesNext, KeepsHeader, KeepsItems, TakesItem, RefusesAgain, size_of, place_after};
 
 use crate::headers::{HEADER_SIZE, PcapHeader, look_for_header};
-use crate::records::{HEAD_SIZE, Record, Sight, Stop, look_for_record};
-use cap_bytes::{Fault, Refusal, Source, Tail, Window};
+use crate::records::{HEAD_SIZE, Record, look_for_record};
+use cap_bytes::{Fault, Source, Stop, Tail, Window};
 use std::marker::Model;
 
 /// A reader of a pcap file, record by record. It keeps no more of the file than its window shows.
@@ -20,9 +21,11 @@ pub struct PcapReader<R: Source> {
 
 impl<R: Source> Model for PcapReader<R> {
     ghost use Rattle.std.specs.Prelude.{length};
-    ghost use Rattle.cap_pcap.specs.Reader.{State, IsSound, state_of};
+    ghost use Rattle.cap_bytes.specs.Reader.{State};
+    ghost use Rattle.cap_pcap.specs.declared.headers.PcapHeader.{PcapHeader};
+    ghost use Rattle.cap_pcap.specs.Reader.{IsSound, state_of};
 
-    ghost Value = { State };
+    ghost Value = { State PcapHeader };
 
     ghost view = { λ r. state_of r.window r.tail r.header r.captured r.stop };
 
@@ -68,15 +71,12 @@ impl<R: Source> PcapReader<R> {
         }
     }
 
-    /// The file's header. It comes again at each call. `Refused` comes, now and at each later call,
-    /// where the header is cut, has another magic or is of another version; where a header read from
-    /// elsewhere than the file's first byte would end past byte 2^40; and where a record was refused.
-    /// `Memory` leaves what is to come; `Read` comes again. draft-ietf-opsawg-pcap, 4.
-    pub fn header(&mut self) -> Result<PcapHeader, Fault>
+    // Looks for the file's header, unless it is known.
+    fn read_header(&mut self) -> Result<PcapHeader, Fault>
         ensures answer { GivesHeader self.old result self.new }
+        ensures header { KeepsHeader self.old self.new }
+        ensures place { OnErr result (self.new.offset ≡ self.old.offset) }
         ensures keeps { Keeps self.old self.new }
-        ensures items { IsTrue self.old.told
-            → KeepsItems (items_of self.old) result (items_of self.new) }
     {
         refuse_again(self.stop)?;
         if let Some(header) = self.header {
@@ -88,14 +88,49 @@ impl<R: Source> PcapReader<R> {
                 self.header = Some(header);
                 Ok(header)
             }
-            Err(rule) => {
-                let refusal = Refusal {
-                    file: self.window.file(),
-                    offset: self.window.offset(),
-                    rule,
-                };
+            Err(refusal) => {
                 self.stop = Some(Stop::Refused(refusal));
                 Err(Fault::Refused(refusal))
+            }
+        }
+    }
+
+    /// The file's header. It comes again at each call. `Refused` comes, now and at each later call,
+    /// where the header is cut, has another magic or is of another version; where a header read from
+    /// elsewhere than the file's first byte would end past byte 2^40; and where a record was refused.
+    /// `Memory` leaves what is to come; `Read` comes again. draft-ietf-opsawg-pcap, 4.
+    pub fn header(&mut self) -> Result<PcapHeader, Fault>
+        ensures answer { GivesHeader self.old result self.new }
+        ensures header { KeepsHeader self.old self.new }
+        ensures place { OnErr result (self.new.offset ≡ self.old.offset) }
+        ensures keeps { Keeps self.old self.new }
+        ensures items { IsTrue self.old.told
+            → KeepsItems (items_of self.old) result (items_of self.new) }
+    {
+        self.read_header()
+    }
+
+    // Looks for the next record, behind the one that was given last.
+    fn read_record(&mut self, header: PcapHeader) -> Result<Option<Record>, Fault>
+        requires { self.old.known ≡ Some header }
+        ensures answer { GivesNext header self.old result self.new }
+        ensures place { self.new.offset ≡ place_after self.old.offset result }
+        ensures header { self.new.known ≡ self.old.known }
+        ensures keeps { Keeps self.old self.new }
+    {
+        if let Some(stop) = self.stop {
+            return stop.answer();
+        }
+        self.window.pass(size_given(self.captured));
+        self.captured = None;
+        match look_for_record(&mut self.window, header, self.tail)? {
+            Ok(record) => {
+                self.captured = Some(record.captured as usize);
+                Ok(Some(record))
+            }
+            Err(stop) => {
+                self.stop = Some(stop);
+                stop.answer()
             }
         }
     }
@@ -106,35 +141,23 @@ impl<R: Source> PcapReader<R> {
     /// tail is accepted, a cut rest is the end instead. `Memory` leaves what is to come; `Read` comes
     /// again. draft-ietf-opsawg-pcap, 5.
     pub fn next_record(&mut self) -> Result<Option<Record>, Fault>
-        requires { IsSome self.old.header }
-        ensures answer { IfSome self.old.header
+        requires { IsSome self.old.known }
+        ensures answer { IfSome self.old.known
             (λ header. GivesNext header self.old result self.new) }
+        ensures place { self.new.offset ≡ place_after self.old.offset result }
+        ensures header { self.new.known ≡ self.old.known }
         ensures keeps { Keeps self.old self.new }
         ensures items { IsTrue self.old.told
-            → TakesItem (items_of self.old) result self.new.frame (items_of self.new) }
+            → TakesItem (items_of self.old) result self.new.lent (items_of self.new) }
     {
         let header = self.header.unwrap();
-        if let Some(stop) = self.stop {
-            return stop.answer();
-        }
-        self.window.pass(size_given(self.captured));
-        self.captured = None;
-        match look_for_record(&mut self.window, header, self.tail)? {
-            Sight::Whole(record) => {
-                self.captured = Some(record.captured as usize);
-                Ok(Some(record))
-            }
-            Sight::Stopped(stop) => {
-                self.stop = Some(stop);
-                stop.answer()
-            }
-        }
+        self.read_record(header)
     }
 
     /// The captured bytes of the record that was given last, which lie in the window.
     pub fn frame(&self) -> &[u8]
-        requires { IsSome self.now.frame }
-        ensures { self.now.frame ≡ Some result.now }
+        requires { IsSome self.now.lent }
+        ensures { self.now.lent ≡ Some result.now }
     {
         let size = size_given(self.captured);
         let (record, _) = self.window.bytes().split_at(size);

@@ -4,10 +4,10 @@ ghost use Rattle.cap_bytes.specs.Device.{Puts, WriterKeeps, writer_of};
 ghost use Rattle.cap_bytes.specs.Window.{Keeps};
 ghost use Rattle.cap_pcap.specs.Grammar.{head_text, record_text};
 ghost use Rattle.cap_pcap.specs.Sights.{Measures, LooksForRecord};
-ghost use Rattle.cap_pcap.specs.Split.{stop_by, record_at};
+ghost use Rattle.cap_pcap.specs.Split.{record_at};
 
 use crate::headers::{FILE_LIMIT, PcapHeader, put_u32};
-use cap_bytes::{Fault, Order, Refusal, Rule, Sink, Source, Tail, Window, put_all, u32_at};
+use cap_bytes::{Fault, Order, Refusal, Rule, Sink, Source, Stop, Tail, Window, put_all, u32_at};
 
 /// What a record says of its packet. draft-ietf-opsawg-pcap, 5.
 #[derive(Clone, Copy, Debug, PartialEq, Eq)]
@@ -23,55 +23,11 @@ pub struct Record {
     pub original: u32,
 }
 
-/// What ended the records of a file.
-#[derive(Clone, Copy)]
-pub enum Stop {
-    /// No bytes were left.
-    End,
-    /// The bytes that were left were no whole record, and were dropped.
-    Cut,
-    /// The bytes that were left are refused.
-    Refused(Refusal),
-}
-
-impl Stop {
-    ghost use Rattle.cap_pcap.specs.Reader.{answer_of};
-
-    /// What a call for a record answers from then on.
-    pub fn answer(self) -> Result<Option<Record>, Fault>
-        ensures { result ≡ answer_of self }
-    {
-        match self {
-            Stop::End | Stop::Cut => Ok(None),
-            Stop::Refused(refusal) => Err(Fault::Refused(refusal)),
-        }
-    }
-}
-
-/// What stands at the front of the bytes to come.
-#[derive(Clone, Copy)]
-pub enum Sight {
-    /// A whole record.
-    Whole(Record),
-    /// Nothing more is given.
-    Stopped(Stop),
-}
-
 /// How many bytes stand in front of a record's captured bytes.
 pub const HEAD_SIZE: usize = 16;
 
 /// The most bytes that a record may have captured.
 pub const PACKET_LIMIT: u32 = 262_144;
-
-// What ends the records where a rule is broken.
-fn stop_of(tail: Tail, file: u32, offset: u64, rule: Rule) -> Stop
-    ensures { result ≡ stop_by tail file offset rule }
-{
-    match (tail, rule) {
-        (Tail::Accept, Rule::Cut) => Stop::Cut,
-        _ => Stop::Refused(Refusal { file, offset, rule }),
-    }
-}
 
 // How many bytes the record takes that begins with these, or the first rule that its captured length
 // breaks.
@@ -113,27 +69,33 @@ pub fn look_for_record<R: Source>(
     window: &mut Window<R>,
     header: PcapHeader,
     tail: Tail,
-) -> Result<Sight, Fault>
+) -> Result<Result<Record, Stop>, Fault>
     ensures answer { LooksForRecord header tail window.old result window.new }
+    ensures offset { window.new.offset ≡ window.old.offset }
     ensures keeps { Keeps window.old window.new }
 {
     let file = window.file();
     let offset = window.offset();
+    let cut = Refusal {
+        file,
+        offset,
+        rule: Rule::Cut,
+    };
     if !window.need(HEAD_SIZE)? {
-        return Ok(Sight::Stopped(if window.bytes().is_empty() {
+        return Ok(Err(if window.bytes().is_empty() {
             Stop::End
         } else {
-            stop_of(tail, file, offset, Rule::Cut)
+            Stop::by(true, tail, cut)
         }));
     }
     let size = match measure(header.order, offset, window.bytes()) {
         Ok(size) => size,
-        Err(rule) => return Ok(Sight::Stopped(stop_of(tail, file, offset, rule))),
+        Err(rule) => return Ok(Err(Stop::by(true, tail, Refusal { file, offset, rule }))),
     };
     if !window.need(size)? {
-        return Ok(Sight::Stopped(stop_of(tail, file, offset, Rule::Cut)));
+        return Ok(Err(Stop::by(true, tail, cut)));
     }
-    Ok(Sight::Whole(record_of(header, offset, window.bytes())))
+    Ok(Ok(record_of(header, offset, window.bytes())))
 }
 
 // The bytes that are written in front of a packet's captured bytes.

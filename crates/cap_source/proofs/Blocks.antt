@@ -6,11 +6,13 @@ use Rattle.cap_bytes.specs.declared.faults.Rule.{Rule}
 use Rattle.cap_bytes.specs.declared.numbers.Order.{Order}
 use Rattle.cap_time.specs.declared.resolutions.Interface.{Interface}
 use Rattle.cap_blocks.specs.Grammar.{section_kind, interface_kind, obsolete_kind, simple_kind, enhanced_kind, is_known, is_total, least_total}
-use Rattle.cap_blocks.specs.Reader.{State, items_of, Keeps, GivesBlock, GivesStop, IsEnd}
-use Rattle.cap_blocks.specs.Split.{body_in, Item, given, stopped}
+use Rattle.cap_bytes.specs.Items.{IsEnd, Item, given, stopped}
+use Rattle.cap_bytes.specs.Reader.{State, Keeps, GivesStop}
+use Rattle.cap_blocks.specs.Reader.{items_of, GivesBlock}
+use Rattle.cap_blocks.specs.Split.{body_in, block_fault}
 use Rattle.cap_blocks.specs.declared.blocks.Block.{Block}
-use Rattle.cap_blocks.specs.declared.blocks.Stop.{Stop}
-use Rattle.cap_blocks.specs.declared.blocks.Stop.TheVariants as stops
+use Rattle.cap_bytes.specs.declared.stops.Stop.{Stop}
+use Rattle.cap_bytes.specs.declared.stops.Stop.TheVariants as stops
 use Rattle.cap_source.proofs.Pcaps.{if_none}
 use Rattle.cap_bytes.specs.Number.{number}
 use Rattle.cap_bytes.specs.declared.faults.Rule.TheVariants as rules
@@ -119,19 +121,19 @@ lent_size : (few : ℕ) (lent : Option (List ℕ)) (p : Packet) → IsSome lent 
 lent_size few None p there fit = absurd (let e : false ≡ true = there in cc)
 lent_size few (Some b) p there fit = omega (arith, fit.0)
 
-items_behind : (f g : ℕ) (p : Progress) (block : Block) (body : List ℕ) (content : Result Content Rule) (old new : List Item) → f ≡ g → old ≡ given block body ∷ new
+items_behind : (f g : ℕ) (p : Progress) (block : Block) (body : List ℕ) (content : Result Content Rule) (old new : List (Item Block)) → f ≡ g → old ≡ given block body ∷ new
     → content_in p.interfaces block.kind block.order body ≡ content
     → items_at f p block body content (items_in f (behind p content) new) ≡ items_in g p old
 unfolding items_in
 items_behind f g p block body content old new fg is e = rw (is, ← e, fg) refl
 
-ending_behind : (p : Progress) (block : Block) (body : List ℕ) (content : Result Content Rule) (old new : List Item) → old ≡ given block body ∷ new
+ending_behind : (p : Progress) (block : Block) (body : List ℕ) (content : Result Content Rule) (old new : List (Item Block)) → old ≡ given block body ∷ new
     → content_in p.interfaces block.kind block.order body ≡ content
     → unless_faulty content (ending_with p false) (ending_in (behind p content) new) ≡ ending_in p old
 unfolding ending_in
 ending_behind p block body content old new is e = rw (is, ← e) refl
 
-first_behind : (p : Progress) (block : Block) (body : List ℕ) (content : Result Content Rule) (old new : List Item) → old ≡ given block body ∷ new
+first_behind : (p : Progress) (block : Block) (body : List ℕ) (content : Result Content Rule) (old new : List (Item Block)) → old ≡ given block body ∷ new
     → content_in p.interfaces block.kind block.order body ≡ content
     → unless_item content p.first (first_in (behind p content) new) ≡ first_in p old
 unfolding first_in
@@ -141,20 +143,20 @@ none_stops : (stop : Option Stop) → stop ≡ None → is_some stop ≡ false
 none_stops stop is = rw is refl
 
 -- Behind a block the file goes on, or a packet or a refusal comes next.
-pub block_steps : (file : ℕ) (old new : State) (p : Progress) (block : Block) (content : Result Content Rule)
+pub block_steps : (file : ℕ) (old new : State Order) (p : Progress) (block : Block) (content : Result Content Rule)
     → file ≡ old.file → GivesBlock old block new → Keeps old new
     → (IsTrue old.told → items_of old ≡ given block (body_in block.total old.coming) ∷ items_of new)
-    → content ≡ content_in p.interfaces block.kind block.order (unwrap_or new.body [])
+    → content ≡ content_in p.interfaces block.kind block.order (unwrap_or new.lent [])
     → StepsTo (pcapng_lane old p) (next_at file p block content) (pcapng_lane new (behind p content))
 block_steps file old new p block content named g k taken is =
     by content is
-    (subst (IsFit (length p.interfaces) (unwrap_or new.body [])) (sym is) (content_fit p.interfaces block.kind block.order (unwrap_or new.body [])))
+    (subst (IsFit (length p.interfaces) (unwrap_or new.lent [])) (sym is) (content_fit p.interfaces block.kind block.order (unwrap_or new.lent [])))
     (λ t. items_behind new.file old.file p block (body_in block.total old.coming) content (items_of old) (items_of new) k.file (taken t) (says t))
     (λ t. ending_behind p block (body_in block.total old.coming) content (items_of old) (items_of new) (taken t) (says t))
     (λ t. first_behind p block (body_in block.total old.coming) content (items_of old) (items_of new) (taken t) (says t))
   where
     says : IsTrue old.told → content_in p.interfaces block.kind block.order (body_in block.total old.coming) ≡ content
-    says t = content_same p.interfaces block.kind block.order new.body (body_in block.total old.coming) g.known (g.body_is t) ∙ sym is
+    says t = content_same p.interfaces block.kind block.order new.lent (body_in block.total old.coming) g.known (g.body_is t) ∙ sym is
 
     goes : (q : Progress) → (IsTrue old.told → items_in new.file q (items_of new) ≡ items_in old.file p (items_of old))
         → (IsTrue old.told → ending_in q (items_of new) ≡ ending_in p (items_of old))
@@ -162,16 +164,16 @@ block_steps file old new p block content named g k taken is =
         → GoesOn (pcapng_lane old p) (pcapng_lane new q)
     goes q items ending first = record {
       waits = record {
-        stops = none_stops new.stop g.stop;
-        broken = g.goes.after ∙ sym g.goes.before;
-        failed = g.goes.failed;
+        stops = none_stops new.stop g.gives.stop;
+        broken = g.gives.goes.after ∙ sym g.gives.goes.before;
+        failed = g.gives.goes.failed;
         rest = λ t. record { items = items t; ending = ending t; first = first t };
       };
-      further = omega (arith, g.next, g.least);
+      further = omega (arith, g.gives.next, g.least);
     }
 
-    by : (c : Result Content Rule) → c ≡ content_in p.interfaces block.kind block.order (unwrap_or new.body [])
-        → IsFit (length p.interfaces) (unwrap_or new.body []) c
+    by : (c : Result Content Rule) → c ≡ content_in p.interfaces block.kind block.order (unwrap_or new.lent [])
+        → IsFit (length p.interfaces) (unwrap_or new.lent []) c
         → (IsTrue old.told → items_at new.file p block (body_in block.total old.coming) c (items_in new.file (behind p c) (items_of new)) ≡ items_in old.file p (items_of old))
         → (IsTrue old.told → unless_faulty c (ending_with p false) (ending_in (behind p c) (items_of new)) ≡ ending_in p (items_of old))
         → (IsTrue old.told → unless_item c p.first (first_in (behind p c) (items_of new)) ≡ first_in p (items_of old))
@@ -180,19 +182,19 @@ block_steps file old new p block content named g k taken is =
     by (Ok (contents.Interface interface)) same fit items ending first = goes (after p (contents.Interface interface)) items ending first
     by (Ok contents.Other) same fit items ending first = goes (after p contents.Other) items ending first
     by (Ok (contents.Packet pk)) same fit items ending first =
-        let there = packet_lent p.interfaces block.kind block.order new.body pk g.known same in
+        let there = packet_lent p.interfaces block.kind block.order new.lent pk g.known same in
         record {
           is = record {
             file = named ∙ sym k.file;
-            lent = lent_size (length p.interfaces) new.body pk there fit;
+            lent = lent_size (length p.interfaces) new.lent pk there fit;
             captured = fit.1;
-            behind = omega (arith, g.offset, g.next, g.least);
+            behind = omega (arith, g.offset, g.gives.next, g.least);
           };
           place = omega (arith, g.offset);
-          free = ap not (none_stops new.stop g.stop);
-          goes = record { before = g.goes.before; after = g.goes.after; failed = g.goes.failed };
-          items = λ t. packet_same file new.file pk (part_of new.body pk.place pk.captured) (frame_in pk (body_in block.total old.coming)) (items_in new.file p (items_of new))
-              (named ∙ sym k.file) (frame_same new.body (body_in block.total old.coming) pk there (g.body_is t)) ∙ items t;
+          free = ap not (none_stops new.stop g.gives.stop);
+          goes = record { before = g.gives.goes.before; after = g.gives.goes.after; failed = g.gives.goes.failed };
+          items = λ t. packet_same file new.file pk (part_of new.lent pk.place pk.captured) (frame_in pk (body_in block.total old.coming)) (items_in new.file p (items_of new))
+              (named ∙ sym k.file) (frame_same new.lent (body_in block.total old.coming) pk there (g.body_is t)) ∙ items t;
           ending = ending;
           first = first;
         }
@@ -204,7 +206,7 @@ block_steps file old new p block content named g k taken is =
       is = record { file = named ∙ sym k.file; lent = omega arith; captured = omega arith; behind = omega arith };
       place = k.offset;
       free = refl;
-      goes = record { before = g.goes.before; after = g.goes.after; failed = g.goes.failed };
+      goes = record { before = g.gives.goes.before; after = g.gives.goes.after; failed = g.gives.goes.failed };
       items = λ t. refusal_same file new.file (named ∙ sym k.file) ∙ items t;
       ending = ending;
       first = first;
@@ -215,8 +217,8 @@ block_steps file old new p block content named g k taken is =
         refusal_same m f mf = λ i. feeds.refused (record { file = mf i; offset = block.offset; rule = rule }) ∷ []
 
 -- What a block leaves of the counts.
-pub block_keeps : (old new : State) (p : Progress) (block : Block) (content : Result Content Rule) → GivesBlock old block new → Keeps old new
-    → content ≡ content_in p.interfaces block.kind block.order (unwrap_or new.body [])
+pub block_keeps : (old new : State Order) (p : Progress) (block : Block) (content : Result Content Rule) → GivesBlock old block new → Keeps old new
+    → content ≡ content_in p.interfaces block.kind block.order (unwrap_or new.lent [])
     → LaneKeeps (pcapng_lane old p) (pcapng_lane new (behind p content))
 block_keeps old new p block content g k is = record {
   file = k.file;
@@ -225,11 +227,11 @@ block_keeps old new p block content g k is = record {
   offset = k.offset;
   limit = λ h. k.limit;
   held = λ h. k.held;
-  interfaces = few content (subst (IsFit (length p.interfaces) (unwrap_or new.body [])) (sym is) (content_fit p.interfaces block.kind block.order (unwrap_or new.body [])));
-  counted = λ h. omega (arith, h, more content, g.next, g.least);
+  interfaces = few content (subst (IsFit (length p.interfaces) (unwrap_or new.lent [])) (sym is) (content_fit p.interfaces block.kind block.order (unwrap_or new.lent [])));
+  counted = λ h. omega (arith, h, more content, g.gives.next, g.least);
 }
   where
-    few : (c : Result Content Rule) → IsFit (length p.interfaces) (unwrap_or new.body []) c → length p.interfaces ≤ 1024 → length (behind p c).interfaces ≤ 1024
+    few : (c : Result Content Rule) → IsFit (length p.interfaces) (unwrap_or new.lent []) c → length p.interfaces ≤ 1024 → length (behind p c).interfaces ≤ 1024
     few (Ok contents.Section) fit h = omega arith
     few (Ok (contents.Interface interface)) fit h = omega (arith, fit, length-append p.interfaces (interface ∷ []))
     few (Ok (contents.Packet pk)) fit h = h
@@ -243,7 +245,7 @@ block_keeps old new p block content g k is = record {
     more (Ok contents.Other) = omega arith
     more (Err rule) = omega arith
 
-stopped_again : (new : State) (stop : Stop) → new.stop ≡ Some stop → items_of new ≡ stopped stop ∷ []
+stopped_again : (new : State Order) (stop : Stop) → new.stop ≡ Some stop → items_of new ≡ stopped stop ∷ []
 stopped_again new stop is = rw is refl
 
 cut_is : (cut : Bool) (stop : Stop) → IsTrue cut ↔ (Some stop ≡ Some stops.Cut) → cut ≡ is_cut stop
@@ -254,27 +256,27 @@ cut_is false stops.End both = refl
 cut_is false stops.Cut both = both.1 refl
 cut_is false (stops.Refused refusal) both = refl
 
-no_items : (stop : Stop) (file : ℕ) (p : Progress) (items : List Item) → IsEnd stop → items ≡ stopped stop ∷ [] → [] ≡ items_in file p items
+no_items : (stop : Stop) (file : ℕ) (p : Progress) (items : List (Item Block)) → IsEnd stop → items ≡ stopped stop ∷ [] → [] ≡ items_in file p items
 unfolding items_in
 no_items stops.End file p items h is = rw is refl
 no_items stops.Cut file p items h is = rw is refl
 no_items (stops.Refused refusal) file p items h is = absurd h
 
-ending_stopped : (stop : Stop) (p : Progress) (items : List Item) → items ≡ stopped stop ∷ [] → ending_with p (is_cut stop) ≡ ending_in p items
+ending_stopped : (stop : Stop) (p : Progress) (items : List (Item Block)) → items ≡ stopped stop ∷ [] → ending_with p (is_cut stop) ≡ ending_in p items
 unfolding ending_in
 ending_stopped stop p items is = rw is refl
 
-first_stopped : (stop : Stop) (p : Progress) (items : List Item) → items ≡ stopped stop ∷ [] → p.first ≡ first_in p items
+first_stopped : (stop : Stop) (p : Progress) (items : List (Item Block)) → items ≡ stopped stop ∷ [] → p.first ≡ first_in p items
 unfolding first_in
 first_stopped stop p items is = rw is refl
 
-refused_items : (refusal : Refusal) (file : ℕ) (p : Progress) (items : List Item) → items ≡ stopped (stops.Refused refusal) ∷ [] → feeds.refused refusal ∷ [] ≡ items_in file p items
+refused_items : (refusal : Refusal) (file : ℕ) (p : Progress) (items : List (Item Block)) → items ≡ stopped (stops.Refused refusal) ∷ [] → feeds.refused refusal ∷ [] ≡ items_in file p items
 unfolding items_in
 refused_items refusal file p items is = rw is refl
 
 -- The blocks end.
-pub end_learned : (cut : Bool) (stop : Stop) (old new : State) (p : Progress) → old.stop ≡ None
-    → IsEnd stop → GivesStop stop old new → IsTrue cut ↔ (new.stop ≡ Some stops.Cut) → Keeps old new
+pub end_learned : (cut : Bool) (stop : Stop) (old new : State Order) (p : Progress) → old.stop ≡ None
+    → IsEnd stop → GivesStop (is_some old.known) (block_fault old.known old.offset old.coming) stop old new → IsTrue cut ↔ (new.stop ≡ Some stops.Cut) → Keeps old new
     → (IsTrue old.told → items_of new ≡ items_of old)
     → Learns (pcapng_lane old p) (nexts.End (ending_with p cut)) (pcapng_lane new p)
 end_learned cut stop old new p free ends g was k same =
@@ -291,8 +293,8 @@ end_learned cut stop old new p free ends g was k same =
     }
 
 -- A rest is refused.
-pub refusal_learned : (refusal : Refusal) (old new : State) (p : Progress) → old.stop ≡ None
-    → GivesStop (stops.Refused refusal) old new → Keeps old new
+pub refusal_learned : (refusal : Refusal) (old new : State Order) (p : Progress) → old.stop ≡ None
+    → GivesStop (is_some old.known) (block_fault old.known old.offset old.coming) (stops.Refused refusal) old new → Keeps old new
     → (IsTrue old.told → items_of old ≡ stopped (stops.Refused refusal) ∷ [])
     → Learns (pcapng_lane old p) (nexts.Refused refusal (ending_with p false)) (pcapng_lane new p)
 refusal_learned refusal old new p free g k same =
@@ -308,25 +310,25 @@ refusal_learned refusal old new p free g k same =
     }
 
 -- the same, of what a call answered
-pub block_stepped : (file : ℕ) (old new : State) (p q : Progress) (block : Block) (content : Result Content Rule) (next : Option Next)
+pub block_stepped : (file : ℕ) (old new : State Order) (p q : Progress) (block : Block) (content : Result Content Rule) (next : Option Next)
     → next ≡ next_at file p block content → q ≡ behind p content
     → file ≡ old.file → GivesBlock old block new → Keeps old new
     → (IsTrue old.told → items_of old ≡ given block (body_in block.total old.coming) ∷ items_of new)
-    → content ≡ content_in p.interfaces block.kind block.order (unwrap_or new.body [])
+    → content ≡ content_in p.interfaces block.kind block.order (unwrap_or new.lent [])
     → StepsTo (pcapng_lane old p) next (pcapng_lane new q)
 block_stepped file old new p q block content next is_next is_q named g k taken is =
     subst (λ (n : Option Next). StepsTo (pcapng_lane old p) n (pcapng_lane new q)) (sym is_next)
     (subst (λ (r : Progress). StepsTo (pcapng_lane old p) (next_at file p block content) (pcapng_lane new r)) (sym is_q)
     (block_steps file old new p block content named g k taken is))
 
-pub block_kept : (old new : State) (p q : Progress) (block : Block) (content : Result Content Rule) → q ≡ behind p content → GivesBlock old block new → Keeps old new
-    → content ≡ content_in p.interfaces block.kind block.order (unwrap_or new.body [])
+pub block_kept : (old new : State Order) (p q : Progress) (block : Block) (content : Result Content Rule) → q ≡ behind p content → GivesBlock old block new → Keeps old new
+    → content ≡ content_in p.interfaces block.kind block.order (unwrap_or new.lent [])
     → LaneKeeps (pcapng_lane old p) (pcapng_lane new q)
 block_kept old new p q block content is_q g k is =
     subst (λ (r : Progress). LaneKeeps (pcapng_lane old p) (pcapng_lane new r)) (sym is_q) (block_keeps old new p block content g k is)
 
-pub refusal_kept : (refusal : Refusal) (ending : Ending) (old new : State) (p : Progress) → ending ≡ ending_with p false → old.stop ≡ None
-    → GivesStop (stops.Refused refusal) old new → Keeps old new
+pub refusal_kept : (refusal : Refusal) (ending : Ending) (old new : State Order) (p : Progress) → ending ≡ ending_with p false → old.stop ≡ None
+    → GivesStop (is_some old.known) (block_fault old.known old.offset old.coming) (stops.Refused refusal) old new → Keeps old new
     → (IsTrue old.told → items_of old ≡ stopped (stops.Refused refusal) ∷ [])
     → Learns (pcapng_lane old p) (nexts.Refused refusal ending) (pcapng_lane new p)
 refusal_kept refusal ending old new p is_ending free g k same =

@@ -9,8 +9,9 @@ use Rattle.cap_blocks.specs.OptionList.{options_of}
 use Rattle.cap_blocks.specs.Split as blocks
 use Rattle.cap_blocks.specs.Split.{AreBytes}
 use Rattle.cap_blocks.specs.declared.blocks.Block.{Block}
-use Rattle.cap_blocks.specs.declared.blocks.Stop.{Stop as BlockStop}
-use Rattle.cap_blocks.specs.declared.blocks.Stop.TheVariants as block_stops
+use Rattle.cap_bytes.specs.Items as pieces
+use Rattle.cap_bytes.specs.declared.stops.Stop.{Stop}
+use Rattle.cap_bytes.specs.declared.stops.Stop.TheVariants as stops
 use Rattle.cap_bytes.proofs.Spelling.{number-lt}
 use Rattle.cap_bytes.specs.Number.{number}
 use Rattle.cap_bytes.specs.declared.faults.Rule.{Rule}
@@ -21,8 +22,6 @@ use Rattle.cap_pcap.proofs.Splitting.{every_split-law, split_items-law}
 use Rattle.cap_pcap.specs.Grammar.{Packet as Record, packet_size, SpellsRecord}
 use Rattle.cap_pcap.specs.Split as records
 use Rattle.cap_pcap.specs.Split.{Splits}
-use Rattle.cap_pcap.specs.declared.records.Stop.{Stop as RecordStop}
-use Rattle.cap_pcap.specs.declared.records.Stop.TheVariants as record_stops
 use Rattle.cap_source.proofs.Blocks.{IsFit, content_fit}
 use Rattle.cap_source.proofs.Frames.{block-frame, read_header}
 use Rattle.cap_source.proofs.Saying.{OfContent, content-holds}
@@ -131,24 +130,24 @@ content-fits interfaces kind order body fit are =
 -- ---- blocks
 
 -- The bodies of a file's blocks are bytes.
-abbrev pub IsOfBytes : blocks.Item → Type 0
-IsOfBytes (blocks.given block body) = AreBytes body
-IsOfBytes (blocks.stopped stop) = Unit {0}
+abbrev pub IsOfBytes : pieces.Item Block → Type 0
+IsOfBytes (pieces.given block body) = AreBytes body
+IsOfBytes (pieces.stopped stop) = Unit {0}
 
-of_item : (stop : Option BlockStop) (block : Block) (body : List ℕ) (rest : List blocks.Item) → AreBytes body → AllByRecursion IsOfBytes rest
-    → AllByRecursion IsOfBytes (blocks.item_or stop (blocks.given block body) rest)
+of_item : (stop : Option Stop) (block : Block) (body : List ℕ) (rest : List (pieces.Item Block)) → AreBytes body → AllByRecursion IsOfBytes rest
+    → AllByRecursion IsOfBytes (pieces.item_or stop (pieces.given block body) rest)
 of_item (Some stop) block body rest are later = (tt, tt)
 of_item None block body rest are later = (are, later)
 
 pub blocks-bytes : (fuel : ℕ) (section : Option Order) (tail : Tail) (file offset : ℕ) (bytes : List ℕ) → AreBytes bytes
-    → AllByRecursion IsOfBytes (blocks.items_by fuel section tail file offset bytes)
-unfolding blocks.items_by
+    → AllByRecursion IsOfBytes (pieces.items_by blocks.blocks fuel section tail file offset bytes)
+unfolding pieces.items_by
 blocks-bytes zero section tail file offset bytes are = tt
 blocks-bytes (suc fuel) section tail file offset bytes are =
     let order = blocks.order_at section bytes in
     let total = blocks.total_at order bytes in
     of_item (blocks.stop_at section tail file offset bytes) (blocks.block_at section offset bytes) (blocks.body_at section bytes)
-    (blocks.items_by fuel (Some order) tail file (offset + total) (drop total bytes))
+    (pieces.items_by blocks.blocks fuel (Some order) tail file (offset + total) (drop total bytes))
     (AreBytes-take (total - 12) (drop 8 bytes) (AreBytes-drop 8 bytes are))
     (blocks-bytes fuel (Some order) tail file (offset + total) (drop total bytes) (AreBytes-drop total bytes are))
 
@@ -170,17 +169,17 @@ block-fits file few progress block body (Ok (contents.Packet p)) items fits with
 block-fits file few progress block body (Ok contents.Other) items fits within all rest = rest all
 block-fits file few progress block body (Err rule) items fits within all rest = (tt, tt)
 
-stop-fits : (stop : BlockStop) → AllByRecursion ItemFits (items_of_stop stop)
-stop-fits block_stops.End = tt
-stop-fits block_stops.Cut = tt
-stop-fits (block_stops.Refused refusal) = (tt, tt)
+stop-fits : (stop : Stop) → AllByRecursion ItemFits (items_of_stop stop)
+stop-fits stops.End = tt
+stop-fits stops.Cut = tt
+stop-fits (stops.Refused refusal) = (tt, tt)
 
-blocks-fit : (file : ℕ) (progress : Progress) (items : List blocks.Item) → AllByRecursion FitsInterface progress.interfaces
+blocks-fit : (file : ℕ) (progress : Progress) (items : List (pieces.Item Block)) → AllByRecursion FitsInterface progress.interfaces
     → AllByRecursion IsOfBytes items → AllByRecursion ItemFits (items_in file progress items)
 unfolding items_in
 blocks-fit file progress [] fit are = tt
-blocks-fit file progress (blocks.stopped stop ∷ rest) fit are = stop-fits stop
-blocks-fit file progress (blocks.given block body ∷ rest) fit are =
+blocks-fit file progress (pieces.stopped stop ∷ rest) fit are = stop-fits stop
+blocks-fit file progress (pieces.given block body ∷ rest) fit are =
     let content = content_in progress.interfaces block.kind block.order body in
     block-fits file (length progress.interfaces) progress block body content (items_in file (behind progress content) rest)
     (content-fits progress.interfaces block.kind block.order body fit are.0) (content_fit progress.interfaces block.kind block.order body) fit
@@ -222,12 +221,12 @@ below_header bytes are =
     (omega (arith, number-lt (records.order_at bytes) 4 (drop 16 bytes) (AreBytes-drop 16 bytes are)), mod-lt (number (records.order_at bytes) 4 (drop 20 bytes)) {m = 65536} (omega arith))
 
 -- the packets of records have the one interface of the header
-records-fit : (file : ℕ) (i : Interface) (offset : ℕ) (packets : List Record) (stop : RecordStop) → FitsInterface i → AllHeld packets
+records-fit : (file : ℕ) (i : Interface) (offset : ℕ) (packets : List Record) (stop : Stop) → FitsInterface i → AllHeld packets
     → AllByRecursion ItemFits (pcap_items file i (records.items_with offset packets stop))
 unfolding pcap_items
-records-fit file i offset [] record_stops.End fits held = tt
-records-fit file i offset [] record_stops.Cut fits held = tt
-records-fit file i offset [] (record_stops.Refused refusal) fits held = (tt, tt)
+records-fit file i offset [] stops.End fits held = tt
+records-fit file i offset [] stops.Cut fits held = tt
+records-fit file i offset [] (stops.Refused refusal) fits held = (tt, tt)
 records-fit file i offset (p ∷ ps) stop fits held = (
   record { interface = fits; units = held.0; original = held.1; frame = record { captured = refl; limit = held.2 } },
   records-fit file i (offset + packet_size p) ps stop fits held.3,
@@ -254,7 +253,7 @@ pcap-fits tail file bytes are = by (records.header_fault 0 bytes) refl
         (held-splits header.order header.unit 24 (drop 24 bytes) split.0 split.1 (AreBytes-drop 24 bytes are) split.2))
 
 pub fields_fit-law : FieldsFit
-unfolding items_from blocks.items_from
+unfolding items_from pieces.items_in
 fields_fit-law tail file bytes are = by (is_pcapng bytes)
   where
     by : (pcapng : Bool)

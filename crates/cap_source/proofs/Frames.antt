@@ -4,8 +4,9 @@ use Rattle.std.proofs.lemmas.List.{length-take-le}
 use Rattle.std.specs.List.{AllByRecursion}
 use Rattle.cap_blocks.specs.Split as blocks
 use Rattle.cap_blocks.specs.declared.blocks.Block.{Block}
-use Rattle.cap_blocks.specs.declared.blocks.Stop.{Stop as BlockStop}
-use Rattle.cap_blocks.specs.declared.blocks.Stop.TheVariants as block_stops
+use Rattle.cap_bytes.specs.Items as pieces
+use Rattle.cap_bytes.specs.declared.stops.Stop.{Stop}
+use Rattle.cap_bytes.specs.declared.stops.Stop.TheVariants as stops
 use Rattle.cap_bytes.specs.declared.faults.Rule.{Rule}
 use Rattle.cap_bytes.specs.declared.faults.Tail.{Tail}
 use Rattle.cap_bytes.specs.declared.numbers.Order.{Order}
@@ -13,8 +14,6 @@ use Rattle.cap_pcap.proofs.Splitting.{every_split-law, split_items-law}
 use Rattle.cap_pcap.specs.Grammar.{Packet as Record, packet_size}
 use Rattle.cap_pcap.specs.Split as records
 use Rattle.cap_pcap.specs.Split.{Splits}
-use Rattle.cap_pcap.specs.declared.records.Stop.{Stop as RecordStop}
-use Rattle.cap_pcap.specs.declared.records.Stop.TheVariants as record_stops
 use Rattle.cap_source.proofs.Blocks.{IsFit, content_fit}
 use Rattle.cap_source.specs.Contents.{content_in}
 use Rattle.cap_source.specs.Feed.{Item}
@@ -44,28 +43,28 @@ block-frames file few progress block body (Ok (contents.Packet p)) items within 
 block-frames file few progress block body (Ok contents.Other) items within rest = rest
 block-frames file few progress block body (Err rule) items within rest = (tt, tt)
 
-stop-frames : (stop : BlockStop) → AllByRecursion HasFrame (items_of_stop stop)
-stop-frames block_stops.End = tt
-stop-frames block_stops.Cut = tt
-stop-frames (block_stops.Refused refusal) = (tt, tt)
+stop-frames : (stop : Stop) → AllByRecursion HasFrame (items_of_stop stop)
+stop-frames stops.End = tt
+stop-frames stops.Cut = tt
+stop-frames (stops.Refused refusal) = (tt, tt)
 
-blocks-frames : (file : ℕ) (progress : Progress) (items : List blocks.Item) → AllByRecursion HasFrame (items_in file progress items)
+blocks-frames : (file : ℕ) (progress : Progress) (items : List (pieces.Item Block)) → AllByRecursion HasFrame (items_in file progress items)
 unfolding items_in
 blocks-frames file progress [] = tt
-blocks-frames file progress (blocks.stopped stop ∷ rest) = stop-frames stop
-blocks-frames file progress (blocks.given block body ∷ rest) =
+blocks-frames file progress (pieces.stopped stop ∷ rest) = stop-frames stop
+blocks-frames file progress (pieces.given block body ∷ rest) =
     let content = content_in progress.interfaces block.kind block.order body in
     block-frames file (length progress.interfaces) progress block body content (items_in file (behind progress content) rest)
     (content_fit progress.interfaces block.kind block.order body) (blocks-frames file (behind progress content) rest)
 
 -- ---- records
 
-records-frames : (file : ℕ) (i : Interface) (order : Order) (unit : Fraction) (offset : ℕ) (bytes : List ℕ) (packets : List Record) (rest : List ℕ) (stop : RecordStop)
+records-frames : (file : ℕ) (i : Interface) (order : Order) (unit : Fraction) (offset : ℕ) (bytes : List ℕ) (packets : List Record) (rest : List ℕ) (stop : Stop)
     → Splits order unit offset bytes packets rest → AllByRecursion HasFrame (pcap_items file i (records.items_with offset packets stop))
 unfolding pcap_items
-records-frames file i order unit offset bytes [] rest record_stops.End s = tt
-records-frames file i order unit offset bytes [] rest record_stops.Cut s = tt
-records-frames file i order unit offset bytes [] rest (record_stops.Refused refusal) s = (tt, tt)
+records-frames file i order unit offset bytes [] rest stops.End s = tt
+records-frames file i order unit offset bytes [] rest stops.Cut s = tt
+records-frames file i order unit offset bytes [] rest (stops.Refused refusal) s = (tt, tt)
 records-frames file i order unit offset bytes (p ∷ ps) rest stop s = (
   record { captured = refl; limit = s.0.limit },
   records-frames file i order unit (offset + packet_size p) (drop (packet_size p) bytes) ps rest stop s.2,

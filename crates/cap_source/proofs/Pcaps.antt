@@ -1,17 +1,21 @@
 -- What comes next of a pcap file.
-use Rattle.std.proofs.Common.{◌≡◌, ◌≤◌, ◌+◌, ℕ, Bool, true, false, List, [], ◌∷◌, length, Option, Some, None, is_some, IsSomeAnd, IfSome, IfNone, IsTrue, not, ◌↔◌, refl, sym, ap, ◌∙◌, subst, arith}
+use Rattle.std.proofs.Common.{◌≡◌, ◌≤◌, ◌+◌, ℕ, Bool, true, false, List, [], ◌∷◌, length, Option, Some, None, is_some, IsSomeAnd, IfSome, IfNone, IsTrue, Err, not, ◌↔◌, refl, sym, ap, ◌∙◌, subst, arith}
 use Rattle.std.proofs.lemmas.List.{take_all}
+use Rattle.cap_bytes.specs.declared.faults.Fault.TheVariants.{Refused}
 use Rattle.cap_bytes.specs.declared.faults.Refusal.{Refusal}
 use Rattle.cap_bytes.specs.declared.faults.Rule.{Rule}
 use Rattle.cap_time.specs.declared.resolutions.Interface.{Interface}
-use Rattle.cap_pcap.specs.Reader.{State, items_of, Keeps, GivesRecord, GivesStop, IsEnd, HasHeader, ReadsHeader, GivesRefusal}
-use Rattle.cap_pcap.specs.Split.{header_fault, header_at, Item, given, stopped}
+use Rattle.cap_bytes.specs.Items.{IsEnd, Item, given, stopped}
+use Rattle.cap_bytes.specs.Reader.{State, Keeps, GivesStop}
+use Rattle.cap_bytes.proofs.Items.{rule_told}
+use Rattle.cap_pcap.specs.Reader.{items_of, GivesHeader, GivesRecord, HasHeader, ReadsHeader}
+use Rattle.cap_pcap.specs.Split.{header_fault, header_at, record_fault}
 use Rattle.cap_pcap.specs.declared.headers.PcapHeader.{PcapHeader}
 use Rattle.cap_pcap.specs.declared.records.Record.{Record}
-use Rattle.cap_pcap.specs.declared.records.Stop.{Stop}
-use Rattle.cap_pcap.specs.declared.records.Stop.TheVariants as stops
+use Rattle.cap_bytes.specs.declared.stops.Stop.{Stop}
+use Rattle.cap_bytes.specs.declared.stops.Stop.TheVariants as stops
 use Rattle.cap_source.specs.Feed as feeds
-use Rattle.cap_source.specs.Items.{Progress, interface_of, meta_of, pcap_items, pcap_ending, pcap_ending_with, is_record_cut}
+use Rattle.cap_source.specs.Items.{Progress, interface_of, meta_of, pcap_items, pcap_ending, pcap_ending_with, is_cut}
 use Rattle.cap_source.specs.Lanes.{pcap_lane, header_or, first_of, size_of, part_of, Learns, Waits, LaneKeeps}
 use Rattle.cap_source.specs.declared.readers.Next.TheVariants as nexts
 
@@ -38,7 +42,7 @@ lent_size (Some bytes) captured h = omega (arith, h)
 part_whole : (bytes : List ℕ) (captured : ℕ) → length bytes ≡ captured → part_of (Some bytes) 0 captured ≡ bytes
 part_whole bytes captured is = take_all captured bytes (omega (arith, is))
 
-items_given : (m f g : ℕ) (h i j : Interface) (r : Record) (frame : Option (List ℕ)) (old new : List Item) → m ≡ g → f ≡ g → h ≡ j → i ≡ j
+items_given : (m f g : ℕ) (h i j : Interface) (r : Record) (frame : Option (List ℕ)) (old new : List (Item Record)) → m ≡ g → f ≡ g → h ≡ j → i ≡ j
     → IsSomeAnd frame (λ bytes. length bytes ≡ r.captured) → IsSomeAnd frame (λ bytes. old ≡ given r bytes ∷ new)
     → feeds.packet (meta_of m h r) (part_of frame 0 r.captured) ∷ pcap_items f i new ≡ pcap_items g j old
 unfolding pcap_items
@@ -46,10 +50,10 @@ items_given m f g h i j r None old new mg fg hj ij size is = absurd size
 items_given m f g h i j r (Some bytes) old new mg fg hj ij size is =
     rw (is, mg, fg, hj, ij, part_whole bytes r.captured size) refl
 
-same_items : (f g : ℕ) (i j : Interface) (old new : List Item) → f ≡ g → i ≡ j → new ≡ old → pcap_items f i new ≡ pcap_items g j old
+same_items : (f g : ℕ) (i j : Interface) (old new : List (Item Record)) → f ≡ g → i ≡ j → new ≡ old → pcap_items f i new ≡ pcap_items g j old
 same_items f g i j old new fg ij is = λ k. pcap_items (fg k) (ij k) (is k)
 
-ending_given : (r : Record) (frame : Option (List ℕ)) (old new : List Item) → IsSomeAnd frame (λ bytes. old ≡ given r bytes ∷ new)
+ending_given : (r : Record) (frame : Option (List ℕ)) (old new : List (Item Record)) → IsSomeAnd frame (λ bytes. old ≡ given r bytes ∷ new)
     → pcap_ending new ≡ pcap_ending old
 unfolding pcap_ending
 ending_given r None old new is = absurd is
@@ -59,37 +63,37 @@ is_none : (stop : Option Stop) → stop ≡ None → is_some stop ≡ false
 is_none stop is = rw is refl
 
 -- A record is given, whose packet comes next.
-pub record_learned : (header : PcapHeader) (file : ℕ) (r : Record) (old new : State) (progress : Progress)
-    → file ≡ old.file → old.header ≡ Some header → progress.first ≡ Some (interface_of header)
+pub record_learned : (header : PcapHeader) (file : ℕ) (r : Record) (old new : State PcapHeader) (progress : Progress)
+    → file ≡ old.file → old.known ≡ Some header → progress.first ≡ Some (interface_of header)
     → GivesRecord header old r new → Keeps old new
-    → (IsTrue old.told → IsSomeAnd new.frame (λ bytes. items_of old ≡ given r bytes ∷ items_of new))
+    → (IsTrue old.told → IsSomeAnd new.lent (λ bytes. items_of old ≡ given r bytes ∷ items_of new))
     → Learns (pcap_lane old progress) (nexts.Packet (meta_of file (interface_of header) r) 0) (pcap_lane new progress)
 record_learned header file r old new progress named known first g k taken =
-    let known_new : new.header ≡ Some header = g.header_same ∙ known in
+    let known_new : new.known ≡ Some header = g.gives.known_is ∙ known in
     record {
       is = record {
         file = named ∙ sym k.file;
-        lent = lent_size new.frame r.captured g.frame;
+        lent = lent_size new.lent r.captured g.frame;
         captured = g.captured;
-        behind = omega (arith, g.offset, g.next);
+        behind = omega (arith, g.offset, g.gives.next);
       };
       place = omega (arith, g.offset);
-      free = ap not (is_none new.stop g.stop);
-      goes = record { before = g.goes.before; after = g.goes.after; failed = g.goes.failed };
+      free = ap not (is_none new.stop g.gives.stop);
+      goes = record { before = g.gives.goes.before; after = g.gives.goes.after; failed = g.gives.goes.failed };
       items = λ t.
-          items_given file new.file old.file (interface_of header) (interface_of (header_or new.header new.coming)) (interface_of (header_or old.header old.coming))
-          r new.frame (items_of old) (items_of new) named k.file
-          (ap interface_of (sym (known_header old.header header old.coming known)))
-          (ap interface_of (known_header new.header header new.coming known_new ∙ sym (known_header old.header header old.coming known)))
+          items_given file new.file old.file (interface_of header) (interface_of (header_or new.known new.coming)) (interface_of (header_or old.known old.coming))
+          r new.lent (items_of old) (items_of new) named k.file
+          (ap interface_of (sym (known_header old.known header old.coming known)))
+          (ap interface_of (known_header new.known header new.coming known_new ∙ sym (known_header old.known header old.coming known)))
           g.frame (taken t);
-      ending = λ t. ending_given r new.frame (items_of old) (items_of new) (taken t);
-      first = λ t. first ∙ sym (known_first old.header header old.stop old.offset old.coming known);
+      ending = λ t. ending_given r new.lent (items_of old) (items_of new) (taken t);
+      first = λ t. first ∙ sym (known_first old.known header old.stop old.offset old.coming known);
     }
 
-stopped_again : (new : State) (stop : Stop) → new.stop ≡ Some stop → items_of new ≡ stopped stop ∷ []
+stopped_again : (new : State PcapHeader) (stop : Stop) → new.stop ≡ Some stop → items_of new ≡ stopped stop ∷ []
 stopped_again new stop is = rw is refl
 
-cut_is : (cut : Bool) (stop : Stop) → IsTrue cut ↔ (Some stop ≡ Some stops.Cut) → cut ≡ is_record_cut stop
+cut_is : (cut : Bool) (stop : Stop) → IsTrue cut ↔ (Some stop ≡ Some stops.Cut) → cut ≡ is_cut stop
 cut_is true stops.End both = absurd (let e = both.0 refl in cc)
 cut_is true stops.Cut both = refl
 cut_is true (stops.Refused refusal) both = absurd (let e = both.0 refl in cc)
@@ -97,25 +101,25 @@ cut_is false stops.End both = refl
 cut_is false stops.Cut both = both.1 refl
 cut_is false (stops.Refused refusal) both = refl
 
-no_items : (stop : Stop) (file : ℕ) (i : Interface) (items : List Item) → IsEnd stop → items ≡ stopped stop ∷ [] → [] ≡ pcap_items file i items
+no_items : (stop : Stop) (file : ℕ) (i : Interface) (items : List (Item Record)) → IsEnd stop → items ≡ stopped stop ∷ [] → [] ≡ pcap_items file i items
 unfolding pcap_items
 no_items stops.End file i items h is = rw is refl
 no_items stops.Cut file i items h is = rw is refl
 no_items (stops.Refused refusal) file i items h is = absurd h
 
-ending_stopped : (stop : Stop) (items : List Item) → items ≡ stopped stop ∷ [] → pcap_ending_with (is_record_cut stop) ≡ pcap_ending items
+ending_stopped : (stop : Stop) (items : List (Item Record)) → items ≡ stopped stop ∷ [] → pcap_ending_with (is_cut stop) ≡ pcap_ending items
 unfolding pcap_ending
 ending_stopped stop items is = rw is refl
 
-refused_items : (refusal : Refusal) (file : ℕ) (i : Interface) (items : List Item) → items ≡ stopped (stops.Refused refusal) ∷ []
+refused_items : (refusal : Refusal) (file : ℕ) (i : Interface) (items : List (Item Record)) → items ≡ stopped (stops.Refused refusal) ∷ []
     → feeds.refused refusal ∷ [] ≡ pcap_items file i items
 unfolding pcap_items
 refused_items refusal file i items is = rw is refl
 
 -- The records end.
-pub end_learned : (header : PcapHeader) (cut : Bool) (stop : Stop) (old new : State) (progress : Progress)
-    → old.header ≡ Some header → progress.first ≡ Some (interface_of header) → old.stop ≡ None
-    → IsEnd stop → GivesStop header stop old new → IsTrue cut ↔ (new.stop ≡ Some stops.Cut) → Keeps old new
+pub end_learned : (header : PcapHeader) (cut : Bool) (stop : Stop) (old new : State PcapHeader) (progress : Progress)
+    → old.known ≡ Some header → progress.first ≡ Some (interface_of header) → old.stop ≡ None
+    → IsEnd stop → GivesStop true (record_fault header.order old.offset old.coming) stop old new → IsTrue cut ↔ (new.stop ≡ Some stops.Cut) → Keeps old new
     → (IsTrue old.told → items_of new ≡ items_of old)
     → Learns (pcap_lane old progress) (nexts.End (pcap_ending_with cut)) (pcap_lane new progress)
 end_learned header cut stop old new progress known first free ends g was k same =
@@ -126,15 +130,15 @@ end_learned header cut stop old new progress known first free ends g was k same 
       place = k.offset;
       free = refl;
       goes = record { before = at.goes.before; after = at.goes.after; failed = at.goes.failed };
-      items = λ t. no_items stop old.file (interface_of (header_or old.header old.coming)) (items_of old) ends (sym (same t) ∙ stopped_again new stop g.stop_is);
+      items = λ t. no_items stop old.file (interface_of (header_or old.known old.coming)) (items_of old) ends (sym (same t) ∙ stopped_again new stop g.stop_is);
       ending = λ t. ap pcap_ending_with which ∙ ending_stopped stop (items_of old) (sym (same t) ∙ stopped_again new stop g.stop_is);
-      first = λ t. first ∙ sym (known_first old.header header old.stop old.offset old.coming known);
+      first = λ t. first ∙ sym (known_first old.known header old.stop old.offset old.coming known);
     }
 
 -- A rest is refused.
-pub refusal_learned : (header : PcapHeader) (refusal : Refusal) (old new : State) (progress : Progress)
-    → old.header ≡ Some header → progress.first ≡ Some (interface_of header) → old.stop ≡ None
-    → GivesStop header (stops.Refused refusal) old new → Keeps old new
+pub refusal_learned : (header : PcapHeader) (refusal : Refusal) (old new : State PcapHeader) (progress : Progress)
+    → old.known ≡ Some header → progress.first ≡ Some (interface_of header) → old.stop ≡ None
+    → GivesStop true (record_fault header.order old.offset old.coming) (stops.Refused refusal) old new → Keeps old new
     → (IsTrue old.told → items_of old ≡ stopped (stops.Refused refusal) ∷ [])
     → Learns (pcap_lane old progress) (nexts.Refused refusal (pcap_ending_with false)) (pcap_lane new progress)
 refusal_learned header refusal old new progress known first free g k same =
@@ -144,9 +148,9 @@ refusal_learned header refusal old new progress known first free g k same =
       place = k.offset;
       free = refl;
       goes = record { before = at.goes.before; after = at.goes.after; failed = at.goes.failed };
-      items = λ t. refused_items refusal old.file (interface_of (header_or old.header old.coming)) (items_of old) (same t);
+      items = λ t. refused_items refusal old.file (interface_of (header_or old.known old.coming)) (items_of old) (same t);
       ending = λ t. ending_stopped (stops.Refused refusal) (items_of old) (same t);
-      first = λ t. first ∙ sym (known_first old.header header old.stop old.offset old.coming known);
+      first = λ t. first ∙ sym (known_first old.known header old.stop old.offset old.coming known);
     }
 
 refused_first : (h : Option PcapHeader) (stop : Option Stop) (offset : ℕ) (bytes : List ℕ) (rule : Rule) → h ≡ None → stop ≡ None
@@ -154,20 +158,21 @@ refused_first : (h : Option PcapHeader) (stop : Option Stop) (offset : ℕ) (byt
 refused_first h stop offset bytes rule unknown free is = rw (unknown, free, is) refl
 
 -- The file's header is refused.
-pub header_refused : (refusal : Refusal) (old new : State) (p q : Progress) → q.first ≡ None → old.stop ≡ None
-    → GivesRefusal refusal old new → Keeps old new
+pub header_refused : (refusal : Refusal) (old new : State PcapHeader) (p q : Progress) → q.first ≡ None → old.stop ≡ None
+    → GivesHeader old (Err (Refused refusal)) new → Keeps old new
     → (IsTrue old.told → items_of old ≡ stopped (stops.Refused refusal) ∷ [])
     → Learns (pcap_lane old p) (nexts.Refused refusal (pcap_ending_with false)) (pcap_lane new q)
 header_refused refusal old new p q none free g k same =
-    let at = if_none old.stop _ free g.first in
+    let at = if_none old.stop _ free g.0.first in
     record {
-      is = record { file = at.file ∙ sym k.file; lent = omega arith; captured = omega arith; behind = omega arith };
+      is = record { file = at.is_stop.0 ∙ sym k.file; lent = omega arith; captured = omega arith; behind = omega arith };
       place = k.offset;
       free = refl;
       goes = record { before = at.goes.before; after = at.goes.after; failed = at.goes.failed };
-      items = λ t. refused_items refusal old.file (interface_of (header_or old.header old.coming)) (items_of old) (same t);
+      items = λ t. refused_items refusal old.file (interface_of (header_or old.known old.coming)) (items_of old) (same t);
       ending = λ t. ending_stopped (stops.Refused refusal) (items_of old) (same t);
-      first = λ t. none ∙ refused_first old.header old.stop old.offset old.coming refusal.rule at.header_unknown free (at.rule t);
+      first = λ t. none ∙ refused_first old.known old.stop old.offset old.coming refusal.rule (if_none old.stop _ free g.1) free
+          (rule_told old.tail old.file old.offset old.coming (header_fault old.offset old.coming) refusal (at.told_stop t));
     }
 
 new_header : (h : Option PcapHeader) (stop : Option Stop) (offset : ℕ) (bytes : List ℕ) (header : PcapHeader) → h ≡ None → stop ≡ None
@@ -175,48 +180,48 @@ new_header : (h : Option PcapHeader) (stop : Option Stop) (offset : ℕ) (bytes 
     → (header ≡ header_or h bytes) × (Some (interface_of header) ≡ first_of h stop offset bytes)
 new_header h stop offset bytes header unknown free whole is = rw (unknown, free, whole, is) (refl, refl)
 
-header_read : (header : PcapHeader) (known : Option PcapHeader) (old new : State) → old.header ≡ known → old.stop ≡ None → HasHeader header old new
-    → IsTrue old.told → (header ≡ header_or old.header old.coming) × (Some (interface_of header) ≡ first_of old.header old.stop old.offset old.coming)
+header_read : (header : PcapHeader) (known : Option PcapHeader) (old new : State PcapHeader) → old.known ≡ known → old.stop ≡ None → HasHeader header old new
+    → IsTrue old.told → (header ≡ header_or old.known old.coming) × (Some (interface_of header) ≡ first_of old.known old.stop old.offset old.coming)
 header_read header None old new is free h t =
-    let first = if_none old.header (ReadsHeader header old new) is h.first in
-    new_header old.header old.stop old.offset old.coming header is free (first.whole t) (first.header_is t)
+    let first = if_none old.known (ReadsHeader header old new) is h.first in
+    new_header old.known old.stop old.offset old.coming header is free (first.whole t) (first.header_is t)
 header_read header (Some was) old new is free h t =
-    let again = if_some old.header was (λ w. (header ≡ w) × (new ≡ old)) is h.again in (
-      again.0 ∙ sym (known_header old.header was old.coming is),
-      ap (λ x. Some (interface_of x)) again.0 ∙ sym (known_first old.header was old.stop old.offset old.coming is),
+    let again = if_some old.known was (λ w. (header ≡ w) × (new ≡ old)) is h.again in (
+      again.0 ∙ sym (known_header old.known was old.coming is),
+      ap (λ x. Some (interface_of x)) again.0 ∙ sym (known_first old.known was old.stop old.offset old.coming is),
     )
 
-header_failed : (header : PcapHeader) (known : Option PcapHeader) (old new : State) → old.header ≡ known → HasHeader header old new → new.failed ≡ old.failed
-header_failed header None old new is h = (if_none old.header (ReadsHeader header old new) is h.first).goes.failed
-header_failed header (Some was) old new is h = ap (λ (s : State). s.failed) (if_some old.header was (λ w. (header ≡ w) × (new ≡ old)) is h.again).1
+header_failed : (header : PcapHeader) (known : Option PcapHeader) (old new : State PcapHeader) → old.known ≡ known → HasHeader header old new → new.failed ≡ old.failed
+header_failed header None old new is h = (if_none old.known (ReadsHeader header old new) is h.first).gives.goes.failed
+header_failed header (Some was) old new is h = ap (λ (s : State PcapHeader). s.failed) (if_some old.known was (λ w. (header ≡ w) × (new ≡ old)) is h.again).1
 
-header_broken : (header : PcapHeader) (known : Option PcapHeader) (old new : State) → old.header ≡ known → HasHeader header old new → new.broken ≡ old.broken
-header_broken header None old new is h = let first = if_none old.header (ReadsHeader header old new) is h.first in first.goes.after ∙ sym first.goes.before
-header_broken header (Some was) old new is h = ap (λ (s : State). s.broken) (if_some old.header was (λ w. (header ≡ w) × (new ≡ old)) is h.again).1
+header_broken : (header : PcapHeader) (known : Option PcapHeader) (old new : State PcapHeader) → old.known ≡ known → HasHeader header old new → new.broken ≡ old.broken
+header_broken header None old new is h = let first = if_none old.known (ReadsHeader header old new) is h.first in first.gives.goes.after ∙ sym first.gives.goes.before
+header_broken header (Some was) old new is h = ap (λ (s : State PcapHeader). s.broken) (if_some old.known was (λ w. (header ≡ w) × (new ≡ old)) is h.again).1
 
-pub header_free : (header : PcapHeader) (known : Option PcapHeader) (old new : State) → old.header ≡ known → old.stop ≡ None → HasHeader header old new → new.stop ≡ None
-header_free header None old new is free h = (if_none old.header (ReadsHeader header old new) is h.first).stop
-header_free header (Some was) old new is free h = ap (λ (s : State). s.stop) (if_some old.header was (λ w. (header ≡ w) × (new ≡ old)) is h.again).1 ∙ free
+pub header_free : (header : PcapHeader) (known : Option PcapHeader) (old new : State PcapHeader) → old.known ≡ known → old.stop ≡ None → HasHeader header old new → new.stop ≡ None
+header_free header None old new is free h = (if_none old.known (ReadsHeader header old new) is h.first).gives.stop
+header_free header (Some was) old new is free h = ap (λ (s : State PcapHeader). s.stop) (if_some old.known was (λ w. (header ≡ w) × (new ≡ old)) is h.again).1 ∙ free
 
 -- The file's header is read, behind which everything is to come as before.
-pub header_waits : (header : PcapHeader) (old new : State) (p q : Progress) → old.stop ≡ None → HasHeader header old new → Keeps old new
+pub header_waits : (header : PcapHeader) (old new : State PcapHeader) (p q : Progress) → old.stop ≡ None → HasHeader header old new → Keeps old new
     → (IsTrue old.told → items_of new ≡ items_of old) → Waits (pcap_lane old p) (pcap_lane new q)
 header_waits header old new p q free h k same = record {
-  stops = is_none new.stop (header_free header old.header old new refl free h);
-  broken = header_broken header old.header old new refl h;
-  failed = header_failed header old.header old new refl h;
+  stops = is_none new.stop (header_free header old.known old new refl free h);
+  broken = header_broken header old.known old new refl h;
+  failed = header_failed header old.known old new refl h;
   rest = λ t.
-      let read = header_read header old.header old new refl free h t in
+      let read = header_read header old.known old new refl free h t in
       record {
-        items = same_items new.file old.file (interface_of (header_or new.header new.coming)) (interface_of (header_or old.header old.coming))
+        items = same_items new.file old.file (interface_of (header_or new.known new.coming)) (interface_of (header_or old.known old.coming))
             (items_of old) (items_of new) k.file
-            (ap interface_of (known_header new.header header new.coming h.header_known ∙ read.0)) (same t);
+            (ap interface_of (known_header new.known header new.coming h.header_known ∙ read.0)) (same t);
         ending = ap pcap_ending (same t);
-        first = known_first new.header header new.stop new.offset new.coming h.header_known ∙ read.1;
+        first = known_first new.known header new.stop new.offset new.coming h.header_known ∙ read.1;
       };
 }
 
-pub pcap_keeps : (old new : State) (p q : Progress) → q.interfaces ≡ p.interfaces → q.base ≡ p.base → q.skipped ≡ p.skipped → Keeps old new
+pub pcap_keeps : (old new : State PcapHeader) (p q : Progress) → q.interfaces ≡ p.interfaces → q.base ≡ p.base → q.skipped ≡ p.skipped → Keeps old new
     → LaneKeeps (pcap_lane old p) (pcap_lane new q)
 pcap_keeps old new p q i b s k = record {
   file = k.file;

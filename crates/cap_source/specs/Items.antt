@@ -1,5 +1,6 @@
 -- The packets of a capture file, by the records or the blocks that it splits into.
 use Rattle.std.specs.Prelude.{◌+◌, ◌&&◌, ℕ, nat_le, if◌then◌else◌, Bool, true, false, List, [], ◌∷◌, ◌++◌, length, take, drop, Option, Some, None, Result, Ok, Err, refl}
+use Rattle.cap_bytes.specs.Items as pieces
 use Rattle.cap_bytes.specs.declared.faults.Rule.{Rule}
 use Rattle.cap_bytes.specs.declared.faults.Tail.{Tail}
 use Rattle.cap_time.specs.declared.resolutions.Interface.{Interface}
@@ -10,13 +11,11 @@ use Rattle.std.specs.Prelude.{pos}
 use Rattle.cap_pcap.specs.Split as records
 use Rattle.cap_pcap.specs.declared.headers.PcapHeader.{PcapHeader}
 use Rattle.cap_pcap.specs.declared.records.Record.{Record}
-use Rattle.cap_pcap.specs.declared.records.Stop.{Stop as RecordStop}
-use Rattle.cap_pcap.specs.declared.records.Stop.TheVariants as record_stops
+use Rattle.cap_bytes.specs.declared.stops.Stop.{Stop}
+use Rattle.cap_bytes.specs.declared.stops.Stop.TheVariants as stops
 use Rattle.cap_blocks.specs.Split as blocks
 use Rattle.cap_blocks.specs.Split.{is_section}
 use Rattle.cap_blocks.specs.declared.blocks.Block.{Block}
-use Rattle.cap_blocks.specs.declared.blocks.Stop.{Stop as BlockStop}
-use Rattle.cap_blocks.specs.declared.blocks.Stop.TheVariants as block_stops
 use Rattle.cap_source.specs.Contents.{content_in}
 use Rattle.cap_source.specs.Feed.{Item, packet, refused}
 use Rattle.cap_source.specs.declared.contents.Content.{Content}
@@ -99,17 +98,17 @@ abbrev pub behind : Progress → Result Content Rule → Progress
 behind progress (Ok content) = after progress content
 behind progress (Err rule) = progress
 
--- what the end of the blocks is as an item
-abbrev pub items_of_stop : BlockStop → List Item
-items_of_stop block_stops.End = []
-items_of_stop block_stops.Cut = []
-items_of_stop (block_stops.Refused refusal) = refused refusal ∷ []
+-- what the end of the blocks or records is as an item
+abbrev pub items_of_stop : Stop → List Item
+items_of_stop stops.End = []
+items_of_stop stops.Cut = []
+items_of_stop (stops.Refused refusal) = refused refusal ∷ []
 
 -- the items of the rest of a pcapng file, by the blocks that it splits into
-unfoldable pub items_in : ℕ → Progress → List blocks.Item → List Item
+unfoldable pub items_in : ℕ → Progress → List (pieces.Item Block) → List Item
 items_in file progress [] = []
-items_in file progress (blocks.stopped stop ∷ rest) = items_of_stop stop
-items_in file progress (blocks.given block body ∷ rest) =
+items_in file progress (pieces.stopped stop ∷ rest) = items_of_stop stop
+items_in file progress (pieces.given block body ∷ rest) =
     let content = content_in progress.interfaces block.kind block.order body in
     items_at file progress block body content (items_in file (behind progress content) rest)
 
@@ -117,10 +116,10 @@ items_in file progress (blocks.given block body ∷ rest) =
 abbrev pub ending_with : Progress → Bool → Ending
 ending_with progress was_cut = record { format = Pcapng; skipped = progress.skipped; was_cut = was_cut }
 
-abbrev pub is_cut : BlockStop → Bool
-is_cut block_stops.End = false
-is_cut block_stops.Cut = true
-is_cut (block_stops.Refused refusal) = false
+abbrev pub is_cut : Stop → Bool
+is_cut stops.End = false
+is_cut stops.Cut = true
+is_cut (stops.Refused refusal) = false
 
 -- one of two, by whether a block breaks a rule
 abbrev pub unless_faulty : {A : Type 0} → Result Content Rule → A → A → A
@@ -128,10 +127,10 @@ unless_faulty (Ok content) here later = later
 unless_faulty (Err rule) here later = here
 
 -- how it ends, by the blocks of its rest
-unfoldable pub ending_in : Progress → List blocks.Item → Ending
+unfoldable pub ending_in : Progress → List (pieces.Item Block) → Ending
 ending_in progress [] = ending_with progress false
-ending_in progress (blocks.stopped stop ∷ rest) = ending_with progress (is_cut stop)
-ending_in progress (blocks.given block body ∷ rest) =
+ending_in progress (pieces.stopped stop ∷ rest) = ending_with progress (is_cut stop)
+ending_in progress (pieces.given block body ∷ rest) =
     let content = content_in progress.interfaces block.kind block.order body in
     unless_faulty content (ending_with progress false) (ending_in (behind progress content) rest)
 
@@ -144,10 +143,10 @@ unless_item (Ok contents.Other) here later = later
 unless_item (Err rule) here later = here
 
 -- the interface of instance 0 that stands before the next item or the end, by the blocks of its rest
-unfoldable pub first_in : Progress → List blocks.Item → Option Interface
+unfoldable pub first_in : Progress → List (pieces.Item Block) → Option Interface
 first_in progress [] = progress.first
-first_in progress (blocks.stopped stop ∷ rest) = progress.first
-first_in progress (blocks.given block body ∷ rest) =
+first_in progress (pieces.stopped stop ∷ rest) = progress.first
+first_in progress (pieces.given block body ∷ rest) =
     let content = content_in progress.interfaces block.kind block.order body in
     unless_item content progress.first (first_in (behind progress content) rest)
 
@@ -181,30 +180,20 @@ meta_of file interface r =
       original = r.original;
     }
 
-abbrev pub items_of_record_stop : RecordStop → List Item
-items_of_record_stop record_stops.End = []
-items_of_record_stop record_stops.Cut = []
-items_of_record_stop (record_stops.Refused refusal) = refused refusal ∷ []
-
 -- the items of the rest of a pcap file, by the records that it splits into
-unfoldable pub pcap_items : ℕ → Interface → List records.Item → List Item
+unfoldable pub pcap_items : ℕ → Interface → List (pieces.Item Record) → List Item
 pcap_items file interface [] = []
-pcap_items file interface (records.stopped stop ∷ rest) = items_of_record_stop stop
-pcap_items file interface (records.given r frame ∷ rest) = packet (meta_of file interface r) frame ∷ pcap_items file interface rest
+pcap_items file interface (pieces.stopped stop ∷ rest) = items_of_stop stop
+pcap_items file interface (pieces.given r frame ∷ rest) = packet (meta_of file interface r) frame ∷ pcap_items file interface rest
 
 -- how a pcap file ends
 abbrev pub pcap_ending_with : Bool → Ending
 pcap_ending_with was_cut = record { format = Pcap; skipped = 0; was_cut = was_cut }
 
-abbrev pub is_record_cut : RecordStop → Bool
-is_record_cut record_stops.End = false
-is_record_cut record_stops.Cut = true
-is_record_cut (record_stops.Refused refusal) = false
-
-unfoldable pub pcap_ending : List records.Item → Ending
+unfoldable pub pcap_ending : List (pieces.Item Record) → Ending
 pcap_ending [] = pcap_ending_with false
-pcap_ending (records.stopped stop ∷ rest) = pcap_ending_with (is_record_cut stop)
-pcap_ending (records.given r frame ∷ rest) = pcap_ending rest
+pcap_ending (pieces.stopped stop ∷ rest) = pcap_ending_with (is_cut stop)
+pcap_ending (pieces.given r frame ∷ rest) = pcap_ending rest
 
 -- the interface of a pcap file, unless its header is refused
 abbrev pub unless_refused : Option Rule → Interface → Option Interface

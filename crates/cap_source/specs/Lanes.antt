@@ -1,18 +1,18 @@
 -- What a file's reader still gives, of either format, and what is learned of what comes next.
 use Rattle.std.specs.Prelude.{◌≡◌, ◌+◌, ◌-◌, ◌^◌, ◌≤◌, ◌<◌, ℕ, List, [], ◌∷◌, length, take, drop, Bool, true, false, not, IsTrue, Option, Some, None, IfSome, IfNone, Result, Ok, Err, ⊤, is_some}
+use Rattle.cap_bytes.specs.Reader.{State}
 use Rattle.cap_bytes.specs.Window.{State as WindowState}
 use Rattle.cap_bytes.specs.Window as windows
 use Rattle.cap_bytes.specs.declared.faults.Fault.{Fault}
 use Rattle.cap_bytes.specs.declared.faults.Fault.TheVariants.{Refused, Read, Write, Memory}
 use Rattle.cap_bytes.specs.declared.faults.Rule.{Rule}
 use Rattle.cap_bytes.specs.declared.faults.Tail.{Tail}
+use Rattle.cap_bytes.specs.declared.numbers.Order.{Order}
 use Rattle.cap_time.specs.declared.resolutions.Interface.{Interface}
-use Rattle.cap_pcap.specs.Reader.{State as PcapState}
 use Rattle.cap_pcap.specs.Reader as pcaps
 use Rattle.cap_pcap.specs.Split as records
 use Rattle.cap_pcap.specs.declared.headers.PcapHeader.{PcapHeader}
-use Rattle.cap_pcap.specs.declared.records.Stop.{Stop as RecordStop}
-use Rattle.cap_blocks.specs.Reader.{State as BlockState}
+use Rattle.cap_bytes.specs.declared.stops.Stop.{Stop}
 use Rattle.cap_blocks.specs.Reader as blocks
 use Rattle.cap_source.specs.Feed.{Feed, Item, packet, refused, Knows, GivesHead, SameItems}
 use Rattle.cap_blocks.specs.declared.blocks.Block.{Block}
@@ -76,26 +76,26 @@ header_or (Some header) bytes = header
 header_or None bytes = records.header_at bytes
 
 -- its interface, unless its header is refused
-abbrev pub first_unless : Option RecordStop → ℕ → List ℕ → Option Interface
+abbrev pub first_unless : Option Stop → ℕ → List ℕ → Option Interface
 first_unless (Some stop) offset bytes = None
 first_unless None offset bytes = unless_refused (records.header_fault offset bytes) (interface_of (records.header_at bytes))
 
-abbrev pub first_of : Option PcapHeader → Option RecordStop → ℕ → List ℕ → Option Interface
+abbrev pub first_of : Option PcapHeader → Option Stop → ℕ → List ℕ → Option Interface
 first_of (Some header) stop offset bytes = Some (interface_of header)
 first_of None stop offset bytes = first_unless stop offset bytes
 
 -- a pcap file
-abbrev pub pcap_lane : PcapState → Progress → Lane
+abbrev pub pcap_lane : State PcapHeader → Progress → Lane
 pcap_lane reader progress =
     record {
       file = reader.file;
       told = reader.told;
-      items = pcap_items reader.file (interface_of (header_or reader.header reader.coming)) (pcaps.items_of reader);
+      items = pcap_items reader.file (interface_of (header_or reader.known reader.coming)) (pcaps.items_of reader);
       ending = pcap_ending (pcaps.items_of reader);
-      first = first_of reader.header reader.stop reader.offset reader.coming;
+      first = first_of reader.known reader.stop reader.offset reader.coming;
       noted = progress.first;
       offset = reader.offset;
-      lent = reader.frame;
+      lent = reader.lent;
       stops = is_some reader.stop;
       broken = reader.broken;
       failed = reader.failed;
@@ -106,7 +106,7 @@ pcap_lane reader progress =
     }
 
 -- a pcapng file
-abbrev pub pcapng_lane : BlockState → Progress → Lane
+abbrev pub pcapng_lane : State Order → Progress → Lane
 pcapng_lane reader progress =
     record {
       file = reader.file;
@@ -116,7 +116,7 @@ pcapng_lane reader progress =
       first = first_in progress (blocks.items_of reader);
       noted = progress.first;
       offset = reader.offset;
-      lent = reader.body;
+      lent = reader.lent;
       stops = is_some reader.stop;
       broken = reader.broken;
       failed = reader.failed;

@@ -3,8 +3,7 @@ use Rattle.std.specs.Prelude.{◌≡◌, ◌<◌, ℕ, Bool, true, false, IsTrue
 use Rattle.cap_bytes.specs.Window.{State as WindowState, Shows, Breaks, coming}
 use Rattle.cap_bytes.specs.declared.faults.Fault.{Fault}
 use Rattle.cap_bytes.specs.declared.faults.Fault.TheVariants.{Refused, Read, Write, Memory}
-use Rattle.cap_pcap.specs.Reader as pcaps
-use Rattle.cap_blocks.specs.Reader as blocks
+use Rattle.cap_bytes.specs.Reader.{opened}
 use Rattle.cap_source.specs.Items.{is_pcapng}
 use Rattle.cap_source.specs.declared.packets.Format.{Format}
 use Rattle.cap_source.specs.declared.packets.Format.TheVariants.{Pcap, Pcapng}
@@ -57,8 +56,8 @@ LooksAtWindow old (Err (Refused refusal)) new = ⊥
 
 -- the reader of that format over a window
 abbrev pub reader_by : {R : Type 0} → Reader R → Format → Reader R
-reader_by (readers.Unread window tail) Pcap = readers.Pcap (pcaps.opened window tail)
-reader_by (readers.Unread window tail) Pcapng = readers.Pcapng (blocks.opened window tail)
+reader_by (readers.Unread window tail) Pcap = readers.Pcap (opened window tail)
+reader_by (readers.Unread window tail) Pcapng = readers.Pcapng (opened window tail)
 reader_by (readers.Pcap reader) format = readers.Pcap reader
 reader_by (readers.Pcapng reader) format = readers.Pcapng reader
 reader_by readers.Moved format = readers.Moved
@@ -102,6 +101,6 @@ is_there readers.Moved = false
 -- what it lends of the record or block that was given last
 abbrev pub lent_of : {R : Type 0} → Reader R → Option (List ℕ)
 lent_of (readers.Unread window tail) = None
-lent_of (readers.Pcap reader) = reader.frame
-lent_of (readers.Pcapng reader) = reader.body
+lent_of (readers.Pcap reader) = reader.lent
+lent_of (readers.Pcapng reader) = reader.lent
 lent_of readers.Moved = None

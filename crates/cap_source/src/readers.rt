@@ -119,7 +119,7 @@ fn next_record_of<R: Source>(
     known: &mut Option<Next>,
 ) -> Result<(), Fault>
     requires unknown { known.old ≡ None }
-    requires header { reader.old.header ≡ Some header }
+    requires header { reader.old.known ≡ Some header }
     requires free { reader.old.stop ≡ None }
     ensures answer { (progress : Progress) → progress.first ≡ Some (interface_of header)
         → Answers (pcap_lane reader.old progress) result known.new (pcap_lane reader.new progress) }
@@ -200,10 +200,10 @@ fn read_content<R: Source>(
     block: Block,
     interfaces: &[Interface],
 ) -> Result<Content, Rule>
-    requires known { is_some reader.now.body ≡ is_known block.kind }
+    requires known { is_some reader.now.lent ≡ is_known block.kind }
     requires allowed { IsTrue (is_total block.kind block.total) }
-    requires size { IfSome reader.now.body (λ body. length body + 12 ≡ block.total) }
-    ensures { result ≡ content_in interfaces.now block.kind block.order (unwrap_or reader.now.body []) }
+    requires size { IfSome reader.now.lent (λ body. length body + 12 ≡ block.total) }
+    ensures { result ≡ content_in interfaces.now block.kind block.order (unwrap_or reader.now.lent []) }
 {
     if is_known(block.kind) {
         content_of(interfaces, block.kind, block.order, reader.body())

@@ -5,17 +5,19 @@ use Rattle.cap_bytes.specs.Device.{Writer}
 use Rattle.cap_bytes.specs.declared.faults.Fault.{Fault}
 use Rattle.cap_bytes.specs.declared.faults.Fault.TheVariants.{Refused, Read, Write, Memory}
 use Rattle.cap_bytes.specs.declared.faults.Refusal.{Refusal}
-use Rattle.cap_blocks.specs.Reader.{State, Keeps, GivesBlock, TakesItem, IsEnd, items_of}
-use Rattle.cap_blocks.specs.Split.{Item, given}
+use Rattle.cap_bytes.specs.Items.{IsEnd, Item, given}
+use Rattle.cap_bytes.specs.Reader.{State, Keeps}
+use Rattle.cap_bytes.specs.declared.numbers.Order.{Order}
+use Rattle.cap_blocks.specs.Reader.{GivesBlock, TakesItem, items_of}
 use Rattle.cap_blocks.specs.declared.blocks.Block.{Block}
-use Rattle.cap_blocks.specs.declared.blocks.Stop.{Stop}
-use Rattle.cap_blocks.specs.declared.blocks.Stop.TheVariants as stops
+use Rattle.cap_bytes.specs.declared.stops.Stop.{Stop}
+use Rattle.cap_bytes.specs.declared.stops.Stop.TheVariants as stops
 use Rattle.cap_bytes.proofs.Putting.{Putting-all}
 use Rattle.cap_tasks.specs.BlockText.{block_lines, block_text, refusal_by, refusal_of}
 use Rattle.cap_bytes.specs.Printing.{Prints}
 
 -- the lines so far of a reader that was `old` are written by a writer that was `from`
-pub record Printing (old new : State) (failed_old failed_new : Bool) (from to : Writer) (n : ℕ) : Type 0 where
+pub record Printing (old new : State Order) (failed_old failed_new : Bool) (from to : Writer) (n : ℕ) : Type 0 where
   pub number : n ≤ new.offset + 1
   pub limit : n ≤ 2 ^ 41
   pub failed : failed_new ≡ failed_old
@@ -28,18 +30,18 @@ pub record Printing (old new : State) (failed_old failed_new : Bool) (from to : 
   pub refusal_same : IsTrue old.told → refusal_of (items_of new) ≡ refusal_of (items_of old)
 
 -- the lines of a block and of those behind it
-pub block_lines-given : (n : ℕ) (block : Block) (body : List ℕ) (items rest : List Item) → items ≡ given block body ∷ rest
+pub block_lines-given : (n : ℕ) (block : Block) (body : List ℕ) (items rest : List (Item Block)) → items ≡ given block body ∷ rest
     → block_lines n items ≡ block_text n block ++ block_lines (n + 1) rest
 unfolding block_lines
 block_lines-given n block body items rest is = ap (block_lines n) is
 
-pub refusal_of-given : (block : Block) (body : List ℕ) (items rest : List Item) → items ≡ given block body ∷ rest
+pub refusal_of-given : (block : Block) (body : List ℕ) (items rest : List (Item Block)) → items ≡ given block body ∷ rest
     → refusal_of items ≡ refusal_of rest
 unfolding refusal_of
 refusal_of-given block body items rest is = ap refusal_of is
 
 -- what is written where a call for the next block answers a fault
-pub Prints-block_fault : (fault : Fault) (text : List ℕ) (refusal : Option Refusal) (from to : Writer) (n : ℕ) (old new : State)
+pub Prints-block_fault : (fault : Fault) (text : List ℕ) (refusal : Option Refusal) (from to : Writer) (n : ℕ) (old new : State Order)
     → Putting from to text (block_lines n (items_of old)) → IsTrue from.told → refusal_of (items_of old) ≡ refusal
     → TakesItem old (Err fault) new → Prints {A = Unit {0}} text refusal from.held (Err fault) to.held
 unfolding block_lines refusal_of
@@ -56,7 +58,7 @@ no_refusal stops.Cut e = refl
 no_refusal (stops.Refused r) e = absurd e
 
 -- what is written where it answers that there is none
-pub Prints-block_end : (text : List ℕ) (refusal : Option Refusal) (from to : Writer) (n : ℕ) (old new : State)
+pub Prints-block_end : (text : List ℕ) (refusal : Option Refusal) (from to : Writer) (n : ℕ) (old new : State Order)
     → Putting from to text (block_lines n (items_of old)) → IsTrue from.told → refusal_of (items_of old) ≡ refusal
     → TakesItem old (Ok None) new → (refusal ≡ None) × (to.held ≡ from.held ++ text)
 unfolding block_lines refusal_of
@@ -66,7 +68,7 @@ Prints-block_end text refusal from to n old new p t same took = (
 )
 
 -- one more block is given, and its line written
-pub Printing-more : (old mid new : State) (fo fm fn : Bool) (from m to : Writer) (n : ℕ) (block : Block) (body line : List ℕ)
+pub Printing-more : (old mid new : State Order) (fo fm fn : Bool) (from m to : Writer) (n : ℕ) (block : Block) (body line : List ℕ)
     → Printing old mid fo fm from m n
     → GivesBlock mid block new → Keeps mid new
     → (IsTrue mid.told → items_of mid ≡ given block body ∷ items_of new)
@@ -75,8 +77,8 @@ pub Printing-more : (old mid new : State) (fo fm fn : Bool) (from m to : Writer)
     → Printing old new fo fn from to (n + 1)
 Printing-more old mid new fo fm fn from m to n block body line p gives keeps took is wrote told cannot failed =
     record {
-      number = omega (arith, p.number, gives.next, gives.least);
-      limit = omega (arith, p.number, gives.next, gives.least, keeps.limit);
+      number = omega (arith, p.number, gives.gives.next, gives.least);
+      limit = omega (arith, p.number, gives.gives.next, gives.least, keeps.limit);
       failed = failed ∙ p.failed;
       file = keeps.file ∙ p.file;
       can_fail = λ c. p.can_fail (keeps.can_fail c);

@@ -6,10 +6,11 @@ use Rattle.cap_bytes.specs.declared.faults.Refusal.{Refusal}
 use Rattle.cap_bytes.specs.declared.faults.Tail.{Tail}
 use Rattle.cap_bytes.specs.declared.numbers.Order.{Order}
 use Rattle.cap_bytes.specs.declared.numbers.Order.TheVariants.{Big, Little}
-use Rattle.cap_blocks.specs.Split.{Item, given, stopped, items_from}
+use Rattle.cap_bytes.specs.Items.{Item, given, stopped}
+use Rattle.cap_blocks.specs.Split.{items_from}
 use Rattle.cap_blocks.specs.declared.blocks.Block.{Block}
-use Rattle.cap_blocks.specs.declared.blocks.Stop.{Stop}
-use Rattle.cap_blocks.specs.declared.blocks.Stop.TheVariants as stops
+use Rattle.cap_bytes.specs.declared.stops.Stop.{Stop}
+use Rattle.cap_bytes.specs.declared.stops.Stop.TheVariants as stops
 
 -- the order of a block's numbers
 abbrev pub order_text : Order → List ℕ
@@ -27,7 +28,7 @@ block_text n block =
     ++ codes " kind " ++ kind_text block.kind ++ codes " total " ++ decimal block.total ++ codes "\n"
 
 -- the lines of the blocks of a pcapng file, from the number n on
-unfoldable pub block_lines : ℕ → List Item → List ℕ
+unfoldable pub block_lines : ℕ → List (Item Block) → List ℕ
 block_lines n [] = []
 block_lines n (given block body ∷ items) = block_text n block ++ block_lines (n + 1) items
 block_lines n (stopped stop ∷ items) = []
@@ -38,7 +39,7 @@ refusal_by stops.End = None
 refusal_by stops.Cut = None
 refusal_by (stops.Refused refusal) = Some refusal
 
-unfoldable pub refusal_of : List Item → Option Refusal
+unfoldable pub refusal_of : List (Item Block) → Option Refusal
 refusal_of [] = None
 refusal_of (given block body ∷ items) = refusal_of items
 refusal_of (stopped stop ∷ items) = refusal_by stop

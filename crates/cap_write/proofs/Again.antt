@@ -12,6 +12,7 @@ use Rattle.cap_blocks.specs.Laws.{block_of}
 use Rattle.cap_blocks.specs.Split as blocks
 use Rattle.cap_blocks.specs.Split.{Piece}
 use Rattle.cap_blocks.specs.declared.blocks.Block.{Block}
+use Rattle.cap_bytes.specs.Items as pieces
 use Rattle.cap_bytes.specs.declared.faults.Rule.{Rule}
 use Rattle.cap_bytes.specs.declared.faults.Tail.{Tail}
 use Rattle.cap_bytes.specs.declared.numbers.Order.{Order}
@@ -27,15 +28,15 @@ use Rattle.cap_write.specs.Numbering.{Numbered}
 use Rattle.cap_write.specs.Texts.{packet_part, packets_text}
 
 -- the items of a file at a block that says this
-pub items_in-given : (file : ℕ) (progress : Progress) (block : Block) (body : List ℕ) (rest : List blocks.Item) (content : Result Content Rule)
+pub items_in-given : (file : ℕ) (progress : Progress) (block : Block) (body : List ℕ) (rest : List (pieces.Item Block)) (content : Result Content Rule)
     → content_in progress.interfaces block.kind block.order body ≡ content
-    → items_in file progress (blocks.given block body ∷ rest) ≡ items_at file progress block body content (items_in file (behind progress content) rest)
+    → items_in file progress (pieces.given block body ∷ rest) ≡ items_at file progress block body content (items_in file (behind progress content) rest)
 unfolding items_in
 items_in-given file progress block body rest content is = rw is refl
 
-pub first_in-given : (progress : Progress) (block : Block) (body : List ℕ) (rest : List blocks.Item) (content : Result Content Rule)
+pub first_in-given : (progress : Progress) (block : Block) (body : List ℕ) (rest : List (pieces.Item Block)) (content : Result Content Rule)
     → content_in progress.interfaces block.kind block.order body ≡ content
-    → first_in progress (blocks.given block body ∷ rest) ≡ unless_item content progress.first (first_in (behind progress content) rest)
+    → first_in progress (pieces.given block body ∷ rest) ≡ unless_item content progress.first (first_in (behind progress content) rest)
 unfolding first_in
 first_in-given progress block body rest content is = rw is refl
 
@@ -43,7 +44,7 @@ first_in-given progress block body rest content is = rw is refl
 interface_blocks : (order : Order) (tail : Tail) (file offset : ℕ) (i : Interface) (rest : List ℕ) → i.link < 2 ^ 16 → i.snaplen < 2 ^ 32
     → offset + length (interface_text order i) ≤ 2 ^ 40
     → blocks.items_from (Some order) tail file offset (interface_text order i ++ rest)
-    ≡ blocks.given (block_of offset (record { order = order; kind = interface_kind; body = interface_body order i })) (interface_body order i)
+    ≡ pieces.given (block_of offset (record { order = order; kind = interface_kind; body = interface_body order i })) (interface_body order i)
     ∷ blocks.items_from (Some order) tail file (offset + length (interface_text order i)) rest
 interface_blocks order tail file offset i rest link snaplen limit =
     (interface_again-law order i link snaplen).0.items tail file offset rest limit

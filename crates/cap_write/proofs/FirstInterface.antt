@@ -5,12 +5,13 @@ use Rattle.std.specs.List.{AllByRecursion}
 use Rattle.cap_blocks.specs.Split as blocks
 use Rattle.cap_blocks.specs.Split.{AreBytes}
 use Rattle.cap_blocks.specs.declared.blocks.Block.{Block}
-use Rattle.cap_blocks.specs.declared.blocks.Stop.{Stop as BlockStop}
-use Rattle.cap_blocks.specs.declared.blocks.Stop.TheVariants as block_stops
+use Rattle.cap_bytes.specs.Items as pieces
+use Rattle.cap_bytes.specs.declared.stops.Stop.{Stop}
+use Rattle.cap_bytes.specs.declared.stops.Stop.TheVariants as stops
 use Rattle.cap_bytes.specs.declared.faults.Rule.{Rule}
 use Rattle.cap_bytes.specs.declared.faults.Tail.{Tail}
 use Rattle.cap_pcap.specs.Split as records
-use Rattle.cap_pcap.specs.declared.records.Stop.TheVariants as record_stops
+use Rattle.cap_pcap.specs.declared.records.Record.{Record}
 use Rattle.cap_source.proofs.Fields.{FitsPacket, one_more, content-fits, IsOfBytes, blocks-bytes, header-fits}
 use Rattle.cap_source.proofs.Saying.{OfContent}
 use Rattle.cap_source.specs.Contents.{content_in}
@@ -63,10 +64,10 @@ own_interface progress p i of knows is zero =
     let number : p.number ≡ 0 = omega (arith, zero) in
     same_interface p.interface i (sym (subst (λ k. slice_get progress.interfaces k ≡ Some p.interface) number of) ∙ (sym (knows base) ∙ is))
 
-stop-first : (i : Interface) (stop : BlockStop) → AllByRecursion (IsFirst i) (items_of_stop stop)
-stop-first i block_stops.End = tt
-stop-first i block_stops.Cut = tt
-stop-first i (block_stops.Refused refusal) = (tt, tt)
+stop-first : (i : Interface) (stop : Stop) → AllByRecursion (IsFirst i) (items_of_stop stop)
+stop-first i stops.End = tt
+stop-first i stops.Cut = tt
+stop-first i (stops.Refused refusal) = (tt, tt)
 
 block-known : (file : ℕ) (i : Interface) (progress : Progress) (block : Block) (body : List ℕ) (content : Result Content Rule) (items : List Item)
     → IfOk content (OfContent IsAny (HasNumber progress.interfaces)) → KnowsFirst progress → progress.first ≡ Some i
@@ -80,12 +81,12 @@ block-known file i progress block body (Ok contents.Other) items of knows is res
 block-known file i progress block body (Err rule) items of knows is rest = (tt, tt)
 
 -- after the first interface
-blocks-known : (file : ℕ) (i : Interface) (progress : Progress) (items : List blocks.Item) → KnowsFirst progress → progress.first ≡ Some i
+blocks-known : (file : ℕ) (i : Interface) (progress : Progress) (items : List (pieces.Item Block)) → KnowsFirst progress → progress.first ≡ Some i
     → AllByRecursion (IsFirst i) (items_in file progress items)
 unfolding items_in
 blocks-known file i progress [] knows is = tt
-blocks-known file i progress (blocks.stopped stop ∷ rest) knows is = stop-first i stop
-blocks-known file i progress (blocks.given block body ∷ rest) knows is =
+blocks-known file i progress (pieces.stopped stop ∷ rest) knows is = stop-first i stop
+blocks-known file i progress (pieces.given block body ∷ rest) knows is =
     let content = content_in progress.interfaces block.kind block.order body in
     block-known file i progress block body content (items_in file (behind progress content) rest)
     (content-of progress.interfaces block.kind block.order body) knows is
@@ -104,12 +105,12 @@ block-first file i progress block body (Ok contents.Other) first items of knows 
 block-first file i progress block body (Err rule) first items of knows is later known = (tt, tt)
 
 -- before it
-blocks-first : (file : ℕ) (i : Interface) (progress : Progress) (items : List blocks.Item) → KnowsFirst progress → first_in progress items ≡ Some i
+blocks-first : (file : ℕ) (i : Interface) (progress : Progress) (items : List (pieces.Item Block)) → KnowsFirst progress → first_in progress items ≡ Some i
     → AllByRecursion (IsFirst i) (items_in file progress items)
 unfolding items_in first_in
 blocks-first file i progress [] knows is = tt
-blocks-first file i progress (blocks.stopped stop ∷ rest) knows is = stop-first i stop
-blocks-first file i progress (blocks.given block body ∷ rest) knows is =
+blocks-first file i progress (pieces.stopped stop ∷ rest) knows is = stop-first i stop
+blocks-first file i progress (pieces.given block body ∷ rest) knows is =
     let content = content_in progress.interfaces block.kind block.order body in
     block-first file i progress block body content (first_in (behind progress content) rest) (items_in file (behind progress content) rest)
     (content-of progress.interfaces block.kind block.order body) knows is
@@ -117,13 +118,13 @@ blocks-first file i progress (blocks.given block body ∷ rest) knows is =
     (λ knows is. blocks-known file i (behind progress content) rest knows is)
 
 -- a pcap file has one interface
-records-first : (file : ℕ) (i : Interface) (items : List records.Item) → AllByRecursion (IsFirst i) (pcap_items file i items)
+records-first : (file : ℕ) (i : Interface) (items : List (pieces.Item Record)) → AllByRecursion (IsFirst i) (pcap_items file i items)
 unfolding pcap_items
 records-first file i [] = tt
-records-first file i (records.stopped record_stops.End ∷ rest) = tt
-records-first file i (records.stopped record_stops.Cut ∷ rest) = tt
-records-first file i (records.stopped (record_stops.Refused refusal) ∷ rest) = (tt, tt)
-records-first file i (records.given r frame ∷ rest) = (λ zero. refl, records-first file i rest)
+records-first file i (pieces.stopped stops.End ∷ rest) = tt
+records-first file i (pieces.stopped stops.Cut ∷ rest) = tt
+records-first file i (pieces.stopped (stops.Refused refusal) ∷ rest) = (tt, tt)
+records-first file i (pieces.given r frame ∷ rest) = (λ zero. refl, records-first file i rest)
 
 -- ---- its fields
 
@@ -142,12 +143,12 @@ block-first_fits progress (Ok (contents.Packet p)) first of all fits later = fit
 block-first_fits progress (Ok contents.Other) first of all fits later = later all fits
 block-first_fits progress (Err rule) first of all fits later = fits
 
-blocks-first_fits : (progress : Progress) (items : List blocks.Item) → AllByRecursion FitsInterface progress.interfaces → IfSome progress.first FitsInterface
+blocks-first_fits : (progress : Progress) (items : List (pieces.Item Block)) → AllByRecursion FitsInterface progress.interfaces → IfSome progress.first FitsInterface
     → AllByRecursion IsOfBytes items → IfSome (first_in progress items) FitsInterface
 unfolding first_in
 blocks-first_fits progress [] all fits are = fits
-blocks-first_fits progress (blocks.stopped stop ∷ rest) all fits are = fits
-blocks-first_fits progress (blocks.given block body ∷ rest) all fits are =
+blocks-first_fits progress (pieces.stopped stop ∷ rest) all fits are = fits
+blocks-first_fits progress (pieces.given block body ∷ rest) all fits are =
     let content = content_in progress.interfaces block.kind block.order body in
     block-first_fits progress content (first_in (behind progress content) rest) (content-fits progress.interfaces block.kind block.order body all are.0) all fits
     (λ all fits. blocks-first_fits (behind progress content) rest all fits are.1)
@@ -159,14 +160,14 @@ pub record IsFirstOf (items : List Item) (i : Interface) : Type 0 where
   pub fits : FitsInterface i
   pub packets : AllByRecursion (IsFirst i) items
 
-of_blocks : (file : ℕ) (i : Interface) (items : List blocks.Item) → AllByRecursion IsOfBytes items → first_in fresh items ≡ Some i
+of_blocks : (file : ℕ) (i : Interface) (items : List (pieces.Item Block)) → AllByRecursion IsOfBytes items → first_in fresh items ≡ Some i
     → IsFirstOf (items_in file fresh items) i
 of_blocks file i items are is = record {
   fits = subst (λ (f : Option Interface). IfSome f FitsInterface) is (blocks-first_fits fresh items tt tt are);
   packets = blocks-first file i fresh items (λ zero. refl) is;
 }
 
-of_records : (file : ℕ) (i own : Interface) (fault : Option Rule) (items : List records.Item) → FitsInterface own → unless_refused fault own ≡ Some i
+of_records : (file : ℕ) (i own : Interface) (fault : Option Rule) (items : List (pieces.Item Record)) → FitsInterface own → unless_refused fault own ≡ Some i
     → IsFirstOf (pcap_items file own items) i
 of_records file i own (Some rule) items fits is = absurd (none_some i is)
   where
@@ -181,7 +182,7 @@ of_records file i own None items fits is =
 
 pub first-of : (tail : Tail) (file : ℕ) (bytes : List ℕ) (i : Interface) → AreBytes bytes → file_first tail file bytes ≡ Some i
     → IsFirstOf (file_items tail file bytes) i
-unfolding items_from first_from blocks.items_from
+unfolding items_from first_from pieces.items_in
 first-of tail file bytes i are is = by (is_pcapng bytes) is
   where
     by : (pcapng : Bool)
@@ -202,11 +203,11 @@ none-some : {A : Type 0} (a : A) → None ≡ Some a → ⊥
 none-some a e = cc
 
 -- where none stands before the next item or the end, none was read before
-none-before : (progress : Progress) (items : List blocks.Item) → first_in progress items ≡ None → progress.first ≡ None
+none-before : (progress : Progress) (items : List (pieces.Item Block)) → first_in progress items ≡ None → progress.first ≡ None
 unfolding first_in
 none-before progress [] none = none
-none-before progress (blocks.stopped stop ∷ rest) none = none
-none-before progress (blocks.given block body ∷ rest) none =
+none-before progress (pieces.stopped stop ∷ rest) none = none
+none-before progress (pieces.given block body ∷ rest) none =
     let content = content_in progress.interfaces block.kind block.order body in
     by content none (λ later. none-before (behind progress content) rest later)
   where
@@ -218,11 +219,11 @@ none-before progress (blocks.given block body ∷ rest) none =
     by (Ok contents.Other) none before = before none
     by (Err rule) none before = none
 
-stop-unwritten : (stop : BlockStop) → numbered [] (items_of_stop stop) ≡ []
+stop-unwritten : (stop : Stop) → numbered [] (items_of_stop stop) ≡ []
 unfolding numbered
-stop-unwritten block_stops.End = refl
-stop-unwritten block_stops.Cut = refl
-stop-unwritten (block_stops.Refused refusal) = refl
+stop-unwritten stops.End = refl
+stop-unwritten stops.Cut = refl
+stop-unwritten (stops.Refused refusal) = refl
 
 block-unwritten : (file : ℕ) (progress : Progress) (block : Block) (body : List ℕ) (content : Result Content Rule) (first : Option Interface) (items : List Item)
     → IfOk content (OfContent IsAny (HasNumber progress.interfaces)) → progress.interfaces ≡ [] → unless_item content progress.first first ≡ None
@@ -238,12 +239,12 @@ block-unwritten file progress block body (Ok (contents.Packet p)) first items of
 block-unwritten file progress block body (Ok contents.Other) first items of empty none before rest = rest empty none
 block-unwritten file progress block body (Err rule) first items of empty none before rest = refl
 
-blocks-unwritten : (file : ℕ) (progress : Progress) (items : List blocks.Item) → progress.interfaces ≡ [] → first_in progress items ≡ None
+blocks-unwritten : (file : ℕ) (progress : Progress) (items : List (pieces.Item Block)) → progress.interfaces ≡ [] → first_in progress items ≡ None
     → numbered [] (items_in file progress items) ≡ []
 unfolding numbered items_in first_in
 blocks-unwritten file progress [] empty none = refl
-blocks-unwritten file progress (blocks.stopped stop ∷ rest) empty none = stop-unwritten stop
-blocks-unwritten file progress (blocks.given block body ∷ rest) empty none =
+blocks-unwritten file progress (pieces.stopped stop ∷ rest) empty none = stop-unwritten stop
+blocks-unwritten file progress (pieces.given block body ∷ rest) empty none =
     let content = content_in progress.interfaces block.kind block.order body in
     block-unwritten file progress block body content (first_in (behind progress content) rest) (items_in file (behind progress content) rest)
     (content-of progress.interfaces block.kind block.order body) empty none

@@ -10,9 +10,10 @@ use Rattle.cap_pcap.proofs.Again.{record_again-law}
 use Rattle.cap_pcap.proofs.Items.{items_from-none}
 use Rattle.cap_pcap.proofs.Splitting.{record_read-law, length-spelled}
 use Rattle.cap_pcap.specs.Grammar.{Packet, packet_size, SpellsRecord, record_text}
-use Rattle.cap_pcap.specs.Split.{items_with, items_from, given, record_of}
+use Rattle.cap_bytes.specs.Items.{given}
+use Rattle.cap_pcap.specs.Split.{items_with, items_from, record_of}
 use Rattle.cap_pcap.specs.declared.headers.PcapHeader.{PcapHeader}
-use Rattle.cap_pcap.specs.declared.records.Stop.TheVariants as stops
+use Rattle.cap_bytes.specs.declared.stops.Stop.TheVariants as stops
 use Rattle.cap_source.proofs.Fields.{AllHeld}
 use Rattle.cap_time.specs.Unit.{in_second}
 use Rattle.cap_time.specs.declared.resolutions.Interface.{Interface}

@@ -5,12 +5,13 @@ use Rattle.std.proofs.lemmas.List.{get_or-append-add}
 use Rattle.std.proofs.lemmas.Option.{get_or_from_slice_get, slice_get_within}
 use Rattle.cap_blocks.specs.Split as blocks
 use Rattle.cap_blocks.specs.declared.blocks.Block.{Block}
-use Rattle.cap_blocks.specs.declared.blocks.Stop.{Stop as BlockStop}
-use Rattle.cap_blocks.specs.declared.blocks.Stop.TheVariants as block_stops
+use Rattle.cap_bytes.specs.Items as pieces
+use Rattle.cap_bytes.specs.declared.stops.Stop.{Stop}
+use Rattle.cap_bytes.specs.declared.stops.Stop.TheVariants as stops
 use Rattle.cap_bytes.specs.declared.faults.Rule.{Rule}
 use Rattle.cap_bytes.specs.declared.numbers.Order.{Order}
 use Rattle.cap_pcap.specs.Split as records
-use Rattle.cap_pcap.specs.declared.records.Stop.TheVariants as record_stops
+use Rattle.cap_pcap.specs.declared.records.Record.{Record}
 use Rattle.cap_source.proofs.Saying.{OfContent, content-holds}
 use Rattle.cap_source.specs.Clocks.{interface_in}
 use Rattle.cap_source.specs.Contents.{content_in}
@@ -48,10 +49,10 @@ added (Ok (contents.Packet p)) later = later
 added (Ok contents.Other) later = later
 added (Err rule) later = []
 
-abbrev future : Progress → List blocks.Item → List Interface
+abbrev future : Progress → List (pieces.Item Block) → List Interface
 future progress [] = []
-future progress (blocks.stopped stop ∷ rest) = []
-future progress (blocks.given block body ∷ rest) =
+future progress (pieces.stopped stop ∷ rest) = []
+future progress (pieces.given block body ∷ rest) =
     let content = content_in progress.interfaces block.kind block.order body in
     added content (future (behind progress content) rest)
 
@@ -68,10 +69,10 @@ nth-of past interfaces later all k i is whole =
     ∙ (sym (get_or-append (past ++ interfaces) later d (length past + k) (omega (arith, within, length-append past interfaces)))
     ∙ ap (λ l. get_or l (length past + k) d) whole))
 
-stop-alike : (file : ℕ) (given : ℕ → Interface) (stop : BlockStop) → AllAlike file given (items_of_stop stop)
-stop-alike file given block_stops.End = tt
-stop-alike file given block_stops.Cut = tt
-stop-alike file given (block_stops.Refused refusal) = tt
+stop-alike : (file : ℕ) (given : ℕ → Interface) (stop : Stop) → AllAlike file given (items_of_stop stop)
+stop-alike file given stops.End = tt
+stop-alike file given stops.Cut = tt
+stop-alike file given (stops.Refused refusal) = tt
 
 block-alike : (file : ℕ) (all past : List Interface) (progress : Progress) (block : Block) (body : List ℕ) (content : Result Content Rule) (later : List Interface) (items : List Item)
     → IfOk content (OfContent IsAny (HasNumber progress.interfaces)) → length past ≡ progress.base
@@ -93,24 +94,24 @@ block-alike file all past progress block body (Ok (contents.Packet p)) later ite
 block-alike file all past progress block body (Ok contents.Other) later items of base whole rest = rest past base whole
 block-alike file all past progress block body (Err rule) later items of base whole rest = tt
 
-blocks-alike : (file : ℕ) (all past : List Interface) (progress : Progress) (items : List blocks.Item) → length past ≡ progress.base
+blocks-alike : (file : ℕ) (all past : List Interface) (progress : Progress) (items : List (pieces.Item Block)) → length past ≡ progress.base
     → (past ++ progress.interfaces) ++ future progress items ≡ all → AllAlike file (nth all) (items_in file progress items)
 unfolding items_in
 blocks-alike file all past progress [] base whole = tt
-blocks-alike file all past progress (blocks.stopped stop ∷ rest) base whole = stop-alike file (nth all) stop
-blocks-alike file all past progress (blocks.given block body ∷ rest) base whole =
+blocks-alike file all past progress (pieces.stopped stop ∷ rest) base whole = stop-alike file (nth all) stop
+blocks-alike file all past progress (pieces.given block body ∷ rest) base whole =
     let content = content_in progress.interfaces block.kind block.order body in
     block-alike file all past progress block body content (future (behind progress content) rest) (items_in file (behind progress content) rest)
     (content-of progress.interfaces block.kind block.order body) base whole
     (λ past base whole. blocks-alike file all past (behind progress content) rest base whole)
 
-records-alike : (file : ℕ) (i : Interface) (items : List records.Item) → AllAlike file (λ k. i) (pcap_items file i items)
+records-alike : (file : ℕ) (i : Interface) (items : List (pieces.Item Record)) → AllAlike file (λ k. i) (pcap_items file i items)
 unfolding pcap_items
 records-alike file i [] = tt
-records-alike file i (records.stopped record_stops.End ∷ rest) = tt
-records-alike file i (records.stopped record_stops.Cut ∷ rest) = tt
-records-alike file i (records.stopped (record_stops.Refused refusal) ∷ rest) = tt
-records-alike file i (records.given r frame ∷ rest) = (refl, refl, records-alike file i rest)
+records-alike file i (pieces.stopped stops.End ∷ rest) = tt
+records-alike file i (pieces.stopped stops.Cut ∷ rest) = tt
+records-alike file i (pieces.stopped (stops.Refused refusal) ∷ rest) = tt
+records-alike file i (pieces.given r frame ∷ rest) = (refl, refl, records-alike file i rest)
 
 pub one_interface-law : OneInterface
 unfolding items_from

@@ -8,8 +8,8 @@ use Rattle.cap_bytes.specs.declared.numbers.Order.{Order}
 use Rattle.cap_pcap.specs.Grammar.{Packet, packet_size}
 use Rattle.cap_pcap.specs.Split as records
 use Rattle.cap_pcap.specs.declared.headers.PcapHeader.{PcapHeader}
-use Rattle.cap_pcap.specs.declared.records.Stop.{Stop}
-use Rattle.cap_pcap.specs.declared.records.Stop.TheVariants as stops
+use Rattle.cap_bytes.specs.declared.stops.Stop.{Stop}
+use Rattle.cap_bytes.specs.declared.stops.Stop.TheVariants as stops
 use Rattle.cap_source.specs.Feed.{Item, packet}
 use Rattle.cap_source.specs.Items.{pcap_items, interface_of, meta_of}
 use Rattle.cap_source.specs.declared.packets.Meta.{Meta}

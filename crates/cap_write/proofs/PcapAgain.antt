@@ -14,7 +14,7 @@ use Rattle.cap_merge.specs.Clock.{clock_cmp}
 use Rattle.cap_pcap.specs.Grammar.{Packet, packet_size, header_text, record_text}
 use Rattle.cap_pcap.specs.Split.{items_with, record_of}
 use Rattle.cap_pcap.specs.declared.headers.PcapHeader.{PcapHeader}
-use Rattle.cap_pcap.specs.declared.records.Stop.TheVariants as stops
+use Rattle.cap_bytes.specs.declared.stops.Stop.TheVariants as stops
 use Rattle.cap_pcap.specs.Split as records
 use Rattle.cap_source.proofs.Fields.{fields_fit-law}
 use Rattle.cap_source.specs.Feed.{Item, packet, refused}

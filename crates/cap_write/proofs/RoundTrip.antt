@@ -15,8 +15,8 @@ use Rattle.cap_bytes.specs.declared.numbers.Order.TheVariants.{Big, Little}
 use Rattle.cap_pcap.proofs.Splitting.{every_split-law, split_items-law}
 use Rattle.cap_pcap.specs.Split as records
 use Rattle.cap_pcap.specs.Split.{items_with}
-use Rattle.cap_pcap.specs.declared.records.Stop.{Stop}
-use Rattle.cap_pcap.specs.declared.records.Stop.TheVariants as stops
+use Rattle.cap_bytes.specs.declared.stops.Stop.{Stop}
+use Rattle.cap_bytes.specs.declared.stops.Stop.TheVariants as stops
 use Rattle.cap_pcap.proofs.Again.{flipped, flips_text, header_at-text, header_again-law}
 use Rattle.cap_pcap.specs.Grammar.{Packet, magic_of, header_text}
 use Rattle.cap_pcap.specs.declared.headers.PcapHeader.{PcapHeader}

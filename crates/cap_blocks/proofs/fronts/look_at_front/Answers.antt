@@ -1,10 +1,10 @@
 use Rattle.std.proofs.Common.{◌∙◌, sym}
-use Rattle.cap_blocks.proofs.Looking.{SeesFront-parsed, SeesStop-front, SeesStop-end}
+use Rattle.cap_blocks.proofs.Looking.{SeesFront-parsed, SeesStop-front, SeesStop-none}
 use Rattle.cap_blocks.proofs.fronts.look_at_front.Goals as goal
 
 pub returns-then-is_end-clause-answer : goal.returns-then-is_end-clause-answer
 returns-then-is_end-clause-answer g c =
-    SeesStop-end c.in_ok-need.field-0 c.args.section c.args.tail c.args.window.now c.need.new.self c.in_ok-need.ensures.answer
+    SeesStop-none c.in_ok-need.field-0 c.args.section c.args.tail c.args.window.now c.need.new.self c.in_ok-need.ensures.answer
     (rw c.bytes.ensures at (sym c.is_end.ensures ∙ c.if-is_end.true))
 
 pub returns-in-Ok-clause-answer : goal.returns-in-Ok-clause-answer
@@ -16,6 +16,6 @@ returns-in-Ok-clause-answer g c =
 pub returns-in-Err-clause-answer : goal.returns-in-Err-clause-answer
 returns-in-Err-clause-answer g c =
     let e = rw (c.in-Err.is, c.bytes-2.ensures, c.offset-offset.ensures.value) at c.front_of.ensures in
-    rw (c.stop_of.ensures, c.file-file.ensures, c.offset-offset.ensures.value)
+    rw (c.by.ensures, c.is_some.ensures, c.file-file.ensures, c.offset-offset.ensures.value)
     (SeesStop-front c.in_ok-need.field-0 c.args.section c.args.tail c.args.window.now c.need.new.self c.in-Err.rule c.in_ok-need.ensures.answer
     (rw c.bytes.ensures at (sym c.is_end.ensures ∙ c.if-is_end.false)) e)

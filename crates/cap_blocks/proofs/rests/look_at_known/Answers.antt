@@ -1,6 +1,7 @@
 use Rattle.std.proofs.lemmas.Result.{err_from_is_err_and}
+use Rattle.cap_bytes.proofs.Sights.{FailsBy-need}
 use Rattle.cap_blocks.proofs.Faults.{total-known}
-use Rattle.cap_blocks.proofs.Behind.{IsFront-front, SeesRest-known, SeesRest-cut, LooksAtRest-fault}
+use Rattle.cap_blocks.proofs.Behind.{IsFront-front, SeesRest-known, SeesRest-cut}
 use Rattle.cap_blocks.proofs.rests.look_at_known.Goals as goal
 
 pub need-requires : goal.need-requires
@@ -10,7 +11,8 @@ pub returns-in_err-need-clause-answer : goal.returns-in_err-need-clause-answer
 returns-in_err-need-clause-answer g c =
     let p = err_from_is_err_and c.from_residual.result c.from_residual.ensures.1 in
     rw (p.1, p.2)
-    (LooksAtRest-fault c.args.block c.args.window.now c.need.new.self c.in_err-need.field-0.0 c.requires.known c.in_err-need.ensures.answer)
+    (FailsBy-need c.args.block.total 524288 _ c.args.window.now c.need.new.self c.in_err-need.field-0.0
+    (total-known c.args.block.kind c.args.block.total c.requires.front.allowed c.requires.known) (λ few. (c.requires.known, few)) c.in_err-need.ensures.answer)
 
 pub returns-then-not-branch-clause-answer : goal.returns-then-not-branch-clause-answer
 returns-then-not-branch-clause-answer g c =

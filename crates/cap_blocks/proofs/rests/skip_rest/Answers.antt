@@ -6,8 +6,8 @@ use Rattle.cap_blocks.proofs.rests.skip_rest.Goals as goal
 pub returns-in_err-skip-clause-answer : goal.returns-in_err-skip-clause-answer
 returns-in_err-skip-clause-answer g c =
     let p = err_from_is_err_and c.from_residual.result c.from_residual.ensures.1 in
-    rw (p.1, p.2)
-    (SkipsRest-fault c.args.block _ c.args.window.now c.skip.new.self c.in_err-skip.field-0.0 c.requires.room c.requires.whole
+    rw p.1
+    (SkipsRest-fault c.args.block _ c.args.window.now c.skip.new.self c.in_err-skip.field-0.0 c.requires.room
     c.in_err-skip.ensures.answer)
 
 pub returns-then-not-branch-clause-answer : goal.returns-then-not-branch-clause-answer

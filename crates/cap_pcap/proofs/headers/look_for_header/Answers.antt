@@ -1,7 +1,14 @@
-use Rattle.cap_pcap.proofs.Looking.{LooksForHeader-parsed}
+use Rattle.cap_bytes.proofs.Sights.{FailsBy-need}
+use Rattle.cap_pcap.proofs.Looking.{SeesHeader-parsed, SeesStop-header}
 use Rattle.cap_pcap.proofs.headers.look_for_header.Goals as goal
 
-pub returns-clause-answer : goal.returns-clause-answer
-returns-clause-answer g c =
-    LooksForHeader-parsed c.in_ok-need.field-0 c.args.window.now c.need.new.self c.header_of.result c.in_ok-need.ensures.answer
-    (rw (c.bytes.ensures, c.offset.ensures.value) at c.header_of.ensures.parses)
+pub returns-in-Ok-clause-answer : goal.returns-in-Ok-clause-answer
+returns-in-Ok-clause-answer g c =
+    let parsed = rw (c.in-Ok.is, c.bytes.ensures, c.offset-offset.ensures.value) at c.header_of.ensures.parses in
+    SeesHeader-parsed c.in_ok-need.field-0 c.args.window.now c.need.new.self c.in-Ok.header c.in_ok-need.ensures.answer parsed.0 parsed.1
+
+pub returns-in-Err-clause-answer : goal.returns-in-Err-clause-answer
+returns-in-Err-clause-answer g c =
+    let parsed = rw (c.in-Err.is, c.bytes.ensures, c.offset-offset.ensures.value) at c.header_of.ensures.parses in
+    rw (c.file-file.ensures, c.offset-offset.ensures.value)
+    (λ tail. SeesStop-header c.in_ok-need.field-0 tail c.args.window.now c.need.new.self c.in-Err.rule c.in_ok-need.ensures.answer parsed)

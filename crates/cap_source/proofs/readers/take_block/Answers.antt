@@ -12,7 +12,7 @@ returns-in-Ok-Some-clause-answer g c =
     block c.read_content-content.result c.take_content.new.known
     c.take_content.ensures.next c.take_content.ensures.behind
     (c.file-file.ensures ∙ c.window.ensures.window.file) e.answer e.keeps e.items
-    (c.read_content-content.ensures ∙ ap (λ l. content_in l block.kind block.order (unwrap_or c.next_block.new.self.body [])) c.deref.ensures.value)
+    (c.read_content-content.ensures ∙ ap (λ l. content_in l block.kind block.order (unwrap_or c.next_block.new.self.lent [])) c.deref.ensures.value)
 
 pub returns-in-Ok-Some-clause-keeps : goal.returns-in-Ok-Some-clause-keeps
 returns-in-Ok-Some-clause-keeps g c =
@@ -21,7 +21,7 @@ returns-in-Ok-Some-clause-keeps g c =
     block_kept c.args.reader.now c.next_block.new.self (progress_of c.args.reached.now) (progress_of c.take_content.new.reached)
     block c.read_content-content.result c.take_content.ensures.behind
     e.answer e.keeps
-    (c.read_content-content.ensures ∙ ap (λ l. content_in l block.kind block.order (unwrap_or c.next_block.new.self.body [])) c.deref.ensures.value)
+    (c.read_content-content.ensures ∙ ap (λ l. content_in l block.kind block.order (unwrap_or c.next_block.new.self.lent [])) c.deref.ensures.value)
 
 pub returns-in-Ok-None-clause-answer : goal.returns-in-Ok-None-clause-answer
 returns-in-Ok-None-clause-answer g c =

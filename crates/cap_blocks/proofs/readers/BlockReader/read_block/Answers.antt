@@ -1,0 +1,15 @@
+use Rattle.cap_bytes.proofs.Readers.{Stands-passed, GivesNext-stopped}
+use Rattle.cap_bytes.proofs.Sights.{none_from}
+use Rattle.cap_blocks.specs.Reader.{GivesBlock, state_of, size_of, body_of}
+use Rattle.cap_blocks.specs.Split.{block_fault, LacksRoom}
+use Rattle.cap_blocks.proofs.readers.BlockReader.read_block.Goals as goal
+
+pub returns-in-Err-clause-answer : goal.returns-in-Err-clause-answer
+returns-in-Err-clause-answer g c =
+    let i = c.self.inside in
+    let old = state_of i.window i.tail i.section i.given i.stop in
+    let at = Stands-passed i.window c.pass.new.self i.tail i.section (size_of i.given) (body_of i.given i.window.shown) i.stop
+    (none_from i.stop c.in_default.not-Some) c.self.invariant.within (rw c.size_given.ensures at c.pass.ensures.passes) in
+    rw (← c.self.view_is, c.answer-in-Err.ensures)
+    (GivesNext-stopped old c.pass.new.self c.look_for_block.new.window at (λ block. GivesBlock old block _) _ (block_fault i.section) 524288 (LacksRoom i.section)
+    c.in-Err.stop (rw c.in-Err.is at c.in_ok-block.ensures.answer))
