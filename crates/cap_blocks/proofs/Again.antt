@@ -194,7 +194,7 @@ section_again-law section order =
     (SpellsBlock-text order section_kind (section_body order) (omega arith) (omega arith) (total_section _ size) (λ is. SpellsSection-body order))
     (plain_section order)
 
--- an option, and those behind it
+-- an option, and those after it
 pad_size : (n : ℕ) → n + (padded n - n) ≡ padded n
 pad_size n = omega arith
 

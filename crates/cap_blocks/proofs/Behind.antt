@@ -70,7 +70,7 @@ version_is order bytes read section is = let e = same _ _ section in rw (e, is) 
 pub unknown_section : (kind : ℕ) → is_known kind ≡ false → kind ≡ section_kind → ⊥
 unknown_section kind unknown is = grind (arith, nat_tests)
 
--- more bytes behind a block make no difference
+-- more bytes after a block make no difference
 version_same : (here : Bool) (order : Order) (xs zs : List ℕ) → (kind_at order xs == section_kind) ≡ here → kind_at order zs ≡ kind_at order xs
     → (here ≡ true → number order 2 (drop 12 zs) ≡ number order 2 (drop 12 xs))
     → (here ≡ true → number order 2 (drop 14 zs) ≡ number order 2 (drop 14 xs))

@@ -23,7 +23,7 @@ pub items_from-stop : (section : Option Order) (tail : Tail) (file offset : ℕ)
     → stop_at section tail file offset bytes ≡ Some stop → items_from section tail file offset bytes ≡ stopped stop ∷ []
 items_from-stop section tail file offset bytes stop is = items.items_in-stop blocks tail file section offset bytes stop is
 
--- At no bytes behind a whole block they end.
+-- At no bytes after a whole block they end.
 pub items_from-none : (section : Option Order) (tail : Tail) (file offset : ℕ) → IsSome section
     → items_from section tail file offset [] ≡ stopped stops.End ∷ []
 items_from-none section tail file offset some =
@@ -37,7 +37,7 @@ items_from-fault section tail file offset bytes rule some fault =
     items_from-stop section tail file offset bytes (stop_by (is_some section) tail file offset rule)
     (stop_where-fault (is_some section) tail file offset bytes (block_fault section offset bytes) rule some fault)
 
--- A block is the first item, and those of the bytes behind it follow, in its order.
+-- A block is the first item, and those of the bytes after it follow, in its order.
 pub items_from-block : (section : Option Order) (tail : Tail) (file offset : ℕ) (bytes : List ℕ)
     → stop_at section tail file offset bytes ≡ None
     → items_from section tail file offset bytes ≡ given (block_at section offset bytes) (body_at section bytes)

@@ -66,7 +66,7 @@ pub options_of-overrun : (order : Order) (bytes : List ℕ) → 4 ≤ length byt
     → length bytes < 4 + length_at order bytes → options_of order bytes ≡ Err OptionEnd ∷ []
 options_of-overrun order bytes head some past = options_of-chosen order bytes ∙ chosen-overrun _ _ _ _ _ head some past
 
--- an option, and those behind its padding
+-- an option, and those after its padding
 pub options_of-more : (order : Order) (bytes : List ℕ) → code_at order bytes ≢ 0 → 4 + length_at order bytes ≤ length bytes
     → options_of order bytes
     ≡ Ok (code_at order bytes, take (length_at order bytes) (drop 4 bytes))

@@ -78,7 +78,7 @@ packet_text-parts order interface units original bytes =
     rw (block_text-sized order enhanced_kind (32 + padded (length bytes)) (packet_body order interface units original bytes)
     (length-packet_body order interface units original bytes)) (simp append_assoc)
 
--- a front of the first part is a front of the whole
+-- a prefix of the first part is a prefix of the whole
 pub Puts-first : (A : Type 0) (old new head rest : List ℕ) (fault : Fault) → Puts {A = A} old (Err fault) new head
     → Puts {A = A} old (Err fault) new (head ++ rest)
 Puts-first A old new head rest fault p = (

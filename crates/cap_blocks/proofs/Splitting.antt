@@ -27,7 +27,7 @@ piece_one section offset p q bytes fits a b =
     sym (piece_read section offset p bytes (Reads-spelled section offset p bytes (plain bytes fits) a))
     ∙ piece_read section offset q bytes (Reads-spelled section offset q bytes (plain bytes fits) b)
 
--- a split behind the same piece
+-- a split after the same piece
 moved : (offset : ℕ) (bytes : List ℕ) (p q : Piece) (qs : List Piece) (s : List ℕ) → p ≡ q
     → Splits (Some q.order) (offset + piece_size q) (drop (piece_size q) bytes) qs s
     → Splits (Some p.order) (offset + piece_size p) (drop (piece_size p) bytes) qs s

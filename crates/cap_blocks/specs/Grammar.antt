@@ -111,7 +111,7 @@ packet_body order interface units original bytes =
 abbrev pub interface_total : ℕ → ℕ
 interface_total seconds = if seconds == 0 then 32 else 44
 
--- what is written of a packet in front of its captured bytes, and behind them
+-- what is written of a packet in front of its captured bytes, and after them
 abbrev pub packet_head : Order → ℕ → ℕ → ℕ → ℕ → List ℕ
 packet_head order interface units captured original =
     bytes_of order 4 enhanced_kind ++ bytes_of order 4 (32 + padded captured)

@@ -48,7 +48,7 @@ BlockThere =
     (section : Option Order) (tail : Tail) (file offset : ℕ) (bytes : List ℕ) → AreBytes bytes
     → stop_at section tail file offset bytes ≡ None → (piece : Piece) × Begins section offset piece bytes
 
--- the place behind some pieces, and the section there
+-- the place after some pieces, and the section there
 abbrev pub place_behind : ℕ → List Piece → ℕ
 place_behind offset [] = offset
 place_behind offset (piece ∷ pieces) = place_behind (offset + piece_size piece) pieces
@@ -77,7 +77,7 @@ SplitItems =
     → (stop : Stop) × (stop_at (section_behind section pieces) tail file (place_behind offset pieces) rest ≡ Some stop)
     × (items_from section tail file offset bytes ≡ items_with offset pieces stop)
 
--- The items of no bytes behind a whole block, at a fault, and at a block that others follow.
+-- The items of no bytes after a whole block, at a fault, and at a block that others follow.
 abbrev pub ItemsAtNone : Type 0
 ItemsAtNone =
     (section : Option Order) (tail : Tail) (file offset : ℕ) → IsSome section

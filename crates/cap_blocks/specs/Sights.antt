@@ -78,7 +78,7 @@ abbrev pub LooksAtRest : Block → State → Result (Option Rule) Fault → Stat
 LooksAtRest block old (Ok fault) new = SeesRest block fault old new
 LooksAtRest block old (Err fault) new = FailsBy 524288 ((is_known block.kind ≡ true) × (old.room < block.total)) old fault new
 
--- the same of a block that is skipped, where no fault but that of a read comes, which may fail behind the block's
+-- the same of a block that is skipped, where no fault but that of a read comes, which may fail after the block's
 -- beginning
 abbrev pub SkipsRest : Block → State → Result (Option Rule) Fault → State → Type 0
 SkipsRest block old (Ok fault) new = SeesRest block fault old new

@@ -99,7 +99,7 @@ body_in total bytes = take (total - 12) (drop 8 bytes)
 abbrev pub body_at : Option Order → List ℕ → List ℕ
 body_at section bytes = body_in (total_at (order_at section bytes) bytes) bytes
 
--- What ends the blocks at some bytes, if anything does: none are left behind a whole block, or a rule is
+-- What ends the blocks at some bytes, if anything does: none are left after a whole block, or a rule is
 -- broken. A rest that is cut is never dropped within the first section header.
 abbrev pub stop_at : Option Order → Tail → ℕ → ℕ → List ℕ → Option Stop
 stop_at section tail file offset bytes = stop_where (is_some section) tail file offset bytes (block_fault section offset bytes)

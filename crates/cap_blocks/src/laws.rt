@@ -18,7 +18,7 @@ pub fn split_items()
 {}
 
 /// The items of some bytes: the end at no bytes, a refusal or a cut at a fault, and at a block that block
-/// and the items of the bytes behind it.
+/// and the items of the bytes after it.
 pub fn items()
     ensures none { ItemsAtNone }
     ensures fault { ItemsAtFault }

@@ -58,7 +58,7 @@ impl<'a> Iterator for Options<'a> {
     }
 }
 
-// What stands behind a value of that length and its padding to a multiple of 4.
+// What comes after a value of that length and its padding to a multiple of 4.
 fn behind_padding(bytes: &[u8], length: usize) -> &[u8]
     requires { length < 65536 }
     ensures { result.now ≡ drop (padded length) bytes.now }

@@ -98,7 +98,7 @@ impl<R: Source> BlockReader<R> {
         }
     }
 
-    // Looks for the next block, behind the one that was given last.
+    // Looks for the next block, after the one that was given last.
     fn read_block(&mut self) -> Result<Option<Block>, Fault>
         ensures answer { GivesNext self.old result self.new }
         ensures keeps { Keeps self.old self.new }
@@ -134,7 +134,7 @@ impl<R: Source> BlockReader<R> {
         self.read_block()
     }
 
-    /// The body of the block that was given last, without the 8 bytes in front of it and the 4 behind.
+    /// The body of the block that was given last, without the 8 bytes in front of it and the 4 after.
     pub fn body(&self) -> &[u8]
         requires known { IsSome self.now.lent }
         ensures body { self.now.lent ≡ Some result.now }

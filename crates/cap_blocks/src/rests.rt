@@ -1,4 +1,4 @@
-//! The rest of a block, behind its first 12 bytes. draft-ietf-opsawg-pcapng, 3.1 and 4.1.
+//! The rest of a block, after its first 12 bytes. draft-ietf-opsawg-pcapng, 3.1 and 4.1.
 ghost use Rattle.std.specs.Prelude.{◌≡◌, ◌≤◌, None, true, false, length};
 ghost use Rattle.cap_blocks.specs.Grammar.{is_known};
 ghost use Rattle.cap_blocks.specs.Sights.{IsFront, LooksAtRest, SkipsRest, Stays};
@@ -7,7 +7,7 @@ ghost use Rattle.cap_blocks.specs.Split.{rest_fault};
 use crate::blocks::{Block, SECTION, is_known, is_version};
 use cap_bytes::{Fault, Rule, Source, Window, u16_at, u32_at};
 
-// How many bytes the total length takes behind the body.
+// How many bytes the total length takes after the body.
 const TRAILER_SIZE: usize = 4;
 
 // What a block is refused by that is there whole.

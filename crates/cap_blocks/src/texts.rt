@@ -41,7 +41,7 @@ impl Text {
         self.bytes.split_at(self.length).0
     }
 
-    /// Puts bytes behind the text.
+    /// Puts bytes after the text.
     pub fn add(&mut self, bytes: &[u8])
         requires { length self.old + length bytes.now ≤ 44 }
         ensures text { self.new ≡ self.old ++ bytes.now }
@@ -51,7 +51,7 @@ impl Text {
         self.length += bytes.len();
     }
 
-    /// Puts a number of 2 bytes behind the text.
+    /// Puts a number of 2 bytes after the text.
     pub fn short(&mut self, order: Order, number: u16)
         requires { length self.old + 2 ≤ 44 }
         ensures text { self.new ≡ self.old ++ bytes_of order 2 number }
@@ -62,7 +62,7 @@ impl Text {
         self.add(&bytes);
     }
 
-    /// Puts a number of 4 bytes behind the text.
+    /// Puts a number of 4 bytes after the text.
     pub fn word(&mut self, order: Order, number: u32)
         requires { length self.old + 4 ≤ 44 }
         ensures text { self.new ≡ self.old ++ bytes_of order 4 number }
@@ -73,7 +73,7 @@ impl Text {
         self.add(&bytes);
     }
 
-    /// Puts a number of 8 bytes behind the text.
+    /// Puts a number of 8 bytes after the text.
     pub fn long(&mut self, order: Order, number: u64)
         requires { length self.old + 8 ≤ 44 }
         ensures text { self.new ≡ self.old ++ bytes_of order 8 number }

@@ -97,7 +97,7 @@ fn total_of(seconds: u64) -> u32
     if seconds == 0 { 32 } else { 44 }
 }
 
-// Puts an interface's offset behind a text, where it isn't 0.
+// Puts an interface's offset after a text, where it isn't 0.
 fn add_offset(text: &mut Text, order: Order, seconds: u64)
     requires { length text.old + 12 ≤ 44 }
     ensures text { text.new ≡ text.old ++ offset_option order seconds }
@@ -153,7 +153,7 @@ fn packet_head(order: Order, interface: u32, units: u64, captured: u32, original
     text
 }
 
-// What stands behind them.
+// What comes after them.
 fn packet_tail(order: Order, captured: u32) -> Text
     requires { captured ≤ 262144 }
     ensures { result ≡ packet_tail order captured }

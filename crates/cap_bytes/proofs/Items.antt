@@ -84,7 +84,7 @@ module _ {K P : Type 0} (format : Format K P) (tail : Tail) (file : ℕ) where
   items_in-stop known offset bytes stop is = items_by-stop (length bytes) known offset bytes stop is
 
   module _ (advances : Advances format) where
-    -- any fuel above the number of bytes gives the same items, if it does behind the first piece
+    -- any fuel above the number of bytes gives the same items, if it does after the first piece
     items_by-step : (m n : ℕ) (known : K) (offset : ℕ) (bytes : List ℕ) (stop : Option Stop)
         → format.stop known tail file offset bytes ≡ stop → length bytes < suc m → length bytes < suc n
         → ((next : K) (later : ℕ) (rest : List ℕ) → length rest < m → length rest < n
@@ -109,7 +109,7 @@ module _ {K P : Type 0} (format : Format K P) (tail : Tail) (file : ℕ) where
         items_by-step m n known offset bytes (format.stop known tail file offset bytes) refl p q
         (λ next later rest few enough. items_by-enough m n next later rest few enough)
 
-    -- where nothing does, a piece is the first item, and those of the bytes behind it follow
+    -- where nothing does, a piece is the first item, and those of the bytes after it follow
     pub items_in-piece : (known : K) (offset : ℕ) (bytes : List ℕ) → format.stop known tail file offset bytes ≡ None
         → items_in format known tail file offset bytes ≡ given (format.piece known offset bytes) (format.lent known bytes)
         ∷ items_in format (format.next known bytes) tail file (offset + format.size known bytes) (drop (format.size known bytes) bytes)

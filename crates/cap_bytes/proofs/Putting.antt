@@ -10,7 +10,7 @@ use Rattle.cap_bytes.specs.declared.faults.Fault.{Fault}
 use Rattle.cap_bytes.specs.declared.faults.Fault.TheVariants.{Refused, Read, Write, Memory}
 use Rattle.cap_bytes.specs.declared.faults.Refusal.{Refusal}
 
--- a front of the bytes is written, and `rest` is what is left of them
+-- a prefix of the bytes is written, and `rest` is what is left of them
 pub record Putting (old new : Writer) (bytes rest : List ℕ) : Type 0 where
   pub at : ℕ
   pub within : at ≤ length bytes
@@ -62,7 +62,7 @@ Putting-all from to text rest p none t =
     ∙ (ap (λ l. take p.at text ++ l) (sym (sym p.left ∙ none))
     ∙ take-append-drop p.at text))
 
--- A front of what is left to write is written: n bytes, or all if they are fewer.
+-- A prefix of what is left to write is written: n bytes, or all if they are fewer.
 pub Putting-front : (from mid : Writer) (held text line behind : List ℕ) (n : ℕ)
     → Putting from mid text (line ++ behind) → IsTrue from.told → held ≡ mid.held ++ take n line
     → PrintsFront text from.held held
@@ -78,7 +78,7 @@ Putting-front from mid held text line behind n p t more =
           ∙ sym (take-add p.at m text)))),
     )
 
--- A writer that failed in the first part of a text wrote a front of the whole.
+-- A writer that failed in the first part of a text wrote a prefix of the whole.
 pub Prints-head : (refusal : Option Refusal) (old new head text : List ℕ) (fault : Fault) → fault ≡ Write → Puts {A = Unit {0}} old (Err fault) new head
     → Prints {A = Unit {0}} (head ++ text) refusal old (Err fault) new
 Prints-head refusal old new head text fault is p =
@@ -93,7 +93,7 @@ front_behind : (old mid new head text : List ℕ) → mid ≡ old ++ head → Pr
 front_behind old mid new head text first p =
     (length head + p.0, joined old mid head (take p.0 text) new first p.1 ∙ ap (λ l. old ++ l) (sym (take-append-add head text p.0)))
 
--- the rest of a text is written behind its first part
+-- the rest of a text is written after its first part
 pub Prints-behind : (refusal : Option Refusal) (old mid new head text : List ℕ) (result : Result (Unit {0}) Fault) → mid ≡ old ++ head
     → Prints text refusal mid result new → Prints (head ++ text) refusal old result new
 Prints-behind refusal old mid new head text (Ok x) first p = (p.0, joined old mid head text new first p.1)

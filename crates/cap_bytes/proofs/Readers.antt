@@ -58,7 +58,7 @@ module _ {K : Type 0} (old : State K) (u v : WindowState) (at : Stands old u) wh
   goes_on new g broken failed =
       record { stop = at.free; before = sym at.broken ∙ g.before; after = broken ∙ g.after; failed = failed ∙ (g.failed ∙ at.failed) }
 
-  -- so many bytes are read, of which the window still shows `left`
+  -- that many bytes are read, of which the window still shows `left`
   pub Gives-seen : (known : Option K) (size left : ℕ) (lent : Option (List ℕ)) → windows.Goes u v → v.offset + left ≡ u.offset + size
       → (IsTrue u.told → drop left (coming v) ≡ drop size (coming u)) → Gives known size old (state_of v old.tail known left lent old.stop)
   Gives-seen known size left lent g next rest = record {

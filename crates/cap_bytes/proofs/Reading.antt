@@ -1,4 +1,4 @@
--- Reading into a buffer behind what stands there.
+-- Reading into a buffer after what stands there.
 use Rattle.std.proofs.Common.{◌≡◌, ℕ, ◌+◌, ◌-◌, ◌≤◌, ◌<◌, List, [], ◌++◌, length, take, drop, IsTrue, Result, Ok, Err, IfOk, refl, sym, ◌∙◌, ap, arith, take-take, append_assoc, length-append, take_all, length-take-le, slice_range}
 use Rattle.std.proofs.lemmas.List.{drop-append-le}
 use Rattle.std.proofs.lemmas.Slice.{between_is}
@@ -7,7 +7,7 @@ use Rattle.cap_bytes.specs.Device.{Takes}
 use Rattle.cap_bytes.specs.Feed.{Feed, Reads, IsWithin}
 use Rattle.cap_bytes.specs.declared.devices.Broken.{Broken}
 
--- n bytes came into the room behind the front
+-- n bytes came into the room after the front
 pub Reads-room : (old new : Feed) (front room : List ℕ) (end n : ℕ) → length front ≡ end
     → (IsTrue old.told → old.coming ≡ take n room ++ new.coming)
     → (IsTrue old.told → IsTrue new.told) → new.most ≡ old.most → (IsTrue new.can_fail → IsTrue old.can_fail)
@@ -95,7 +95,7 @@ Dropping-more n left count old mid new piece size few p r failed =
           ∙ (ap (drop left) (r.bytes (p.told t)) ∙ p.bytes t));
     }
 
--- a piece came that has all that is left to drop, and `rest` behind it
+-- a piece came that has all that is left to drop, and `rest` after it
 pub Dropping-last : (n left count : ℕ) (old mid new : Feed) (buffer : List ℕ) → count ≤ length buffer → left ≤ count
     → Dropping n left old mid → Reads mid new [] (take count buffer)
     → (IsTrue old.told → n ≤ length old.coming)

@@ -53,7 +53,7 @@ Shows-trans a b c told p q = record {
   coming_same = λ t. q.coming_same (told t) ∙ p.coming_same t;
 }
 
--- the bytes to come behind those that are passed
+-- the bytes to come after those that are passed
 pub coming-passed : (n : ℕ) (v u : State) → n ≤ length v.shown → Passes n v u → coming u ≡ drop n (coming v)
 coming-passed n v u few p =
     ap (λ l. l ++ u.unread) p.shown ∙ (ap (λ l. drop n v.shown ++ l) p.unread ∙ sym (drop-append-le n v.shown v.unread few))

@@ -6,7 +6,7 @@ use Rattle.cap_bytes.specs.Number.{number, bytes_of}
 use Rattle.cap_bytes.specs.declared.numbers.Order.{Order}
 use Rattle.cap_bytes.specs.declared.numbers.Order.TheVariants.{Big, Little}
 
--- bytes behind the first n change nothing
+-- bytes after the first n change nothing
 pub number-append : (order : Order) (n : ℕ) (xs ys : List ℕ) → n ≤ length xs → number order n (xs ++ ys) ≡ number order n xs
 unfolding number
 number-append Big n xs ys few = big_from-append n xs ys few

@@ -24,7 +24,7 @@ feed_of source r =
       can_fail = source.can_fail r;
     }
 
--- bytes were read behind those that stood in a buffer, so that `whole` stands there now
+-- bytes were read after those that stood in a buffer, so that `whole` stands there now
 pub record Reads (old new : Feed) (front whole : List ℕ) : Type 0 where
   pub front_stays : take (length front) whole ≡ front
   pub bytes : IsTrue old.told → whole ++ new.coming ≡ front ++ old.coming
@@ -32,7 +32,7 @@ pub record Reads (old new : Feed) (front whole : List ℕ) : Type 0 where
   pub most : new.most ≡ old.most
   pub cannot : IsTrue new.can_fail → IsTrue old.can_fail
 
--- Fewer than n bytes and one read more: where a read gives so many at most, no read began with n bytes.
+-- Fewer than n bytes and one read more: where a read gives that many at most, no read began with n bytes.
 abbrev pub IsWithin : Option ℕ → ℕ → ℕ → Type 0
 IsWithin None n count = ⊤
 IsWithin (Some most) n count = count < n + most
@@ -43,7 +43,7 @@ Fills n count Whole old new = (n ≤ count) × (new.failed ≡ old.failed)
 Fills n count Ended old new = (count < n) × (IsTrue old.told → new.coming ≡ []) × (new.failed ≡ old.failed)
 Fills n count Failed old new = IsTrue new.failed × IsTrue old.can_fail × (count < n)
 
--- How dropping the next n bytes of a reader ended: `rest` was read behind them.
+-- How dropping the next n bytes of a reader ended: `rest` was read after them.
 abbrev pub DiscardsBy : ℕ → Filling → ℕ → Feed → Feed → List ℕ → Type 0
 DiscardsBy n Whole left old new rest =
     (left ≡ 0) × (new.failed ≡ old.failed) × (IsTrue old.told → n ≤ length old.coming)

@@ -10,7 +10,7 @@ use Rattle.cap_bytes.specs.declared.stops.Stop.{Stop}
 use Rattle.cap_bytes.specs.declared.stops.Stop.TheVariants as stops
 
 -- What ends the pieces where a rule is broken: a rest that is cut is dropped where that is asked for, but only
--- inside a file, behind what it begins with.
+-- inside a file, after what it begins with.
 abbrev pub stop_by : Bool → Tail → ℕ → ℕ → Rule → Stop
 stop_by true Accept file offset Cut = stops.Cut
 stop_by inside tail file offset rule = stops.Refused (record { file = file; offset = offset; rule = rule })
@@ -53,7 +53,7 @@ item_or None item rest = item ∷ rest
 
 -- How the files of a format go on, by what is known of one: what ends the pieces at some bytes, which begin at an
 -- offset, if anything does; and if nothing does, the piece at their front, the bytes that come with it, how many it
--- takes, and what is known behind it.
+-- takes, and what is known after it.
 pub record Format (K P : Type 0) : Type 0 where
   pub stop : K → Tail → ℕ → ℕ → List ℕ → Option Stop
   pub piece : K → ℕ → List ℕ → P

@@ -4,11 +4,11 @@ use Rattle.cap_bytes.specs.declared.faults.Fault.{Fault}
 use Rattle.cap_bytes.specs.declared.faults.Fault.TheVariants.{Refused, Read, Write, Memory}
 use Rattle.cap_bytes.specs.declared.faults.Refusal.{Refusal}
 
--- a front of the text was written
+-- a prefix of the text was written
 abbrev pub PrintsFront : List ℕ → List ℕ → List ℕ → Type 0
 PrintsFront text old new = (n : ℕ) × (new ≡ old ++ take n text)
 
--- The text is written, and the refusal behind it is answered, if there is one; after any other fault a
+-- The text is written, and the refusal after it is answered, if there is one; after any other fault a
 -- front of the text is written.
 abbrev pub Prints : {A : Type 0} → List ℕ → Option Refusal → List ℕ → Result A Fault → List ℕ → Type 0
 Prints text refusal old (Ok _) new = (refusal ≡ None) × (new ≡ old ++ text)

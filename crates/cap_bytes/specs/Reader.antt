@@ -12,7 +12,7 @@ use Rattle.cap_bytes.specs.declared.stops.Stop.TheVariants as stops
 
 -- A reader of the file of that number, which gives its pieces: records, or blocks. `known` is what is known of the
 -- file, once that was read: a pcap file's header, or the order of a pcapng file's section. The bytes to come, where
--- the device tells them, begin at `offset`: behind the pieces that were given. `lent` is what is shown of the piece
+-- the device tells them, begin at `offset`: after the pieces that were given. `lent` is what is shown of the piece
 -- that was given last, until the next is asked for. `stop` is what ended the pieces, once something has. `broken` is
 -- where the piece began at which a read failed, once one has. `held` bytes are kept in the window, which has room
 -- for `room`.
@@ -83,7 +83,7 @@ pub record Breaks {K : Type 0} (old : State K) (file offset : ℕ) (new : State 
   pub stop_before : old.stop ≡ None
   pub stop_after : new.stop ≡ None
 
--- Nothing was given, since a growth to so many bytes at most was refused. What is to come is the same.
+-- Nothing was given, since a growth to that many bytes at most was refused. What is to come is the same.
 pub record Waits {K : Type 0} (size : ℕ) (old new : State K) : Type 0 where
   pub goes : Goes old new
   pub stop : new.stop ≡ None
@@ -92,7 +92,7 @@ pub record Waits {K : Type 0} (size : ℕ) (old new : State K) : Type 0 where
   pub coming_same : IsTrue old.told → new.coming ≡ old.coming
   pub grown : old.room < size
 
--- So many bytes are read, which stand at the front of the bytes to come.
+-- That many bytes are read, which stand at the front of the bytes to come.
 pub record Gives {K : Type 0} (known : Option K) (size : ℕ) (old new : State K) : Type 0 where
   pub goes : Goes old new
   pub stop : new.stop ≡ None

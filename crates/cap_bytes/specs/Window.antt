@@ -4,7 +4,7 @@ use Rattle.cap_bytes.specs.Feed.{Feed}
 use Rattle.cap_bytes.specs.declared.faults.Fault.{Fault}
 use Rattle.cap_bytes.specs.declared.faults.Fault.TheVariants.{Refused, Read, Write, Memory}
 
--- A window shows the bytes `shown` of the input, which begin at `offset`. Behind them come those that
+-- A window shows the bytes `shown` of the input, which begin at `offset`. After them come those that
 -- the reader still gives, `unread`, where it tells them, at most `most` at a time, where it tells that. `broken` is the offset at which a read failed,
 -- once one has. `held` bytes are kept in its buffer, which has room for `room`.
 pub record State : Type 0 where

@@ -1,4 +1,4 @@
-//! A buffer that is read into behind what it holds.
+//! A buffer that is read into after what it holds.
 ghost use Rattle.std.specs.Prelude.{◌≡◌, ℕ, List, Bool, ◌||◌, ◌+◌, ◌-◌, ◌≤◌, ◌<◌, ◌++◌, [], length, take, drop, is_err, IsTrue, IsErr, IfOk, IfSome, OnOk, OnErr, vec_len, slice_range};
 ghost use Rattle.cap_bytes.specs.Feed.{feed_of, Reads, IsWithin, Fills, Discards};
 
@@ -25,7 +25,7 @@ pub enum Filling {
     Failed,
 }
 
-// Reads once into the buffer behind its first `end` bytes, and answers how many bytes came.
+// Reads once into the buffer after its first `end` bytes, and answers how many bytes came.
 fn take_more<R: Source>(reader: &mut R, buffer: &mut [u8], end: usize) -> Result<usize, Broken>
     requires { end < length buffer.old }
     ensures front { take end buffer.new ≡ take end buffer.old }
@@ -43,7 +43,7 @@ fn take_more<R: Source>(reader: &mut R, buffer: &mut [u8], end: usize) -> Result
     reader.take(room)
 }
 
-// Reads into the buffer behind its first `end` bytes until n stand there, and answers how many do.
+// Reads into the buffer after its first `end` bytes until n stand there, and answers how many do.
 fn fill<R: Source>(reader: &mut R, buffer: &mut [u8], end: usize, n: usize) -> (usize, Filling)
     requires some { end ≤ n }
     requires room { n ≤ length buffer.old }
@@ -98,7 +98,7 @@ fn move_to_front(buffer: &mut Vec<u8>, start: usize, end: usize)
     }
 }
 
-/// Reads on until n bytes stand in the buffer behind those from `start` to `end`, which move to its
+/// Reads on until n bytes stand in the buffer after those from `start` to `end`, which move to its
 /// front, and answers how many stand there then. An `Err` changes nothing that is held.
 pub fn read_on<R: Source>(
     reader: &mut R,
@@ -133,14 +133,14 @@ pub fn read_on<R: Source>(
 pub struct Discarded {
     /// How many of them are still to be dropped.
     pub left: u64,
-    /// Where the bytes behind them begin in the buffer,
+    /// Where the bytes after them begin in the buffer,
     pub start: usize,
     /// and where they end.
     pub end: usize,
     pub filling: Filling,
 }
 
-/// Drops the next n bytes of a reader, a piece at a time. What was read behind them is left in the
+/// Drops the next n bytes of a reader, a piece at a time. What was read after them is left in the
 /// buffer.
 pub fn discard<R: Source>(reader: &mut R, buffer: &mut [u8], n: u64) -> Discarded
     requires some { 0 < length buffer.old }

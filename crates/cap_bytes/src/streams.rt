@@ -46,7 +46,7 @@ fn gave(answer: io::Result<usize>) -> Result<usize, Broken>
     }
 }
 
-// What a write of the standard library took of so many bytes. Any error is a failure, and so is 0 of some bytes.
+// What a write of the standard library took of that many bytes. Any error is a failure, and so is 0 of some bytes.
 fn took(answer: io::Result<usize>, length: usize) -> Result<usize, Broken>
     ensures count { IfOk answer (λ n. (0 < n ⊎ length ≡ 0) → result ≡ Ok n) }
     ensures none { IfOk answer (λ n. n ≡ 0 → 0 < length → IsErr result) }

@@ -29,7 +29,7 @@ fn capture(
     Ok(Capture::new(alloc, pieces, 7, tail))
 }
 
-// Some blocks behind a section header.
+// Some blocks after a section header.
 fn in_section(alloc: Global, blocks: &[&[u8]]) -> Result<Vec<u8>, AllocError> {
     let mut bytes = SECTION.to_vec(alloc)?;
     for block in blocks {
@@ -332,7 +332,7 @@ fn cut_rest(rt: HostRuntime) -> Result<(), Fail> {
     Ok(())
 }
 
-// Each read failing in turn: the fault comes again. Nothing is read behind a packet before it is passed.
+// Each read failing in turn: the fault comes again. Nothing is read after a packet before it is passed.
 #[test]
 fn failing_reads(rt: HostRuntime) -> Result<(), Fail> {
     for call in 1..=169 {

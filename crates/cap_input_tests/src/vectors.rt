@@ -19,7 +19,7 @@ pub(crate) const CARRY_PCAPNG: [u8; 96] = [
     4, 0, 0, 0, 4, 0, 0, 0, 1, 2, 3, 4, 0x24, 0, 0, 0, //
 ];
 
-// The same with options in each block, and a statistics block behind: 44, 52, 48 and 24 bytes.
+// The same with options in each block, and a statistics block after: 44, 52, 48 and 24 bytes.
 pub(crate) const OPTIONS_PCAPNG: [u8; 168] = [
     0x0a, 0x0d, 0x0d, 0x0a, 0x2c, 0, 0, 0, 0x4d, 0x3c, 0x2b, 0x1a, 1, 0, 0, 0, //
     0xff, 0xff, 0xff, 0xff, 0xff, 0xff, 0xff, 0xff, 4, 0, 7, 0, 0x44, 0x75, 0x6d, 0x70, //

@@ -79,7 +79,7 @@ ones_sum-folds bytes fit sum same few =
     let P : ℕ → Type 0 = λ n. IsFolded n (ones_sum (words bytes)) in
     IsFolded-unique sum _ _ (IsFolded-folds sum few) (subst P (sym same) (IsFolded-ones_sum (words bytes) (AreWords-words bytes fit)))
 
--- the word at a place, and those behind it
+-- the word at a place, and those after it
 pub total-words-from : (bytes : List ℕ) (i next : ℕ) → next ≡ i + 2 → next ≤ length bytes → total (words (drop i bytes)) ≡ number Big 2 (drop i bytes) + total (words (drop next bytes))
 total-words-from bytes i next step long =
     let P : ℕ → Type 0 = λ n. total (words (drop i bytes)) ≡ number Big 2 (drop i bytes) + total (words (drop n bytes)) in

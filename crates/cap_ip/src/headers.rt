@@ -15,7 +15,7 @@ use std::marker::Model;
 const LEAST_HEADER: u16 = 20;
 /// The version of an IPv4 packet.
 const VERSION: u8 = 4;
-/// A fragment's data begins at a multiple of so many bytes, and ends at one where more follow.
+/// A fragment's data begins at a multiple of that many bytes, and ends at one where more follow.
 const BLOCK: u32 = 8;
 /// The most data of a datagram: 65,535 bytes less the shortest header.
 const LONGEST_DATA: u32 = 65_515;
@@ -213,7 +213,7 @@ impl Header {
     ghost use Rattle.cap_ip.specs.Read.{IfFound, IsShaped};
 
     /// The header at the front of a packet's bytes, with the captured part of its data.
-    /// `captured_whole` says that no byte of the packet is missing behind them.
+    /// `captured_whole` says that no byte of the packet is missing after them.
     ///
     /// The first of these that holds (RFC 791, 3.1):
     ///

@@ -1,4 +1,4 @@
-//! IPv4 headers, the ports behind them, and the header checksum.
+//! IPv4 headers, the ports after them, and the header checksum.
 #![tactic(auto)]
 
 mod checksums;

@@ -29,7 +29,7 @@ ChangesWithin-wider from to lower upper a b h k p = record {
   above = λ i q. p.above i (omega arith);
 }
 
--- a loop that began behind the end has changed nothing
+-- a loop that began after the end has changed nothing
 pub ChangesWithin-ended : (from to i : ℕ) (a b : List ℕ) → to ≤ i → (to < i → i ≡ from) → ChangesWithin from i a b → ChangesWithin from to a b
 ChangesWithin-ended from to i a b h k p = record {
   length_is = p.length_is;

@@ -51,7 +51,7 @@ none_later : (k : Key) (es : List Entry) → AllByRecursion (λ y. same_key k y 
 none_later k [] h = refl
 none_later k (e ∷ es) h = ap (λ (b : Bool). cond b (Some e.1) (entry_at k es)) h.0 ∙ none_later k es h.1
 
--- behind an entry of a key there is no other
+-- after an entry of a key there is no other
 pub alone : (key : Key) (e : Entry) (es : List Entry) → IsDistinct same_key (keys_of (e ∷ es)) → same_key key e.0 ≡ true → entry_at key es ≡ None
 alone key e es apart h =
     subst (λ (k : Key). entry_at k es ≡ None) (sym (same_key-is key e.0 h)) (none_later e.0 es (IsDistinct-head same_key e.0 (keys_of es) apart))

@@ -43,7 +43,7 @@ below_high xs low high at ss i chain p = by (cases_lt i high)
     by (inl q) = q
     by (inr q) = absurd (true≢false (sym p ∙ in_hole-above xs low high at ss i chain q))
 
--- a chain stays where bytes are added behind it
+-- a chain stays where bytes are added after it
 pub IsChain-front : (xs ys : List ℕ) (low high at : ℕ) (ss : List Span) → ((k : ℕ) → k < high → slice_index ys k ≡ slice_index xs k) → IsChain xs low high at ss → IsChain ys low high at ss
 IsChain-front xs ys low high at ss same chain = IsChain-apart xs ys low high at ss (λ k p. same k (below_high xs low high at ss k chain p)) chain
 

@@ -29,7 +29,7 @@ lt_block e i = by (cases_lt i (rounded e))
 pub holds_block : (p : Piece) (i : ℕ) → p.start % 8 ≡ 0 → holds p (8 * (i / 8)) ≡ is_within p.start (rounded (end_of p)) i
 holds_block p i h = λ j. le_block p.start i h j && lt_block (end_of p) i j
 
--- no fragment covers a block behind the greatest end
+-- no fragment covers a block after the greatest end
 pub uncovered_beyond : (ps : List Piece) (k : ℕ) → greatest_end ps ≤ 8 * k → is_covered ps k ≡ false
 uncovered_beyond [] k h = refl
 uncovered_beyond (p ∷ ps) k h =

@@ -1,4 +1,4 @@
--- What is left of a chain of holes once a range is filled, and once a hole is added behind them.
+-- What is left of a chain of holes once a range is filled, and once a hole is added after them.
 use Rattle.std.proofs.Common.{◌≡◌, ℕ, ◌+◌, ◌%◌, ◌<◌, ◌≤◌, Bool, true, false, List, [], ◌∷◌, length, refl, sym, ◌∙◌, ap, subst, arith, max, min, ◌&&◌, ◌||◌, not, true≢false, inl, inr, ◌⊎◌}
 use Rattle.std.specs.Prelude.{slice_index}
 use Rattle.std.proofs.lemmas.Bool.{cases_lt}
@@ -65,7 +65,7 @@ outside : (x : Bool) → x ≡ (x && not false)
 outside true = refl
 outside false = refl
 
--- nothing is filled where the holes begin behind the range
+-- nothing is filled where the holes begin after the range
 pub Punched-none : (a b low high at : ℕ) (xs : List ℕ) (ss : List Span) → b ≤ at → IsChain xs low high at ss → Punched a b xs ss low high at xs
 Punched-none a b low high at xs ss h chain = record {
   length_is = refl;
@@ -83,7 +83,7 @@ Punched-none a b low high at xs ss h chain = record {
     holes i true is = below i is ∙ sym (ap (λ (x : Bool). x && not (is_within a b i)) (below i is))
     holes i false is = outside (in_hole ss i) ∙ sym (ap (λ (x : Bool). in_hole ss i && not x) is)
 
--- a place of a hole that was cut, or of the holes behind it
+-- a place of a hole that was cut, or of the holes after it
 cut_place : (a b f t left i : ℕ) (x : Bool) → f < t → a < b → f < b → left ≡ min t a → (x ≡ true → t ≤ i)
     → (is_within f left i || (is_within b t i || (x && not (is_within a b i)))) ≡ ((is_within f t i || x) && not (is_within a b i))
 cut_place a b f t left i true some range near is behind =
@@ -99,7 +99,7 @@ pub or_false_right : (x y : Bool) → (x || y) ≡ false → y ≡ false
 or_false_right true y h = absurd (true≢false h)
 or_false_right false y h = h
 
--- a place outside a range is below it or behind it
+-- a place outside a range is below it or after it
 outside_range : (f t i : ℕ) → is_within f t i ≡ false → (i < f) ⊎ (t ≤ i)
 outside_range f t i h = by (cases_lt i f)
   where
@@ -139,7 +139,7 @@ zero_place a b at end from to left i x mid1 mid2 mid3 new false here from_is to_
     let past : end ≤ i = behind p in
     left_within.above i (omega arith) ∙ (right_within.above i past ∙ (cleared.above i (omega arith) ∙ was p))
 
--- What one hole and the holes behind it are once a range is filled: the holes behind it first, then the filled part is
+-- What one hole and the holes after it are once a range is filled: the holes after it first, then the filled part is
 -- cleared, then what is left on the right and on the left is described.
 module _ (a b low high at end next rest right result : ℕ) (s : Span) (ss : List Span) (old mid1 mid2 mid3 new : List ℕ)
     (from to left : ℕ) where
@@ -214,7 +214,7 @@ Appended-last low high at result old new (s ∷ ss) le past some short chain wit
     let inside : s.to ≤ high = hole.within in
     absurd (omega arith)
 
--- one hole, and those behind it with one more
+-- one hole, and those after it with one more
 pub Appended-hole : (low high at end next rest result : ℕ) (s : Span) (ss : List Span) (old mid new : List ℕ)
     → high < length old → IsHole old low high at s → end ≡ s.to → IsChain old s.to high next ss
     → Appended old ss s.to high rest mid

@@ -6,7 +6,7 @@ use Rattle.cap_join.specs.Holes.{Span, is_within, in_hole, no_hole, word_at, IsH
 use Rattle.cap_join.proofs.Chains.{word_at-same, IsHole-block, IsChain-same, IsChain-lower, in_hole-below}
 use Rattle.cap_join.proofs.Punching.{FirstHole, or_false_left, or_false_right, or_assoc, unchanged, within-below, within-above}
 
--- What a walk along some holes knows of the one that it reached: it is one of them, and so are those behind it.
+-- What a walk along some holes knows of the one that it reached: it is one of them, and so are those after it.
 pub record Reached (xs : List ℕ) (below last high : ℕ) (ss : List Span) : Type 0 where
   pub tail : List Span
   pub low : ℕ
@@ -220,7 +220,7 @@ Continues-more a b at first end next old cur mid so_far near end_is above below 
         (λ i p q. zeros i (omega arith) (omega arith))
         (subst (λ (n : ℕ). Punched a b mid ss s.to n result new) size (punched s.to ss tail))
 
--- the holes behind one that is cleared
+-- the holes after one that is cleared
 pub HasHoles-cleared : (cur mid : List ℕ) (first end next high : ℕ) → FirstHole cur high first → HasHoles cur high first → first < no_hole → end ≡ word_at cur first → next ≡ word_at cur (first + 4)
     → ChangesWithin first end cur mid → HasHoles mid high next
 HasHoles-cleared cur mid first end next high f h near end_is next_is cleared = by h.spans h.chain

@@ -20,7 +20,7 @@ abbrev pub covers_below : List Piece → ℕ → Bool
 covers_below ps zero = true
 covers_below ps (suc n) = is_covered ps n && covers_below ps n
 
--- the length of the datagram's data: the end of the latest fragment behind which none follows
+-- the length of the datagram's data: the end of the latest fragment after which none follows
 abbrev pub total_of : List Piece → Option ℕ
 total_of [] = None
 total_of (p ∷ ps) = if p.more then total_of ps else Some (end_of p)

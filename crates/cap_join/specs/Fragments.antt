@@ -23,7 +23,7 @@ piece_of header bytes stamped =
       stamped = stamped;
     }
 
--- the place behind its last byte
+-- the place after its last byte
 abbrev pub end_of : Piece → ℕ
 end_of p = p.start + length p.bytes
 

@@ -21,7 +21,7 @@ abbrev pub timed : Stamped → Option Stamp → Option Stamped
 timed frame None = None
 timed frame (Some time) = Some frame
 
--- Of the frame of the least time so far, which has one, and one more behind it, the one of the lesser time: of equal times the
+-- Of the frame of the least time so far, which has one, and one more after it, the one of the lesser time: of equal times the
 -- one that was there, whose place is lower.
 abbrev pub earlier : Option Stamped → Option Stamped → Option Stamped
 earlier first None = first

@@ -65,7 +65,7 @@ pub record ChangesWithin (from to : ℕ) (old new : List ℕ) : Type 0 where
   pub below : (i : ℕ) → i < from → slice_index new i ≡ slice_index old i
   pub above : (i : ℕ) → to ≤ i → slice_index new i ≡ slice_index old i
 
--- A place and the holes behind it, where some bytes are left of a hole.
+-- A place and the holes after it, where some bytes are left of a hole.
 abbrev pub kept : ℕ → ℕ → List Span → List Span
 kept from to ss = if nat_lt from to then record { from = from; to = to } ∷ ss else ss
 
@@ -84,7 +84,7 @@ Continues a b old at mid first =
     (result : ℕ) (new : List ℕ) → ((low : ℕ) (ss : List Span) → IsChain mid low (length mid) first ss → Punched a b mid ss low (length mid) result new)
     → (low : ℕ) (ss : List Span) → IsChain old low (length old) at ss → Punched a b old ss low (length old) result new
 
--- Some holes with one more behind them, which reaches from `high` up to the end.
+-- Some holes with one more after them, which reaches from `high` up to the end.
 pub record Appended (old : List ℕ) (ss : List Span) (low high at : ℕ) (new : List ℕ) : Type 0 where
   pub length_is : length new ≡ length old
   pub spans : List Span

@@ -50,7 +50,7 @@ pub record OpenLimit : Type 0 where
   pub third : is_some (group_of 2 (opening 2 ∷ opening 1 ∷ opening 0 ∷ []) (key_numbered 2)) ≡ true
   pub flushed : group_of 2 (flushes (key_numbered 1) ∷ opening 1 ∷ opening 0 ∷ []) (key_numbered 1) ≡ None
 
--- a time of so many microseconds behind a second
+-- a time of that many microseconds after a second
 abbrev pub time_1 : Stamp
 time_1 = record { seconds = pos 1; numerator = 0; denominator = 1000000; fraction = lit< tt }
 

@@ -96,7 +96,7 @@ fn later(last: Option<Stamped>, frame: Option<Stamped>) -> Option<Stamped>
     }
 }
 
-// The datagram's length: the end of a fragment behind which none follows, else as it was.
+// The datagram's length: the end of a fragment after which none follows, else as it was.
 fn total_after(total: Option<u32>, fragment: Fragment) -> Option<u32>
     requires { fragment.start + fragment.length < 2 ^ 32 }
     ensures { result ≡ (if fragment.more then total else Some (fragment.start + fragment.length)) }

@@ -20,7 +20,7 @@ use std::marker::Model;
 /// A fragment joins the open group of its key, unless the clock of the group's first fragment and 30
 /// seconds are before the fragment's clock; then it opens a new group. A first fragment without a clock
 /// never grows old. Of a byte that several fragments have the latest counts. A group is complete, and
-/// is one no more, where a fragment behind which none follows has told its length, and each block of 8
+/// is one no more, where a fragment after which none follows has told its length, and each block of 8
 /// bytes below that is covered. At most 1,024 groups are open: a fragment that would open one more gives
 /// up the one whose first fragment has the lowest place.
 ///

@@ -10,7 +10,7 @@ use Rattle.cap_merge.specs.Run.{Clocked, merged, through_first}
 use Rattle.cap_source.specs.Feed.{Item, packet, refused, refusal_of}
 use Rattle.cap_time.specs.declared.stamps.Stamp.{Stamp}
 
--- the items of a file, behind which it has reached a clock, each with its own
+-- the items of a file, after which it has reached a clock, each with its own
 abbrev clocked_from : {A : Type 0} → (A → Option Stamp) → Option Stamp → List A → List (Clocked A)
 clocked_from time clock [] = []
 clocked_from time clock (x ∷ xs) = record { clock = later clock (time x); item = x } ∷ clocked_from time (later clock (time x)) xs

@@ -61,7 +61,7 @@ runs-alike t u (a ∷ as_) (b ∷ bs) e h k w =
       runs-alike (later t (item_time a.item)) (later u (item_time b.item)) as_ bs now h.1 k.1 w.1,
     )
 
--- Of the runs of two lists of files the same packets are written, behind those interfaces, and none is refused.
+-- Of the runs of two lists of files the same packets are written, after those interfaces, and none is refused.
 pub record IsRewritten (names others : List Name) (files again : List (List Item)) : Type 0 where
   pub accepted : refusal_in names (run_of_lists files) ≡ None
   pub accepted_again : refusal_in others (run_of_lists again) ≡ None

@@ -50,7 +50,7 @@ whole-of (Some p) (Ok job) is = is.4
 whole-of (Some p) (Err fault) is = tt
 whole-of None r is = rw is tt
 
--- an error of clap's is for want of memory, or of one of its kinds
+-- an error of clap's says that memory ran out, or is one of its kinds
 abbrev Errs : List Text → App → ErrorKind → Type 0
 Errs words app k = (k ≡ kind.OutOfMemory) ⊎ IsAmong k (fault_of app words)
 

@@ -1,4 +1,4 @@
--- A tagged frame carries what stands behind its tags.
+-- A tagged frame carries what comes after its tags.
 use Rattle.std.specs.List.{AllByRecursion}
 use Rattle.std.proofs.Common.{◌≡◌, ◌≤◌, ◌/◌, ◌%◌, ◌∙◌, ℕ, Bool, true, false, List, [], ◌∷◌, ◌++◌, length, drop, nat_lt, refl, ap, sym, arith, length-append}
 use Rattle.std.proofs.Math.Seq.{drop-append_seam}
@@ -30,7 +30,7 @@ carried-tagged whole (tag ∷ tags) kind bytes all none =
     let long : 4 ≤ length (tag.control / 256 ∷ tag.control % 256 ∷ tagged tags kind bytes) = omega (arith, length-tagged tags kind bytes) in
     rw number-two (carried-tag whole tag.protocol _ all.0 long ∙ carried-tagged whole tags kind bytes all.1 none)
 
--- an Ethernet header, by what stands behind its addresses
+-- an Ethernet header, by what comes after its addresses
 pub typed-behind : (whole : Bool) (frame rest : List ℕ) → drop 12 frame ≡ rest → 14 ≤ length frame → typed whole 14 12 frame ≡ carried whole (number Big 2 rest) (drop 2 rest)
 unfolding typed
 typed-behind whole frame rest behind long =

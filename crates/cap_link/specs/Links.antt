@@ -5,7 +5,7 @@ use Rattle.cap_bytes.specs.declared.numbers.Order.TheVariants.{Big}
 use Rattle.cap_link.specs.Seen.{Carried}
 use Rattle.cap_link.specs.Tags.{carried, ended}
 
--- a link header of so many bytes, whose type field stands at a place
+-- a link header of that many bytes, whose type field stands at a place
 unfoldable pub typed : Bool → ℕ → ℕ → List ℕ → Carried
 typed whole size place frame =
     if nat_lt (length frame) size

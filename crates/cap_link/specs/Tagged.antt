@@ -8,7 +8,7 @@ pub record Tag : Type 0 where
   pub protocol : ℕ
   pub control : ℕ
 
--- some tags, a type and what stands behind it
+-- some tags, a type and what comes after it
 unfoldable pub tagged : List Tag → ℕ → List ℕ → List ℕ
 tagged [] kind bytes = (kind / 256) ∷ (kind % 256) ∷ bytes
 tagged (tag ∷ tags) kind bytes =

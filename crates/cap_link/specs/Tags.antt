@@ -12,12 +12,12 @@ is_tag kind = (kind == 0x8100) || (kind == 0x88A8)
 unfoldable pub ended : Bool → Carried
 ended whole = if whole then Carried.short else Carried.cut
 
--- what the bytes are behind a type field that announces no tag: IPv4 behind 0800 (RFC 894). A value below
+-- what the bytes are after a type field that announces no tag: IPv4 after 0800 (RFC 894). A value below
 -- 0600 is a length (IEEE 802.3, 3.2.6).
 unfoldable pub payload : ℕ → List ℕ → Carried
 payload kind bytes = if kind == 0x0800 then Carried.ipv4 bytes else Carried.not_ipv4
 
--- what the bytes behind a type field carry. Behind a tag's type stand two bytes of the tag's data and
+-- what the bytes after a type field carry. After a tag's type stand two bytes of the tag's data and
 -- then the next type (IEEE 802.1Q, 9.3).
 unfoldable pub carried : Bool → ℕ → List ℕ → Carried
 carried whole kind (a ∷ b ∷ c ∷ d ∷ rest) =

@@ -3,7 +3,7 @@
 /// What a frame carries.
 #[derive(Clone, Copy, Debug, PartialEq, Eq)]
 pub enum Network<'a> {
-    /// An IPv4 packet: all bytes behind the link header and the tags, padding among them.
+    /// An IPv4 packet: all bytes after the link header and the tags, padding among them.
     Ipv4(&'a [u8]),
     /// The link type isn't one of the five that are known.
     OtherLink,

@@ -13,7 +13,7 @@ const C_TAG: u16 = 0x8100;
 /// The type of an S-VLAN tag (IEEE 802.1Q, 9.5).
 const S_TAG: u16 = 0x88a8;
 
-/// The bytes of a tag's data and of the type behind them.
+/// The bytes of a tag's data and of the type after them.
 const TAG: usize = 4;
 
 #[tactic(auto, unfolding(crate::specs::Tags::is_tag))]
@@ -31,7 +31,7 @@ pub(crate) fn ended<'a>(whole: bool) -> Network<'a>
     if whole { Network::Short } else { Network::Cut }
 }
 
-/// What bytes are that stand behind a type which announces no tag.
+/// What bytes are that come after a type which announces no tag.
 #[tactic(auto, unfolding(crate::specs::Tags::payload))]
 fn payload(kind: u16, bytes: &[u8]) -> Network<'_>
     ensures { seen result ≡ payload kind bytes.now }
@@ -43,7 +43,7 @@ fn payload(kind: u16, bytes: &[u8]) -> Network<'_>
     }
 }
 
-/// What bytes carry that stand behind a type, past any number of tags.
+/// What bytes carry that come after a type, past any number of tags.
 pub(crate) fn carried(whole: bool, kind: u16, bytes: &[u8]) -> Network<'_>
     ensures { seen result ≡ carried whole kind bytes.now }
 {

@@ -11,7 +11,7 @@ use Rattle.cap_merge.specs.declared.lanes.Lane.{Lane}
 use Rattle.cap_merge.specs.Parts.{Part, parts}
 use Rattle.cap_merge.specs.Merge.{LearnsBy, Stops, LearnsAll, StopsAt, IsPacketAt, PassesAt, PassesPart}
 
--- The first so many feeds were asked, the others are as they were.
+-- The first n feeds were asked, the others are as they were.
 abbrev pub AskedUpTo : ℕ → List Part → List Part → Type 0
 AskedUpTo i [] [] = ⊤
 AskedUpTo i [] (q ∷ qs) = ⊥

@@ -92,7 +92,7 @@ waited-after (p ∷ ps) [] s = absurd s
 waited-after (p ∷ ps) (q ∷ qs) (inl s) = own_stopped p q Memory (broken_of qs) s.0 ∙ s.0.gives.goes.after
 waited-after (p ∷ ps) (q ∷ qs) (inr s) = rw (known_by p q p.lane.head refl s.0) (waited-after ps qs s.1)
 
--- nor behind a packet that is passed
+-- nor after a packet that is passed
 pub passed-whole : (before after : List Part) (p q : Part) → is_known (before ++ (p ∷ after)) ≡ true → q.lane.head ≡ None → q.feed.broken ≡ None
     → broken_of (before ++ (q ∷ after)) ≡ None
 unfolding broken_of

@@ -28,7 +28,7 @@ passed_known (p ∷ ps) (q ∷ qs) (suc place) h k =
     let known = known_behind p ps k in
     both_true (is_some q.lane.head) (known_but qs place) (ap (λ x. is_some x.lane.head) h.0 ∙ known.0) (passed_known ps qs place h.1 known.1)
 
--- behind a pass what comes next of the other feeds is known
+-- after a pass what comes next of the other feeds is known
 pub others-passed : (ps qs : List Part) (place : ℕ) → PassesAt ps place qs → IsPacket (feed_of ps).known → OthersKnown qs (Some place)
 others-passed ps qs place h p = passed_known ps qs place h (known-holds ps IsPacket (λ never. never) p).0
 

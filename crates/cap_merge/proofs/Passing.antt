@@ -76,7 +76,7 @@ unfolding endings_of
 endings_same [] after p q file f e = λ i. cond (has_file (f i) file) (e i) (endings_of after file)
 endings_same (x ∷ before) after p q file f e = ap (λ r. cond (has_file x.feed.files file) (x.feed.endings file) r) (endings_same before after p q file f e)
 
--- the run goes on behind its first item
+-- the run goes on after its first item
 run_on : (before after : List Part) (p q : Part) → q.lane.clock ≡ p.lane.clock → q.feed.items ≡ drop 1 p.feed.items
     → run_of (before ++ (q ∷ after)) ≡ run_behind before p after
 unfolding run_of run_behind

@@ -61,7 +61,7 @@ abbrev pub files_of : {A : Type 0} → List (Group A) → List (Track A)
 files_of [] = []
 files_of (g ∷ gs) = g.tracks ++ files_of gs
 
--- one file of one of the groups, with what stands before and behind it
+-- one file of one of the groups, with what stands before and after it
 pub record Within {A : Type 0} (gs : List (Group A)) (before : List (Track A)) (t : Track A) (after : List (Track A)) : Type 0 where
   pub front : List (Group A)
   pub group : Group A

@@ -121,7 +121,7 @@ pub record IsBetween {A : Type 0} (time : A → Option Stamp) (now : Option Stam
   pub reached : AllByRecursion (λ t. AtMost t.clock now) ts
   pub ahead : AllByRecursion (λ t. HeadClock time (AtMost now) t.clock t.items) ts
 
--- the clock of the first item, and what is between behind it
+-- the clock of the first item, and what is between after it
 pub first_told : {A : Type 0} (time : A → Option Stamp) (now clock : Option Stamp) (x : A) → AtMost clock now → AtMost now (later clock (time x))
     → AtMost (later now (time x)) (later clock (time x)) × AtMost (later clock (time x)) (later now (time x))
 first_told time now clock x reached ahead = (
@@ -230,7 +230,7 @@ file-clock time file place clock (y ∷ before) after x =
     ++ (record { clock = greatest_from (later clock (time y)) (map time (before ++ (x ∷ []))); file = file; place = further i; item = x }
     ∷ placed_from time file (suc (further i)) (greatest_from (later clock (time y)) (map time (before ++ (x ∷ [])))) after)))
 
--- No clock is above one behind it, nor is that clock above the first.
+-- No clock is above one after it, nor is that clock above the first.
 abbrev pub NeverFalls : {A : Type 0} → Option Stamp → List (Clocked A) → Type 0
 NeverFalls clock [] = ⊤
 NeverFalls clock (x ∷ xs) = AtMost clock x.clock × NeverFalls x.clock xs

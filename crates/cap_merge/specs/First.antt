@@ -13,12 +13,12 @@ lane_at lanes place = get_or lanes place new_lane
 abbrev pub comes_before : Lane → Lane → Bool
 comes_before lane first = has_next lane.head && is_lt (clock_cmp lane.clock first.clock)
 
--- of the first so far and one more lane behind it, the place of the first
+-- of the first so far and one more lane after it, the place of the first
 abbrev pub sooner_place : List Lane → Option ℕ → ℕ → Option ℕ
 sooner_place lanes None place = if has_next (lane_at lanes place).head then Some place else None
 sooner_place lanes (Some first) place = if comes_before (lane_at lanes place) (lane_at lanes first) then Some place else Some first
 
--- the place of the first of so many lanes
+-- the place of the first of that many lanes
 unfoldable pub first_among : List Lane → ℕ → Option ℕ
 first_among lanes zero = None
 first_among lanes (suc count) = sooner_place lanes (first_among lanes count) count

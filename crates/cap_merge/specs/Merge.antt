@@ -44,7 +44,7 @@ LearnsAll [] (q ∷ qs) = ⊥
 LearnsAll (p ∷ ps) [] = ⊥
 LearnsAll (p ∷ ps) (q ∷ qs) = LearnsBy p.lane.head p q × LearnsAll ps qs
 
--- The feeds are asked up to the first that can't tell; those behind it stay as they are.
+-- The feeds are asked up to the first that can't tell; those after it stay as they are.
 abbrev pub StopsAt : Fault → List Part → List Part → Type 0
 StopsAt fault [] qs = ⊥
 StopsAt fault (p ∷ ps) [] = ⊥

@@ -16,7 +16,7 @@ use Rattle.cap_merge.specs.Ordered.{least_first, order-mapped}
 pub placed_total : {A : Type 0} → IsTotalOrder (placed_cmp {A = A})
 placed_total = then_total (on_total (λ x. x.clock) clock_total) (then_total (on_total (λ x. x.file) nat_cmp_total) (on_total (λ x. x.place) nat_cmp_total))
 
--- An item of that file stands there or behind, and its clock isn't below that.
+-- An item of that file stands there or after, and its clock isn't below that.
 pub record StandsIn {A : Type 0} (file place : ℕ) (clock : Option Stamp) (y : Placed A) : Type 0 where
   pub file_is : y.file ≡ file
   pub place_from : place ≤ y.place
@@ -172,7 +172,7 @@ own_after time file clock x xs =
     (λ y s. before_places (first_placed time file clock x) y s.clock_from (sym s.file_is) s.place_from)
     (placed_from-stands time file 1 (later clock (time x)) xs)
 
--- the items that are left, numbered anew, are those of the files behind the pass
+-- the items that are left, numbered anew, are those of the files after the pass
 left-moved : {A : Type 0} (time : A → Option Stamp) (before after : List (Track A)) (clock : Option Stamp) (xs : List A)
     → map (moved (1 + length before)) (placed_all time 1 (before ++ (record { clock = clock; items = xs } ∷ after)))
     ≡ placed_all time 1 before ++ (placed_from time (1 + length before) 1 clock xs ++ placed_all time (suc (1 + length before)) after)

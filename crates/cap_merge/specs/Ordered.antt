@@ -118,7 +118,7 @@ module _ {A : Type 0} (cmp : A → A → Ordering) (total : IsTotalOrder cmp) wh
       ∙ (λ i. alike before f i ++ cond (none i) (m ∷ filter test after) (alike after g i))
       ∙ sym (filter-append other before after)
 
-  -- What is smaller than all others stands first, and the others are in order behind it.
+  -- What is smaller than all others stands first, and the others are in order after it.
   pub least_first : (m : A) (before after : List A) → AllByRecursion (λ y. cmp m y ≡ Less) before → AllByRecursion (λ y. cmp m y ≡ Less) after
       → in_order cmp (before ++ (m ∷ after)) ≡ m ∷ in_order cmp (before ++ after)
   unfolding in_order

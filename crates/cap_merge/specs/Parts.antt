@@ -88,7 +88,7 @@ is_end (Some (heads.Packet meta)) = false
 is_end (Some (heads.Refused refusal)) = false
 is_end (Some heads.End) = true
 
--- of a part and the first of those behind it, the one whose item comes first: of equal clocks the first
+-- of a part and the first of those after it, the one whose item comes first: of equal clocks the first
 abbrev pub sooner : Part → Option Part → Option Part
 sooner p None = if has_next p.lane.head then Some p else None
 sooner p (Some q) = if has_next p.lane.head && not (is_lt (clock_cmp q.lane.clock p.lane.clock)) then Some p else Some q
@@ -121,7 +121,7 @@ clock_by (Some p) = p.lane.clock
 unfoldable pub clock_of : List Part → Option Stamp
 clock_of ps = clock_by (first_of ps)
 
--- each feed's items to come, behind the clock that it has reached
+-- each feed's items to come, after the clock that it has reached
 abbrev pub tracks : List Part → List (Track Item)
 tracks ps = map (λ p. record { clock = p.lane.clock; items = p.feed.items }) ps
 
@@ -232,7 +232,7 @@ IsFirstLane lanes (Some first) = Leads lanes first.place first.clock
 abbrev pub new_lane : Lane
 new_lane = record { clock = None; head = None }
 
--- a lane behind the packet that was passed
+-- a lane after the packet that was passed
 abbrev pub passed_lane : Lane → Lane
 passed_lane lane = record { clock = lane.clock; head = None }
 
@@ -240,7 +240,7 @@ passed_lane lane = record { clock = lane.clock; head = None }
 abbrev pub new_parts : List Feed → List Part
 new_parts feeds = map (λ f. record { lane = new_lane; feed = f }) feeds
 
--- of the first so far and one more lane behind it, the first
+-- of the first so far and one more lane after it, the first
 abbrev pub sooner_lane : Option First → ℕ → Lane → Option First
 sooner_lane None place lane = if has_next lane.head then Some (record { place = place; clock = lane.clock }) else None
 sooner_lane (Some first) place lane =

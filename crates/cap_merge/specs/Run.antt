@@ -20,7 +20,7 @@ pub record Clocked (A : Type 0) : Type 0 where
   pub clock : Option Stamp
   pub item : A
 
--- an item where it stands: in which file, and behind how many of its items
+-- an item where it stands: in which file, and after how many of its items
 pub record Placed (A : Type 0) : Type 0 where
   pub clock : Option Stamp
   pub file : ℕ
@@ -43,7 +43,7 @@ pub record Track (A : Type 0) : Type 0 where
 abbrev pub opened : {A : Type 0} → List A → Track A
 opened items = record { clock = None; items = items }
 
--- the items of a file from a place on, behind which the file has reached a clock: each takes the clock on to its own time,
+-- the items of a file from a place on, after which the file has reached a clock: each takes the clock on to its own time,
 -- where it has one
 abbrev pub placed_from : {A : Type 0} → (A → Option Stamp) → ℕ → ℕ → Option Stamp → List A → List (Placed A)
 placed_from time file place clock [] = []

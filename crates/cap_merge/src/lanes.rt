@@ -21,7 +21,7 @@ pub struct Lane {
     pub(crate) head: Option<Head>,
 }
 
-/// So many lanes of which nothing is known.
+/// That many lanes of which nothing is known.
 pub(crate) fn new_lanes(count: usize) -> ArrayVec<Lane, 32>
     requires { count ≤ 32 }
     ensures { result.items ≡ replicate count new_lane }
@@ -132,7 +132,7 @@ fn ask_unknown<F: PacketFeed>(
 }
 
 /// Asks each feed in turn what comes next, unless that is known, and stops at the first that can't tell:
-/// the heads that were learned before it are kept. Behind a passed packet only its feed isn't known.
+/// the heads that were learned before it are kept. After a passed packet only its feed isn't known.
 pub(crate) fn ask_all<F: PacketFeed>(
     lanes: &mut ArrayVec<Lane, 32>,
     feeds: &mut Vec<F>,

@@ -69,7 +69,7 @@ pub header_read-law : HeaderRead
 header_read-law header bytes rest small s =
     reads header bytes rest s (λ little. flips header.unit bytes small (subst (λ (o : Order). number o 4 bytes ≡ magic_of header.unit) little s.magic))
 
--- a number of a text, by the parts before and behind it
+-- a number of a text, by the parts before and after it
 field : (order : Order) (k x i : ℕ) (front back whole : List ℕ) → x < 256 ^ k → length front ≡ i → whole ≡ front ++ (bytes_of order k x ++ back)
     → number order k (drop i whole) ≡ x
 field order k x i front back whole fits size is =

@@ -37,7 +37,7 @@ record_fault-fits order offset bytes h = grind (arith, nat_tests)
 pub captured_at-append : (order : Order) (xs ys : List ℕ) → 16 ≤ length xs → captured_at order (xs ++ ys) ≡ captured_at order xs
 captured_at-append order xs ys h = number-drop_append order 4 8 xs ys (omega arith)
 
--- More bytes behind make no difference to a condition that isn't rule 3.
+-- More bytes after make no difference to a condition that isn't rule 3.
 head_there : (order : Order) (offset : ℕ) (xs : List ℕ) (rule : Rule) → record_fault order offset xs ≡ Some rule
     → (rule ≡ Cut → ⊥) → 16 ≤ length xs
 unfolding record_fault
@@ -54,7 +54,7 @@ record_fault-append order offset xs ys rule h other =
     longer order offset xs (xs ++ ys) rule h other
     (captured_at-append order xs ys (head_there order offset xs rule h other)) (omega (arith, length-append xs ys))
 
--- more bytes behind a whole record make no difference
+-- more bytes after a whole record make no difference
 pub Fits-append : (order : Order) (offset : ℕ) (xs ys : List ℕ) → Fits order offset xs → Fits order offset (xs ++ ys)
 Fits-append order offset xs ys f =
     let same = captured_at-append order xs ys f.head in
@@ -104,7 +104,7 @@ unfolding header_at
 same_header xs zs magic snaplen link =
     rw (magic Big, magic (order_at xs), snaplen (order_at xs), link (order_at xs)) refl
 
--- more bytes behind the header make no difference
+-- more bytes after the header make no difference
 pub header_fault-append : (offset : ℕ) (xs ys : List ℕ) → 24 ≤ length xs → header_fault offset (xs ++ ys) ≡ header_fault offset xs
 header_fault-append offset xs ys h =
     same_fault offset xs (xs ++ ys) h (omega (arith, length-append xs ys))

@@ -1,4 +1,4 @@
--- The items of some bytes behind a header, by what stands at their front.
+-- The items of some bytes after a header, by what stands at their front.
 use Rattle.std.proofs.Common.{◌≡◌, ℕ, ◌+◌, ◌<◌, List, [], ◌∷◌, length, drop, Option, Some, None, refl, arith}
 use Rattle.cap_bytes.specs.Items.{stop_by, given, stopped}
 use Rattle.cap_bytes.specs.declared.faults.Rule.{Rule}
@@ -25,7 +25,7 @@ pub items_from-none : (header : PcapHeader) (tail : Tail) (file offset : ℕ) �
 items_from-none header tail file offset =
     items_from-stop header tail file offset [] stops.End (stop_where-end _ tail file offset (record_fault header.order offset []) refl)
 
--- A record is the first item, and those of the bytes behind it follow.
+-- A record is the first item, and those of the bytes after it follow.
 pub items_from-record : (header : PcapHeader) (tail : Tail) (file offset : ℕ) (bytes : List ℕ)
     → stop_at header.order tail file offset bytes ≡ None
     → items_from header tail file offset bytes ≡ given (record_at header.order header.unit offset bytes) (frame_at header.order bytes)

@@ -50,7 +50,7 @@ one_record-law order unit p q a b x y s t whole =
       sym (drop_at a x (length a) refl) ∙ (ap (drop (length a)) whole ∙ drop_at b y (length a) (sym size)),
     )
 
--- a split behind the same packet
+-- a split after the same packet
 moved : (order : Order) (unit : Fraction) (offset : ℕ) (bytes : List ℕ) (p q : Packet) (qs : List Packet) (s : List ℕ) → p ≡ q
     → Splits order unit (offset + packet_size q) (drop (packet_size q) bytes) qs s
     → Splits order unit (offset + packet_size p) (drop (packet_size p) bytes) qs s

@@ -14,7 +14,7 @@ pub record Begins (size place : ℕ) (text bytes : List ℕ) : Type 0 where
 pub Begins-none : (size : ℕ) (bytes : List ℕ) → length bytes ≡ size → Begins size 0 [] bytes
 Begins-none size bytes is = record { size_is = is; front = refl; within = omega arith }
 
--- n bytes more were put behind it
+-- n bytes more were put after it
 pub Begins-more : (size place n : ℕ) (text more old new : List ℕ) → Begins size place text old → length more ≡ n → place + n ≤ size
     → new ≡ take place old ++ more ++ drop (place + n) old → length new ≡ length old
     → Begins size (place + n) (text ++ more) new
@@ -31,7 +31,7 @@ Begins-more size place n text more old new b len fits is same =
 pub Begins-all : (size : ℕ) (text bytes : List ℕ) → Begins size size text bytes → bytes ≡ text
 Begins-all size text bytes b = sym (take_all size bytes (omega (arith, b.size_is))) ∙ b.front
 
--- a front of the first part is a front of the whole
+-- a prefix of the first part is a prefix of the whole
 pub Puts-first : (A : Type 0) (old new head «data» : List ℕ) (fault : Fault) → Puts {A = A} old (Err fault) new head
     → Puts {A = A} old (Err fault) new (head ++ «data»)
 Puts-first A old new head «data» fault p = (

@@ -17,7 +17,7 @@ OneRecord =
     → SpellsRecord order unit p a → SpellsRecord order unit q b → a ++ x ≡ b ++ y
     → (a ≡ b) × (p ≡ q) × (x ≡ y)
 
--- The bytes behind a header split in one way,
+-- The bytes after a header split in one way,
 abbrev pub OneSplit : Type 0
 OneSplit =
     (order : Order) (unit : Fraction) (offset : ℕ) (bytes : List ℕ) (ps qs : List Packet) (r s : List ℕ)

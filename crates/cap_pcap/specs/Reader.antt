@@ -79,7 +79,7 @@ GivesNext header old result new =
     readers.GivesNext (λ r. GivesRecord header old r new) true (record_fault header.order old.offset old.coming)
     262160 (old.room < 16 + captured_at header.order old.coming) old result new
 
--- where the bytes to come begin behind that answer
+-- where the bytes to come begin after that answer
 abbrev pub place_after : ℕ → Result (Option Record) Fault → ℕ
 place_after offset (Ok (Some r)) = offset + (16 + r.captured)
 place_after offset (Ok None) = offset

@@ -82,7 +82,7 @@ frame_at order bytes = take (captured_at order bytes) (drop 16 bytes)
 abbrev pub stop_at : Order → Tail → ℕ → ℕ → List ℕ → Option Stop
 stop_at order tail file offset bytes = stop_where true tail file offset bytes (record_fault order offset bytes)
 
--- how a file goes on behind its header
+-- how a file goes on after its header
 abbrev pub records : Format PcapHeader Record
 records =
     record {
@@ -93,7 +93,7 @@ records =
       next = λ header bytes. header;
     }
 
--- the items of the bytes behind a header, which begin at `offset`
+-- the items of the bytes after a header, which begin at `offset`
 abbrev pub items_from : PcapHeader → Tail → ℕ → ℕ → List ℕ → List (Item Record)
 items_from header tail file offset bytes = items_in records header tail file offset bytes
 
@@ -123,7 +123,7 @@ Splits order unit offset bytes (packet ∷ packets) rest =
     × (offset + packet_size packet ≤ 2 ^ 40)
     × Splits order unit (offset + packet_size packet) (drop (packet_size packet) bytes) packets rest
 
--- the place behind some packets
+-- the place after some packets
 abbrev pub place_behind : ℕ → List Packet → ℕ
 place_behind offset [] = offset
 place_behind offset (packet ∷ packets) = place_behind (offset + packet_size packet) packets

@@ -14,7 +14,7 @@ use cap_time::Unit;
 /// How many bytes a file's header takes.
 pub const HEADER_SIZE: usize = 24;
 
-/// The place behind the last byte that is read of a file.
+/// The place after the last byte that is read of a file.
 pub const FILE_LIMIT: u64 = 0x100_0000_0000;
 
 const MICRO: u32 = 0xA1B2_C3D4;

@@ -6,7 +6,7 @@ pub fn one_record()
     ensures law { OneRecord }
 {}
 
-/// The bytes behind a header split in one way into records and a rest that no record begins.
+/// The bytes after a header split in one way into records and a rest that no record begins.
 pub fn one_split()
     ensures law { OneSplit }
     ensures every { EverySplit }

@@ -110,7 +110,7 @@ impl<R: Source> PcapReader<R> {
         self.read_header()
     }
 
-    // Looks for the next record, behind the one that was given last.
+    // Looks for the next record, after the one that was given last.
     fn read_record(&mut self, header: PcapHeader) -> Result<Option<Record>, Fault>
         requires { self.old.known ≡ Some header }
         ensures answer { GivesNext header self.old result self.new }

@@ -142,7 +142,7 @@ first_behind p block body content old new is e = rw (is, ← e) refl
 none_stops : (stop : Option Stop) → stop ≡ None → is_some stop ≡ false
 none_stops stop is = rw is refl
 
--- Behind a block the file goes on, or a packet or a refusal comes next.
+-- After a block the file goes on, or a packet or a refusal comes next.
 pub block_steps : (file : ℕ) (old new : State Order) (p : Progress) (block : Block) (content : Result Content Rule)
     → file ≡ old.file → GivesBlock old block new → Keeps old new
     → (IsTrue old.told → items_of old ≡ given block (body_in block.total old.coming) ∷ items_of new)

@@ -44,7 +44,7 @@ behind_first : (a b c : Lane) (offset : ℕ) → a.offset ≤ b.offset → (brok
 behind_first a b c offset le None h = omega (arith, le, h)
 behind_first a b c offset le (Some first) h = tt
 
--- What is answered behind something that left what is to come.
+-- What is answered after something that left what is to come.
 Learns-behind : (a b c : Lane) (next : Next) → Waits a b → LaneKeeps a b → Learns b next c → Learns a next c
 Learns-behind a b c next w k h = record {
   is = h.is;

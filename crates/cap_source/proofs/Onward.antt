@@ -77,7 +77,7 @@ Fails-breaks old new file offset p =
       can_fail = p.can_fail;
     }
 
--- The rest of a walk is done behind its first part.
+-- The rest of a walk is done after its first part.
 pub Walks-behind : {A : Type 0} (old mid new : Feed) (result : Result A Fault) → Keeps old mid → Lasts old mid → Walks mid result new → Walks old result new
 Walks-behind old mid new (Ok x) k l p = (p.0, Goes-behind old mid new l p.1)
 Walks-behind old mid new (Err (Refused r)) k l p = Goes-behind old mid new l p

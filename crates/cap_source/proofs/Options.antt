@@ -30,7 +30,7 @@ or_false : (x : Bool) → (x || false) ≡ x
 or_false true = refl
 or_false false = refl
 
--- What the options behind some others say is what the conditions of all tell.
+-- What the options after some others say is what the conditions of all tell.
 abbrev pub Agrees : Order → Option Resolution → Option ℤ → List OptionItem → Result Clock Rule → Type 0
 Agrees order res off items (Ok end) =
     (options_fault order (is_some res) (is_some off) items ≡ None)

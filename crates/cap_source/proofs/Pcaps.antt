@@ -203,7 +203,7 @@ pub header_free : (header : PcapHeader) (known : Option PcapHeader) (old new : S
 header_free header None old new is free h = (if_none old.known (ReadsHeader header old new) is h.first).gives.stop
 header_free header (Some was) old new is free h = ap (λ (s : State PcapHeader). s.stop) (if_some old.known was (λ w. (header ≡ w) × (new ≡ old)) is h.again).1 ∙ free
 
--- The file's header is read, behind which everything is to come as before.
+-- The file's header is read, after which everything is to come as before.
 pub header_waits : (header : PcapHeader) (old new : State PcapHeader) (p q : Progress) → old.stop ≡ None → HasHeader header old new → Keeps old new
     → (IsTrue old.told → items_of new ≡ items_of old) → Waits (pcap_lane old p) (pcap_lane new q)
 header_waits header old new p q free h k same = record {

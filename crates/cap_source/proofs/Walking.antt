@@ -117,7 +117,7 @@ Prints-refused Write text rest refusal r from mid held p none t is prints =
 Prints-refused Memory text rest refusal r from mid held p none t is prints =
     (p.at, prints.1 ∙ (ap (λ l. mid.held ++ l) (take-none prints.0) ∙ (append-nil mid.held ∙ p.written t)))
 
--- And where it isn't written whole: a front of its line.
+-- And where it isn't written whole: a prefix of its line.
 pub Prints-front : (fault : Fault) (text line behind : List ℕ) (refusal : Option Refusal) (from mid : Writer) (held : List ℕ)
     → Putting from mid text (line ++ behind) → IsTrue from.told
     → Prints {A = Unit {0}} line None mid.held (Err fault) held

@@ -111,7 +111,7 @@ option_fault order resolved moved code value =
     if (code == 9) && not resolved then fault_of (resolution_in value) else
     if (code == 14) && not moved then fault_of (offset_in order value) else None
 
--- The first rule that the options break, one after the other, behind others with an if_tsresol or an
+-- The first rule that the options break, one after the other, after others with an if_tsresol or an
 -- if_tsoffset among them or not. A value that runs past the end is refused where it stands.
 unfoldable pub options_fault : Order → (resolved moved : Bool) → List OptionItem → Option Rule
 options_fault order resolved moved [] = None
@@ -134,7 +134,7 @@ abbrev pub interface_or : Option Rule → Interface → Result Interface Rule
 interface_or (Some rule) interface = Err rule
 interface_or None interface = Ok interface
 
--- The interface of an interface block, before which so many stand in its section, or the first rule that
+-- The interface of an interface block, before which that many stand in its section, or the first rule that
 -- it breaks. draft-ietf-opsawg-pcapng, 4.2.
 unfoldable pub interface_in : ℕ → Order → List ℕ → Result Interface Rule
 interface_in before order body =

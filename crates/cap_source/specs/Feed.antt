@@ -117,7 +117,7 @@ KeepsItems old (Err (Read file offset)) new = ⊤
 KeepsItems old (Err Write) new = ⊥
 KeepsItems old (Err Memory) new = SameItems old new
 
--- The packet that came next is dropped: the packets of its file that are to come begin behind its offset.
+-- The packet that came next is dropped: the packets of its file that are to come begin after its offset.
 pub record Passes (old new : Feed) : Type 0 where
   pub known : new.known ≡ None
   pub broken : new.broken ≡ None

@@ -85,7 +85,7 @@ meta_in file progress block p =
 abbrev pub frame_in : Packet → List ℕ → List ℕ
 frame_in p body = take p.captured (drop p.place body)
 
--- the items of a file from a block on that says this, before those behind the block
+-- the items of a file from a block on that says this, before those after the block
 abbrev pub items_at : ℕ → Progress → Block → List ℕ → Result Content Rule → List Item → List Item
 items_at file progress block body (Ok contents.Section) rest = rest
 items_at file progress block body (Ok (contents.Interface interface)) rest = rest
@@ -93,7 +93,7 @@ items_at file progress block body (Ok (contents.Packet p)) rest = packet (meta_i
 items_at file progress block body (Ok contents.Other) rest = rest
 items_at file progress block body (Err rule) rest = refused (record { file = file; offset = block.offset; rule = rule }) ∷ []
 
--- how far a file was read behind that block
+-- how far a file was read after that block
 abbrev pub behind : Progress → Result Content Rule → Progress
 behind progress (Ok content) = after progress content
 behind progress (Err rule) = progress

@@ -161,7 +161,7 @@ captured_of (Some (nexts.Packet meta place)) = meta.captured
 captured_of (Some (nexts.Refused refusal ending)) = 0
 captured_of (Some (nexts.End ending)) = 0
 
--- the place behind the first byte of a packet's record or block
+-- the place after the first byte of a packet's record or block
 abbrev pub behind_of : Option Next → ℕ
 behind_of None = 0
 behind_of (Some (nexts.Packet meta place)) = meta.offset + 1
@@ -308,7 +308,7 @@ Answers old (Err (Read file offset)) after new = (after ≡ None) × Fails old f
 Answers old (Err Write) after new = ⊥
 Answers old (Err Memory) after new = (after ≡ None) × Waits old new × (old.broken ≡ None)
 
--- the same of a look at one block, behind which a pcapng file may go on
+-- the same of a look at one block, after which a pcapng file may go on
 pub record GoesOn (old new : Lane) : Type 0 where
   pub waits : Waits old new
   pub further : old.offset < new.offset

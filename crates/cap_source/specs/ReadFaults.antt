@@ -3,7 +3,7 @@ use Rattle.std.specs.Prelude.{◌≡◌, ℕ, ◌≤◌, Bool, IsTrue, Result, O
 use Rattle.cap_bytes.specs.declared.faults.Fault.{Fault}
 use Rattle.cap_bytes.specs.declared.faults.Fault.TheVariants.{Refused, Read, Write, Memory}
 
--- A failed read is of one of so many files, which have the numbers from 1 on, and a device of them can fail.
+-- A failed read is of one of that many files, which have the numbers from 1 on, and a device of them can fail.
 abbrev pub FailsOf : {A : Type 0} → ℕ → Bool → Result A Fault → Type 0
 FailsOf count can_fail (Ok _) = ⊤
 FailsOf count can_fail (Err (Refused refusal)) = ⊤

@@ -83,7 +83,7 @@ reader_room (readers.Pcap reader) reached = true
 reader_room (readers.Pcapng reader) reached = has_room reader.broken reached
 reader_room readers.Moved reached = true
 
--- what making the reader answers, of the file before and behind that
+-- what making the reader answers, of the file before and after that
 abbrev pub Opens : {A : Type 0} → Lane → Result A Fault → Lane → Type 0
 Opens old (Ok _) new = Waits old new
 Opens old (Err (Read file offset)) new = Fails old file offset new

@@ -130,7 +130,7 @@ fn read_interface(order: Order, body: &[u8]) -> Result<Interface, Rule>
     }
 }
 
-/// The interface of an interface block, before which so many stand in its section, or the first rule
+/// The interface of an interface block, before which that many stand in its section, or the first rule
 /// that it breaks: 13, and then for each option 10, 11 and 12.
 pub fn interface_of(before: usize, order: Order, body: &[u8]) -> Result<Interface, Rule>
     requires least { 8 ≤ length body.now }

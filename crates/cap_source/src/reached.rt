@@ -32,7 +32,7 @@ pub fn nothing_reached(alloc: Global) -> Reached
     }
 }
 
-// Behind a section header.
+// After a section header.
 fn begin_section(reached: &mut Reached)
     requires { counted (progress_of reached.old) < 2 ^ 40 }
     ensures { progress_of reached.new ≡ after (progress_of reached.old) Content.Section }
@@ -41,7 +41,7 @@ fn begin_section(reached: &mut Reached)
     reached.interfaces.clear();
 }
 
-// Behind an interface block.
+// After an interface block.
 fn add_interface(reached: &mut Reached, interface: Interface)
     requires { vec_len reached.old.interfaces < vec_capacity reached.old.interfaces }
     ensures { progress_of reached.new ≡ after (progress_of reached.old) (Content.Interface interface) }
@@ -50,7 +50,7 @@ fn add_interface(reached: &mut Reached, interface: Interface)
     reached.interfaces.push_reserved(interface);
 }
 
-/// Goes on behind a block that says this. There is room for an interface.
+/// Goes on after a block that says this. There is room for an interface.
 pub fn go_on(reached: &mut Reached, content: Content)
     requires room { vec_len reached.old.interfaces < vec_capacity reached.old.interfaces }
     requires limit { counted (progress_of reached.old) < 2 ^ 40 }

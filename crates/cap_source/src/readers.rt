@@ -230,7 +230,7 @@ fn meta_of_packet(file: u32, block: Block, reached: &Reached, packet: Packet) ->
     }
 }
 
-// Takes what a block says: a packet or a refusal comes next, or the file goes on behind the block.
+// Takes what a block says: a packet or a refusal comes next, or the file goes on after the block.
 fn take_content(
     reached: &mut Reached,
     file: u32,
@@ -264,7 +264,7 @@ fn take_content(
     }
 }
 
-// Takes one block: what comes next, or none where the file goes on behind it. There is room for an
+// Takes one block: what comes next, or none where the file goes on after it. There is room for an
 // interface.
 fn take_block<R: Source>(
     reader: &mut BlockReader<R>,

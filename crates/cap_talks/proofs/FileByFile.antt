@@ -50,7 +50,7 @@ any-at test (y ∷ all) (suc place) x is within t = second (test y) (list_any te
     second true b h = refl
     second false b h = h
 
--- What was read of some files, of which the first so many were read, and what is still to be read of the others.
+-- What was read of some files, of which the first n were read, and what is still to be read of the others.
 pub record AreRead (tail : Tail) (all : List (List ℕ)) (place : ℕ) (read : List Counted) : Type 0 where
   pub counted : read ++ counted_files tail (1 + place) (drop place all) ≡ counted_files tail 1 all
   pub refusal : first_refusal tail (1 + place) (drop place all) ≡ first_refusal tail 1 all

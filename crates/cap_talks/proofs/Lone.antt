@@ -31,7 +31,7 @@ use Rattle.cap_talks.specs.InOrder.{ByPlaces}
 use Rattle.cap_talks.specs.ReportText.{with_item, taken_after}
 use Rattle.cap_talks.specs.Taken.{Taken, events_with, events_of, Look, plain, datagram, fragment, look_by, look_in, look_at, look, stamped_of}
 
--- a fragment behind which more follow, or that doesn't begin at 0
+-- a fragment after which more follow, or that doesn't begin at 0
 lone : (p : Piece) → (p.more || not (p.start == 0)) ≡ true → completes (p ∷ []) ≡ false
 unfolding completes
 lone p h = by p.more (p.start == 0) refl h

@@ -14,7 +14,7 @@ use Rattle.cap_talks.specs.Reading.{counted_texts, counted_files, CountsFiles}
 use Rattle.cap_talks.specs.Telling.{Tells}
 use Rattle.cap_talks.specs.declared.files.Counted.{Counted}
 
--- the line of the file at a place, and those behind it
+-- the line of the file at a place, and those after it
 pub texts-at : (all : List Counted) (place file : ℕ) (it : Counted) → it ≡ get_or all place it → place < length all
     → counted_texts file (drop place all) ≡ file_text file it.counts (Some it.ending) ++ counted_texts (file + 1) (drop (suc place) all)
 texts-at [] place file it is within = absurd (omega arith)
@@ -70,7 +70,7 @@ pub info-counted : (tail : Tail) (files : List (List ℕ)) (all : List Counted) 
 info-counted tail files all is =
     (λ i. files_text (length (is i)) ++ counted_texts 1 (is i)) ∙ (λ i. files_text (files-counted tail 1 files i) ++ texts-counted tail 1 files i)
 
--- a text that is written behind everything that can be refused
+-- a text that is written after everything that can be refused
 pub tells-printed : (text : List ℕ) (refusal : Option Refusal) (old : List ℕ) (result : Result (Unit {0}) Fault) (new : List ℕ) → refusal ≡ None
     → IsOkUnless result Write → Prints text None old result new → Tells text refusal old result new
 tells-printed text refusal old (Ok x) new none fault p = (none, p.1)

@@ -6,7 +6,7 @@ use Rattle.cap_bytes.specs.Printing.{PrintsFront}
 use Rattle.cap_talks.specs.Talks.{Talk}
 use Rattle.cap_talks.specs.TalkText.{line_at, talk_texts}
 
--- the line of the conversation at a place, and those behind it
+-- the line of the conversation at a place, and those after it
 lines-at : (all : List Talk) (place : ℕ) → place < length all → talk_texts (drop place all) ≡ line_at all place ++ talk_texts (drop (suc place) all)
 lines-at [] place within = absurd (omega arith)
 lines-at (t ∷ all) zero within = refl

@@ -69,7 +69,7 @@ counts-more class.Bad cs = same-counts _ _ (omega arith) (omega arith) (omega ar
 counts-more class.Unjoined cs = same-counts _ _ (omega arith) (omega arith) (omega arith) (omega arith) (omega arith) (omega arith) (omega arith)
 counts-more class.Counted cs = same-counts _ _ (omega arith) (omega arith) (omega arith) (omega arith) (omega arith) (omega arith) (omega arith)
 
--- what holds where a group of so many is completed
+-- what holds where a group of that many is completed
 abbrev pub Moves : Class → ℕ → List Class → List Class → Type 0
 Moves k n new old = (c : Class) → times c new + some_of c class.Unjoined n ≡ times c (class.Unjoined ∷ old) + some_of c k n
 

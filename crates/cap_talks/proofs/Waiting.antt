@@ -20,7 +20,7 @@ state-after : (limit : ℕ) (e : Event) (es : List Event) → state_of limit (e 
 unfolding state_of
 state-after limit e es = refl
 
--- the joiner behind a datagram that waits: it has one group less, and has given none up
+-- the joiner after a datagram that waits: it has one group less, and has given none up
 record Left (j : JoinerState) (xs : List Taken) : Type 0 where
   room : length j.groups + 1 ≤ open_limit
   given_up : j.given_up ≡ given_up_in xs

@@ -92,7 +92,7 @@ or_empty (Some row) = row
 abbrev pub row_at : TalkKey → List Talk → TalkRow
 row_at key rows = or_empty (lookup (same_talk key) rows)
 
--- the rows with one unit more: that of its conversation where it stands, or behind the others
+-- the rows with one unit more: that of its conversation where it stands, or after the others
 abbrev pub with_talk : List Talk → CountedUnit → List Talk
 with_talk rows unit = insert_entry same_talk rows (key_of unit) (with_unit (row_at (key_of unit) rows) unit)
 

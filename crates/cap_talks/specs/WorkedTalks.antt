@@ -12,7 +12,7 @@ use Rattle.cap_talks.specs.Units.{end_at, ends_of}
 use Rattle.cap_talks.specs.declared.units.CountedUnit.{CountedUnit}
 use Rattle.cap_talks.specs.declared.units.End.{End}
 
--- a time of so many seconds in millionths, and half a second in 1,024ths and in tenths
+-- a time of that many seconds in millionths, and half a second in 1,024ths and in tenths
 abbrev pub at_second : ℕ → Stamp
 at_second n = record { seconds = pos n; numerator = 0; denominator = 1000000; fraction = lit< tt }
 
@@ -47,7 +47,7 @@ answered =
 abbrev pub joined : List CountedUnit
 joined = unit_of (one 1001) (two 2001) 4 112 (frame_at 0 (at_second 1)) (frame_at 3 (at_second 4)) ∷ []
 
--- a datagram in tenths of a second, and one that was joined behind it, but began before it
+-- a datagram in tenths of a second, and one that was joined after it, but began before it
 abbrev pub begun_before : List CountedUnit
 begun_before =
     unit_of (one 1) (two 2) 1 60 (frame_at 1 half_tenths) (frame_at 1 half_tenths)

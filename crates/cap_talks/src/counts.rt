@@ -41,7 +41,7 @@ impl Counts {
         }
     }
 
-    /// Takes one more packet, behind those that were taken.
+    /// Takes one more packet, after those that were taken.
     #[inline(always)]
     pub fn take(&mut self, meta: &Meta)
         requires packets { self.old.packets < 2 ^ 45 }

@@ -61,7 +61,7 @@ fn line_of(file: u32, format: Option<Format>, counts: &Counts, skipped: u64, was
 }
 
 /// The line of the file of that number:
-/// `file I FORMAT packets P bytes B truncated Q skipped S first T last T`, with ` cut` behind it where a rest
+/// `file I FORMAT packets P bytes B truncated Q skipped S first T last T`, with ` cut` after it where a rest
 /// of the file was dropped. Before the file has ended, the format and the skipped blocks are those of the last packet
 /// that was taken.
 pub fn file_line(file: u32, counts: &Counts, ending: Option<Ending>) -> Line

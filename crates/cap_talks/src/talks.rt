@@ -57,7 +57,7 @@ impl Talks {
         }
     }
 
-    /// Counts one unit more, behind those that the table stands for: units come in the order of the frames
+    /// Counts one unit more, after those that the table stands for: units come in the order of the frames
     /// that completed them. All frames of its rows and the unit's are fewer than 2^64, and their bytes fewer
     /// than 2^128.
     ///

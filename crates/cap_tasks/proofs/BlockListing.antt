@@ -29,7 +29,7 @@ pub record Printing (old new : State Order) (failed_old failed_new : Bool) (from
   pub lines : IsTrue old.told → Putting from to (block_lines 1 (items_of old)) (block_lines n (items_of new))
   pub refusal_same : IsTrue old.told → refusal_of (items_of new) ≡ refusal_of (items_of old)
 
--- the lines of a block and of those behind it
+-- the lines of a block and of those after it
 pub block_lines-given : (n : ℕ) (block : Block) (body : List ℕ) (items rest : List (Item Block)) → items ≡ given block body ∷ rest
     → block_lines n items ≡ block_text n block ++ block_lines (n + 1) rest
 unfolding block_lines

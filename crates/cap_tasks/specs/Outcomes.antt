@@ -103,7 +103,7 @@ told_text said (outcomes.Fault fault) = outcome_text (outcomes.Fault fault)
 told_text said (outcomes.Open file) = outcome_text (outcomes.Open file)
 told_text said outcomes.Create = outcome_text outcomes.Create
 
--- how a run ends that was asked for help: help is written, or the writer failed and a front of it is
+-- how a run ends that was asked for help: help is written, or the writer failed and a prefix of it is
 abbrev pub HelpEnds : List ℕ → List ℕ → List ℕ → Outcome → Type 0
 HelpEnds said old new outcomes.Done = ⊥
 HelpEnds said old new (outcomes.Line fault) = (fault ≡ lines.Help) × (new ≡ old ++ said)

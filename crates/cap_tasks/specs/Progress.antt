@@ -27,7 +27,7 @@ left_text read (Some total) millis =
     if nat_eq read 0 || not (nat_lt read total) then []
     else codes ", " ++ time_text ((total - read) * millis / (read * 1000)) ++ codes " left"
 
--- how far a run is that has read so many bytes, of so many, in so many thousandths of a second
+-- how far a run is that has read that many bytes, of that many, in that many thousandths of a second
 abbrev pub progress_text : ℕ → Option ℕ → ℕ → List ℕ
 progress_text read total millis =
     codes "  " ++ amount_text read ++ of_text total ++ codes ", " ++ amount_text (read * 1000 / millis) ++ codes " a second"

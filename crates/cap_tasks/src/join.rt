@@ -16,7 +16,7 @@ use std::alloc::Global;
 /// fragments are joined (RFC 791, 3.2), and each datagram is one packet without a link header, as of
 /// `write_joined`. It ends at the first refusal, which it answers: one of a file that is read, or of a
 /// packet or a datagram that can't be written (rules 13 and 17, as of `write_joined`). After any other
-/// fault a front of that text is written.
+/// fault a prefix of that text is written.
 pub fn join_to<R: Source, W: Sink>(
     alloc: Global,
     sources: Vec<R>,

@@ -15,7 +15,7 @@ use std::alloc::Global;
 /// that order, in the order of exact time: by the greatest time so far in a packet's file, of equal ones
 /// by file, then by place in the file. It ends at the first refusal, which it answers: one of a file that
 /// is read, or of a packet that can't be written (rules 13 and 17, as of `write_merged`). After any other
-/// fault a front of that text is written.
+/// fault a prefix of that text is written.
 pub fn merge_to<R: Source, W: Sink>(
     alloc: Global,
     sources: Vec<R>,

@@ -89,7 +89,7 @@ fn open_line(file: u32) -> Line
 
 /// Writes what is told of an outcome: nothing of a run that is done, the usage for help and for a
 /// line that isn't of capt, and one line for each other. Answers `Fault::Write`, and no other
-/// fault, where the writer failed: a front of the text is written then.
+/// fault, where the writer failed: a prefix of the text is written then.
 pub fn outcome_line<W: Sink>(outcome: &Outcome, writer: &mut W) -> Result<(), Fault>
     ensures text { IsTrue (W.tells_held writer.old)
         → Puts (W.held writer.old) result (W.held writer.new) (outcome_text outcome.now) }

@@ -45,7 +45,7 @@ fn put_total(line: &mut Line, total: Option<u64>)
     }
 }
 
-// Appends a time of so many seconds.
+// Appends a time of that many seconds.
 fn put_seconds(line: &mut Line, label: &[u8], seconds: u128)
     requires { array_vec_len line.old + length label.now + 44 ≤ 512 }
     ensures items { line.new.items ≡ line.old.items ++ label.now ++ time_text seconds }

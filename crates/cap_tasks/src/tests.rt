@@ -30,7 +30,7 @@ pub(crate) fn decoded(alloc: Global, text: &str) -> Result<Vec<u8>, Fail> {
     }
 }
 
-/// Room for so many, where at most one growth is refused.
+/// Room for that many, where at most one growth is refused.
 pub(crate) fn roomy<T>(alloc: Global, count: usize) -> Result<Vec<T>, Fail> {
     match Vec::with_capacity(alloc, count) {
         Ok(room) => Ok(room),
@@ -104,7 +104,7 @@ fn help_and_usage_go_to_two_writers(rt: HostRuntime) -> Result<(), Fail> {
     Ok(())
 }
 
-/// A writer of the standard library that takes 0 bytes once it has taken so many.
+/// A writer of the standard library that takes 0 bytes once it has taken that many.
 #[derive(Drop)]
 struct Disk<'a> {
     taken: &'a mut Vec<u8>,

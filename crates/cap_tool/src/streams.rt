@@ -165,7 +165,7 @@ pub struct Inputs {
     pub size: Option<u64>,
 }
 
-// So many bytes and those of one file more, if both are known.
+// That many bytes and those of one file more, if both are known.
 fn add_size(size: Option<u64>, regular: Option<Regular>) -> Option<u64> {
     size?.checked_add(regular?.size)
 }

@@ -49,7 +49,7 @@ interface_blocks : (order : Order) (tail : Tail) (file offset : ℕ) (i : Interf
 interface_blocks order tail file offset i rest link snaplen limit =
     (interface_again-law order i link snaplen).0.items tail file offset rest limit
 
--- A written interface is passed, and stands behind those before it.
+-- A written interface is passed, and comes after those before it.
 pub items_in-interface : (order : Order) (tail : Tail) (file offset : ℕ) (progress : Progress) (i : Interface) (rest : List ℕ)
     → length progress.interfaces < 1024 → i.link < 2 ^ 16 → i.snaplen < 2 ^ 32 → FitsSigned w64 i.offset
     → offset + length (interface_text order i) ≤ 2 ^ 40
@@ -61,7 +61,7 @@ items_in-interface order tail file offset progress i rest few link snaplen fits 
     (blocks.items_from (Some order) tail file (offset + length (interface_text order i)) rest) (Ok (contents.Interface i))
     (content_in-interface progress.interfaces order i few link snaplen fits)
 
--- The interface of instance 0 is looked for behind a written interface, and not behind a written packet.
+-- The interface of instance 0 is looked for after a written interface, and not after a written packet.
 pub first_in-interface : (order : Order) (tail : Tail) (file offset : ℕ) (progress : Progress) (i : Interface) (rest : List ℕ)
     → length progress.interfaces < 1024 → i.link < 2 ^ 16 → i.snaplen < 2 ^ 32 → FitsSigned w64 i.offset
     → offset + length (interface_text order i) ≤ 2 ^ 40
@@ -113,7 +113,7 @@ items_in-packet order tail file offset progress n rest known few fits base skipp
     ∙ (ap (λ f. packet (meta_in file progress block p) f ∷ later) again.5
     ∙ ap (λ m. packet m n.frame ∷ later) (same_meta file offset order progress n base skipped)))
 
--- how far a written file was read, behind those interfaces
+-- how far a written file was read, after those interfaces
 abbrev pub reached : List Interface → Option Interface → Progress
 reached interfaces first = record { interfaces = interfaces; base = 0; skipped = 0; first = first }
 
@@ -150,7 +150,7 @@ slice_get-push xs x =
     slice_get-get_or (xs ++ x ∷ []) (length xs) x (omega (arith, length-append xs (x ∷ [])))
     ∙ ap Some (get_or-append_seam xs x [] x)
 
--- Some packets are read again, behind those interfaces, where their text ends by byte 2^40.
+-- Some packets are read again, after those interfaces, where their text ends by byte 2^40.
 abbrev IsReadAgain : Order → Tail → ℕ → List Interface → Option Interface → ℕ → List Numbered → Type 0
 IsReadAgain order tail file interfaces first offset ns =
     items_in file (reached interfaces first) (blocks.items_from (Some order) tail file offset (packets_text order (length interfaces) ns))
@@ -202,7 +202,7 @@ again-new order tail file interfaces first offset n rest is same few fits limit 
     ∙ ap (λ k. read_items order file place k rest) one))
     ∙ sym (read_items-new order file offset count n rest is))))
 
--- At least as many are described behind some packets.
+-- At least as many are described after some packets.
 pub all_described-more : (interfaces : List Interface) (ns : List Numbered) → length interfaces ≤ length (all_described interfaces ns)
 all_described-more interfaces [] = omega arith
 all_described-more interfaces (n ∷ rest) =
@@ -247,7 +247,7 @@ items_in-written order tail file interfaces first offset (n ∷ rest) numbered f
         (later interfaces first (offset + length (packet_part order n))
         (subst (λ l. IsNumbered l rest) next numbered.1) fit.1 (subst (λ l. length (all_described l rest) ≤ 1024) next few))
 
--- The first interface, where one stands before some written packets, is the same behind them.
+-- The first interface, where one stands before some written packets, is the same after them.
 pub first_in-written : (order : Order) (tail : Tail) (file : ℕ) (interfaces : List Interface) (first : Interface) (offset : ℕ) (ns : List Numbered)
     → IsNumbered interfaces ns → AllFit ns → length (all_described interfaces ns) ≤ 1024
     → offset + length (packets_text order (length interfaces) ns) ≤ 2 ^ 40

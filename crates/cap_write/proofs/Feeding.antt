@@ -19,7 +19,7 @@ use Rattle.cap_write.specs.Texts.{text_or, numbered_text, packets_text, count_af
 eqb-false : (a b : ℕ) → a < b → (a == b) ≡ false
 eqb-false a b h = ne_eqb a b (λ e. omega (arith, h, e))
 
--- How many interfaces are described behind a packet is how many are used then.
+-- How many interfaces are described after a packet is how many are used then.
 pub count_after-is : (names : List Name) (meta : Meta) (frame : List ℕ)
     → count_after (length names) (numbered_of names meta frame) ≡ length (with_name names meta)
 count_after-is names meta frame = by (is_used names meta) refl

@@ -59,7 +59,7 @@ is_pcapng-text order rest =
     (long_enough (length (section_text order ++ rest)) (omega (arith, length-append (section_text order) rest, length-section_text order)))
     ∙ eq-eqb (number Big 4 (section_text order ++ rest)) section_kind (section_front order rest)
 
--- behind a section header nothing is described
+-- after a section header nothing is described
 behind_section : (order : Order) (tail : Tail) (file : ℕ) (rest : List ℕ)
     → items_in file fresh (blocks.items_from None tail file 0 (section_text order ++ rest))
     ≡ items_in file (reached [] None) (blocks.items_from (Some order) tail file (0 + length (section_text order)) rest)
@@ -105,7 +105,7 @@ merged-again order tail file ns numbered fit few limit =
     ∙ items_in-written order tail file [] None 28 ns numbered fit few
     (omega (arith, limit, length-append (section_text order) (packets_text order 0 ns), length-section_text order))
 
--- A file that is written behind its first interface is read again, and so is that interface.
+-- A file that is written after its first interface is read again, and so is that interface.
 pub pcapng-again : (order : Order) (tail : Tail) (file : ℕ) (i : Interface) (ns : List Numbered) → i.link < 2 ^ 16 → i.snaplen < 2 ^ 32 → FitsSigned w64 i.offset
     → IsNumbered (i ∷ []) ns → AllFit ns → length (all_described (i ∷ []) ns) ≤ 1024
     → length (front_text order (Some i) ++ packets_text order 1 ns) ≤ 2 ^ 40

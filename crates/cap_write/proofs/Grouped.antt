@@ -34,7 +34,7 @@ through_items (x ∷ xs) = ap (λ ys. x.item ∷ ys) (more (is_refusal x.item) (
     more true e = refl
     more false e = e
 
--- what stands behind a refusal isn't written
+-- what comes after a refusal isn't written
 numbered_through : (ns : List Name) (xs : List Item) → numbered ns (through_first is_refusal xs) ≡ numbered ns xs
 unfolding numbered
 numbered_through ns [] = refl

@@ -33,7 +33,7 @@ refusal-first : (names : List Name) (r : Refusal) (items : List Item) → refusa
 unfolding refusal_in
 refusal-first names r items = refl
 
--- what is written of some items and of others behind them, where none of the first is refused
+-- what is written of some items and of others after them, where none of the first is refused
 pub behind-text : (order : Order) (names : List Name) (items rest : List Item) → refusal_in names items ≡ None
     → text_behind order names (items ++ rest) ≡ text_behind order names items ++ text_behind order (names_behind names items) rest
 unfolding names_behind
@@ -95,7 +95,7 @@ stopped-text order names (packet meta frame ∷ items) rest r some = by (write_f
 stopped-text order names (refused q ∷ items) rest r some =
     (text-first order names q (items ++ rest) ∙ sym (text-first order names q items), refusal-first names q (items ++ rest) ∙ (sym (refusal-first names q items) ∙ some))
 
--- what is written where the last part of a text is, or a front of it
+-- what is written where the last part of a text is, or a prefix of it
 Prints-whole : (fault : Fault) (text line : List ℕ) (refusal : Option Refusal) (r : Refusal) (from mid : Writer) (held : List ℕ)
     → Putting from mid text line → IsTrue from.told → refusal ≡ Some r
     → Prints {A = Unit {0}} line (Some r) mid.held (Err fault) held
@@ -316,6 +316,6 @@ Joining-part order fault old mid shown names_old names joiner place fo fm from m
     (joined-at-first mid shown meta frame clock place p.events (head ∙ ap (λ f. packet meta f ∷ drop 1 (feed_of mid).items) (sym lent)) same begins)
     (p.text t) w (p.refusal_same t) (prints p.events p.stands)
 
--- a place is small, where a run of few files has at most so many packets
+-- a place is small, where a run of few files has at most that many packets
 pub place-small : (place left all count : ℕ) → place + left ≤ all → all ≤ count * 2 ^ 40 → count ≤ 32 → place < 2 ^ 63
 place-small place left all count p most few = omega (arith, p, most, few)

@@ -62,7 +62,7 @@ given_all-push : (given : Name → Interface) (names : List Name) (a : Name) →
 given_all-push given [] a = refl
 given_all-push given (b ∷ names) a = ap (λ l. given b ∷ l) (given_all-push given names a)
 
--- how a packet stands behind the names that were used: its interface was used, or takes the next number
+-- how a packet comes after the names that were used: its interface was used, or takes the next number
 pub number-used : (names : List Name) (meta : Meta) → is_used names meta ≡ true → (number_of names meta == length names) ≡ false
 number-used names meta used =
     let few = position_or_len-some (is_name (name_of meta)) names used in
@@ -95,7 +95,7 @@ known-given given names meta interface other = by (is_used names meta) refl
     by false used =
         absurd (false≢true (sym other ∙ (ap (λ k. number_of names meta == k) (length-given given names) ∙ number-next names meta used)))
 
--- packets are numbered behind the interfaces of the names that were used
+-- packets are numbered after the interfaces of the names that were used
 pub IsNumbered-given : (given : Name → Interface) (names : List Name) (items : List Item) → AllHave given items
     → IsNumbered (given_all given names) (numbered names items)
 unfolding numbered

@@ -53,7 +53,7 @@ of_one tail file bytes files (packet meta frame ∷ items) alike fit = (
   of_one tail file bytes files items alike.2 fit.1,
 )
 
--- and those behind it
+-- and those after it
 raised : (tail : Tail) (file : ℕ) (bytes : List ℕ) (files : List (List ℕ)) (x : Item)
     → IsOfFile (file + 1) (given_from tail (file + 1) files) x → IsOfFile file (given_from tail file (bytes ∷ files)) x
 unfolding given_from

@@ -16,7 +16,7 @@ use Rattle.indexmap.specs.IndexSet.{insert_key}
 use Rattle.std.proofs.lemmas.Bool.{eq-eqb}
 use Rattle.std.specs.List.{position_or_len}
 
--- the packets of a pcap file as they are numbered behind its one interface, and as they are kept
+-- the packets of a pcap file as they are numbered after its one interface, and as they are kept
 abbrev pub number_one : Interface → Packet → Numbered
 number_one i p = record { number = 0; interface = i; units = p.units; captured = length p.frame; original = p.original; frame = p.frame }
 
@@ -95,7 +95,7 @@ kept-read order file offset count i (p ∷ ps) = ap (λ l. keep_one i p ∷ l)
     (kept-read order file (offset + length (interface_part order count (number_one i p)) + length (packet_part order (number_one i p)))
     (count_after count (number_one i p)) i ps)
 
--- they are numbered behind their interface
+-- they are numbered after their interface
 pub IsNumbered-packets : (i : Interface) (ps : List Packet) → IsNumbered (i ∷ []) (number_all i ps)
 IsNumbered-packets i [] = tt
 IsNumbered-packets i (p ∷ ps) = ((λ is. refl), IsNumbered-packets i ps)

@@ -49,7 +49,7 @@ have_first file i given (packet meta frame ∷ items) alike first fit =
     by true is = first.0 (eqb-true meta.instance 0 is)
     by false is = alike.1
 
--- What is read again of some packets that were numbered behind some names.
+-- What is read again of some packets that were numbered after some names.
 record IsReadAgain (names others : List Name) (items again : List Item) : Type 0 where
   packets : numbered others again ≡ numbered names items
   unrefused : refusal_in others again ≡ None

@@ -88,7 +88,7 @@ Prints-unwritten order first meta frame held (Read file offset) h = absurd h
 Prints-unwritten order first meta frame held Write h = absurd h
 Prints-unwritten order first meta frame held Memory h = absurd h
 
--- what is to be written behind that header
+-- what is to be written after that header
 abbrev pub plan_of : Order → Interface → Plan
 plan_of order first = record { text = records_text order first; refusal = records_refusal first }
 

@@ -116,7 +116,7 @@ module _ (R : Name → Name → Type 0) (one : IsOneToOne R) where
   rule-renamed (Some v) None m n p q e h = absurd (cc)
   rule-renamed (Some v) (Some w) m n p q e h = e
 
-  -- and the same refusal comes behind them
+  -- and the same refusal comes after them
   pub refusal-renamed : (ns ms : List Name) → AllZip R ns ms → (xs ys : List Item) → AllZip (Renamed R) xs ys
       → option_map (λ f. f.rule) (refusal_in ms ys) ≡ option_map (λ f. f.rule) (refusal_in ns xs)
   unfolding refusal_in

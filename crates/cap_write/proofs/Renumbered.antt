@@ -20,7 +20,7 @@ use Rattle.cap_source.specs.Feed.{refusal_of}
 use Rattle.cap_write.specs.Numbering.{Name, name_of, is_name, is_used, number_of, with_name, write_fault, Numbered, numbered_of, numbered_or, numbered, refusal_or, refusal_in}
 use Rattle.cap_write.specs.Texts.{interface_part, packet_part, count_after, merged_text}
 
--- the names of so many interfaces of one file
+-- the names of that many interfaces of one file
 abbrev pub file_names : ℕ → ℕ → List Name
 file_names file zero = []
 file_names file (suc k) = file_names file k ++ (file, k) ∷ []
@@ -68,7 +68,7 @@ InOrder count (n ∷ rest) = (n.number ≤ count) × ((n.number == count) ≡ tr
 one_more : (k : ℕ) → suc k ≡ k + 1
 one_more k = omega arith
 
--- the names behind a packet that was read again
+-- the names after a packet that was read again
 names_behind : (file count : ℕ) (n : Numbered) → n.number ≤ count
     → insert_key is_name (file_names file count) (file, n.number) ≡ file_names file (count_after count n)
 names_behind file count n few = by (list_any (is_name (file, n.number)) (file_names file count)) refl

@@ -69,7 +69,7 @@ numbers-decide (x ∷ xs) a c (suc m) zero h k =
     other_number (suc m) 0 differ ∙ sym (ap (λ w. is_name a w) (is_name-same c x k) ∙ h.0)
 numbers-decide (x ∷ xs) a c (suc m) (suc n) h k = next_numbers m n ∙ numbers-decide xs a c m n h.1 k.1
 
--- ---- the names behind a list
+-- ---- the names after a list
 
 -- the names used before some items and in them
 abbrev pub all_names : List Name → List Item → List Name
@@ -117,7 +117,7 @@ lacking (n ∷ ns) a e = here (is_name a n) refl e (lacking ns a)
         next : (w : ℕ) → (is_name a n ≡ false) × IsNumberIn (ns ++ (a ∷ [])) a w → IsNumberIn ((n ∷ ns) ++ (a ∷ [])) a (suc w)
         next w both = both
 
--- a packet's interface has its number in the names behind the packet
+-- a packet's interface has its number in the names after the packet
 pub number-given : (ns : List Name) (m : Meta) → IsNumberIn (with_name ns m) (name_of m) (number_of ns m)
 number-given ns m = by (is_used ns m) refl
   where
@@ -127,7 +127,7 @@ number-given ns m = by (is_used ns m) refl
 
 -- ---- groups
 
--- The names of a group of so many files, by their numbers.
+-- The names of a group of that many files, by their numbers.
 pub record GroupNames : Type 0 where
   pub count : ℕ
   pub names : List Name

@@ -33,7 +33,7 @@ IsShort (as_.Joined d) = length d.payload.items ≤ 65515
 abbrev pub Stands : JoinerState → Type 0
 Stands joiner = (events : List Event) × StandsFor joiner events
 
--- the interfaces that are described behind some items, where those were before
+-- the interfaces that are described after some items, where those were before
 unfoldable pub names_behind : List Name → List Item → List Name
 names_behind names [] = names
 names_behind names (packet meta frame ∷ items) = names_behind (with_name names meta) items

@@ -32,14 +32,14 @@ pub record Complete : Type 0 where
   pub header : HeaderFields
   pub bytes : List ℕ
 
--- What stands in a header in front of its checksum, of a datagram with so many bytes of data: version 4 and five words, type
+-- What stands in a header in front of its checksum, of a datagram with that many bytes of data: version 4 and five words, type
 -- of service, total length, identification, no flags and no offset, time to live, protocol.
 abbrev pub front_of : HeaderFields → ℕ → List ℕ
 front_of header size =
     0x45 ∷ header.service ∷ (bytes_of Big 2 (20 + size)
     ++ (bytes_of Big 2 header.key.identification ++ (0 ∷ 0 ∷ header.time_to_live ∷ header.key.protocol ∷ [])))
 
--- and what stands behind it: both addresses
+-- and what comes after it: both addresses
 abbrev pub back_of : HeaderFields → List ℕ
 back_of header = bytes_of Big 4 header.key.source ++ bytes_of Big 4 header.key.destination
 
@@ -47,7 +47,7 @@ back_of header = bytes_of Big 4 header.key.source ++ bytes_of Big 4 header.key.d
 unfoldable pub header_with : HeaderFields → ℕ → ℕ → List ℕ
 header_with header size checksum = checked (front_of header size) checksum (back_of header)
 
--- the header of a datagram of so many bytes of data, without options, with its checksum
+-- the header of a datagram of that many bytes of data, without options, with its checksum
 unfoldable pub header_text : HeaderFields → ℕ → List ℕ
 header_text header size = header_with header size (checksum_of (header_with header size 0))
 
@@ -62,7 +62,7 @@ has_form transports.NoPorts = true
 has_form transports.Bad = false
 has_form transports.Cut = false
 
--- A datagram of which so many bytes of data were captured from its front, where they are all of a length and have the form of
+-- A datagram of which that many bytes of data were captured from its front, where they are all of a length and have the form of
 -- its protocol.
 unfoldable pub complete_of : HeaderFields → List ℕ → ℕ → Option Complete
 complete_of header captured size =
@@ -119,7 +119,7 @@ events_after place events clock meta frame =
 abbrev pub raw_interface : Interface → Interface
 raw_interface interface = record { link = 101; snaplen = 0; resolution = interface.resolution; offset = interface.offset }
 
--- what is told of a datagram as one packet of so many bytes: it has the place, the time and the interface's number of the packet
+-- what is told of a datagram as one packet of that many bytes: it has the place, the time and the interface's number of the packet
 -- that completed it
 abbrev pub datagram_meta : Meta → ℕ → Meta
 datagram_meta meta size = record meta { interface = raw_interface meta.interface; captured = size; original = size }

@@ -25,7 +25,7 @@ use Rattle.cap_merge.specs.Files.{run_of_files}
 use Rattle.cap_merge.specs.Parts.{meta_time}
 use Rattle.cap_write.specs.Texts.{interface_part, packet_part, count_after, first_names, pcapng_text, pcapng_refusal, merged_text}
 
--- The fields of a packet and of its interface fit in their widths, and so many bytes may be captured.
+-- The fields of a packet and of its interface fit in their widths, and that many bytes may be captured.
 pub record Fits (n : Numbered) : Type 0 where
   pub link : n.interface.link < 2 ^ 16
   pub snaplen : n.interface.snaplen < 2 ^ 32
@@ -49,7 +49,7 @@ meta_again file offset n =
       original = n.original;
     }
 
--- The packets of a written text that begins at that offset, behind so many interfaces, as they are read
+-- The packets of a written text that begins at that offset, after that many interfaces, as they are read
 -- again.
 unfoldable pub read_items : Order → ℕ → ℕ → ℕ → List Numbered → List Item
 read_items order file offset count [] = []
@@ -58,11 +58,11 @@ read_items order file offset count (n ∷ rest) =
     packet (meta_again file place n) n.frame
     ∷ read_items order file (place + length (packet_part order n)) (count_after count n) rest
 
--- the interfaces that are described behind a packet
+-- the interfaces that are described after a packet
 abbrev pub described : List Interface → Numbered → List Interface
 described interfaces n = if n.number == length interfaces then interfaces ++ n.interface ∷ [] else interfaces
 
--- The packets are numbered behind those interfaces: each has the next number, or that of an interface that
+-- The packets are numbered after those interfaces: each has the next number, or that of an interface that
 -- stands there.
 abbrev pub IsNumbered : List Interface → List Numbered → Type 0
 IsNumbered interfaces [] = ⊤
@@ -70,7 +70,7 @@ IsNumbered interfaces (n ∷ rest) =
     ((n.number == length interfaces) ≡ false → slice_get interfaces n.number ≡ Some n.interface)
     × IsNumbered (described interfaces n) rest
 
--- how many are described behind them all
+-- how many are described after them all
 abbrev pub all_described : List Interface → List Numbered → List Interface
 all_described interfaces [] = interfaces
 all_described interfaces (n ∷ rest) = all_described (described interfaces n) rest

@@ -82,7 +82,7 @@ refusal_at meta rule = record { file = meta.file; offset = meta.offset; rule = r
 abbrev pub refusal_by : Meta → Option Rule → Option Refusal
 refusal_by meta fault = option_map (refusal_at meta) fault
 
--- the refusal behind those packets, if there is one
+-- the refusal after those packets, if there is one
 abbrev pub refusal_or : Option Rule → Meta → Option Refusal → Option Refusal
 refusal_or (Some rule) meta rest = Some (refusal_at meta rule)
 refusal_or None meta rest = rest

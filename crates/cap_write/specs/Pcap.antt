@@ -43,7 +43,7 @@ abbrev pub units_fault : Fraction → Interface → Option ℕ → Option Rule
 units_fault fraction interface None = Some NoTime
 units_fault fraction interface (Some units) = time_fault (whole_time fraction interface units)
 
--- Why a packet isn't written behind a header of that link and fraction: it has no time, it has another
+-- Why a packet isn't written after a header of that link and fraction: it has no time, it has another
 -- link, or its time isn't written.
 unfoldable pub record_fault : Interface → Meta → Option Rule
 record_fault first meta =
@@ -51,7 +51,7 @@ record_fault first meta =
     if not (meta.interface.link == first.link) then Some LinkMixed else
     units_fault (fraction_of first) meta.interface meta.units
 
--- the time of a packet that is, behind such a header
+-- the time of a packet that is, after such a header
 abbrev pub time_in : Fraction → Interface → Option ℕ → Option (ℤ × ℕ)
 time_in fraction interface None = None
 time_in fraction interface (Some units) = whole_time fraction interface units
@@ -67,7 +67,7 @@ time_text order (Some time) original frame = record_text order (nat_abs time.0) 
 abbrev pub packet_record : Order → Interface → Meta → List ℕ → List ℕ
 packet_record order first meta frame = time_text order (written_time first meta) meta.original frame
 
--- what is written for the packets of a list, and the refusal behind them, if there is one
+-- what is written for the packets of a list, and the refusal after them, if there is one
 unfoldable pub records_text : Order → Interface → List Item → List ℕ
 records_text order first [] = []
 records_text order first (packet meta frame ∷ items) =
@@ -86,7 +86,7 @@ bare_refusal file [] = record { file = file; offset = 0; rule = NoInterface }
 bare_refusal file (packet meta frame ∷ items) = record { file = file; offset = 0; rule = NoInterface }
 bare_refusal file (refused refusal ∷ items) = refusal
 
--- What is written of a file with that first interface, and the refusal behind it.
+-- What is written of a file with that first interface, and the refusal after it.
 abbrev pub pcap_text : Order → Option Interface → List Item → List ℕ
 pcap_text order None items = []
 pcap_text order (Some first) items = header_text (header_of order first) ++ records_text order first items

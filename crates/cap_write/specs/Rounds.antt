@@ -39,7 +39,7 @@ numbered_files file (items ∷ files) = map (in_file file) items ∷ numbered_fi
 unfoldable pub run_of : List (List Item) → List Item
 run_of files = run_of_lists (numbered_files 1 files)
 
--- the packets that a merge of some files writes, and the rule that refuses the one behind them, if one does
+-- the packets that a merge of some files writes, and the rule that refuses the one after them, if one does
 abbrev pub merged_packets : List (List Item) → List Numbered
 merged_packets files = numbered [] (run_of files)
 

@@ -20,7 +20,7 @@ packet_part order n = packet_text order n.number n.units n.original n.frame
 abbrev pub numbered_text : Order → ℕ → Numbered → List ℕ
 numbered_text order count n = interface_part order count n ++ packet_part order n
 
--- how many are described behind it
+-- how many are described after it
 abbrev pub count_after : ℕ → Numbered → ℕ
 count_after count n = if n.number == count then count + 1 else count
 
@@ -52,7 +52,7 @@ merged_text order items = section_text order ++ text_behind order [] items
 abbrev pub merged_refusal : List Item → Option Refusal
 merged_refusal items = refusal_in [] items
 
--- What is written for one file as pcapng: its first interface, where it has one, stands right behind the
+-- What is written for one file as pcapng: its first interface, where it has one, stands right after the
 -- section header.
 abbrev pub first_names : ℕ → Option Interface → List Name
 first_names file None = []

@@ -25,7 +25,7 @@ const VERSION_AND_LENGTH: u8 = 0x45;
 /// The length of a header without options, in bytes.
 const HEADER: u16 = 20;
 
-// A header without options, of a datagram of so many bytes of data, with that word in its checksum's
+// A header without options, of a datagram of that many bytes of data, with that word in its checksum's
 // place (RFC 791, 3.1).
 #[tactic(auto, unfolding(crate::specs::Joined::header_with))]
 fn header_with(header: &Header, size: u16, checksum: u16) -> [u8; 20]
@@ -61,7 +61,7 @@ fn header_with(header: &Header, size: u16, checksum: u16) -> [u8; 20]
     ]
 }
 
-// The header of a datagram of so many bytes of data, with its checksum.
+// The header of a datagram of that many bytes of data, with its checksum.
 #[tactic(auto, unfolding(crate::specs::Joined::header_text))]
 fn header_of(header: &Header, size: u16) -> [u8; 20]
     requires { size ≤ 65515 }

@@ -29,7 +29,7 @@ use std::alloc::Global;
 /// LINKTYPE_RAW: no link header, an IPv4 or IPv6 packet.
 const RAW: u16 = 101;
 
-// What is told of a datagram of so many bytes as one packet, which that packet completed.
+// What is told of a datagram of that many bytes as one packet, which that packet completed.
 fn datagram_meta(meta: &Meta, size: u32) -> Meta
     ensures { result ≡ datagram_meta meta.now size }
 {
@@ -133,7 +133,7 @@ fn put_joined<F: PacketFeed, W: Sink>(
 /// `Refused` comes at a packet that has no time (rule 17, no-time), whatever it holds, at one that
 /// completes a datagram whose interface would be the 1,025th (rule 13, interface-limit), and where the run
 /// ends in a refusal: what is written is the text of the datagrams before it. After `Read`, `Write` or
-/// `Memory` a front of the text is written. draft-ietf-opsawg-pcapng, 4.
+/// `Memory` a prefix of the text is written. draft-ietf-opsawg-pcapng, 4.
 pub fn write_joined<F: PacketFeed, W: Sink>(
     alloc: Global,
     merged: &mut Merged<F>,

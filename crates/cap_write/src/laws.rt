@@ -55,7 +55,7 @@ pub fn clock_law()
 /// Files are split, in their order, into neighbouring groups, and each group is merged. Where nothing is
 /// refused in these merges, the merge of what came of the groups, in their order, writes the packets that the
 /// merge of all files at once writes, in that order and with the same numbers of interfaces; and where one of
-/// the two is refused behind these packets, so is the other, by the same rule.
+/// the two is refused after these packets, so is the other, by the same rule.
 pub fn rounds_law()
     ensures packets { RoundsLaw }
     ensures files { FileRoundsLaw }

@@ -63,7 +63,7 @@ fn time_of(units: u64, fraction: Unit, meta: &Meta) -> Result<Time, Fault>
     }
 }
 
-// The time with which a packet is written behind the header of that interface, or why it isn't.
+// The time with which a packet is written after the header of that interface, or why it isn't.
 fn written_time(first: &Interface, meta: &Meta) -> Result<Time, Fault>
     ensures answer { HasRecord first.now meta.now result }
 {
@@ -102,7 +102,7 @@ fn put_one<W: Sink>(
     )
 }
 
-// Writes the packets of a feed behind the header of that interface.
+// Writes the packets of a feed after the header of that interface.
 fn put_records<F: PacketFeed, W: Sink>(
     feed: &mut F,
     order: Order,
@@ -124,7 +124,7 @@ fn put_records<F: PacketFeed, W: Sink>(
     Ok(())
 }
 
-// Writes a header and the packets of a feed behind it.
+// Writes a header and the packets of a feed after it.
 fn put_file<F: PacketFeed, W: Sink>(
     feed: &mut F,
     order: Order,
@@ -168,7 +168,7 @@ fn refuse_bare<F: PacketFeed>(feed: &mut F, file: u32) -> Result<(), Fault>
 /// (19, inexact) or one whose seconds are below 0 or above 4,294,967,295 (20, time-range), and where the
 /// file's packets end in a refusal: what is written is the text of the packets before it. A file that
 /// describes no interface before its first packet is refused, by its own refusal or by rule 21,
-/// no-interface, and nothing is written. After `Read`, `Write` or `Memory` a front of the text is
+/// no-interface, and nothing is written. After `Read`, `Write` or `Memory` a prefix of the text is
 /// written. draft-ietf-opsawg-pcap, 4 and 5.
 pub fn to_pcap<R: Source, W: Sink>(
     capture: &mut Capture<R>,

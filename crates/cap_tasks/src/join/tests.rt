@@ -48,7 +48,7 @@ fn always_memory_fragments_are_joined(rt: HostRuntime) -> Result<(), Fail> {
     Ok(())
 }
 
-// The answer is as with memory, or `Memory` behind a front, whichever growth is refused.
+// The answer is as with memory, or `Memory` after a prefix, whichever growth is refused.
 #[test]
 fn a_refused_growth_leaves_a_front(rt: HostRuntime) -> Result<(), Fail> {
     let wanted = decoded(rt.alloc(), JOINED)?;

@@ -135,7 +135,7 @@ fn a_read_that_fails_is_told_with_its_file(rt: HostRuntime) -> Result<(), Fail> 
     Ok(())
 }
 
-// The answer is as with memory, or `Memory` behind a front, whichever growth is refused.
+// The answer is as with memory, or `Memory` after a prefix, whichever growth is refused.
 #[test]
 fn a_refused_growth_leaves_a_front(rt: HostRuntime) -> Result<(), Fail> {
     let wanted = decoded(rt.alloc(), BY_CLOCK)?;

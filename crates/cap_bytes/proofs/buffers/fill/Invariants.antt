@@ -3,7 +3,7 @@ use Rattle.cap_bytes.specs.Feed.{feed_of}
 use Rattle.cap_bytes.proofs.Reading.{Filled}
 use Rattle.cap_bytes.proofs.buffers.fill.Given as goal
 
--- what stood in the buffer stands there still, and what came stands behind it
+-- what stood in the buffer stands there still, and what came comes after it
 abbrev pub invariant-loop-count : goal.invariant-loop-count
 invariant-loop-count g l =
     let feed = feed_of (record { has_failed = g.R.Device.has_failed; can_fail = g.R.Device.can_fail; tells_coming = g.R.Source.tells_coming; coming = g.R.Source.coming; most = g.R.Source.most }) in

@@ -2,7 +2,7 @@ use Rattle.std.proofs.Common.{◌≡◌, length}
 use Rattle.cap_bytes.proofs.Putting.{Putting}
 use Rattle.cap_bytes.proofs.devices.put_all.Given as goal
 
--- what was written so far is a front of the bytes, and the rest is what is left of them
+-- what was written so far is a prefix of the bytes, and the rest is what is left of them
 abbrev pub invariant-loop-rest : goal.invariant-loop-rest
 invariant-loop-rest g l =
     let old = l.fn.writer in
