@@ -89,6 +89,7 @@ impl<R: Source> Window<R> {
         requires fewer { self.old.broken ≡ None → length self.old.shown ≤ n }
         ensures answer { Needs n self.old result self.new }
         ensures asked { length self.old.shown < n → IsWithin self.old.most n (length self.new.shown) }
+        ensures offset { self.new.offset ≡ self.old.offset }
         ensures keeps { Keeps self.old self.new }
     {
         match self.broken {
