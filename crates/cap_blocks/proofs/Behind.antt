@@ -1,5 +1,5 @@
 -- What the rest of a block is refused by.
-use Rattle.std.proofs.Common.{◌≡◌, ℕ, ◌-◌, ◌≤◌, ◌<◌, ◌==◌, not, List, ◌++◌, length, take, drop, Option, Some, None, IsSome, IfSome, IfNone, Bool, true, false, IsTrue, Result, Ok, Err, refl, sym, ◌∙◌, ap, subst, arith, drop-drop, length-append, length-drop, nat_lt}
+use Rattle.std.proofs.Common.{◌≡◌, ℕ, ◌-◌, ◌≤◌, ◌<◌, ◌==◌, not, List, ◌++◌, length, take, drop, Option, Some, None, IsSome, Bool, true, false, IsTrue, Ok, Err, refl, sym, ◌∙◌, ap, subst, arith, drop-drop, length-append, length-drop, nat_lt}
 use Rattle.std.proofs.lemmas.Bool.Decides.{nat_tests}
 use Rattle.std.proofs.lemmas.List.{take-append-drop, drop-append-le}
 use Rattle.cap_bytes.specs.Number.{number}
@@ -13,7 +13,7 @@ use Rattle.cap_bytes.specs.declared.faults.Rule.TheVariants.{Cut, BlockTrailer, 
 use Rattle.cap_bytes.specs.declared.numbers.Order.{Order}
 use Rattle.cap_bytes.proofs.Spelling.{number-append, number-drop_append}
 use Rattle.cap_blocks.specs.Grammar.{section_kind, is_known, is_version}
-use Rattle.cap_blocks.specs.Sights.{IsFront, SeesRest, LooksAtRest, SkipsRest}
+use Rattle.cap_blocks.specs.Sights.{IsFront, SeesRest, SkipsRest}
 use Rattle.cap_blocks.specs.Split.{kind_at, total_at, has_other_version, rest_fault}
 use Rattle.cap_blocks.specs.declared.blocks.Block.{Block}
 use Rattle.cap_blocks.proofs.Faults.{total-section}

@@ -1,12 +1,10 @@
 -- A look at a block's first 12 bytes, and then one at the rest.
-use Rattle.std.proofs.Common.{◌≡◌, ℕ, ◌+◌, ◌≤◌, ◌<◌, List, length, take, drop, Option, Some, None, is_some, Bool, true, false, IsTrue, Err, inl, inr, refl, sym, ◌∙◌, ap, subst, arith, take-take, length-append, length-take}
-use Rattle.std.specs.Prelude.{⊤}
+use Rattle.std.proofs.Common.{◌≡◌, ℕ, ◌+◌, ◌<◌, List, length, drop, Option, Some, None, is_some, Bool, true, false, IsTrue, Err, inr, refl, sym, ◌∙◌, ap, subst, arith, length-append}
 use Rattle.cap_bytes.specs.Items.{stop_by}
 use Rattle.cap_bytes.specs.Sights.{SeesStop, FailsBy}
 use Rattle.cap_bytes.specs.Window.{State, coming}
 use Rattle.cap_bytes.proofs.Sights.{Goes-trans, some_left, SeesStop-fault, FailsBy-later}
 use Rattle.cap_bytes.specs.declared.faults.Fault.{Fault}
-use Rattle.cap_bytes.specs.declared.faults.Fault.TheVariants.{Refused, Read, Write, Memory}
 use Rattle.cap_bytes.specs.declared.faults.Rule.{Rule}
 use Rattle.cap_bytes.specs.declared.faults.Tail.{Tail}
 use Rattle.cap_bytes.specs.declared.numbers.Order.{Order}

@@ -1,5 +1,5 @@
 -- The items of some bytes, by what stands at their front.
-use Rattle.std.proofs.Common.{◌≡◌, ℕ, ◌+◌, ◌<◌, ◌==◌, ◌&&◌, false, List, [], ◌∷◌, length, drop, Option, Some, None, is_some, IsSome, refl, arith}
+use Rattle.std.proofs.Common.{◌≡◌, ℕ, ◌+◌, ◌==◌, ◌&&◌, false, List, [], ◌∷◌, length, drop, Option, Some, None, is_some, IsSome, arith}
 use Rattle.cap_bytes.specs.Items.{stop_by, given, stopped}
 use Rattle.cap_bytes.specs.declared.faults.Rule.{Rule}
 use Rattle.cap_bytes.specs.declared.faults.Tail.{Tail}

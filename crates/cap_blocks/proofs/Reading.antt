@@ -1,18 +1,14 @@
 -- What a look at the window makes of a reader, and what that does to the items to come.
-use Rattle.std.proofs.Common.{◌≡◌, ℕ, ◌+◌, ◌-◌, ◌≤◌, List, [], ◌∷◌, length, take, drop, Option, Some, None, is_some, IfSome, Bool, true, false, IsTrue, Result, refl, sym, ◌∙◌, ap, arith, length-take-le, length-drop}
-use Rattle.std.proofs.lemmas.List.{drop-append-le, take-append-le}
-use Rattle.cap_bytes.specs.Items.{Item, given, stopped, items_by_stop}
+use Rattle.std.proofs.Common.{◌≡◌, ℕ, ◌+◌, List, ◌∷◌, drop, Option, Some, None, is_some, IsTrue, Result}
+use Rattle.cap_bytes.specs.Items.{given, items_by_stop}
 use Rattle.cap_bytes.specs.Reader.{State, Keeps}
-use Rattle.cap_bytes.specs.Window.{State as WindowState, coming}
 use Rattle.cap_bytes.specs.declared.faults.Fault.{Fault}
 use Rattle.cap_bytes.specs.declared.faults.Tail.{Tail}
 use Rattle.cap_bytes.specs.declared.numbers.Order.{Order}
 use Rattle.cap_bytes.specs.declared.stops.Stop.{Stop}
 use Rattle.cap_bytes.proofs.Readers.{Stands, Gives-seen}
 use Rattle.cap_bytes.proofs.Readers as readers
-use Rattle.cap_blocks.specs.Grammar.{is_known}
-use Rattle.cap_blocks.specs.Reader.{GivesBlock, GivesNext, TakesItem, items_of, state_of, size_of, body_of, shown_size}
-use Rattle.cap_blocks.specs.Sights.{SeesBlock, Leaves}
+use Rattle.cap_blocks.specs.Reader.{GivesBlock, GivesNext, TakesItem, items_of}
 use Rattle.cap_blocks.specs.Split.{block_at, block_fault, body_in, stop_at, items_from}
 use Rattle.cap_blocks.specs.declared.blocks.Block.{Block}
 use Rattle.cap_blocks.proofs.Items.{items_from-stop, items_from-block}

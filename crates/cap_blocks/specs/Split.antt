@@ -1,5 +1,5 @@
 -- How a file splits into its blocks and a rest, and what the rest is refused by.
-use Rattle.std.specs.Prelude.{◌≡◌, ◌≢◌, ◌==◌, ◌&&◌, ◌⊎◌, not, ℕ, zero, suc, ◌+◌, ◌-◌, ◌^◌, ◌≤◌, ◌<◌, nat_lt, if◌then◌else◌, Bool, true, List, [], ◌∷◌, length, take, drop, slice_index, Option, Some, None, is_some, option_map}
+use Rattle.std.specs.Prelude.{◌≡◌, ◌≢◌, ◌==◌, ◌&&◌, ◌⊎◌, not, ℕ, ◌+◌, ◌-◌, ◌^◌, ◌≤◌, ◌<◌, nat_lt, if◌then◌else◌, Bool, true, List, [], ◌∷◌, length, take, drop, slice_index, Option, Some, None, is_some}
 use Rattle.cap_bytes.specs.Items.{stop_where, Item, Format, items_in}
 use Rattle.cap_bytes.specs.Number.{number}
 use Rattle.cap_bytes.specs.declared.faults.Rule.{Rule}

@@ -1,8 +1,8 @@
 -- What a look at the window makes of a reader, and what that does to the items to come.
-use Rattle.std.proofs.Common.{◌≡◌, ℕ, ◌+◌, ◌≤◌, ◌<◌, List, [], ◌∷◌, length, drop, Option, Some, None, IfSome, IfNone, Bool, IsTrue, Result, Ok, Err, refl, sym, ◌∙◌, ap, subst, arith, add-zero}
-use Rattle.cap_bytes.specs.Items.{stop_where, IsStopAt, IsEnd, answer_of, Item, stopped, items_by_stop, TakesItem}
-use Rattle.cap_bytes.specs.Reader.{State, Keeps, Goes, Breaks, Waits, Gives, Stops, GivesStop, GivesNext, state_of}
-use Rattle.cap_bytes.specs.Sights.{SeesStop, FailsBy}
+use Rattle.std.proofs.Common.{◌≡◌, ℕ, ◌+◌, ◌≤◌, List, [], ◌∷◌, length, drop, Option, Some, None, Bool, IsTrue, Result, Ok, Err, refl, sym, ◌∙◌, ap, subst, add-zero}
+use Rattle.cap_bytes.specs.Items.{stop_where, answer_of, Item, stopped, items_by_stop, TakesItem}
+use Rattle.cap_bytes.specs.Reader.{State, Keeps, Goes, Waits, Gives, Stops, GivesStop, GivesNext, state_of}
+use Rattle.cap_bytes.specs.Sights.{SeesStop}
 use Rattle.cap_bytes.specs.Window.{State as WindowState, Passes, coming}
 use Rattle.cap_bytes.specs.Window as windows
 use Rattle.cap_bytes.specs.declared.faults.Fault.{Fault}

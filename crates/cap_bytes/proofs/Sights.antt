@@ -1,5 +1,5 @@
 -- What a window shows of a piece, in one look and in another after it.
-use Rattle.std.proofs.Common.{◌≡◌, ℕ, ◌+◌, ◌≤◌, ◌<◌, ◌==◌, ◌&&◌, List, [], ◌++◌, length, take, drop, Option, Some, None, IfSome, IfNone, IsSome, Bool, true, false, IsTrue, Err, refl, sym, ◌∙◌, ap, subst, arith, append-nil, length-append, take-take, length-take}
+use Rattle.std.proofs.Common.{◌≡◌, ℕ, ◌≤◌, ◌<◌, ◌==◌, ◌&&◌, [], ◌++◌, length, take, drop, Option, Some, None, IfSome, IfNone, Bool, true, false, IsTrue, Err, refl, sym, ◌∙◌, ap, subst, arith, append-nil, length-append, take-take, length-take}
 use Rattle.std.proofs.lemmas.List.{drop-append-le}
 use Rattle.cap_bytes.specs.Items.{stop_by}
 use Rattle.cap_bytes.specs.Sights.{Fails, FailsBy, SeesStop}

@@ -1,5 +1,5 @@
 -- What a reader that gives a file piece by piece is at one moment, and what its calls do.
-use Rattle.std.specs.Prelude.{◌≡◌, ◌+◌, ◌^◌, ◌≤◌, ◌<◌, ℕ, List, drop, Bool, true, false, IsTrue, Option, Some, None, IfSome, IfNone, IsSome, Result, Ok, Err}
+use Rattle.std.specs.Prelude.{◌≡◌, ◌+◌, ◌^◌, ◌≤◌, ◌<◌, ℕ, List, drop, Bool, IsTrue, Option, Some, None, IfSome, IfNone, IsSome, Result, Ok, Err}
 use Rattle.cap_bytes.specs.Window.{State as WindowState}
 use Rattle.cap_bytes.specs.Window as windows
 use Rattle.cap_bytes.specs.Items.{stop_where, IsStopAt, IsEnd}

@@ -1,5 +1,5 @@
 -- What is seen of a piece at the front of the bytes that a window shows.
-use Rattle.std.specs.Prelude.{◌≡◌, ◌+◌, ◌≤◌, ◌<◌, ℕ, List, length, drop, Bool, true, false, IsTrue, Option, Some, None, IfSome, IfNone, Result, Ok, Err}
+use Rattle.std.specs.Prelude.{◌≡◌, ◌<◌, ℕ, Bool, IsTrue, Option, Some, IfSome, IfNone, Result, Ok, Err}
 use Rattle.cap_bytes.specs.Window.{State, Goes, Shows, coming}
 use Rattle.cap_bytes.specs.Items.{stop_where, IsStopAt}
 use Rattle.cap_bytes.specs.declared.faults.Fault.{Fault}

@@ -1,7 +1,6 @@
 -- The items of some bytes after a header, by what stands at their front.
-use Rattle.std.proofs.Common.{◌≡◌, ℕ, ◌+◌, ◌<◌, List, [], ◌∷◌, length, drop, Option, Some, None, refl, arith}
-use Rattle.cap_bytes.specs.Items.{stop_by, given, stopped}
-use Rattle.cap_bytes.specs.declared.faults.Rule.{Rule}
+use Rattle.std.proofs.Common.{◌≡◌, ℕ, ◌+◌, List, [], ◌∷◌, drop, Some, None, refl, arith}
+use Rattle.cap_bytes.specs.Items.{given, stopped}
 use Rattle.cap_bytes.specs.declared.faults.Tail.{Tail}
 use Rattle.cap_bytes.specs.declared.stops.Stop.{Stop}
 use Rattle.cap_bytes.specs.declared.stops.Stop.TheVariants as stops

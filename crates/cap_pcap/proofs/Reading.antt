@@ -1,13 +1,10 @@
 -- What a look at the window makes of a reader, and what that does to the items to come.
-use Rattle.std.proofs.Common.{◌≡◌, ℕ, ◌+◌, ◌≤◌, ◌^◌, List, [], ◌∷◌, length, take, drop, Option, Some, None, IfSome, IfNone, IsSomeAnd, true, false, IsTrue, Result, Ok, Err, refl, sym, ◌∙◌, ap, subst, arith, add-zero, length-take-le, length-drop}
-use Rattle.std.proofs.lemmas.List.{take-append-le}
-use Rattle.cap_bytes.specs.Items.{stop_where, Item, given, stopped, items_by_stop}
-use Rattle.cap_bytes.specs.Reader.{State, Keeps, GivesStop}
-use Rattle.cap_bytes.specs.Sights.{SeesStop}
+use Rattle.std.proofs.Common.{◌≡◌, ℕ, ◌+◌, List, [], ◌∷◌, length, drop, Option, Some, None, IsSomeAnd, true, false, IsTrue, Result, Ok, Err, refl, sym, ◌∙◌, ap, arith, add-zero}
+use Rattle.cap_bytes.specs.Items.{stop_where, given, stopped, items_by_stop}
+use Rattle.cap_bytes.specs.Reader.{State, Keeps}
 use Rattle.cap_bytes.specs.Window.{State as WindowState, Passes, coming}
 use Rattle.cap_bytes.specs.declared.faults.Fault.{Fault}
 use Rattle.cap_bytes.specs.declared.faults.Fault.TheVariants.{Refused, Read, Write, Memory}
-use Rattle.cap_bytes.specs.declared.faults.Refusal.{Refusal}
 use Rattle.cap_bytes.specs.declared.faults.Rule.{Rule}
 use Rattle.cap_bytes.specs.declared.faults.Tail.{Tail}
 use Rattle.cap_bytes.specs.declared.stops.Stop.{Stop}
@@ -16,8 +13,8 @@ use Rattle.cap_bytes.proofs.Readers.{Stands, Stands-here, Gives-seen, GivesStop-
 use Rattle.cap_bytes.proofs.Readers as readers
 use Rattle.cap_bytes.proofs.Sights.{coming-passed, from_none, from_some}
 use Rattle.cap_pcap.specs.Reader.{ReadsHeader, HasHeader, GivesHeader, packet_of, GivesRecord, GivesNext, KeepsItems, TakesItem, items_at, items_of, state_of, IsInOrder, MayGoOn}
-use Rattle.cap_pcap.specs.Sights.{SeesHeader, SeesRecord}
-use Rattle.cap_pcap.specs.Split.{header_fault, header_at, record_fault, stop_at, record_at, frame_at, items_from, file_items}
+use Rattle.cap_pcap.specs.Sights.{SeesHeader}
+use Rattle.cap_pcap.specs.Split.{header_fault, header_at, record_fault, stop_at, record_at, frame_at, file_items}
 use Rattle.cap_pcap.specs.declared.headers.PcapHeader.{PcapHeader}
 use Rattle.cap_pcap.specs.declared.records.Record.{Record}
 use Rattle.cap_pcap.proofs.Faults.{FitsHeader-from_none}

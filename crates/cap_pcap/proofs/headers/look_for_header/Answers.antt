@@ -1,4 +1,3 @@
-use Rattle.cap_bytes.proofs.Sights.{FailsBy-need}
 use Rattle.cap_pcap.proofs.Looking.{SeesHeader-parsed, SeesStop-header}
 use Rattle.cap_pcap.proofs.headers.look_for_header.Goals as goal
 
