@@ -112,7 +112,7 @@ fn meta_of_record(file: u32, header: PcapHeader, given: Record) -> Meta
     }
 }
 
-// What comes next of a pcap file whose header is known.
+// Puts into `known` what comes next of a pcap file whose header is known.
 fn next_record_of<R: Source>(
     reader: &mut PcapReader<R>,
     header: PcapHeader,
@@ -145,7 +145,7 @@ fn next_record_of<R: Source>(
     }
 }
 
-// What comes next of a pcap file.
+// Puts into `known` what comes next of a pcap file.
 fn next_of_pcap<R: Source>(
     reader: &mut PcapReader<R>,
     reached: &mut Reached,
@@ -230,7 +230,8 @@ fn meta_of_packet(file: u32, block: Block, reached: &Reached, packet: Packet) ->
     }
 }
 
-// Takes what a block says: a packet or a refusal comes next, or the file goes on after the block.
+// Takes what a block says: a packet or a refusal comes next, which is put into `known`, or the file goes on after the
+// block, and nothing is.
 fn take_content(
     reached: &mut Reached,
     file: u32,
@@ -318,7 +319,7 @@ fn step<R: Source>(
     take_block(reader, reached, known)
 }
 
-// What comes next of a pcapng file.
+// Puts into `known` what comes next of a pcapng file.
 fn next_of_blocks<R: Source>(
     reader: &mut BlockReader<R>,
     reached: &mut Reached,
@@ -401,7 +402,8 @@ fn open<R: Source>(reader: &mut Reader<R>) -> Result<(), Fault>
     }
 }
 
-/// What comes next of a file.
+/// Puts into `known` what comes next of a file: it is written where it is kept, since copies of it cost more than
+/// reading it.
 pub fn next_of<R: Source>(
     reader: &mut Reader<R>,
     reached: &mut Reached,
@@ -426,7 +428,7 @@ pub fn next_of<R: Source>(
     }
 }
 
-/// What comes next of a file, which is kept once it is known.
+/// Puts into `known` what comes next of a file, unless it is known.
 #[inline(always)]
 pub fn learn<R: Source>(
     reader: &mut Reader<R>,
