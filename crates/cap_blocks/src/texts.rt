@@ -2,8 +2,7 @@
 ghost use Rattle.std.specs.Prelude.{◌≡◌, ◌+◌, ◌≤◌, ◌++◌, [], length, take};
 ghost use Rattle.cap_bytes.specs.Number.{bytes_of};
 
-use byteorder::{BigEndian, ByteOrder, LittleEndian};
-use cap_bytes::Order;
+use cap_bytes::{Order, put_u16, put_u32, put_u64};
 use std::marker::Model;
 
 /// A text of at most 44 bytes.
@@ -57,9 +56,8 @@ impl Text {
         ensures text { self.new ≡ self.old ++ bytes_of order 2 number }
         ensures size { length self.new ≡ length self.old + 2 }
     {
-        let mut bytes = [0; 2];
-        write_u16(order, &mut bytes, number);
-        self.add(&bytes);
+        put_u16(order, &mut self.bytes, self.length, number);
+        self.length += 2;
     }
 
     /// Puts a number of 4 bytes after the text.
@@ -68,9 +66,8 @@ impl Text {
         ensures text { self.new ≡ self.old ++ bytes_of order 4 number }
         ensures size { length self.new ≡ length self.old + 4 }
     {
-        let mut bytes = [0; 4];
-        write_u32(order, &mut bytes, number);
-        self.add(&bytes);
+        put_u32(order, &mut self.bytes, self.length, number);
+        self.length += 4;
     }
 
     /// Puts a number of 8 bytes after the text.
@@ -79,9 +76,8 @@ impl Text {
         ensures text { self.new ≡ self.old ++ bytes_of order 8 number }
         ensures size { length self.new ≡ length self.old + 8 }
     {
-        let mut bytes = [0; 8];
-        write_u64(order, &mut bytes, number);
-        self.add(&bytes);
+        put_u64(order, &mut self.bytes, self.length, number);
+        self.length += 8;
     }
 }
 
@@ -93,34 +89,4 @@ fn copy_to(buffer: &mut [u8], place: usize, bytes: &[u8])
     let (_, rest) = buffer.split_at_mut(place);
     let (room, _) = rest.split_at_mut(bytes.len());
     room.copy_from_slice(bytes);
-}
-
-#[tactic(auto, unfolding(cap_bytes::specs::Number::bytes_of))]
-fn write_u16(order: Order, buffer: &mut [u8; 2], number: u16)
-    ensures { buffer.new ≡ bytes_of order 2 number }
-{
-    match order {
-        Order::Big => BigEndian::write_u16(buffer, number),
-        Order::Little => LittleEndian::write_u16(buffer, number),
-    }
-}
-
-#[tactic(auto, unfolding(cap_bytes::specs::Number::bytes_of))]
-fn write_u32(order: Order, buffer: &mut [u8; 4], number: u32)
-    ensures { buffer.new ≡ bytes_of order 4 number }
-{
-    match order {
-        Order::Big => BigEndian::write_u32(buffer, number),
-        Order::Little => LittleEndian::write_u32(buffer, number),
-    }
-}
-
-#[tactic(auto, unfolding(cap_bytes::specs::Number::bytes_of))]
-fn write_u64(order: Order, buffer: &mut [u8; 8], number: u64)
-    ensures { buffer.new ≡ bytes_of order 8 number }
-{
-    match order {
-        Order::Big => BigEndian::write_u64(buffer, number),
-        Order::Little => LittleEndian::write_u64(buffer, number),
-    }
 }

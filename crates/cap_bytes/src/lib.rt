@@ -13,7 +13,7 @@ mod windows;
 pub use crate::devices::{Broken, Device, Sink, Source, put_all};
 pub use crate::faults::{Fault, Refusal, Rule, Tail};
 pub use crate::memory::{Pieces, Room};
-pub use crate::numbers::{Order, u16_at, u32_at, u64_at};
+pub use crate::numbers::{Order, put_u16, put_u32, put_u64, u16_at, u32_at, u64_at};
 pub use crate::stops::Stop;
 pub use crate::streams::Tracked;
 pub use crate::windows::Window;

@@ -1,6 +1,6 @@
 //! Unsigned numbers at a place in bytes, in either byte order.
-ghost use Rattle.std.specs.Prelude.{◌≡◌, ◌+◌, ◌≤◌, length, drop};
-ghost use Rattle.cap_bytes.specs.Number.{number};
+ghost use Rattle.std.specs.Prelude.{◌≡◌, ◌+◌, ◌≤◌, ◌++◌, length, take, drop};
+ghost use Rattle.cap_bytes.specs.Number.{number, bytes_of, with_number};
 
 use byteorder::{BigEndian, ByteOrder, LittleEndian};
 
@@ -49,5 +49,47 @@ pub fn u64_at(order: Order, bytes: &[u8], place: usize) -> u64
     match order {
         Order::Big => BigEndian::read_u64(rest),
         Order::Little => LittleEndian::read_u64(rest),
+    }
+}
+
+/// Puts a number into the 2 bytes from `place` on.
+#[tactic(auto, unfolding(crate::specs::Number::with_number, crate::specs::Number::bytes_of))]
+pub fn put_u16(order: Order, bytes: &mut [u8], place: usize, number: u16)
+    requires { place + 2 ≤ length bytes.old }
+    ensures bytes { bytes.new ≡ with_number order 2 number place bytes.old }
+    ensures front { take (place + 2) bytes.new ≡ take place bytes.old ++ bytes_of order 2 number }
+{
+    let (_, rest) = bytes.split_at_mut(place);
+    match order {
+        Order::Big => BigEndian::write_u16(rest, number),
+        Order::Little => LittleEndian::write_u16(rest, number),
+    }
+}
+
+/// Puts a number into the 4 bytes from `place` on.
+#[tactic(auto, unfolding(crate::specs::Number::with_number, crate::specs::Number::bytes_of))]
+pub fn put_u32(order: Order, bytes: &mut [u8], place: usize, number: u32)
+    requires { place + 4 ≤ length bytes.old }
+    ensures bytes { bytes.new ≡ with_number order 4 number place bytes.old }
+    ensures front { take (place + 4) bytes.new ≡ take place bytes.old ++ bytes_of order 4 number }
+{
+    let (_, rest) = bytes.split_at_mut(place);
+    match order {
+        Order::Big => BigEndian::write_u32(rest, number),
+        Order::Little => LittleEndian::write_u32(rest, number),
+    }
+}
+
+/// Puts a number into the 8 bytes from `place` on.
+#[tactic(auto, unfolding(crate::specs::Number::with_number, crate::specs::Number::bytes_of))]
+pub fn put_u64(order: Order, bytes: &mut [u8], place: usize, number: u64)
+    requires { place + 8 ≤ length bytes.old }
+    ensures bytes { bytes.new ≡ with_number order 8 number place bytes.old }
+    ensures front { take (place + 8) bytes.new ≡ take place bytes.old ++ bytes_of order 8 number }
+{
+    let (_, rest) = bytes.split_at_mut(place);
+    match order {
+        Order::Big => BigEndian::write_u64(rest, number),
+        Order::Little => LittleEndian::write_u64(rest, number),
     }
 }

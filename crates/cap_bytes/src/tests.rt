@@ -4,7 +4,7 @@ ghost use Rattle.std.specs.Prelude.{◌≤◌};
 
 use crate::{
     Broken, Device, Fault, Order, Pieces, Refusal, Room, Rule, Sink, Source, Tracked, Window,
-    put_all, u16_at, u32_at, u64_at,
+    put_all, put_u16, put_u32, put_u64, u16_at, u32_at, u64_at,
 };
 use std::alloc::Global;
 use std::io;
@@ -78,6 +78,19 @@ fn numbers_in_both_orders(rt: HostRuntime) {
     assert_eq!(rt; u32_at(Order::Little, &bytes, 1), 0x0403_0201);
     assert_eq!(rt; u64_at(Order::Big, &bytes, 1), 0x0102_0304_0506_0708);
     assert_eq!(rt; u64_at(Order::Little, &bytes, 1), 0x0807_0605_0403_0201);
+    let mut big = [0xff; 16];
+    put_u16(Order::Big, &mut big, 1, 0x0102);
+    put_u32(Order::Big, &mut big, 3, 0x0304_0506);
+    put_u64(Order::Big, &mut big, 7, 0x0708_090a_0b0c_0d0e);
+    assert_eq!(rt;
+        big,
+        [0xff, 1, 2, 3, 4, 5, 6, 7, 8, 9, 10, 11, 12, 13, 14, 0xff]
+    );
+    let mut little = [0xff; 16];
+    put_u16(Order::Little, &mut little, 1, 0x0201);
+    put_u32(Order::Little, &mut little, 3, 0x0605_0403);
+    put_u64(Order::Little, &mut little, 7, 0x0e0d_0c0b_0a09_0807);
+    assert_eq!(rt; little, big);
 }
 
 // The bytes 0, 1, 2, .. of a file that is `length` long; the byte at a place is the place modulo 251.

@@ -1,6 +1,6 @@
 -- A text that is put together in an array, and written in two parts.
-use Rattle.std.proofs.Common.{◌≡◌, ℕ, ◌+◌, ◌≤◌, List, [], ◌++◌, length, take, drop, Result, Ok, Err, min, refl, sym, ◌∙◌, ap, arith, append_assoc, length-append, length-take-le}
-use Rattle.std.proofs.lemmas.List.{take_at, take_all, take-append-le, take_min}
+use Rattle.std.proofs.Common.{◌≡◌, ℕ, ◌+◌, ◌≤◌, List, [], ◌++◌, length, take, Result, Ok, Err, min, refl, sym, ◌∙◌, ap, arith, append_assoc}
+use Rattle.std.proofs.lemmas.List.{take_all, take-append-le, take_min}
 use Rattle.std.proofs.Math.Seq.{take-append-add}
 use Rattle.cap_bytes.specs.Device.{Puts}
 use Rattle.cap_bytes.specs.declared.faults.Fault.{Fault}
@@ -15,17 +15,10 @@ pub Begins-none : (size : ℕ) (bytes : List ℕ) → length bytes ≡ size → 
 Begins-none size bytes is = record { size_is = is; front = refl; within = omega arith }
 
 -- n bytes more were put after it
-pub Begins-more : (size place n : ℕ) (text more old new : List ℕ) → Begins size place text old → length more ≡ n → place + n ≤ size
-    → new ≡ take place old ++ more ++ drop (place + n) old → length new ≡ length old
-    → Begins size (place + n) (text ++ more) new
-Begins-more size place n text more old new b len fits is same =
-    let front : length (take place old ++ more) ≡ place + n =
-    length-append (take place old) more ∙ omega (arith, length-take-le place old (omega (arith, b.size_is, b.within)), len) in
-    record {
-      size_is = same ∙ b.size_is;
-      front = ap (take (place + n)) is ∙ (take_at (take place old ++ more) (drop (place + n) old) (place + n) front ∙ ap (λ l. l ++ more) b.front);
-      within = fits;
-    }
+pub Begins-more : (size place n : ℕ) (text more old new : List ℕ) → Begins size place text old → place + n ≤ size
+    → take (place + n) new ≡ take place old ++ more → length new ≡ length old → Begins size (place + n) (text ++ more) new
+Begins-more size place n text more old new b fits is same =
+    record { size_is = same ∙ b.size_is; front = is ∙ ap (λ l. l ++ more) b.front; within = fits }
 
 -- the array is the text
 pub Begins-all : (size : ℕ) (text bytes : List ℕ) → Begins size size text bytes → bytes ≡ text

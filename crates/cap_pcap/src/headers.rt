@@ -1,14 +1,14 @@
 //! The header of a pcap file. draft-ietf-opsawg-pcap, 4.
-ghost use Rattle.std.specs.Prelude.{◌≡◌, true, false, ◌+◌, ◌≤◌, ◌^◌, ◌++◌, ◌||◌, length, take, drop, IsTrue, is_err, IsOkUnless, IfSome, IfNone};
+ghost use Rattle.std.specs.Prelude.{◌≡◌, true, false, ◌≤◌, ◌^◌, ◌||◌, length, IsTrue, is_err, IsOkUnless, IfSome, IfNone};
 ghost use Rattle.cap_bytes.specs.Device.{Puts, WriterKeeps, writer_of};
 ghost use Rattle.cap_bytes.specs.Window.{Keeps};
-ghost use Rattle.cap_bytes.specs.Number.{bytes_of};
 ghost use Rattle.cap_pcap.specs.Grammar.{magic_of, header_text};
 ghost use Rattle.cap_pcap.specs.Sights.{HasMagic, ParsesHeader, LooksForHeader};
 ghost use Rattle.cap_pcap.specs.Split.{is_magic, unit_at};
 
-use byteorder::{BigEndian, ByteOrder, LittleEndian};
-use cap_bytes::{Fault, Order, Refusal, Rule, Sink, Source, Window, put_all, u16_at, u32_at};
+use cap_bytes::{
+    Fault, Order, Refusal, Rule, Sink, Source, Window, put_all, put_u16, put_u32, u16_at, u32_at,
+};
 use cap_time::Unit;
 
 /// How many bytes a file's header takes.
@@ -108,34 +108,6 @@ pub fn look_for_header<R: Source>(
     match header_of(offset, window.bytes()) {
         Ok(header) => Ok(Ok(header)),
         Err(rule) => Ok(Err(Refusal { file, offset, rule })),
-    }
-}
-
-/// Puts a number into the 4 bytes from `place` on.
-#[tactic(auto, unfolding(cap_bytes::specs::Number::bytes_of))]
-pub fn put_u32(order: Order, bytes: &mut [u8], place: usize, number: u32)
-    requires { place + 4 ≤ length bytes.old }
-    ensures { bytes.new ≡ take place bytes.old ++ bytes_of order 4 number
-        ++ drop (place + 4) bytes.old }
-{
-    let (_, rest) = bytes.split_at_mut(place);
-    match order {
-        Order::Big => BigEndian::write_u32(rest, number),
-        Order::Little => LittleEndian::write_u32(rest, number),
-    }
-}
-
-// Puts a number into the 2 bytes from `place` on.
-#[tactic(auto, unfolding(cap_bytes::specs::Number::bytes_of))]
-fn put_u16(order: Order, bytes: &mut [u8], place: usize, number: u16)
-    requires { place + 2 ≤ length bytes.old }
-    ensures { bytes.new ≡ take place bytes.old ++ bytes_of order 2 number
-        ++ drop (place + 2) bytes.old }
-{
-    let (_, rest) = bytes.split_at_mut(place);
-    match order {
-        Order::Big => BigEndian::write_u16(rest, number),
-        Order::Little => LittleEndian::write_u16(rest, number),
     }
 }
 

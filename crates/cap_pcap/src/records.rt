@@ -6,8 +6,10 @@ ghost use Rattle.cap_pcap.specs.Grammar.{head_text, record_text};
 ghost use Rattle.cap_pcap.specs.Sights.{Measures, LooksForRecord};
 ghost use Rattle.cap_pcap.specs.Split.{record_at};
 
-use crate::headers::{FILE_LIMIT, PcapHeader, put_u32};
-use cap_bytes::{Fault, Order, Refusal, Rule, Sink, Source, Stop, Tail, Window, put_all, u32_at};
+use crate::headers::{FILE_LIMIT, PcapHeader};
+use cap_bytes::{
+    Fault, Order, Refusal, Rule, Sink, Source, Stop, Tail, Window, put_all, put_u32, u32_at,
+};
 
 /// What a record says of its packet. draft-ietf-opsawg-pcap, 5.
 #[derive(Clone, Copy, Debug, PartialEq, Eq)]
