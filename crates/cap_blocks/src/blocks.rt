@@ -21,9 +21,6 @@ pub const ORDER_MAGIC: u32 = 0x1A2B_3C4D;
 /// The most bytes that a block of a known kind may take.
 pub const BLOCK_LIMIT: u32 = 524_288;
 
-/// The place after the last byte that is read of a file.
-pub const FILE_LIMIT: u64 = 0x100_0000_0000;
-
 /// A block of a file. draft-ietf-opsawg-pcapng, 3.1.
 #[derive(Clone, Copy, Debug, PartialEq, Eq)]
 pub struct Block {

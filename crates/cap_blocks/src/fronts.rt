@@ -3,8 +3,8 @@ ghost use Rattle.std.specs.Prelude.{◌≡◌, ◌+◌, ◌≤◌, ◌^◌, ◌&
 ghost use Rattle.cap_blocks.specs.Sights.{FindsOwnOrder, FindsOrder, ParsesFront, LooksAtFront, Stays};
 ghost use Rattle.cap_blocks.specs.Split.{is_section, is_ordered, first_fault};
 
-use crate::blocks::{Block, FILE_LIMIT, ORDER_MAGIC, SECTION, is_total};
-use cap_bytes::{Fault, Order, Refusal, Rule, Source, Stop, Tail, Window, u32_at};
+use crate::blocks::{Block, ORDER_MAGIC, SECTION, is_total};
+use cap_bytes::{FILE_LIMIT, Fault, Order, Refusal, Rule, Source, Stop, Tail, Window, u32_at};
 
 /// How many bytes stand round the body of a block; its first ones tell its order and its total length.
 pub const FRAME_SIZE: usize = 12;

@@ -7,15 +7,13 @@ ghost use Rattle.cap_pcap.specs.Sights.{HasMagic, ParsesHeader, LooksForHeader};
 ghost use Rattle.cap_pcap.specs.Split.{is_magic, unit_at};
 
 use cap_bytes::{
-    Fault, Order, Refusal, Rule, Sink, Source, Window, put_all, put_u16, put_u32, u16_at, u32_at,
+    FILE_LIMIT, Fault, Order, Refusal, Rule, Sink, Source, Window, put_all, put_u16, put_u32,
+    u16_at, u32_at,
 };
 use cap_time::Unit;
 
 /// How many bytes a file's header takes.
 pub const HEADER_SIZE: usize = 24;
-
-/// The place after the last byte that is read of a file.
-pub const FILE_LIMIT: u64 = 0x100_0000_0000;
 
 const MICRO: u32 = 0xA1B2_C3D4;
 

@@ -6,9 +6,10 @@ ghost use Rattle.cap_pcap.specs.Grammar.{head_text, record_text};
 ghost use Rattle.cap_pcap.specs.Sights.{Measures, LooksForRecord};
 ghost use Rattle.cap_pcap.specs.Split.{record_at};
 
-use crate::headers::{FILE_LIMIT, PcapHeader};
+use crate::headers::PcapHeader;
 use cap_bytes::{
-    Fault, Order, Refusal, Rule, Sink, Source, Stop, Tail, Window, put_all, put_u32, u32_at,
+    FILE_LIMIT, Fault, Order, PACKET_LIMIT, Refusal, Rule, Sink, Source, Stop, Tail, Window,
+    put_all, put_u32, u32_at,
 };
 
 /// What a record says of its packet. draft-ietf-opsawg-pcap, 5.
@@ -27,9 +28,6 @@ pub struct Record {
 
 /// How many bytes stand in front of a record's captured bytes.
 pub const HEAD_SIZE: usize = 16;
-
-/// The most bytes that a record may have captured.
-pub const PACKET_LIMIT: u32 = 262_144;
 
 // How many bytes the record takes that begins with these, or the first rule that its captured length
 // breaks.

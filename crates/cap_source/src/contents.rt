@@ -4,7 +4,7 @@ ghost use Rattle.cap_blocks.specs.Grammar.{least_total};
 ghost use Rattle.cap_source.specs.Contents.{fitting, timed_in, simple_captured, simple_in, content_in};
 
 use crate::interfaces::interface_of;
-use cap_bytes::{Order, Rule, u16_at, u32_at};
+use cap_bytes::{Order, PACKET_LIMIT, Rule, u16_at, u32_at};
 use cap_time::Interface;
 
 /// The kind of a section header, which reads the same in both orders.
@@ -17,9 +17,6 @@ pub const OBSOLETE_PACKET: u32 = 2;
 pub const SIMPLE_PACKET: u32 = 3;
 /// The kind of an enhanced packet block.
 pub const ENHANCED_PACKET: u32 = 6;
-
-/// The most bytes that may be captured of a packet.
-pub const PACKET_LIMIT: u32 = 262_144;
 
 // Where the captured bytes begin in the body of a packet with a time, and of a simple one.
 const TIMED_HEAD: u32 = 20;

@@ -2,10 +2,9 @@
 ghost use Rattle.std.specs.Prelude.{◌≡◌, ◌≤◌, drop, length};
 ghost use Rattle.cap_source.specs.Listings.{meta_at, frame_at, head_at, frame_in};
 
-use crate::contents::PACKET_LIMIT;
 use crate::feeds::Head;
 use crate::packets::{Format, Meta};
-use cap_bytes::{Refusal, Rule};
+use cap_bytes::{PACKET_LIMIT, Refusal, Rule};
 use cap_time::Interface;
 
 /// A packet in memory.
