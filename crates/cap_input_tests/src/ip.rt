@@ -240,3 +240,25 @@ fn checksums(rt: HostRuntime) {
     assert_eq!(rt; header_checksum(&[0; 20]), 0xffff);
     assert_eq!(rt; header_checksum(&[0xff; 20]), 0);
 }
+
+#[test]
+fn written_headers(rt: HostRuntime) {
+    let mut joined = JOINED_HEADER;
+    joined[10] = 0x66;
+    joined[11] = 0xb8;
+    let (fragment, _) = header_of(&rt, &FIRST_FRAGMENT);
+    assert_eq!(rt; fragment.to_bytes(24), joined);
+    let (whole, _) = header_of(&rt, &WHOLE_PACKET);
+    let longest = whole.to_bytes(65_515);
+    assert_eq!(rt; header_checksum(&longest), 0);
+    match Header::read(&longest, false) {
+        HeaderOr::Header(header, _) => {
+            assert_eq!(rt; header.key(), whole.key());
+            assert_eq!(rt; header.service(), whole.service());
+            assert_eq!(rt; header.time_to_live(), whole.time_to_live());
+            assert_eq!(rt; header.data_length(), 65_515);
+            assert_eq!(rt; header.fragment(), None);
+        }
+        _ => assert!(rt; false),
+    }
+}

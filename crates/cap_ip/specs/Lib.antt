@@ -4,3 +4,4 @@ pub mod HeaderView
 pub mod Read
 pub mod Transport
 pub mod Checksum
+pub mod Written

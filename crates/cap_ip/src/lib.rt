@@ -1,4 +1,4 @@
-//! IPv4 headers, the ports after them, and the header checksum.
+//! IPv4 headers, read and written, the ports after them, and the header checksum.
 #![tactic(auto)]
 
 mod checksums;
@@ -6,6 +6,7 @@ mod fields;
 mod headers;
 mod ports;
 mod transports;
+mod written;
 
 pub use crate::checksums::{checksum_law, header_checksum};
 pub use crate::headers::{Fragment, Header, HeaderOr, Key};

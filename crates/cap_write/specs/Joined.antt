@@ -1,13 +1,11 @@
 -- The datagrams of a run of packets, each written as one packet that begins with its header (RFC 791, 3.1 and 3.2).
 use Rattle.std.specs.Prelude.{ℕ, ◌+◌, ◌==◌, ◌&&◌, List, [], ◌∷◌, ◌++◌, length, Bool, true, false, Option, Some, None, is_some, option_and_then, if◌then◌else◌}
-use Rattle.cap_bytes.specs.Number.{bytes_of}
 use Rattle.cap_bytes.specs.declared.faults.Refusal.{Refusal}
 use Rattle.cap_bytes.specs.declared.numbers.Order.{Order}
-use Rattle.cap_bytes.specs.declared.numbers.Order.TheVariants.{Big}
-use Rattle.cap_ip.specs.Checksum.{checked, checksum_of}
 use Rattle.cap_ip.specs.Header.{HeaderFields}
 use Rattle.cap_ip.specs.Read.{Reading, found, bad, cut, read_of}
 use Rattle.cap_ip.specs.Transport.{transport_of}
+use Rattle.cap_ip.specs.Written.{header_bytes}
 use Rattle.cap_ip.specs.declared.headers.Fragment.{Fragment}
 use Rattle.cap_ip.specs.declared.transports.Transport.{Transport}
 use Rattle.cap_ip.specs.declared.transports.Transport.TheVariants as transports
@@ -32,28 +30,9 @@ pub record Complete : Type 0 where
   pub header : HeaderFields
   pub bytes : List ℕ
 
--- What stands in a header in front of its checksum, of a datagram with that many bytes of data: version 4 and five words, type
--- of service, total length, identification, no flags and no offset, time to live, protocol.
-abbrev pub front_of : HeaderFields → ℕ → List ℕ
-front_of header size =
-    0x45 ∷ header.service ∷ (bytes_of Big 2 (20 + size)
-    ++ (bytes_of Big 2 header.key.identification ++ (0 ∷ 0 ∷ header.time_to_live ∷ header.key.protocol ∷ [])))
-
--- and what comes after it: both addresses
-abbrev pub back_of : HeaderFields → List ℕ
-back_of header = bytes_of Big 4 header.key.source ++ bytes_of Big 4 header.key.destination
-
--- a header with that word in its checksum's place
-unfoldable pub header_with : HeaderFields → ℕ → ℕ → List ℕ
-header_with header size checksum = checked (front_of header size) checksum (back_of header)
-
--- the header of a datagram of that many bytes of data, without options, with its checksum
-unfoldable pub header_text : HeaderFields → ℕ → List ℕ
-header_text header size = header_with header size (checksum_of (header_with header size 0))
-
 -- a datagram as one packet
 abbrev pub datagram_text : Complete → List ℕ
-datagram_text d = header_text d.header (length d.bytes) ++ d.bytes
+datagram_text d = header_bytes d.header (length d.bytes) ++ d.bytes
 
 -- its data has the form of its protocol, as far as its ports
 abbrev pub has_form : Transport → Bool

@@ -2,6 +2,7 @@
 ghost use Rattle.std.specs.Prelude.{◌≡◌, ◌+◌, ◌≤◌, ◌<◌, ◌<ℤ◌, ◌^◌, ◌++◌, ◌==◌, ◌&&◌, pos, length, List, [], IsTrue, IsOkUnless, IfOk, IfSome, OnOk};
 ghost use Rattle.cap_ip.specs.Read.{read_of};
 ghost use Rattle.cap_ip.specs.Transport.{transport_of};
+ghost use Rattle.cap_ip.specs.Written.{header_bytes};
 ghost use Rattle.cap_join.specs.Arrivals.{events_with};
 ghost use Rattle.cap_join.specs.History.{Event};
 ghost use Rattle.cap_join.specs.Joiners.{StandsFor};
@@ -9,67 +10,15 @@ ghost use Rattle.cap_merge.specs.Parts.{meta_time};
 ghost use Rattle.cap_time.specs.Stamp.{seconds_of};
 ghost use Rattle.cap_write.specs.Datagrams.{IsFilled, IsShort, Stands, answered};
 ghost use Rattle.cap_write.specs.RunPackets.{stamped_in, whole_in};
-ghost use Rattle.cap_write.specs.Joined.{header_with, header_text, has_form, complete_of, completed_in, completed, events_after};
+ghost use Rattle.cap_write.specs.Joined.{has_form, complete_of, completed_in, completed, events_after};
 
 use crate::run_packets::{Joining, RunPacket};
 use cap_bytes::Fault;
-use cap_ip::{Header, Transport, header_checksum, transport};
+use cap_ip::{Header, Transport, transport};
 use cap_join::{Arrived, Joiner, Stamped};
 use cap_link::{Network, network};
 use cap_source::Meta;
 use cap_time::Stamp;
-
-/// Version 4, and a header of five words of four bytes.
-const VERSION_AND_LENGTH: u8 = 0x45;
-
-/// The length of a header without options, in bytes.
-const HEADER: u16 = 20;
-
-// A header without options, of a datagram of that many bytes of data, with that word in its checksum's
-// place (RFC 791, 3.1).
-#[tactic(auto, unfolding(crate::specs::Joined::header_with))]
-fn header_with(header: &Header, size: u16, checksum: u16) -> [u8; 20]
-    requires { size ≤ 65515 }
-    ensures { result ≡ header_with header.now size checksum }
-{
-    let key = header.key();
-    let total = (HEADER + size).to_be_bytes();
-    let identification = key.identification.to_be_bytes();
-    let source = key.source.to_be_bytes();
-    let destination = key.destination.to_be_bytes();
-    [
-        VERSION_AND_LENGTH,
-        header.service(),
-        total[0],
-        total[1],
-        identification[0],
-        identification[1],
-        0,
-        0,
-        header.time_to_live(),
-        key.protocol,
-        (checksum / 256) as u8,
-        (checksum % 256) as u8,
-        source[0],
-        source[1],
-        source[2],
-        source[3],
-        destination[0],
-        destination[1],
-        destination[2],
-        destination[3],
-    ]
-}
-
-// The header of a datagram of that many bytes of data, with its checksum.
-#[tactic(auto, unfolding(crate::specs::Joined::header_text))]
-fn header_of(header: &Header, size: u16) -> [u8; 20]
-    requires { size ≤ 65515 }
-    ensures { result ≡ header_text header.now size }
-{
-    let checksum = header_checksum(&header_with(header, size, 0));
-    header_with(header, size, checksum)
-}
 
 // Appends bytes.
 fn append(packet: &mut Vec<u8>, bytes: &[u8]) -> Result<(), Fault>
@@ -85,12 +34,12 @@ fn append(packet: &mut Vec<u8>, bytes: &[u8]) -> Result<(), Fault>
 // Puts a datagram into an empty packet.
 fn fill(packet: &mut Vec<u8>, header: &Header, bytes: &[u8]) -> Result<(), Fault>
     requires short { length bytes.now ≤ 65515 }
-    ensures items { OnOk result (packet.new.items ≡ header_text header.now (length bytes.now) ++ bytes.now) }
+    ensures items { OnOk result (packet.new.items ≡ header_bytes header.now (length bytes.now) ++ bytes.now) }
     ensures short { OnOk result (length packet.new.items ≤ 65535) }
     ensures fault { IsOkUnless result Fault.Memory }
 {
     packet.clear();
-    append(packet, &header_of(header, bytes.len() as u16))?;
+    append(packet, &header.to_bytes(bytes.len() as u16))?;
     append(packet, bytes)
 }
 

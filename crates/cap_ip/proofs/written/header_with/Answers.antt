@@ -1,8 +1,8 @@
 use Rattle.std.proofs.Common.{refl}
 use Rattle.cap_bytes.specs.Number.{bytes_of}
 use Rattle.cap_ip.specs.Checksum.{checked}
-use Rattle.cap_write.specs.Joined.{header_with}
-use Rattle.cap_write.proofs.datagrams.header_with.Goals as goal
+use Rattle.cap_ip.specs.Written.{header_with}
+use Rattle.cap_ip.proofs.written.header_with.Goals as goal
 
 pub returns : goal.returns
 unfolding header_with checked bytes_of
