@@ -9,8 +9,8 @@ use cap_bytes::{FILE_LIMIT, Fault, Order, Refusal, Rule, Source, Stop, Tail, Win
 /// How many bytes stand round the body of a block; its first ones tell its order and its total length.
 pub const FRAME_SIZE: usize = 12;
 
-// Whether the bytes begin with the kind of a section header.
-fn is_section(bytes: &[u8]) -> bool
+/// Whether some bytes begin with the kind of a section header, which reads the same in both orders.
+pub fn is_section(bytes: &[u8]) -> bool
     requires { 4 ≤ length bytes.now }
     ensures { result ≡ is_section bytes.now }
 {

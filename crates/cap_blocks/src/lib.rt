@@ -10,7 +10,8 @@ mod rests;
 mod texts;
 mod writing;
 
-pub use crate::blocks::Block;
+pub use crate::blocks::{Block, is_known};
+pub use crate::fronts::is_section;
 pub use crate::options::Options;
 pub use crate::readers::BlockReader;
 pub use crate::writing::{put_interface, put_packet, put_section};

@@ -1,10 +1,11 @@
 //! The blocks of whole pcapng files, by one byte a read and by many. The files and what they give are worked out by
 //! hand from draft-ietf-opsawg-pcapng.
-ghost use Rattle.std.specs.Prelude.{◌≤◌, ◌≡◌};
-ghost use Rattle.cap_blocks.specs.Grammar.{is_known};
+ghost use Rattle.std.specs.Prelude.{◌≤◌};
 
 use crate::vectors::{CARRY_PCAPNG, OPTIONS_PCAPNG, refused};
-use cap_blocks::{Block, BlockReader, Options, put_interface, put_packet, put_section};
+use cap_blocks::{
+    Block, BlockReader, Options, is_known, is_section, put_interface, put_packet, put_section,
+};
 use cap_bytes::{Device, Fault, Order, Pieces, Room, Rule, Sink, Source, Tail, Window};
 use cap_time::{Interface, Resolution};
 use std::alloc::{AllocError, Global};
@@ -111,23 +112,17 @@ fn always_memory_blocks_in_order(rt: HostRuntime) -> Result<(), Fail> {
     Ok(())
 }
 
-// Whether a block of that kind has its body lent.
-fn is_lent(kind: u32) -> bool
-    ensures { result ≡ is_known kind }
-{
-    matches!(kind, SECTION | 1 | 2 | 3 | 6)
-}
-
 // The bodies are lent as they stand in the file.
 #[test]
 fn bodies(rt: HostRuntime) -> Result<(), Fail> {
     let mut rest = CARRY_PCAPNG.as_slice();
+    assert!(rt; is_section(rest));
     let mut reader = reader(rt.alloc(), &CARRY_PCAPNG, 1, Tail::Refuse)?;
     for size in [16, 20, 24] {
         let Some(block) = reader.next_block()? else {
             break;
         };
-        if !is_lent(block.kind) || rest.len() < size + 12 {
+        if !is_known(block.kind) || rest.len() < size + 12 {
             break;
         }
         assert_eq!(rt; reader.body(), rest.split_at(8).1.split_at(size).0);

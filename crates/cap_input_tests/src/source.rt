@@ -5,7 +5,7 @@ ghost use Rattle.std.specs.Prelude.{◌≡◌, ◌≤◌, [], ◌∷◌, Some};
 use crate::making::Making;
 use crate::vectors::{CARRY_PCAP, INTERFACE, OPTIONS_PCAPNG, PACKET, SECTION, last_of};
 use cap_bytes::{Fault, Pieces, Refusal, Rule, Tail};
-use cap_source::{Capture, Ending, Format, Head, Listed, Listing, Meta, PacketFeed, next_packet};
+use cap_source::{Capture, Ending, Format, Head, Listed, Meta, PacketFeed, next_packet};
 use cap_time::{Interface, Resolution};
 use std::alloc::{AllocError, Global};
 use std::process::Abort;
@@ -398,26 +398,18 @@ fn a_long_block(rt: HostRuntime) -> Result<(), Fail> {
 // Two packets in memory, and then a refusal.
 #[test]
 fn a_list(rt: HostRuntime) -> Result<(), Fail> {
-    let mut packets = Vec::new(rt.alloc());
-    for byte in [5, 6] {
-        packets.push(Listing {
-            interface: interface(&rt, 101, 0, 6, 0),
-            instance: 0,
-            units: Some(u64::from(byte)),
-            original: 9,
-            frame: [byte].to_vec(rt.alloc())?,
-        })?;
-    }
-    let mut feed = Listed::new(7, packets, Some(Rule::Cut));
-    for (offset, byte) in [(0, 5), (1, 6)] {
+    let clock = interface(&rt, 101, 0, 6, 0);
+    let times = [5, 6].to_vec(rt.alloc())?;
+    let mut feed = Listed::new(7, clock, times, Some(Rule::Cut));
+    for (offset, units) in [(0, 5), (1, 6)] {
         let meta = Meta {
-            interface: interface(&rt, 101, 0, 6, 0),
-            units: Some(u64::from(byte)),
-            captured: 1,
-            original: 9,
+            interface: clock,
+            units: Some(units),
+            captured: 0,
+            original: 0,
             ..carried(&rt, offset, Format::Pcap)
         };
-        takes(&rt, &mut feed, meta, &[byte])?;
+        takes(&rt, &mut feed, meta, &[])?;
     }
     assert_eq!(rt; feed.head()?, refused(2, Rule::Cut));
     Ok(())

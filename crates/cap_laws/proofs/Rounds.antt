@@ -2,11 +2,11 @@
 use Rattle.std.proofs.Common.{◌≡◌, ℕ, suc, ◌+◌, List, [], ◌∷◌, ◌++◌, refl, sym, ◌∙◌, ap, subst, arith, Option, Some, None, false}
 use Rattle.std.specs.List.{AllZip, AllByRecursion, flat_map}
 use Rattle.std.specs.Prelude.{map, is_none, unwrap_or}
+use Rattle.std.proofs.lemmas.List.{map-append}
 use Rattle.cap_blocks.specs.Grammar.{section_text}
 use Rattle.cap_bytes.specs.declared.faults.Refusal.{Refusal}
 use Rattle.cap_bytes.specs.declared.faults.Tail.{Tail}
 use Rattle.cap_merge.specs.Files.{items_of_files, run_of_lists, run_of_files}
-use Rattle.cap_merge.specs.Lists.{map-both}
 use Rattle.cap_source.specs.Feed.{Item, packet, refused}
 use Rattle.cap_source.specs.Items.{file_items}
 use Rattle.cap_write.specs.Laws.{MergeLaw, instances, numbers}
@@ -86,7 +86,7 @@ all-files : (tail : Tail) (groups : List Group)
 all-files tail [] = refl
 all-files tail (group ∷ groups) =
     ap (λ l. items_each tail group.files ++ l) (all-files tail groups)
-    ∙ sym (map-both (file_items tail 1) group.files (flat_map (λ group. group.files) groups))
+    ∙ sym (map-append (file_items tail 1) group.files (flat_map (λ group. group.files) groups))
 
 -- ---- the law
 

@@ -2,10 +2,11 @@
 use Rattle.std.proofs.Common.{ℕ, ◌≡◌, true, List, [], ◌∷◌, length, refl, sym, ap, ◌∙◌, arith, Result, Err, suc, ◌+◌, ◌++◌}
 use Rattle.std.specs.Prelude.{map, IsTrue, is_some}
 use Rattle.std.specs.List.{AllByRecursion, list_all, range_with_len, flat_map}
+use Rattle.std.proofs.lemmas.List.{length-map}
 use Rattle.cap_bytes.specs.declared.faults.Fault.{Fault}
 use Rattle.cap_bytes.specs.declared.faults.Fault.TheVariants.{Refused, Read, Write, Memory}
 use Rattle.cap_source.specs.Feed.{Feed, IsFeed, Keeps}
-use Rattle.cap_merge.specs.Lists.{length-mapped, and-both}
+use Rattle.cap_merge.specs.Lists.{and-both}
 use Rattle.cap_merge.specs.declared.lanes.Lane.{Lane}
 use Rattle.cap_merge.specs.Parts.{Part, parts, IsNumbered, Agrees, HasReached, is_known, run_of, feed_of, KeepsRun}
 use Rattle.cap_merge.specs.Merge.{LearnsAll, StopsAt, AsksAll}
@@ -26,7 +27,7 @@ pub numbered-kept : {F : Type 0} (f : F → Feed) (ls ms : List Lane) (fs ys : L
     → Each Kept (parts ls (map f fs)) (parts ms (map f ys)) → IsNumbered (map f fs) → IsNumbered (map f ys)
 numbered-kept f ls ms fs ys a b d k n =
     files_kept f ls ms fs ys a b d k ∙ n
-    ∙ ap (λ m. map (λ k. k ∷ []) (range_with_len 1 m)) (length-mapped f fs ∙ sym d ∙ sym (length-mapped f ys))
+    ∙ ap (λ m. map (λ k. k ∷ []) (range_with_len 1 m)) (length-map fs f ∙ sym d ∙ sym (length-map ys f))
 
 pub asked-numbered : {F : Type 0} (f : F → Feed) → ((x : F) → IsFeed (f x)) → (ls ms : List Lane) (fs ys : List F) {T : Type 0} (result : Result T Fault)
     → length ls ≡ length fs → length ms ≡ length ls → length ys ≡ length fs → AsksAll (parts ls (map f fs)) result (parts ms (map f ys))
@@ -67,7 +68,7 @@ known_lanes (l ∷ ls) (x ∷ xs) e k =
 
 pub asked-known : {F : Type 0} (f : F → Feed) (ls ms : List Lane) (fs ys : List F) → length ms ≡ length ys → LearnsAll (parts ls (map f fs)) (parts ms (map f ys))
     → list_all (λ l. is_some l.head) ms ≡ true
-asked-known f ls ms fs ys e h = known_lanes ms (map f ys) (length-mapped f ys ∙ sym e) (known_all (parts ls (map f fs)) (parts ms (map f ys)) h)
+asked-known f ls ms fs ys e h = known_lanes ms (map f ys) (length-map ys f ∙ sym e) (known_all (parts ls (map f fs)) (parts ms (map f ys)) h)
 
 count_files : {F : Type 0} (f : F → Feed) (n : ℕ) (ls : List Lane) (fs : List F) → length ls ≡ length fs → AreFrom n (parts ls (map f fs))
     → length (flat_map (λ p. p.feed.files) (parts ls (map f fs))) ≡ length fs

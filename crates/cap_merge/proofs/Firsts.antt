@@ -2,7 +2,9 @@
 use Rattle.std.proofs.Common.{◌≡◌, ℕ, zero, suc, ◌+◌, ◌-◌, ◌<◌, ◌≤◌, Bool, true, false, cond, List, [], ◌∷◌, ◌++◌, length, get_or, take, drop, refl, sym, ap, ◌∙◌, subst, arith, inl, inr, Option, Some, None}
 use Rattle.std.specs.Prelude.{◌⊎◌, ◌||◌, ◌==◌, max, map, IsTrue, IfSome, is_some}
 use Rattle.std.specs.List.{AllByRecursion, list_any, flat_map}
+use Rattle.std.proofs.Math.Seq.{take-suc}
 use Rattle.std.proofs.lemmas.Bool.{true≢false}
+use Rattle.std.proofs.lemmas.List.{length-map, map-append, take_all}
 use Rattle.cap_time.specs.declared.stamps.Stamp.{Stamp}
 use Rattle.cap_source.specs.declared.feeds.Head.{Head}
 use Rattle.cap_source.specs.declared.feeds.Head.TheVariants as heads
@@ -10,7 +12,7 @@ use Rattle.cap_source.specs.declared.packets.Meta.{Meta}
 use Rattle.cap_source.specs.declared.feeds.Ending.{Ending}
 use Rattle.cap_source.specs.declared.feeds.FeedHeld.{FeedHeld}
 use Rattle.cap_source.specs.Feed.{packet, refused, Feed, IsFeed, IsPacket, Keeps, Passes, HasFile}
-use Rattle.cap_merge.specs.Lists.{all-each, length-mapped}
+use Rattle.cap_merge.specs.Lists.{all-each}
 use Rattle.cap_merge.specs.declared.lanes.Lane.{Lane}
 use Rattle.cap_merge.specs.declared.lanes.First.{First}
 use Rattle.cap_merge.specs.Parts.{Part, parts, has_next, is_known, known_of, head_by, frame_by, clock_of, first_of, run_of, endings_of, held_of, both_held, has_file, feed_of, Leads, ClocksFrom, BeginsAt, IsNumbered, Agrees, HasReached, clock_by}
@@ -78,7 +80,7 @@ pub split-of : {F : Type 0} (f : F → Feed) (ls : List Lane) (fs : List F) (fir
     → Split (parts ls (map f fs)) (first_part f s.lane fs first.place x)
 split-of f ls fs first x e s =
     subst (λ (w : Feed). Split (parts ls (map f fs)) (record { lane = s.lane; feed = w })) (get_made f fs first.place x)
-    (leads-split ls (map f fs) first.place first.clock (f x) (length-mapped f fs ∙ sym e) s)
+    (leads-split ls (map f fs) first.place first.clock (f x) (length-map fs f ∙ sym e) s)
 
 -- the feed of the first lane knows that a packet comes next
 pub packet-known : {F : Type 0} (f : F → Feed) (ls : List Lane) (fs : List F) (first : First) (x : F) → length ls ≡ length fs → Leads ls first.place first.clock
@@ -194,7 +196,7 @@ pub place-of : {F : Type 0} (f : F → Feed) (ls : List Lane) (fs : List F) (fir
     → (t : Split (parts ls (map f fs)) (first_part f s.lane fs first.place x)) × (length t.before ≡ first.place)
 place-of f ls fs first x e s =
     place_by (parts ls (map f fs)) s.lane (get_or (map f fs) first.place (f x)) (f (get_or fs first.place x)) first.place (get_made f fs first.place x)
-    (placed-split ls (map f fs) first.place first.clock (f x) (length-mapped f fs ∙ sym e) s)
+    (placed-split ls (map f fs) first.place first.clock (f x) (length-map fs f ∙ sym e) s)
 
 -- where nothing comes next of all, each feed is at its end
 ended : (ps : List Part) (o : Option Part) → IsFirstOf ps o → head_by o ≡ Some heads.End → NoNext ps
@@ -330,18 +332,8 @@ held-more (g ∷ fs) f =
 
 pub held-taken : {F : Type 0} (f : F → Feed) (fs : List F) (n : ℕ) (x : F) → n < length fs
     → held_all (map f (take (suc n) fs)) ≡ both_held (held_all (map f (take n fs))) (f (get_or fs n x)).held
-held-taken f fs n x l = ap held_all (taken f fs n x l) ∙ held-more (map f (take n fs)) (f (get_or fs n x))
-  where
-    taken : {G : Type 0} (g : G → Feed) (xs : List G) (k : ℕ) (d : G) → k < length xs → map g (take (suc k) xs) ≡ map g (take k xs) ++ (g (get_or xs k d) ∷ [])
-    taken g [] k d h = absurd (omega arith)
-    taken g (y ∷ ys) zero d h = refl
-    taken g (y ∷ ys) (suc k) d h = ap (λ zs. g y ∷ zs) (taken g ys k d (omega arith))
-
-pub held-all-taken : {F : Type 0} (f : F → Feed) (fs : List F) (n : ℕ) → length fs ≤ n → take n fs ≡ fs
-held-all-taken f [] zero l = refl
-held-all-taken f [] (suc n) l = refl
-held-all-taken f (x ∷ xs) zero l = absurd (omega arith)
-held-all-taken f (x ∷ xs) (suc n) l = ap (λ ys. x ∷ ys) (held-all-taken f xs n (omega arith))
+held-taken f fs n x l =
+    ap held_all (ap (map f) (take-suc fs n x l) ∙ map-append f (take n fs) (get_or fs n x ∷ [])) ∙ held-more (map f (take n fs)) (f (get_or fs n x))
 
 held_is : (ps : List Part) → (feed_of ps).held ≡ held_of ps
 unfolding feed_of
@@ -350,7 +342,7 @@ held_is ps = refl
 pub held-done : {F : Type 0} (f : F → Feed) (ls : List Lane) (fs : List F) (n : ℕ) (held : FeedHeld) → length ls ≡ length fs → length fs ≤ n
     → held ≡ held_all (map f (take n fs)) → held ≡ (feed_of (parts ls (map f fs))).held
 held-done f ls fs n held e l h =
-    h ∙ ap (λ xs. held_all (map f xs)) (held-all-taken f fs n l) ∙ sym (held-parts f ls fs e) ∙ sym (held_is (parts ls (map f fs)))
+    h ∙ ap (λ xs. held_all (map f xs)) (take_all n fs l) ∙ sym (held-parts f ls fs e) ∙ sym (held_is (parts ls (map f fs)))
 
 pub clocks-of : {F : Type 0} (f : F → Feed) (ls : List Lane) (fs : List F) (first : First) → 1 ≤ length fs → length ls ≡ length fs → Leads ls first.place first.clock
     → has_next (feed_of (parts ls (map f fs))).known ≡ true → ClocksFrom first.clock (parts ls (map f fs))

@@ -4,12 +4,13 @@ use Rattle.std.specs.Prelude.{◌||◌, ◌⊎◌, map, max, IfSome, is_some}
 use Rattle.std.specs.List.{AllByRecursion, list_all, list_any}
 use Rattle.std.specs.Ordering.{is_lt, is_gt}
 use Rattle.std.proofs.lemmas.Bool.{true≢false}
+use Rattle.std.proofs.lemmas.List.{map-append}
 use Rattle.cap_time.specs.declared.stamps.Stamp.{Stamp}
 use Rattle.cap_source.specs.declared.feeds.Head.{Head}
 use Rattle.cap_source.specs.declared.feeds.Head.TheVariants as heads
 use Rattle.cap_source.specs.declared.packets.Meta.{Meta}
 use Rattle.cap_source.specs.Feed.{packet, IsFeed, Keeps, Passes, IfPacket}
-use Rattle.cap_merge.specs.Lists.{All-both, all-back, all-each, and-none, map-both}
+use Rattle.cap_merge.specs.Lists.{All-both, all-back, all-each, and-none}
 use Rattle.cap_merge.specs.declared.lanes.Lane.{Lane}
 use Rattle.cap_merge.specs.Clock.{clock_cmp}
 use Rattle.cap_merge.specs.Run.{run}
@@ -81,7 +82,7 @@ run_on : (before after : List Part) (p q : Part) → q.lane.clock ≡ p.lane.clo
     → run_of (before ++ (q ∷ after)) ≡ run_behind before p after
 unfolding run_of run_behind
 run_on before after p q c e =
-    ap (run item_time is_refusal) (map-both (λ x. record { clock = x.lane.clock; items = x.feed.items }) before (q ∷ after))
+    ap (run item_time is_refusal) (map-append (λ x. record { clock = x.lane.clock; items = x.feed.items }) before (q ∷ after))
     ∙ (λ i. run item_time is_refusal (tracks before ++ (record { clock = c i; items = e i } ∷ tracks after)))
 
 pub run-passed : (ps before after : List Part) (p q : Part) (meta : Meta) → AllByRecursion IsReady ps → (s : Split ps p) → s.before ≡ before → s.after ≡ after

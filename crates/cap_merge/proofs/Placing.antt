@@ -3,12 +3,14 @@ use Rattle.std.proofs.Common.{◌≡◌, ℕ, zero, suc, ◌<◌, ◌≤◌, Boo
 use Rattle.std.specs.Prelude.{◌&&◌, map, is_some}
 use Rattle.std.specs.List.{AllByRecursion, list_all}
 use Rattle.std.specs.Ordering.{is_lt, is_gt}
+use Rattle.std.proofs.Math.Seq.{take-suc}
 use Rattle.std.proofs.lemmas.Bool.{true≢false}
+use Rattle.std.proofs.lemmas.List.{length-map, length-replicate, length-take-le}
 use Rattle.cap_time.specs.declared.stamps.Stamp.{Stamp}
 use Rattle.cap_source.specs.declared.feeds.Head.{Head}
 use Rattle.cap_source.specs.declared.feeds.Head.TheVariants as heads
 use Rattle.cap_source.specs.Feed.{Feed}
-use Rattle.cap_merge.specs.Lists.{All-both, All-implied, all-each, and-both, length-mapped}
+use Rattle.cap_merge.specs.Lists.{All-both, All-implied, all-each, and-both}
 use Rattle.cap_merge.specs.declared.lanes.Lane.{Lane}
 use Rattle.cap_merge.specs.declared.lanes.First.{First}
 use Rattle.cap_merge.specs.Clock.{clock_cmp}
@@ -91,22 +93,9 @@ first-more ls (Some first) l s = two ls first l (has_next l.head) (is_lt (clock_
 pub first-taken : (ls : List Lane) (place : ℕ) (o : Option First) (d : Lane) → place < length ls → IsFirstLane (take place ls) o
     → IsFirstLane (take (suc place) ls) (sooner_lane o place (get_or ls place d))
 first-taken ls place o d h f =
-    subst (λ (xs : List Lane). IsFirstLane xs (sooner_lane o place (get_or ls place d))) (taken ls place h)
-    (subst (λ (n : ℕ). IsFirstLane (take place ls ++ (get_or ls place d ∷ [])) (sooner_lane o n (get_or ls place d))) (long ls place h)
+    subst (λ (xs : List Lane). IsFirstLane xs (sooner_lane o place (get_or ls place d))) (sym (take-suc ls place d h))
+    (subst (λ (n : ℕ). IsFirstLane (take place ls ++ (get_or ls place d ∷ [])) (sooner_lane o n (get_or ls place d))) (length-take-le place ls (omega (arith, h)))
     (first-more (take place ls) o (get_or ls place d) f))
-  where
-    taken : (xs : List Lane) (n : ℕ) → n < length xs → take n xs ++ (get_or xs n d ∷ []) ≡ take (suc n) xs
-    taken [] n l = absurd (omega arith)
-    taken (x ∷ xs) zero l = refl
-    taken (x ∷ xs) (suc n) l = ap (λ ys. x ∷ ys) (taken xs n (omega arith))
-
-    long : (xs : List Lane) (n : ℕ) → n < length xs → length (take n xs) ≡ n
-    long [] n l = absurd (omega arith)
-    long (x ∷ xs) zero l = refl
-    long (x ∷ xs) (suc n) l = ap suc (long xs n (omega arith))
-
-pub part_at : Lane → List Feed → ℕ → Feed → Part
-part_at l fs n d = record { lane = l; feed = get_or fs n d }
 
 parts_split : (before after : List Lane) (l : Lane) (fs : List Feed) (d : Feed) → length fs ≡ length (before ++ (l ∷ after))
     → parts (before ++ (l ∷ after)) fs ≡ parts before (take (length before) fs) ++ (record { lane = l; feed = get_or fs (length before) d } ∷ parts after (drop (suc (length before)) fs))
@@ -209,10 +198,6 @@ clock-first ls [] first e s =
     absurd (omega arith)
 clock-first ls (x ∷ xs) first e s = sym (clock_first ls (x ∷ xs) first.place first.clock x e s)
 
-pub clock-none : (ls : List Lane) (fs : List Feed) → AllByRecursion (λ l. has_next l.head ≡ false) ls → None ≡ clock_of (parts ls fs)
-unfolding clock_of
-clock-none ls fs f = sym (ap clock_by (none_first (parts ls fs) (first_of (parts ls fs)) (first_is (parts ls fs)) (parts-each (λ l. has_next l.head ≡ false) ls fs f)))
-
 pub parts-new : (fs : List Feed) → parts (replicate (length fs) new_lane) fs ≡ new_parts fs
 parts-new [] = refl
 parts-new (f ∷ fs) = ap (λ ps. record { lane = new_lane; feed = f } ∷ ps) (parts-new fs)
@@ -228,17 +213,13 @@ one_more n ls l e = ap (λ xs. xs ++ (l ∷ [])) e ∙ behind n
     behind zero = refl
     behind (suc k) = ap (λ xs. l ∷ xs) (behind k)
 
-length_new : (n : ℕ) (l : Lane) → length (replicate n l) ≡ n
-length_new zero l = refl
-length_new (suc n) l = ap suc (length_new n l)
-
 -- what a merge keeps is true of new lanes
 pub new-alike : (ls : List Lane) (n : ℕ) → ls ≡ replicate n new_lane → length ls ≡ n
-new-alike ls n e = ap length e ∙ length_new n new_lane
+new-alike ls n e = ap length e ∙ length-replicate n new_lane
 
 pub new-is : {F : Type 0} (f : F → Feed) (ls : List Lane) (xs : List F) → ls ≡ replicate (length xs) new_lane → parts ls (map f xs) ≡ new_parts (map f xs)
 new-is f ls xs e =
-    ap (λ ks. parts ks (map f xs)) (e ∙ ap (λ n. replicate n new_lane) (sym (length-mapped f xs))) ∙ parts-new (map f xs)
+    ap (λ ks. parts ks (map f xs)) (e ∙ ap (λ n. replicate n new_lane) (sym (length-map xs f))) ∙ parts-new (map f xs)
 
 pub new-agrees : {F : Type 0} (f : F → Feed) (ls : List Lane) (xs : List F) → ls ≡ replicate (length xs) new_lane → Agrees (parts ls (map f xs))
 new-agrees f ls xs e = subst Agrees (sym (new-is f ls xs e)) (each-agrees (new_parts (map f xs)) (new-sound (map f xs)))

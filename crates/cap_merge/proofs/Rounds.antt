@@ -3,8 +3,9 @@ use Rattle.std.proofs.Common.{◌≡◌, ℕ, zero, suc, ◌≤◌, false, List,
 use Rattle.std.specs.Prelude.{map, ◌⊎◌}
 use Rattle.std.specs.List.{AllByRecursion}
 use Rattle.std.specs.Ordering.{is_gt}
+use Rattle.std.proofs.lemmas.List.{map-append}
 use Rattle.cap_time.specs.declared.stamps.Stamp.{Stamp}
-use Rattle.cap_merge.specs.Lists.{All-both, all-back, all-front, map-both, map-twice}
+use Rattle.cap_merge.specs.Lists.{All-both, all-back, all-front, map-twice}
 use Rattle.cap_merge.specs.Clock.{clock_cmp, later}
 use Rattle.cap_merge.specs.Run.{Clocked, Track, opened, in_order, placed_cmp, Placed, clocked_of, placed_from, placed_all, merged, HeadClock, IsFirst}
 use Rattle.cap_merge.specs.Clocks.{clock_total, AtMost, at_most-both, at_most-trans, below-at_most}
@@ -35,7 +36,7 @@ all_mapped : {A B : Type 0} (time : A → Option Stamp) (other : B → Option St
 all_mapped time other f same file [] = refl
 all_mapped time other f same file (t ∷ ts) =
     (λ i. placed_mapped time other f same file 0 t.clock t.items i ++ all_mapped time other f same (suc file) ts i)
-    ∙ sym (map-both (map_placed f) (placed_from time file 0 t.clock t.items) (placed_all time (suc file) ts))
+    ∙ sym (map-append (map_placed f) (placed_from time file 0 t.clock t.items) (placed_all time (suc file) ts))
 
 -- A map that keeps the times commutes with merging.
 pub merged-mapped : {A B : Type 0} (time : A → Option Stamp) (other : B → Option Stamp) (f : A → B) → ((x : A) → other (f x) ≡ time x) → (ts : List (Track A))
@@ -233,13 +234,13 @@ rounds_step {A} time front back now clock x xs left right b f deeper =
     let same = at_most-both (later now (time x)) (later clock (time x)) told.0 told.1 in
     let next : IsBetween time (later now (time x)) (left ++ (passed time clock x xs ∷ right)) = between_next time now left right clock x xs behind.0 own in
     let rest = deeper (All-both (λ k. IsBetween time k.now k.tracks) front (h ∷ back) before (next, behind.1)) in
-    ap (λ ts. map (λ y. y.item) (merged time ts)) (map-both (track_of time) front (g ∷ back))
+    ap (λ ts. map (λ y. y.item) (merged time ts)) (map-append (track_of time) front (g ∷ back))
     ∙ ap (λ items. map (λ y. y.item) (merged time (map (track_of time) front ++ (record { clock = now; items = items } ∷ map (track_of time) back))))
     (group_next time now clock x xs left right (left ++ (t ∷ right)) refl own)
     ∙ ap (map (λ y. y.item))
     (merged-next time (map (track_of time) front) (map (track_of time) back) now x (map (λ y. y.item) (merged time (left ++ (passed time clock x xs ∷ right))))
     (first_group time front back now clock x left right before behind.1 same f))
-    ∙ ap (λ ts. x ∷ map (λ y. y.item) (merged time ts)) (sym (map-both (track_of time) front (h ∷ back)))
+    ∙ ap (λ ts. x ∷ map (λ y. y.item) (merged time ts)) (sym (map-append (track_of time) front (h ∷ back)))
     ∙ ap (λ ys. x ∷ ys) rest
     ∙ ap (λ ts. x ∷ map (λ y. y.item) (merged time ts)) (files_apart front back (later now (time x)) left right (passed time clock x xs))
     ∙ sym (ap (map (λ y. y.item)) (merged-next time (files_of front ++ left) (right ++ files_of back) clock x xs f))
@@ -293,7 +294,7 @@ opened_groups time (g ∷ gs) = (opened_between time g, opened_groups time gs)
 
 opened_files : {A : Type 0} (gs : List (List (List A))) → files_of (map opened_group gs) ≡ map opened (files_in gs)
 opened_files [] = refl
-opened_files (g ∷ gs) = ap (λ ts. map opened g ++ ts) (opened_files gs) ∙ sym (map-both opened g (files_in gs))
+opened_files (g ∷ gs) = ap (λ ts. map opened g ++ ts) (opened_files gs) ∙ sym (map-append opened g (files_in gs))
 
 opened_merged : {A : Type 0} (time : A → Option Stamp) (gs : List (List (List A)))
     → map (track_of time) (map opened_group gs) ≡ map opened (map (λ g. map (λ x. x.item) (merged time (map opened g))) gs)

@@ -6,7 +6,7 @@ use Rattle.std.specs.Ordering.{is_lt, is_gt}
 use Rattle.cap_time.specs.declared.stamps.Stamp.{Stamp}
 use Rattle.cap_merge.specs.Lists.{All-both, All-implied, all-back, all-front}
 use Rattle.cap_merge.specs.Clock.{clock_cmp, later, greatest_from, greatest}
-use Rattle.cap_merge.specs.Run.{Clocked, Track, opened, merged, run, through_first, placed_from, HeadClock, IsFirst}
+use Rattle.cap_merge.specs.Run.{Clocked, Track, opened, merged, run, through_first, HeadClock, IsFirst}
 use Rattle.cap_merge.specs.Clocks.{AtMost, at_most-trans, later-first, later-second, later-least, not_below, is_less, at_most-both, equal-at_most}
 use Rattle.cap_merge.specs.MergedList.{passed, merged-next, merged-none}
 
@@ -213,23 +213,6 @@ pub clock-law : {A : Type 0} (time : A → Option Stamp) (is_refusal : A → Boo
 clock-law time is_refusal files before after x e =
     told_at time None before after x (subst (ClocksAreTold time None) e (run-clocks time is_refusal files))
 
--- the clock of an item of a file is the greatest of the clock reached before and of the times of the file's items up to it
-pub file-clock : {A : Type 0} (time : A → Option Stamp) (file place : ℕ) (clock : Option Stamp) (before after : List A) (x : A)
-    → placed_from time file place clock (before ++ (x ∷ after))
-    ≡ placed_from time file place clock before
-    ++ (record { clock = greatest_from clock (map time (before ++ (x ∷ []))); file = file; place = place + length before; item = x }
-    ∷ placed_from time file (suc (place + length before)) (greatest_from clock (map time (before ++ (x ∷ [])))) after)
-file-clock time file place clock [] after x =
-    let here : place ≡ place + 0 = omega arith in
-    λ i. record { clock = later clock (time x); file = file; place = here i; item = x } ∷ placed_from time file (suc (here i)) (later clock (time x)) after
-file-clock time file place clock (y ∷ before) after x =
-    let further : suc place + length before ≡ place + suc (length before) = omega arith in
-    ap (λ ys. record { clock = later clock (time y); file = file; place = place; item = y } ∷ ys)
-    (file-clock time file (suc place) (later clock (time y)) before after x
-    ∙ (λ i. placed_from time file (suc place) (later clock (time y)) before
-    ++ (record { clock = greatest_from (later clock (time y)) (map time (before ++ (x ∷ []))); file = file; place = further i; item = x }
-    ∷ placed_from time file (suc (further i)) (greatest_from (later clock (time y)) (map time (before ++ (x ∷ [])))) after)))
-
 -- No clock is above one after it, nor is that clock above the first.
 abbrev pub NeverFalls : {A : Type 0} → Option Stamp → List (Clocked A) → Type 0
 NeverFalls clock [] = ⊤
@@ -247,23 +230,3 @@ told_rises time clock now (x ∷ xs) h t =
 pub run-rises : {A : Type 0} (time : A → Option Stamp) (is_refusal : A → Bool) (files : List (List A)) → NeverFalls None (run time is_refusal (map opened files))
 run-rises time is_refusal files =
     told_rises time None None (run time is_refusal (map opened files)) refl (run-clocks time is_refusal files)
-
-none_total : {A : Type 0} (us : List (Track A)) → AllByRecursion (λ t. t.items ≡ []) us → total us ≡ 0
-unfolding total
-none_total [] h = refl
-none_total (u ∷ us) h = omega (arith, ap length h.0, none_total us h.1)
-
-merged_length : {A : Type 0} (time : A → Option Stamp) (n : ℕ) (ts : List (Track A)) → total ts ≤ n → (AllByRecursion (λ t. t.items ≡ []) ts ⊎ Next time ts) → length (merged time ts) ≡ total ts
-merged_length time n ts l (inl e) = ap length (merged-none time ts e) ∙ sym (none_total ts e)
-merged_length time zero ts l (inr m) =
-    absurd (omega (arith, l, ap total m.whole, total_less m.before m.after m.clock m.clock m.item m.rest))
-merged_length time (suc n) ts l (inr m) =
-    let behind = m.before ++ (passed time m.clock m.item m.rest ∷ m.after) in
-    let less = total_less m.before m.after m.clock (later m.clock (time m.item)) m.item m.rest in
-    let fewer : total behind ≤ n = omega (arith, l, ap total m.whole, less) in
-    let whole = ap (λ us. length (merged time us)) m.whole ∙ ap length (merged-next time m.before m.after m.clock m.item m.rest m.first) in
-    omega (arith, whole, merged_length time n behind fewer (next-of time behind), ap total m.whole, less)
-
--- As many items come as the files have.
-pub merged-length : {A : Type 0} (time : A → Option Stamp) (ts : List (Track A)) → length (merged time ts) ≡ total ts
-merged-length time ts = merged_length time (total ts) ts (omega arith) (next-of time ts)

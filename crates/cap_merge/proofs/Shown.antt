@@ -1,5 +1,5 @@
 -- What comes next of a feed, as the items to come have it.
-use Rattle.std.proofs.Common.{◌≡◌, List, [], ◌∷◌, drop, IsTrue, Option, Some, None, Ok, Err, sym, ap, ◌∙◌, subst}
+use Rattle.std.proofs.Common.{◌≡◌, [], ◌∷◌, drop, IsTrue, Option, Some, None, Ok, Err, sym, ap, ◌∙◌, subst}
 use Rattle.cap_bytes.specs.declared.faults.Fault.TheVariants.{Refused}
 use Rattle.cap_bytes.specs.declared.faults.Refusal.{Refusal}
 use Rattle.cap_source.specs.Feed.{Feed, packet, refused, SameItems, IsFeed, Leads}

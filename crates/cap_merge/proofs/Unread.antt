@@ -1,5 +1,5 @@
 -- The feeds of a merge before anything is read.
-use Rattle.std.proofs.Common.{◌≡◌, ℕ, zero, suc, ◌+◌, ◌==◌, ◌≤◌, ◌<◌, List, [], ◌∷◌, ◌++◌, length, map, Bool, true, false, ◌&&◌, ◌||◌, IsTrue, Option, None, Result, Ok, Err, refl, sym, ap, ◌∙◌, subst, arith}
+use Rattle.std.proofs.Common.{◌≡◌, ℕ, zero, suc, ◌+◌, ◌==◌, ◌≤◌, ◌<◌, List, [], ◌∷◌, ◌++◌, length, map, Bool, true, false, ◌&&◌, ◌||◌, IsTrue, None, Result, Ok, Err, refl, sym, ap, ◌∙◌, subst, arith}
 use Rattle.std.specs.Prelude.{if◌then◌else◌}
 use Rattle.std.specs.List.{flat_map, list_all, list_any, range_with_len}
 use Rattle.std.proofs.lemmas.Bool.{eqb-true, false≢true}
@@ -8,11 +8,11 @@ use Rattle.cap_bytes.specs.declared.faults.Fault.{Fault}
 use Rattle.cap_bytes.specs.declared.faults.Fault.TheVariants.{Refused, Read, Write, Memory}
 use Rattle.cap_bytes.specs.declared.faults.Tail.{Tail}
 use Rattle.cap_merge.specs.Files.{items_of_files, run_of_files, clocked_run, endings_from, endings_of_files}
-use Rattle.cap_merge.specs.Parts.{Part, new_parts, item_time, is_refusal, is_known, head_by, first_of, feed_of, run_of, known_of, broken_of, endings_of, has_file, IsNumbered}
+use Rattle.cap_merge.specs.Parts.{Part, new_parts, item_time, is_refusal, feed_of, run_of, known_of, broken_of, endings_of, has_file, IsNumbered}
 use Rattle.cap_merge.specs.Readers.{Reader, IsUnread, AreUnread, IsUnreadRun}
 use Rattle.cap_merge.specs.Run.{opened, run}
 use Rattle.cap_source.specs.Feed.{Feed, HasFile}
-use Rattle.cap_source.specs.Items.{file_items, file_ending}
+use Rattle.cap_source.specs.Items.{file_items}
 use Rattle.cap_source.specs.ReadFaults.{FailsOf}
 use Rattle.cap_source.specs.Walk.{Walks}
 use Rattle.cap_source.specs.declared.feeds.Ending.{Ending}

@@ -5,11 +5,12 @@ use Rattle.std.specs.Prelude.{IsTrue, IfSome, is_some}
 use Rattle.std.specs.List.{AllByRecursion}
 use Rattle.std.specs.Ordering.{is_lt, is_gt}
 use Rattle.std.proofs.lemmas.Bool.{true≢false}
+use Rattle.std.proofs.lemmas.List.{map-append}
 use Rattle.cap_time.specs.declared.stamps.Stamp.{Stamp}
 use Rattle.cap_source.specs.declared.feeds.Head.{Head}
 use Rattle.cap_source.specs.declared.feeds.Head.TheVariants as heads
 use Rattle.cap_source.specs.Feed.{Item, Leads, IsFeed}
-use Rattle.cap_merge.specs.Lists.{all-back, all-front, map-both}
+use Rattle.cap_merge.specs.Lists.{all-back, all-front}
 use Rattle.cap_merge.specs.Clock.{clock_cmp, later}
 use Rattle.cap_merge.specs.Run.{Track, Clocked, run, through_first, HeadClock, IsFirst}
 use Rattle.cap_merge.specs.Parts.{Part, item_time, head_time, known_time, is_refusal, has_next, tracks, run_of}
@@ -95,7 +96,7 @@ run-first ps first x r s begins clock_is =
       not_above = ahead_all (λ h. is_gt (clock_cmp first.lane.clock h) ≡ false) s.after back.1 s.not_above;
     }) in
     ap (λ xs. run item_time is_refusal (tracks xs)) s.whole
-    ∙ ap (run item_time is_refusal) (map-both (λ p. record { clock = p.lane.clock; items = p.feed.items }) s.before (first ∷ s.after))
+    ∙ ap (run item_time is_refusal) (map-append (λ p. record { clock = p.lane.clock; items = p.feed.items }) s.before (first ∷ s.after))
     ∙ ap (λ items. run item_time is_refusal (tracks s.before ++ (record { clock = first.lane.clock; items = items } ∷ tracks s.after))) begins
     ∙ run-next item_time (tracks s.before) (tracks s.after) first.lane.clock x (drop 1 first.feed.items) is_first
     ∙ (λ i. record { clock = clock_is i; item = x }

@@ -9,7 +9,6 @@ use Rattle.cap_source.specs.declared.feeds.Head.TheVariants as heads
 use Rattle.cap_source.specs.declared.packets.Meta.{Meta}
 use Rattle.cap_source.specs.Feed.{Item, packet, refused, Leads, IsFeed, IsPacketOf, IfPacket, IsRefusedOf, HasFile}
 use Rattle.cap_merge.specs.Lists.{all-back, all-each, and-both, any-back, any-front}
-use Rattle.cap_merge.specs.Run.{Clocked}
 use Rattle.cap_merge.specs.Parts.{Part, has_next, has_file, is_known, head_by, known_of, frame_by, first_of, run_of, broken_of, places_of, most_of, left_of, feed_of}
 use Rattle.cap_merge.specs.Leading.{Split, IsFirstOf, first_is}
 use Rattle.cap_merge.specs.Sound.{IsSound, AreFrom}
@@ -28,9 +27,6 @@ at_first P ps q f s = (all-back P s.before (q ∷ s.after) (subst (λ (xs : List
 leads_packet : (meta : Meta) (frame : List ℕ) (items : List Item) (x : Item) (rest : List Item) → items ≡ x ∷ rest → x ≡ packet meta frame
     → items ≡ packet meta frame ∷ drop 1 items
 leads_packet meta frame items x rest e f = e ∙ (λ i. f i ∷ rest) ∙ sym (λ i. packet meta frame ∷ drop 1 (e i))
-
-item_of : Clocked Item → Item
-item_of y = y.item
 
 -- what the first part's next item is, and what the run is then
 leads_by : (ps : List Part) (q : Part) (h : Option Head) → q.lane.head ≡ h → AllByRecursion IsReady ps → Split ps q

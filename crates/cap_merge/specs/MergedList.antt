@@ -6,8 +6,9 @@ use Rattle.std.specs.Ordering.{nat_cmp, ordering_then, is_gt, MatchOrdering}
 use Rattle.std.specs.Cmp.{IsTotalOrder, then_total, on_total, nat_cmp_total, nat_cmp_is, ranks}
 use Rattle.std.proofs.lemmas.Bool.{true≢false}
 use Rattle.std.proofs.lemmas.Bool.Decides.{nat_tests}
+use Rattle.std.proofs.lemmas.List.{map-append}
 use Rattle.cap_time.specs.declared.stamps.Stamp.{Stamp}
-use Rattle.cap_merge.specs.Lists.{All-both, All-implied, map-both, map-twice}
+use Rattle.cap_merge.specs.Lists.{All-both, All-implied, map-twice}
 use Rattle.cap_merge.specs.Clock.{clock_cmp, later}
 use Rattle.cap_merge.specs.Run.{in_order, Placed, placed_cmp, clocked_of, Track, placed_from, placed_all, merged, HeadClock, IsFirst}
 use Rattle.cap_merge.specs.Clocks.{clock_total, AtMost, at_most-trans, below-at_most, later-first}
@@ -146,7 +147,7 @@ moved-below time moving file [] l = refl
 moved-below time moving file (t ∷ ts) l =
     let own : file ≢ moving = omega arith in
     let others : suc file + length ts ≤ moving = omega arith in
-    map-both (moved moving) (placed_from time file 0 t.clock t.items) (placed_all time (suc file) ts)
+    map-append (moved moving) (placed_from time file 0 t.clock t.items) (placed_all time (suc file) ts)
     ∙ (λ i. moved-other time moving file 0 t.clock t.items (other file moving own) i ++ moved-below time moving (suc file) ts others i)
 
 moved-above : {A : Type 0} (time : A → Option Stamp) (moving file : ℕ) (ts : List (Track A)) → moving < file
@@ -155,7 +156,7 @@ moved-above time moving file [] l = refl
 moved-above time moving file (t ∷ ts) l =
     let own : file ≢ moving = omega arith in
     let others : moving < suc file = omega arith in
-    map-both (moved moving) (placed_from time file 0 t.clock t.items) (placed_all time (suc file) ts)
+    map-append (moved moving) (placed_from time file 0 t.clock t.items) (placed_all time (suc file) ts)
     ∙ (λ i. moved-other time moving file 0 t.clock t.items (other file moving own) i ++ moved-above time moving (suc file) ts others i)
 
 -- a file of which one item more was passed
@@ -178,9 +179,9 @@ left-moved : {A : Type 0} (time : A → Option Stamp) (before after : List (Trac
     ≡ placed_all time 1 before ++ (placed_from time (1 + length before) 1 clock xs ++ placed_all time (suc (1 + length before)) after)
 left-moved time before after clock xs =
     ap (map (moved (1 + length before))) (placed_all-both time 1 before (record { clock = clock; items = xs } ∷ after))
-    ∙ map-both (moved (1 + length before)) (placed_all time 1 before) (placed_all time (1 + length before) (record { clock = clock; items = xs } ∷ after))
+    ∙ map-append (moved (1 + length before)) (placed_all time 1 before) (placed_all time (1 + length before) (record { clock = clock; items = xs } ∷ after))
     ∙ (λ i. moved-below time (1 + length before) 1 before (omega arith) i
-    ++ map-both (moved (1 + length before)) (placed_from time (1 + length before) 0 clock xs) (placed_all time (suc (1 + length before)) after) i)
+    ++ map-append (moved (1 + length before)) (placed_from time (1 + length before) 0 clock xs) (placed_all time (suc (1 + length before)) after) i)
     ∙ (λ i. placed_all time 1 before
     ++ (moved-own time (1 + length before) 0 clock xs i ++ moved-above time (1 + length before) (suc (1 + length before)) after (omega arith) i))
 

@@ -7,7 +7,8 @@ use Rattle.std.specs.Cmp.{IsTotalOrder, tied_itself}
 use Rattle.std.proofs.lemmas.List.Sums.{sum_by-cons, sum_by-append}
 use Rattle.std.proofs.lemmas.List.Elements.{filter-append}
 use Rattle.std.proofs.lemmas.Bool.Decides.{nat_tests}
-use Rattle.cap_merge.specs.Lists.{All-both, All-implied, length-mapped, map-both}
+use Rattle.std.proofs.lemmas.List.{length-map, map-append}
+use Rattle.cap_merge.specs.Lists.{All-both, All-implied}
 use Rattle.cap_merge.specs.Run.{merged_place, in_order}
 
 pub filter-alike : {A : Type 0} (p q : A → Bool) (xs : List A) → AllByRecursion (λ x. p x ≡ q x) xs → filter p xs ≡ filter q xs
@@ -28,7 +29,7 @@ filter-mapped f p (x ∷ xs) = picked f x (p (f x)) (filter p (map f xs)) (filte
 
 pub map-flat : {A B C : Type 0} (f : B → C) (g : A → List B) (xs : List A) → map f (flat_map g xs) ≡ flat_map (λ x. map f (g x)) xs
 map-flat f g [] = refl
-map-flat f g (x ∷ xs) = map-both f (g x) (flat_map g xs) ∙ ap (λ ys. map f (g x) ++ ys) (map-flat f g xs)
+map-flat f g (x ∷ xs) = map-append f (g x) (flat_map g xs) ∙ ap (λ ys. map f (g x) ++ ys) (map-flat f g xs)
 
 count-cons : {A : Type 0} (p : A → Bool) (x : A) (xs : List A) → count_by p (x ∷ xs) ≡ cond (p x) 1 0 + count_by p xs
 count-cons p x xs = sum_by-cons (λ x. cond (p x) 1 0) x xs
@@ -136,7 +137,7 @@ module _ {A B : Type 0} (cmp : A → A → Ordering) (other : B → B → Orderi
   pub order-mapped : (all : List A) → in_order other (map f all) ≡ map f (in_order cmp all)
   unfolding in_order
   order-mapped all =
-      (λ i. flat_map (λ k. at-place k i) (range_with_len 0 (length-mapped f all i)))
+      (λ i. flat_map (λ k. at-place k i) (range_with_len 0 (length-map all f i)))
       ∙ sym (map-flat f (λ k. filter (λ x. merged_place cmp all x == k) all) (range_with_len 0 (length all)))
     where
       at-place : (k : ℕ) → filter (λ y. merged_place other (map f all) y == k) (map f all) ≡ map f (filter (λ x. merged_place cmp all x == k) all)

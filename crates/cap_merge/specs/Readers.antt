@@ -1,5 +1,5 @@
 -- A merge of files of which nothing was read yet.
-use Rattle.std.specs.Prelude.{◌≡◌, ℕ, ◌+◌, Bool, List, [], ◌∷◌, length, map, Option, None, ⊤}
+use Rattle.std.specs.Prelude.{◌≡◌, ℕ, ◌+◌, Bool, List, [], ◌∷◌, length, map, None, ⊤}
 use Rattle.std.specs.List.{list_all, list_any, range_with_len}
 use Rattle.cap_bytes.specs.declared.faults.Tail.{Tail}
 use Rattle.cap_merge.specs.Files.{clocked_run, endings_of_files}

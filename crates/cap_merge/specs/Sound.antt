@@ -4,9 +4,10 @@ use Rattle.std.specs.Prelude.{not, map, ⊤, is_some, IfSome}
 use Rattle.std.specs.List.{AllByRecursion, range_with_len}
 use Rattle.std.specs.Ordering.{is_lt}
 use Rattle.std.proofs.lemmas.Bool.{true≢false}
+use Rattle.std.proofs.lemmas.List.{length-map}
 use Rattle.cap_source.specs.declared.feeds.Head.{Head}
 use Rattle.cap_source.specs.Feed.{Feed, IsFeed}
-use Rattle.cap_merge.specs.Lists.{alike-mapped, all-each, each-all, length-mapped, mapped-alike}
+use Rattle.cap_merge.specs.Lists.{alike-mapped, all-each, each-all, mapped-alike}
 use Rattle.cap_merge.specs.declared.lanes.Lane.{Lane}
 use Rattle.cap_merge.specs.Clock.{clock_cmp}
 use Rattle.cap_merge.specs.Parts.{Part, parts, IsNumbered, Agrees, HasReached, known_time}
@@ -70,7 +71,7 @@ are_from f n (y ∷ ls) (x ∷ xs) l e =
 
 pub numbered-from : {F : Type 0} (f : F → Feed) (ls : List Lane) (fs : List F) → length ls ≡ length fs
     → IsNumbered (map f fs) → AreFrom 1 (parts ls (map f fs))
-numbered-from f ls fs l e = are_from f 1 ls fs l (e ∙ ap (λ n. map (λ k. k ∷ []) (range_with_len 1 n)) (length-mapped f fs))
+numbered-from f ls fs l e = are_from f 1 ls fs l (e ∙ ap (λ n. map (λ k. k ∷ []) (range_with_len 1 n)) (length-map fs f))
 
 -- each feed is lawful
 pub lawful-each : {F : Type 0} (f : F → Feed) → ((x : F) → IsFeed (f x)) → (ls : List Lane) (fs : List F)

@@ -8,7 +8,7 @@ use crate::files::{merged_of, sources_of};
 use crate::vectors::{File, PACKET, RUNS_BACK, RUNS_ON, SECTION};
 use cap_bytes::{Refusal, Rule};
 use cap_merge::Merged;
-use cap_source::{Ending, Format, Head, Listed, Listing, PacketFeed};
+use cap_source::{Ending, Format, Head, Listed, PacketFeed};
 use cap_time::{Interface, Resolution, Stamp};
 use std::alloc::Global;
 use std::test::Fail;
@@ -25,18 +25,8 @@ fn make_listed(
     ensures { IfOk result (λ s. (⟦<Listed as PacketFeed>⟧.feed s).files ≡ file ∷ []) }
 {
     let interface = interface_of(code).ok_or("an allowed code")?;
-    let mut packets = Vec::new(alloc);
-    for units in times {
-        packets.push(Listing {
-            interface,
-            instance: 0,
-            units: Some(*units),
-            original: 0,
-            frame: Vec::new(alloc),
-        })?;
-    }
     let end = if broken { Some(Rule::Cut) } else { None };
-    Ok(Listed::new(file, packets, end))
+    Ok(Listed::new(file, interface, times.to_vec(alloc)?, end))
 }
 
 // Two files as one.

@@ -13,7 +13,7 @@ use Rattle.cap_blocks.specs.Split.{body_in, block_fault}
 use Rattle.cap_blocks.specs.declared.blocks.Block.{Block}
 use Rattle.cap_bytes.specs.declared.stops.Stop.{Stop}
 use Rattle.cap_bytes.specs.declared.stops.Stop.TheVariants as stops
-use Rattle.cap_source.proofs.Pcaps.{if_none}
+use Rattle.cap_source.proofs.Pcaps.{if_none, cut_is}
 use Rattle.cap_bytes.specs.Number.{number}
 use Rattle.cap_bytes.specs.declared.faults.Rule.TheVariants as rules
 use Rattle.cap_blocks.specs.OptionList.{options_of}
@@ -247,14 +247,6 @@ block_keeps old new p block content g k is = record {
 
 stopped_again : (new : State Order) (stop : Stop) → new.stop ≡ Some stop → items_of new ≡ stopped stop ∷ []
 stopped_again new stop is = rw is refl
-
-cut_is : (cut : Bool) (stop : Stop) → IsTrue cut ↔ (Some stop ≡ Some stops.Cut) → cut ≡ is_cut stop
-cut_is true stops.End both = absurd (let e = both.0 refl in cc)
-cut_is true stops.Cut both = refl
-cut_is true (stops.Refused refusal) both = absurd (let e = both.0 refl in cc)
-cut_is false stops.End both = refl
-cut_is false stops.Cut both = both.1 refl
-cut_is false (stops.Refused refusal) both = refl
 
 no_items : (stop : Stop) (file : ℕ) (p : Progress) (items : List (Item Block)) → IsEnd stop → items ≡ stopped stop ∷ [] → [] ≡ items_in file p items
 unfolding items_in

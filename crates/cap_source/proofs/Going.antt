@@ -1,21 +1,9 @@
 -- One look after another at what comes next of a file.
-use Rattle.std.proofs.Common.{◌≡◌, ◌≤◌, ℕ, Option, Some, None, IfSome, IfNone, Result, Ok, Err, refl, sym, subst, ◌∙◌, arith}
+use Rattle.std.proofs.Common.{◌≡◌, ◌≤◌, ℕ, Option, Some, None, IfSome, IfNone, Result, Ok, Err, sym, subst, ◌∙◌, arith}
 use Rattle.cap_bytes.specs.declared.faults.Fault.{Fault}
 use Rattle.cap_bytes.specs.declared.faults.Fault.TheVariants.{Refused, Read, Write, Memory}
 use Rattle.cap_source.specs.Lanes.{Lane, LaneKeeps, SameRest, Waits, Learns, Fails, Answers}
 use Rattle.cap_source.specs.declared.readers.Next.{Next}
-
-pub LaneKeeps-refl : (a : Lane) → LaneKeeps a a
-LaneKeeps-refl a = record {
-  file = refl;
-  told = λ t. t;
-  can_fail = λ f. f;
-  offset = omega arith;
-  limit = λ h. h;
-  held = λ h. h;
-  interfaces = λ h. h;
-  counted = λ h. h;
-}
 
 pub LaneKeeps-trans : (a b c : Lane) → LaneKeeps a b → LaneKeeps b c → LaneKeeps a c
 LaneKeeps-trans a b c k l = record {

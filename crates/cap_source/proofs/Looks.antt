@@ -1,5 +1,5 @@
 -- What the first four bytes tell, and the reader that is made by that.
-use Rattle.std.proofs.Common.{◌≡◌, ◌≤◌, ℕ, true, false, List, ◌++◌, length, Option, Some, None, is_some, IsTrue, Ok, refl, sym, ap, ◌∙◌, subst, arith, nat_le, length-append}
+use Rattle.std.proofs.Common.{◌≡◌, ◌≤◌, ℕ, true, false, List, ◌++◌, length, None, IsTrue, Ok, refl, sym, ap, ◌∙◌, subst, arith, nat_le, length-append}
 use Rattle.std.proofs.lemmas.Bool.Decides.{nat_tests}
 use Rattle.cap_bytes.proofs.Spelling.{number-append}
 use Rattle.cap_bytes.specs.Window.{State as WindowState, Shows, Keeps, coming}
@@ -9,16 +9,12 @@ use Rattle.cap_pcap.specs.Split as records
 use Rattle.cap_blocks.specs.Split as splits
 use Rattle.cap_blocks.specs.Split.{is_section}
 use Rattle.cap_source.specs.Items.{Progress, interface_of, is_pcapng, items_in, ending_in, first_in, pcap_items, pcap_ending, unless_refused, items_from, ending_from, first_from}
-use Rattle.cap_source.specs.Lanes.{unread_lane, Waits, LaneKeeps}
+use Rattle.cap_source.specs.Lanes.{unread_lane, Waits}
 use Rattle.cap_source.specs.Readers.{lane_of, reader_by, has_format, LooksAtWindow}
 use Rattle.cap_source.specs.declared.packets.Format.{Format}
 use Rattle.cap_source.specs.declared.packets.Format.TheVariants.{Pcap, Pcapng}
 use Rattle.cap_source.specs.declared.readers.Reader.{Reader}
 use Rattle.cap_source.specs.declared.readers.Reader.TheVariants as readers
-
-pub none_is : {A : Type 0} (o : Option A) → is_some o ≡ false → o ≡ None
-none_is None e = refl
-none_is (Some x) e = absurd (cc)
 
 le_true : (m n : ℕ) → m ≤ n → nat_le m n ≡ true
 le_true m n h = grind (arith, nat_tests)
@@ -83,29 +79,6 @@ opened_waits R w v tail Pcapng p s k is = record {
     ending = pcapng_ending_from tail v.file w.file p v.offset w.offset (coming w) (coming v) k.file s.offset (s.coming_same t) (is t);
     first = pcapng_first_from tail v.file w.file p v.offset w.offset (coming w) (coming v) k.file s.offset (s.coming_same t) (is t);
   };
-}
-
-pub opened_keeps : (R : Type 0) (w v : WindowState) (tail : Tail) (format : Format) (p : Progress) → Shows w v → Keeps w v
-    → LaneKeeps (unread_lane w tail p) (lane_of {R = R} (reader_by (readers.Unread v tail) format) p)
-opened_keeps R w v tail Pcap p s k = record {
-  file = k.file;
-  told = k.told;
-  can_fail = k.can_fail;
-  offset = k.offset;
-  limit = λ h. omega (arith, s.offset, h);
-  held = λ h. k.held;
-  interfaces = λ h. h;
-  counted = λ h. omega (arith, h, k.offset);
-}
-opened_keeps R w v tail Pcapng p s k = record {
-  file = k.file;
-  told = k.told;
-  can_fail = k.can_fail;
-  offset = k.offset;
-  limit = λ h. omega (arith, s.offset, h);
-  held = λ h. k.held;
-  interfaces = λ h. h;
-  counted = λ h. omega (arith, h, k.offset);
 }
 
 -- the same of what calls answered

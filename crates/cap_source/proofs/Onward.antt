@@ -1,11 +1,10 @@
 -- Going through a feed: what it was at first, on the way, and where the call ends.
-use Rattle.std.proofs.Common.{◌≡◌, ℕ, ◌≤◌, IsTrue, Option, Some, None, IfSome, Result, Ok, Err, refl, sym, ap, ◌∙◌, subst, arith}
+use Rattle.std.proofs.Common.{◌≡◌, ℕ, Some, None, IfSome, Result, Ok, Err, refl, sym, ap, ◌∙◌, subst, arith}
 use Rattle.cap_bytes.specs.Printing.{IsRead}
 use Rattle.cap_bytes.specs.declared.faults.Fault.{Fault}
 use Rattle.cap_bytes.specs.declared.faults.Fault.TheVariants.{Refused, Read, Write, Memory}
-use Rattle.cap_source.specs.Feed.{Feed, Keeps, Goes, Knows, Breaks, Waits, GivesHead, Passes, HasFile}
+use Rattle.cap_source.specs.Feed.{Feed, Keeps, Goes, Breaks, GivesHead, Passes, HasFile}
 use Rattle.cap_source.specs.Walk.{GivesPacket, Lasts, Fails, Walks}
-use Rattle.cap_source.specs.declared.feeds.Head.{Head}
 use Rattle.cap_source.specs.declared.packets.Meta.{Meta}
 
 -- What is true of a feed on the way: all that every answer keeps, and no read has failed.
@@ -110,15 +109,3 @@ Walks-stop old mid new meta (Refused r) w p other = Goes-behind old mid new w.la
 Walks-stop old mid new meta (Read file offset) w p other = absurd (other tt)
 Walks-stop old mid new meta Write w p other = Lasts-trans old mid new w.lasts (Lasts-goes mid new p.goes)
 Walks-stop old mid new meta Memory w p other = Lasts-trans old mid new w.lasts (Lasts-goes mid new p.goes)
-
--- Nothing is read.
-pub Walks-none : (old : Feed) (fault : Fault) → fault ≡ Write → Walks {A = Unit {0}} old (Err fault) old
-Walks-none old fault is = rw is (Lasts-refl old)
-
--- A read that failed can fail.
-pub Walks-can_fail : {A : Type 0} (old new : Feed) (result : Result A Fault) → Walks old result new → IsRead result → IsTrue old.can_fail
-Walks-can_fail old new (Ok x) p is = absurd is
-Walks-can_fail old new (Err (Refused r)) p is = absurd is
-Walks-can_fail old new (Err (Read file offset)) p is = p.can_fail
-Walks-can_fail old new (Err Write) p is = absurd is
-Walks-can_fail old new (Err Memory) p is = absurd is

@@ -93,7 +93,8 @@ record_learned header file r old new progress named known first g k taken =
 stopped_again : (new : State PcapHeader) (stop : Stop) → new.stop ≡ Some stop → items_of new ≡ stopped stop ∷ []
 stopped_again new stop is = rw is refl
 
-cut_is : (cut : Bool) (stop : Stop) → IsTrue cut ↔ (Some stop ≡ Some stops.Cut) → cut ≡ is_cut stop
+-- whether the end was cut, by what was answered of it
+pub cut_is : (cut : Bool) (stop : Stop) → IsTrue cut ↔ (Some stop ≡ Some stops.Cut) → cut ≡ is_cut stop
 cut_is true stops.End both = absurd (let e = both.0 refl in cc)
 cut_is true stops.Cut both = refl
 cut_is true (stops.Refused refusal) both = absurd (let e = both.0 refl in cc)

@@ -1,5 +1,5 @@
 -- A text of the packets of a feed, written packet by packet.
-use Rattle.std.proofs.Common.{◌≡◌, ℕ, zero, suc, ◌≤◌, List, [], ◌∷◌, ◌++◌, length, take, drop, Bool, IsTrue, Option, Some, None, IsSome, Ok, Err, refl, sym, ap, ◌∙◌, subst, arith, append-nil, length-append, take_at, drop_at}
+use Rattle.std.proofs.Common.{◌≡◌, ℕ, ◌≤◌, List, [], ◌∷◌, ◌++◌, length, take, drop, Bool, IsTrue, Option, Some, None, IsSome, Ok, Err, refl, sym, ap, ◌∙◌, subst, arith, append-nil, append_assoc, length-append, take-append-drop, take_at, drop_at}
 use Rattle.std.proofs.lemmas.Bool.{false≢true}
 use Rattle.cap_bytes.proofs.Putting.{Putting, Putting-more, Putting-all, Putting-front}
 use Rattle.cap_bytes.specs.Device.{Writer}
@@ -44,6 +44,34 @@ pub record Walking (first plan : Plan) (old new : Feed) (failed_old failed_new :
   pub text : IsTrue old.told → Putting from to (first.text old.items) (plan.text new.items)
   pub refusal_same : IsTrue old.told → plan.refusal new.items ≡ first.refusal old.items
 
+-- more of the text is written
+pub Walking-by : (first plan next : Plan) (old mid new : Feed) (fo fm fn : Bool) (from m to : Writer) (line : List ℕ)
+    → Walking first plan old mid fo fm from m
+    → (IsTrue mid.told → IsTrue new.told) → (IsTrue new.can_fail → IsTrue mid.can_fail) → new.left ≤ mid.left
+    → (IsTrue mid.told → plan.text mid.items ≡ line ++ next.text new.items) → (IsTrue mid.told → plan.refusal mid.items ≡ next.refusal new.items)
+    → (IsTrue m.told → to.held ≡ m.held ++ line)
+    → (IsTrue m.told → IsTrue to.told) → (IsTrue to.can_fail → IsTrue m.can_fail) → fn ≡ fm
+    → Walking first next old new fo fn from to
+Walking-by first plan next old mid new fo fm fn from m to line p tells can less split same wrote told cannot failed =
+    let behind = next.text new.items in
+    record {
+      failed = failed ∙ p.failed;
+      told = λ t. tells (p.told t);
+      can_fail = λ c. p.can_fail (can c);
+      left = omega (arith, less, p.left);
+      writer_told = λ t. told (p.writer_told t);
+      writer_cannot = λ c. p.writer_cannot (cannot c);
+      text = λ t.
+          let whole = split (p.told t) in
+          subst (Putting from to (first.text old.items))
+          (ap (drop (length line)) whole ∙ drop_at line behind (length line) refl)
+          (Putting-more from m to (first.text old.items) (plan.text mid.items) (length line) (p.text t)
+          (omega (arith, ap length whole, length-append line behind))
+          (λ w. wrote w ∙ ap (λ l. m.held ++ l) (sym (ap (take (length line)) whole ∙ take_at line behind (length line) refl)))
+          told cannot);
+      refusal_same = λ t. sym (same (p.told t)) ∙ p.refusal_same t;
+    }
+
 -- one more packet is written
 pub Walking-more : (first plan next : Plan) (old mid shown new : Feed) (fo fm fn : Bool) (from m to : Writer) (meta : Meta) (line : List ℕ)
     → Walking first plan old mid fo fm from m
@@ -53,30 +81,12 @@ pub Walking-more : (first plan next : Plan) (old mid shown new : Feed) (fo fm fn
     → (IsTrue m.told → to.held ≡ m.held ++ line)
     → (IsTrue m.told → IsTrue to.told) → (IsTrue to.can_fail → IsTrue m.can_fail) → fn ≡ fm
     → Walking first next old new fo fn from to
-Walking-more first plan next old mid shown new fo fm fn from m to meta line p asked shows passed dropped goes wrote told cannot failed =
-    let head = λ (t : IsTrue old.told). (shows (p.told t)).1 in
-    let rest : IsTrue old.told → drop 1 mid.items ≡ new.items =
-    λ t. sym (dropped (asked.told (p.told t)) ∙ ap (drop 1) (shows (p.told t)).0.items) in
-    record {
-      failed = failed ∙ p.failed;
-      told = λ t. passed.told (asked.told (p.told t));
-      can_fail = λ c. p.can_fail (asked.can_fail (passed.can_fail c));
-      left = omega (arith, passed.left, asked.left, p.left);
-      writer_told = λ t. told (p.writer_told t);
-      writer_cannot = λ c. p.writer_cannot (cannot c);
-      text = λ t.
-          let behind = next.text new.items in
-          let split : plan.text mid.items ≡ line ++ behind =
-          ap plan.text (head t) ∙ (goes.text (drop 1 mid.items) ∙ ap (λ l. line ++ next.text l) (rest t)) in
-          subst (Putting from to (first.text old.items))
-          (ap (drop (length line)) split ∙ drop_at line behind (length line) refl)
-          (Putting-more from m to (first.text old.items) (plan.text mid.items) (length line) (p.text t)
-          (omega (arith, ap length split, length-append line behind))
-          (λ w. wrote w ∙ ap (λ l. m.held ++ l) (sym (ap (take (length line)) split ∙ take_at line behind (length line) refl)))
-          told cannot);
-      refusal_same = λ t.
-          sym (ap plan.refusal (head t) ∙ (goes.refusal (drop 1 mid.items) ∙ ap next.refusal (rest t))) ∙ p.refusal_same t;
-    }
+Walking-more first plan next old mid shown new fo fm fn from m to meta line p asked shows passed dropped goes =
+    let rest : IsTrue mid.told → drop 1 mid.items ≡ new.items = λ t. sym (dropped (asked.told t) ∙ ap (drop 1) (shows t).0.items) in
+    Walking-by first plan next old mid new fo fm fn from m to line p
+    (λ t. passed.told (asked.told t)) (λ c. asked.can_fail (passed.can_fail c)) (omega (arith, passed.left, asked.left))
+    (λ t. ap plan.text (shows t).1 ∙ (goes.text (drop 1 mid.items) ∙ ap (λ l. line ++ next.text l) (rest t)))
+    (λ t. ap plan.refusal (shows t).1 ∙ (goes.refusal (drop 1 mid.items) ∙ ap next.refusal (rest t)))
 
 -- what is written where a call for the next packet answers a fault
 pub Prints-fault : (plan : Plan) (fault : Fault) (text : List ℕ) (refusal : Option Refusal) (from to : Writer) (mid shown : Feed)
@@ -99,25 +109,26 @@ Prints-end plan text refusal from to mid shown is p t same shows = (
   Putting-all from to text (plan.text mid.items) p (ap plan.text shows.1 ∙ is.text_none) t,
 )
 
-take-none : (n : ℕ) → take {A = ℕ} n [] ≡ []
-take-none zero = refl
-take-none (suc n) = refl
-
--- What is written where a packet is refused: nothing more.
-pub Prints-refused : (fault : Fault) (text rest : List ℕ) (refusal : Option Refusal) (r : Refusal) (from mid : Writer) (held : List ℕ)
-    → Putting from mid text rest → rest ≡ [] → IsTrue from.told → refusal ≡ Some r
-    → Prints {A = Unit {0}} [] (Some r) mid.held (Err fault) held
+-- What is written where the last part of a text is, or a prefix of it.
+pub Prints-whole : (fault : Fault) (text line : List ℕ) (refusal : Option Refusal) (r : Refusal) (from mid : Writer) (held : List ℕ)
+    → Putting from mid text line → IsTrue from.told → refusal ≡ Some r
+    → Prints {A = Unit {0}} line (Some r) mid.held (Err fault) held
     → Prints {A = Unit {0}} text refusal from.held (Err fault) held
-Prints-refused (Refused s) text rest refusal r from mid held p none t is prints =
-    (is ∙ prints.0, prints.1 ∙ (append-nil mid.held ∙ Putting-all from mid text rest p none t))
-Prints-refused (Read file offset) text rest refusal r from mid held p none t is prints =
-    (p.at, prints.1 ∙ (ap (λ l. mid.held ++ l) (take-none prints.0) ∙ (append-nil mid.held ∙ p.written t)))
-Prints-refused Write text rest refusal r from mid held p none t is prints =
-    (p.at, prints.1 ∙ (ap (λ l. mid.held ++ l) (take-none prints.0) ∙ (append-nil mid.held ∙ p.written t)))
-Prints-refused Memory text rest refusal r from mid held p none t is prints =
-    (p.at, prints.1 ∙ (ap (λ l. mid.held ++ l) (take-none prints.0) ∙ (append-nil mid.held ∙ p.written t)))
+Prints-whole (Refused s) text line refusal r from mid held p t is prints = (
+  is ∙ prints.0,
+  prints.1
+      ∙ (ap (λ l. l ++ line) (p.written t)
+      ∙ (append_assoc from.held (take p.at text) line
+      ∙ ap (λ l. from.held ++ l) (ap (λ l. take p.at text ++ l) p.left ∙ take-append-drop p.at text))),
+)
+Prints-whole (Read file offset) text line refusal r from mid held p t is prints =
+    Putting-front from mid held text line [] prints.0 (subst (Putting from mid text) (sym (append-nil line)) p) t prints.1
+Prints-whole Write text line refusal r from mid held p t is prints =
+    Putting-front from mid held text line [] prints.0 (subst (Putting from mid text) (sym (append-nil line)) p) t prints.1
+Prints-whole Memory text line refusal r from mid held p t is prints =
+    Putting-front from mid held text line [] prints.0 (subst (Putting from mid text) (sym (append-nil line)) p) t prints.1
 
--- And where it isn't written whole: a prefix of its line.
+-- And where a line before the last isn't written whole: a prefix of it.
 pub Prints-front : (fault : Fault) (text line behind : List ℕ) (refusal : Option Refusal) (from mid : Writer) (held : List ℕ)
     → Putting from mid text (line ++ behind) → IsTrue from.told
     → Prints {A = Unit {0}} line None mid.held (Err fault) held

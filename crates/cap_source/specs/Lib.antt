@@ -6,8 +6,7 @@ pub mod Fields
 pub mod Items
 pub mod Lanes
 pub mod Laws
-pub mod ListLaws
-pub mod Listings
+pub mod Listed
 pub mod ReadFaults
 pub mod Reached
 pub mod Readers

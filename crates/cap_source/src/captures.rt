@@ -8,10 +8,9 @@ ghost use Rattle.cap_source.specs.Reached.{progress_of};
 ghost use Rattle.cap_source.specs.Readers.{lane_of, is_there, reader_room};
 
 use crate::feeds::{Ending, FeedHeld, Head, PacketFeed};
+use crate::learning::learn;
 use crate::reached::{Reached, nothing_reached};
-use crate::readers::{
-    Next, Reader, ending_of, failed_of, head_of, held_of, learn, number_of, part_of,
-};
+use crate::readers::{Next, Reader, ending_of, failed_of, head_of, held_of, number_of, part_of};
 use cap_bytes::{Fault, Source, Tail, Window};
 use cap_time::Interface;
 use std::alloc::Global;

@@ -7,16 +7,16 @@ use crate::interfaces::interface_of;
 use cap_bytes::{Order, PACKET_LIMIT, Rule, u16_at, u32_at};
 use cap_time::Interface;
 
-/// The kind of a section header, which reads the same in both orders.
-pub const SECTION: u32 = 0x0A0D_0D0A;
-/// The kind of an interface block.
-pub const INTERFACE: u32 = 1;
-/// The kind of an obsolete packet block.
-pub const OBSOLETE_PACKET: u32 = 2;
-/// The kind of a simple packet block.
-pub const SIMPLE_PACKET: u32 = 3;
-/// The kind of an enhanced packet block.
-pub const ENHANCED_PACKET: u32 = 6;
+// The kind of a section header, which reads the same in both orders.
+const SECTION: u32 = 0x0A0D_0D0A;
+// The kind of an interface block.
+const INTERFACE: u32 = 1;
+// The kind of an obsolete packet block.
+const OBSOLETE_PACKET: u32 = 2;
+// The kind of a simple packet block.
+const SIMPLE_PACKET: u32 = 3;
+// The kind of an enhanced packet block.
+const ENHANCED_PACKET: u32 = 6;
 
 // Where the captured bytes begin in the body of a packet with a time, and of a simple one.
 const TIMED_HEAD: u32 = 20;

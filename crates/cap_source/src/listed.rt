@@ -1,63 +1,97 @@
-//! A list of packets in memory, as a feed.
-ghost use Rattle.std.specs.Prelude.{◌≡◌, ◌≤◌, ◌^◌, false, length, take};
-ghost use Rattle.cap_source.specs.ListLaws.{lists_lawful};
-ghost use Rattle.cap_source.specs.Listings.{list_feed};
+//! Packets without bytes in memory: a feed that isn't read of a file.
+ghost use Rattle.std.specs.Prelude.{◌≡◌, ◌≤◌, ◌^◌, None, drop, length, take};
+ghost use Rattle.std.specs.Option.{ForSome};
+ghost use Rattle.cap_source.specs.Listed.{head_at, list_feed, lists_lawful};
 
 use crate::feeds::{Ending, FeedHeld, Head, PacketFeed};
-use crate::listings::{Listing, frame_of_list, head_of_list};
-use crate::packets::Format;
-use cap_bytes::{Fault, Rule};
+use crate::packets::{Format, Meta};
+use cap_bytes::{Fault, Refusal, Rule};
+use cap_time::Interface;
 
 // The most packets that a list gives.
 const LIST_LIMIT: usize = 0x100_0000_0000;
 
-/// A list of packets in memory, as a feed of one file that never fails. A packet's offset is its place in
-/// the list, from 0 on.
+/// The packets of one file, in memory, as a feed that never fails: packets of one interface and without bytes, of which the
+/// times are told. A packet's offset is its place in the list, from 0 on.
 #[derive(Drop)]
 pub struct Listed {
     file: u32,
-    packets: Vec<Listing>,
+    interface: Interface,
+    times: Vec<u64>,
     end: Option<Rule>,
     place: usize,
-    // whether what comes next was asked for
-    asked: bool,
-    ghost most: { length packets.items ≤ 2 ^ 40 },
-    ghost within: { place ≤ length packets.items },
+    // what comes next, once it was asked for
+    next: Option<Head>,
+    ghost most: { length times.items ≤ 2 ^ 40 },
+    ghost within: { place ≤ length times.items },
+    ghost known: { ForSome next (λ head. head ≡ head_at file interface end place (drop place times.items)) },
 }
 
 impl Listed {
-    /// The first 2^40 of these packets, as the file of that number, and then a refusal by that rule, if
-    /// by one. Takes no memory.
-    pub fn new(file: u32, packets: Vec<Listing>, end: Option<Rule>) -> Listed
-        ensures { ⟦<Listed as PacketFeed>⟧.feed result ≡ list_feed file (take (2 ^ 40) packets.items) end 0 false }
+    /// Packets at the first 2^40 of these times, in units of the interface's clock, as the file of that number, and then
+    /// a refusal by that rule, if by one. Takes no memory.
+    pub fn new(file: u32, interface: Interface, times: Vec<u64>, end: Option<Rule>) -> Listed
+        ensures { ⟦<Listed as PacketFeed>⟧.feed result ≡ list_feed file interface end 0 (take (2 ^ 40) times.items) None }
     {
-        let mut packets = packets;
-        packets.truncate(LIST_LIMIT);
+        let mut times = times;
+        times.truncate(LIST_LIMIT);
         Listed {
             file,
-            packets,
+            interface,
+            times,
             end,
             place: 0,
-            asked: false,
+            next: None,
+        }
+    }
+
+    // What comes next.
+    fn head_here(&self) -> Head
+        ensures { result ≡ head_at self.now.file self.now.interface self.now.end self.now.place (drop self.now.place self.now.times.items) }
+    {
+        match (self.times.get(self.place), self.end) {
+            (Some(units), _) => Head::Packet(Meta {
+                file: self.file,
+                offset: self.place as u64,
+                format: Format::Pcap,
+                skipped: 0,
+                instance: 0,
+                interface: self.interface,
+                units: Some(*units),
+                captured: 0,
+                original: 0,
+            }),
+            (None, Some(rule)) => Head::Refused(Refusal {
+                file: self.file,
+                offset: self.place as u64,
+                rule,
+            }),
+            (None, None) => Head::End,
         }
     }
 }
 
 impl PacketFeed for Listed {
-    ghost feed = { λ l. list_feed l.file l.packets.items l.end l.place l.asked };
+    ghost feed = { λ l. list_feed l.file l.interface l.end l.place (drop l.place l.times.items) l.next };
 
     fn head(&mut self) -> Result<Head, Fault> {
-        self.asked = true;
-        Ok(head_of_list(self.file, &self.packets, self.place, self.end))
+        match self.next {
+            Some(head) => Ok(head),
+            None => {
+                let head = self.head_here();
+                self.next = Some(head);
+                Ok(head)
+            }
+        }
     }
 
     fn frame(&self) -> &[u8] {
-        frame_of_list(&self.packets, self.place)
+        &[]
     }
 
     fn pass(&mut self) {
         self.place += 1;
-        self.asked = false;
+        self.next = None;
     }
 
     fn ending(&self, _file: u32) -> Ending {
@@ -76,5 +110,5 @@ impl PacketFeed for Listed {
         }
     }
 
-    ghost lawful = { λ l. lists_lawful l.file l.packets.items l.end l.place l.asked l.most l.within };
+    ghost lawful = { λ l. lists_lawful l.file l.interface l.end l.place l.times.items l.next l.most l.within l.known };
 }

@@ -1,20 +1,16 @@
 -- The packets of a feed, written one by one in the form of pcapng.
-use Rattle.std.proofs.Common.{◌≡◌, ℕ, ◌+◌, ◌≤◌, ◌<◌, ◌==◌, List, [], ◌∷◌, ◌++◌, length, Bool, true, false, Option, Some, None, Err, refl, sym, ap, ◌∙◌, subst, arith, length-append, IsTrue, if◌then◌else◌}
+use Rattle.std.proofs.Common.{◌≡◌, ℕ, ◌+◌, ◌≤◌, ◌<◌, ◌==◌, List, [], ◌∷◌, ◌++◌, length, Bool, true, false, Some, None, refl, sym, ap, ◌∙◌, arith, length-append, if◌then◌else◌}
 use Rattle.std.proofs.lemmas.Bool.{eq-eqb, ne_eqb}
-use Rattle.cap_bytes.proofs.Putting.{Putting}
 use Rattle.cap_bytes.specs.Device.{Writer}
-use Rattle.cap_bytes.specs.Printing.{Prints}
-use Rattle.cap_bytes.specs.declared.faults.Fault.{Fault}
-use Rattle.cap_bytes.specs.declared.faults.Refusal.{Refusal}
 use Rattle.cap_bytes.specs.declared.faults.Rule.{Rule}
 use Rattle.cap_bytes.specs.declared.numbers.Order.{Order}
 use Rattle.cap_source.proofs.Onward.{Went}
-use Rattle.cap_source.proofs.Walking.{Plan, IsPlan, GoesOn, GivesUp, Walking, Prints-refused, Prints-front}
-use Rattle.cap_source.specs.Feed.{Feed, Item, packet}
+use Rattle.cap_source.proofs.Walking.{Plan, IsPlan, GoesOn, GivesUp, Walking}
+use Rattle.cap_source.specs.Feed.{Feed}
 use Rattle.cap_source.specs.declared.packets.Meta.{Meta}
 use Rattle.cap_write.proofs.Places.{position_or_len-none, position_or_len-some}
-use Rattle.cap_write.specs.Numbering.{Name, name_of, is_name, is_used, number_of, numbered_of, numbered, with_name, write_fault, refusal_at, refusal_by, refusal_in}
-use Rattle.cap_write.specs.Texts.{text_or, numbered_text, packets_text, count_after, text_behind, one_text}
+use Rattle.cap_write.specs.Numbering.{Name, name_of, is_name, is_used, number_of, numbered_of, numbered, with_name, write_fault, refusal_at, refusal_in}
+use Rattle.cap_write.specs.Texts.{packets_text, count_after, text_behind, one_text}
 
 eqb-false : (a b : ℕ) → a < b → (a == b) ≡ false
 eqb-false a b h = ne_eqb a b (λ e. omega (arith, h, e))
@@ -60,38 +56,3 @@ pub record Feeding (order : Order) (old new : Feed) (names_old names : List Name
   pub limit : length names ≤ 1024
   pub went : Went old new
   pub walk : Walking (plan_of order names_old) (plan_of order names) old new failed_old failed_new from to
-
--- what is written where a packet is refused, or isn't written whole
-Prints-first : (order : Order) (fault : Fault) (text : List ℕ) (refusal : Option Refusal) (from mid : Writer) (held : List ℕ) (names : List Name) (meta : Meta) (frame : List ℕ) (items : List Item)
-    → Putting from mid text (text_behind order names (packet meta frame ∷ items)) → IsTrue from.told
-    → refusal_in names (packet meta frame ∷ items) ≡ refusal
-    → Prints {A = Unit {0}} (one_text order names meta frame) (refusal_by meta (write_fault names meta)) mid.held (Err fault) held
-    → Prints {A = Unit {0}} text refusal from.held (Err fault) held
-Prints-first order fault text refusal from mid held names meta frame items p t same prints = by (write_fault names meta) refl
-  where
-    by : (rule : Option Rule) → write_fault names meta ≡ rule → Prints {A = Unit {0}} text refusal from.held (Err fault) held
-    by (Some rule) is =
-        let gives = plan_of-refused order names meta frame rule is in
-        Prints-refused fault text (text_behind order names (packet meta frame ∷ items)) refusal (refusal_at meta rule) from mid held p
-        (gives.text items) t (sym same ∙ gives.refusal items)
-        (subst (λ r. Prints {A = Unit {0}} (text_or r (numbered_text order (length names) (numbered_of names meta frame))) (refusal_by meta r) mid.held (Err fault) held)
-        is prints)
-    by None is =
-        let line = numbered_text order (length names) (numbered_of names meta frame) in
-        let behind = text_behind order (with_name names meta) items in
-        Prints-front fault text line behind refusal from mid held
-        (subst (Putting from mid text)
-        ((plan_of-next order names meta frame is).text items ∙ ap (λ r. text_or r line ++ behind) is) p)
-        t
-        (subst (λ r. Prints {A = Unit {0}} (text_or r line) (refusal_by meta r) mid.held (Err fault) held) is prints)
-
-pub Prints-one : (order : Order) (fault : Fault) (text : List ℕ) (refusal : Option Refusal) (from mid : Writer) (held : List ℕ) (names : List Name) (meta : Meta) (frame lent : List ℕ) (items rest : List Item)
-    → items ≡ packet meta frame ∷ rest → lent ≡ frame
-    → Putting from mid text (text_behind order names items) → IsTrue from.told → refusal_in names items ≡ refusal
-    → Prints {A = Unit {0}} (one_text order names meta lent) (refusal_by meta (write_fault names meta)) mid.held (Err fault) held
-    → Prints {A = Unit {0}} text refusal from.held (Err fault) held
-Prints-one order fault text refusal from mid held names meta frame lent items rest is same_frame p t same prints =
-    Prints-first order fault text refusal from mid held names meta frame rest
-    (subst (λ l. Putting from mid text (text_behind order names l)) is p) t
-    (ap (refusal_in names) (sym is) ∙ same)
-    (subst (λ f. Prints {A = Unit {0}} (one_text order names meta f) (refusal_by meta (write_fault names meta)) mid.held (Err fault) held) same_frame prints)

@@ -1,6 +1,6 @@
 -- The datagrams of a run of packets, written one by one.
-use Rattle.std.proofs.Common.{◌≡◌, ℕ, ◌+◌, ◌*◌, ◌^◌, ◌≤◌, ◌<◌, List, [], ◌∷◌, ◌++◌, length, take, drop, map, Bool, IsTrue, Option, Some, None, Ok, Err, refl, sym, ap, ◌∙◌, subst, arith, append_assoc, append-nil, length-append, take-append-drop, take_at, drop_at}
-use Rattle.cap_bytes.proofs.Putting.{Putting, Putting-more, Putting-front}
+use Rattle.std.proofs.Common.{◌≡◌, ℕ, ◌+◌, ◌*◌, ◌^◌, ◌≤◌, ◌<◌, List, [], ◌∷◌, ◌++◌, length, drop, map, Bool, IsTrue, Option, Some, None, Ok, Err, refl, sym, ap, ◌∙◌, subst, arith, append_assoc}
+use Rattle.cap_bytes.proofs.Putting.{Putting}
 use Rattle.cap_bytes.specs.Device.{Writer}
 use Rattle.cap_bytes.specs.Printing.{Prints}
 use Rattle.cap_bytes.specs.declared.faults.Fault.{Fault}
@@ -13,11 +13,9 @@ use Rattle.cap_join.specs.Joiners.{JoinerState, StandsFor}
 use Rattle.cap_merge.specs.Parts.{Part, feed_of, run_of, BeginsAt}
 use Rattle.cap_merge.specs.Run.{Clocked}
 use Rattle.cap_source.proofs.Onward.{Went, Went-more}
-use Rattle.cap_source.proofs.Walking.{Prints-fault, Prints-end, Prints-front}
-use Rattle.cap_source.specs.Feed.{Feed, Item, packet, refused, Keeps, Passes, SameItems, IsFeed, Leads}
+use Rattle.cap_source.proofs.Walking.{Walking, Walking-by, Prints-whole, Prints-front}
+use Rattle.cap_source.specs.Feed.{Feed, Item, packet, refused, Keeps, Passes}
 use Rattle.cap_source.specs.Walk.{GivesPacket, ShowsItem}
-use Rattle.cap_source.specs.declared.feeds.Head.{Head}
-use Rattle.cap_source.specs.declared.feeds.Head.TheVariants as heads
 use Rattle.cap_source.specs.declared.packets.Meta.{Meta}
 use Rattle.cap_time.specs.declared.stamps.Stamp.{Stamp}
 use Rattle.cap_write.proofs.Feeding.{plan_of, plan_of-is, plan_of-next, plan_of-refused}
@@ -33,42 +31,32 @@ refusal-first : (names : List Name) (r : Refusal) (items : List Item) → refusa
 unfolding refusal_in
 refusal-first names r items = refl
 
--- what is written of some items and of others after them, where none of the first is refused
-pub behind-text : (order : Order) (names : List Name) (items rest : List Item) → refusal_in names items ≡ None
-    → text_behind order names (items ++ rest) ≡ text_behind order names items ++ text_behind order (names_behind names items) rest
+-- what is written of some items and of others after them, where none of the first is refused, and what refuses them
+pub behind : (order : Order) (names : List Name) (items rest : List Item) → refusal_in names items ≡ None
+    → (text_behind order names (items ++ rest) ≡ text_behind order names items ++ text_behind order (names_behind names items) rest)
+    × (refusal_in names (items ++ rest) ≡ refusal_in (names_behind names items) rest)
 unfolding names_behind
-behind-text order names [] rest none = ap (λ l. l ++ text_behind order names rest) (sym (plan_of-is order names).text_none)
-behind-text order names (packet meta frame ∷ items) rest none = by (write_fault names meta) refl (behind-text order (with_name names meta) items rest)
+behind order names [] rest none = (ap (λ l. l ++ text_behind order names rest) (sym (plan_of-is order names).text_none), refl)
+behind order names (packet meta frame ∷ items) rest none = by (write_fault names meta) refl (behind order (with_name names meta) items rest)
   where
     by : (fault : Option Rule) → write_fault names meta ≡ fault
         → (refusal_in (with_name names meta) items ≡ None
-        → text_behind order (with_name names meta) (items ++ rest) ≡ text_behind order (with_name names meta) items ++ text_behind order (names_behind (with_name names meta) items) rest)
-        → text_behind order names (packet meta frame ∷ (items ++ rest)) ≡ text_behind order names (packet meta frame ∷ items) ++ text_behind order (names_behind (with_name names meta) items) rest
+        → (text_behind order (with_name names meta) (items ++ rest) ≡ text_behind order (with_name names meta) items ++ text_behind order (names_behind (with_name names meta) items) rest)
+        × (refusal_in (with_name names meta) (items ++ rest) ≡ refusal_in (names_behind (with_name names meta) items) rest))
+        → (text_behind order names (packet meta frame ∷ (items ++ rest)) ≡ text_behind order names (packet meta frame ∷ items) ++ text_behind order (names_behind (with_name names meta) items) rest)
+        × (refusal_in names (packet meta frame ∷ (items ++ rest)) ≡ refusal_in (names_behind (with_name names meta) items) rest)
     by (Some rule) is go = absurd (none-some (refusal_at meta rule) (sym none ∙ (plan_of-refused order names meta frame rule is).refusal items))
     by None is go =
         let next = plan_of-next order names meta frame is in
         let line = one_text order names meta frame in
-        let behind = text_behind order (names_behind (with_name names meta) items) rest in
-        next.text (items ++ rest)
-        ∙ (ap (λ l. line ++ l) (go (sym (next.refusal items) ∙ none))
-        ∙ (sym (append_assoc line (text_behind order (with_name names meta) items) behind) ∙ ap (λ l. l ++ behind) (sym (next.text items))))
-behind-text order names (refused r ∷ items) rest none = absurd (none-some r (sym none ∙ refusal-first names r items))
-
-pub behind-refusal : (order : Order) (names : List Name) (items rest : List Item) → refusal_in names items ≡ None
-    → refusal_in names (items ++ rest) ≡ refusal_in (names_behind names items) rest
-unfolding names_behind
-behind-refusal order names [] rest none = refl
-behind-refusal order names (packet meta frame ∷ items) rest none = by (write_fault names meta) refl (behind-refusal order (with_name names meta) items rest)
-  where
-    by : (fault : Option Rule) → write_fault names meta ≡ fault
-        → (refusal_in (with_name names meta) items ≡ None
-        → refusal_in (with_name names meta) (items ++ rest) ≡ refusal_in (names_behind (with_name names meta) items) rest)
-        → refusal_in names (packet meta frame ∷ (items ++ rest)) ≡ refusal_in (names_behind (with_name names meta) items) rest
-    by (Some rule) is go = absurd (none-some (refusal_at meta rule) (sym none ∙ (plan_of-refused order names meta frame rule is).refusal items))
-    by None is go =
-        let next = plan_of-next order names meta frame is in
-        next.refusal (items ++ rest) ∙ go (sym (next.refusal items) ∙ none)
-behind-refusal order names (refused r ∷ items) rest none = absurd (none-some r (sym none ∙ refusal-first names r items))
+        let later = text_behind order (names_behind (with_name names meta) items) rest in
+        let both = go (sym (next.refusal items) ∙ none) in (
+          next.text (items ++ rest)
+              ∙ (ap (λ l. line ++ l) both.0
+              ∙ (sym (append_assoc line (text_behind order (with_name names meta) items) later) ∙ ap (λ l. l ++ later) (sym (next.text items)))),
+          next.refusal (items ++ rest) ∙ both.1,
+        )
+behind order names (refused r ∷ items) rest none = absurd (none-some r (sym none ∙ refusal-first names r items))
 
 text-first : (order : Order) (names : List Name) (r : Refusal) (items : List Item) → text_behind order names (refused r ∷ items) ≡ []
 unfolding numbered packets_text
@@ -95,25 +83,6 @@ stopped-text order names (packet meta frame ∷ items) rest r some = by (write_f
 stopped-text order names (refused q ∷ items) rest r some =
     (text-first order names q (items ++ rest) ∙ sym (text-first order names q items), refusal-first names q (items ++ rest) ∙ (sym (refusal-first names q items) ∙ some))
 
--- what is written where the last part of a text is, or a prefix of it
-Prints-whole : (fault : Fault) (text line : List ℕ) (refusal : Option Refusal) (r : Refusal) (from mid : Writer) (held : List ℕ)
-    → Putting from mid text line → IsTrue from.told → refusal ≡ Some r
-    → Prints {A = Unit {0}} line (Some r) mid.held (Err fault) held
-    → Prints {A = Unit {0}} text refusal from.held (Err fault) held
-Prints-whole (Refused s) text line refusal r from mid held p t is prints = (
-  is ∙ prints.0,
-  prints.1
-      ∙ (ap (λ l. l ++ line) (p.written t)
-      ∙ (append_assoc from.held (take p.at text) line
-      ∙ ap (λ l. from.held ++ l) (ap (λ l. take p.at text ++ l) p.left ∙ take-append-drop p.at text))),
-)
-Prints-whole (Read file offset) text line refusal r from mid held p t is prints =
-    Putting-front from mid held text line [] prints.0 (subst (Putting from mid text) (sym (append-nil line)) p) t prints.1
-Prints-whole Write text line refusal r from mid held p t is prints =
-    Putting-front from mid held text line [] prints.0 (subst (Putting from mid text) (sym (append-nil line)) p) t prints.1
-Prints-whole Memory text line refusal r from mid held p t is prints =
-    Putting-front from mid held text line [] prints.0 (subst (Putting from mid text) (sym (append-nil line)) p) t prints.1
-
 -- what is written where some of the items to come aren't written whole
 pub Prints-part : (order : Order) (fault : Fault) (text : List ℕ) (refusal : Option Refusal) (from mid : Writer) (held : List ℕ) (names : List Name) (all items rest : List Item)
     → all ≡ items ++ rest
@@ -131,7 +100,7 @@ Prints-part order fault text refusal from mid held names all items rest split p 
         (subst (λ s. Prints {A = Unit {0}} (text_behind order names items) s mid.held (Err fault) held) is prints)
     by None is =
         Prints-front fault text (text_behind order names items) (text_behind order (names_behind names items) rest) refusal from mid held
-        (subst (Putting from mid text) (ap (text_behind order names) split ∙ behind-text order names items rest is) p) t
+        (subst (Putting from mid text) (ap (text_behind order names) split ∙ (behind order names items rest is).0) p) t
         (subst (λ s. Prints {A = Unit {0}} (text_behind order names items) s mid.held (Err fault) held) is prints)
 
 -- the run, by its items
@@ -171,6 +140,10 @@ joined-at-first mid shown meta frame clock place events head same begins =
     ap (joined_items place events)
     (first-of-run (run_of mid) clock (packet meta frame) (drop 1 (feed_of mid).items) (subst (BeginsAt clock) same begins) (sym (items-of-run mid) ∙ head))
 
+-- what is to be written of a run as of a feed
+abbrev pub feeding : List Part → ℕ → List Event → Feed
+feeding ps place events = record (feed_of ps) { items = joined_items place events (run_of ps) }
+
 -- The datagrams so far of a run that was `old` are written by a writer that was `from`.
 pub record Joining (order : Order) (old new : List Part) (names_old names : List Name) (joiner : JoinerState) (place : ℕ) (failed_old failed_new : Bool) (from to : Writer) : Type 0 where
   pub limit : length names ≤ 1024
@@ -179,15 +152,7 @@ pub record Joining (order : Order) (old new : List Part) (names_old names : List
   pub stands : StandsFor joiner events
   pub next : joiner.next ≤ place
   pub places : place + (feed_of new).left ≤ (feed_of old).left
-  pub failed : failed_new ≡ failed_old
-  pub told : IsTrue (feed_of old).told → IsTrue (feed_of new).told
-  pub can_fail : IsTrue (feed_of new).can_fail → IsTrue (feed_of old).can_fail
-  pub writer_told : IsTrue from.told → IsTrue to.told
-  pub writer_cannot : IsTrue to.can_fail → IsTrue from.can_fail
-  pub text : IsTrue (feed_of old).told
-      → Putting from to (text_behind order names_old (joined_items 0 [] (run_of old))) (text_behind order names (joined_items place events (run_of new)))
-  pub refusal_same : IsTrue (feed_of old).told
-      → refusal_in names (joined_items place events (run_of new)) ≡ refusal_in names_old (joined_items 0 [] (run_of old))
+  pub walk : Walking (plan_of order names_old) (plan_of order names) (feeding old 0 []) (feeding new place events) failed_old failed_new from to
 
 -- one more packet
 pub Joining-more : (order : Order) (old mid shown new : List Part) (names_old names names_new : List Name) (joiner joiner_new : JoinerState) (place : ℕ) (fo fm fn : Bool)
@@ -213,14 +178,10 @@ Joining-more order old mid shown new names_old names names_new joiner joiner_new
     let after = events_after place events clock meta frame in
     let items = items_of_packet place events clock meta frame in
     let rest = joined_items (place + 1) after (run_of new) in
-    let split : IsTrue (feed_of old).told → joined_items place events (run_of mid) ≡ items ++ rest =
-    λ t. joined-first mid shown new meta frame clock place events ((shows (p.told t)).1 ∙ ap (λ f. packet meta f ∷ drop 1 (feed_of mid).items) (sym lent)) (same (p.told t)) (begins (asked.told (p.told t))) (dropped (asked.told (p.told t))) in
-    let none = (named events p.stands).1 in
-    let names_is = (named events p.stands).0 in
-    let line = text_behind order names items in
-    let behind = text_behind order names_new rest in
-    let whole : IsTrue (feed_of old).told → text_behind order names (joined_items place events (run_of mid)) ≡ line ++ behind =
-    λ t. ap (text_behind order names) (split t) ∙ (behind-text order names items rest none ∙ ap (λ n. line ++ text_behind order n rest) (sym names_is)) in
+    let split : IsTrue (feed_of mid).told → joined_items place events (run_of mid) ≡ items ++ rest =
+    λ t. joined-first mid shown new meta frame clock place events ((shows t).1 ∙ ap (λ f. packet meta f ∷ drop 1 (feed_of mid).items) (sym lent)) (same t) (begins (asked.told t)) (dropped (asked.told t)) in
+    let name = named events p.stands in
+    let both = behind order names items rest name.1 in
     record {
       limit = limit;
       went = Went-more (feed_of old) (feed_of mid) (feed_of shown) (feed_of new) meta p.went gives asked passes passed;
@@ -228,20 +189,13 @@ Joining-more order old mid shown new names_old names names_new joiner joiner_new
       stands = stands events p.stands;
       next = next;
       places = omega (arith, p.places, asked.left, passes.left);
-      failed = failed ∙ p.failed;
-      told = λ t. passed.told (asked.told (p.told t));
-      can_fail = λ c. p.can_fail (asked.can_fail (passed.can_fail c));
-      writer_told = λ t. told (p.writer_told t);
-      writer_cannot = λ c. p.writer_cannot (cannot c);
-      text = λ t.
-          subst (Putting from to (text_behind order names_old (joined_items 0 [] (run_of old))))
-          (ap (drop (length line)) (whole t) ∙ drop_at line behind (length line) refl)
-          (Putting-more from m to (text_behind order names_old (joined_items 0 [] (run_of old))) (text_behind order names (joined_items place events (run_of mid))) (length line) (p.text t)
-          (omega (arith, ap length (whole t), length-append line behind))
-          (λ w. wrote w events p.stands ∙ ap (λ l. m.held ++ l) (sym (ap (take (length line)) (whole t) ∙ take_at line behind (length line) refl)))
-          told cannot);
-      refusal_same = λ t.
-          sym (ap (refusal_in names) (split t) ∙ (behind-refusal order names items rest none ∙ ap (λ n. refusal_in n rest) (sym names_is))) ∙ p.refusal_same t;
+      walk =
+          Walking-by (plan_of order names_old) (plan_of order names) (plan_of order names_new) (feeding old 0 []) (feeding mid place events) (feeding new (place + 1) after) fo fm fn from m to
+          (text_behind order names items) p.walk
+          (λ t. passed.told (asked.told t)) (λ c. asked.can_fail (passed.can_fail c)) (omega (arith, passed.left, asked.left))
+          (λ t. ap (text_behind order names) (split t) ∙ (both.0 ∙ ap (λ n. text_behind order names items ++ text_behind order n rest) (sym name.0)))
+          (λ t. ap (refusal_in names) (split t) ∙ (both.1 ∙ ap (λ n. refusal_in n rest) (sym name.0)))
+          (λ w. wrote w events p.stands) told cannot failed;
     }
 
 joined-none : (xs : List (Clocked Item)) (place : ℕ) (events : List Event) → map (λ x. x.item) xs ≡ [] → joined_items place events xs ≡ []
@@ -268,36 +222,19 @@ joined-refused (x ∷ xs) place events r e =
         → items_here place events clock i ++ joined_items (place + 1) (events_here place events clock i) xs ≡ refused r ∷ joined_items (place + 1) events xs
     joined-at clock i same = ap (λ w. items_here place events clock w ++ joined_items (place + 1) (events_here place events clock w) xs) same
 
--- what is to be written of a run as of a feed
-abbrev feeding : List Part → ℕ → List Event → Feed
-feeding ps place events = record (feed_of ps) { items = joined_items place events (run_of ps) }
-
-shows-joined : (fault : Fault) (mid : List Part) (shown : Feed) (place : ℕ) (events : List Event) → ShowsItem (feed_of mid) (Err fault) shown
+-- What a call for the next packet answers that tells none, it tells of what is to be written too.
+pub shows-fault : (fault : Fault) (mid : List Part) (shown : Feed) (place : ℕ) (events : List Event) → ShowsItem (feed_of mid) (Err fault) shown
     → ShowsItem (feeding mid place events) (Err fault) (feeding mid place events)
-shows-joined (Refused r) mid shown place events shows =
+shows-fault (Refused r) mid shown place events shows =
     (record { items = refl; endings = λ file. refl }, joined-refused (run_of mid) place events r (sym (items-of-run mid) ∙ shows.1))
-shows-joined (Read file offset) mid shown place events shows = tt
-shows-joined Write mid shown place events shows = absurd shows
-shows-joined Memory mid shown place events shows = record { items = refl; endings = λ file. refl }
+shows-fault (Read file offset) mid shown place events shows = tt
+shows-fault Write mid shown place events shows = absurd shows
+shows-fault Memory mid shown place events shows = record { items = refl; endings = λ file. refl }
 
--- what is written where a call for the next packet answers a fault
-pub Joining-fault : (order : Order) (fault : Fault) (old mid : List Part) (shown : Feed) (names_old names : List Name) (joiner : JoinerState) (place : ℕ) (fo fm : Bool) (from m : Writer)
-    → Joining order old mid names_old names joiner place fo fm from m → IsTrue (feed_of old).told → IsTrue from.told
-    → ShowsItem (feed_of mid) (Err fault) shown
-    → Prints {A = Unit {0}} (text_behind order names_old (joined_items 0 [] (run_of old))) (refusal_in names_old (joined_items 0 [] (run_of old))) from.held (Err fault) m.held
-Joining-fault order fault old mid shown names_old names joiner place fo fm from m p t w shows =
-    Prints-fault (plan_of order names) fault (text_behind order names_old (joined_items 0 [] (run_of old))) (refusal_in names_old (joined_items 0 [] (run_of old))) from m
-    (feeding mid place p.events) (feeding mid place p.events) (plan_of-is order names) (p.text t) w (p.refusal_same t) (shows-joined fault mid shown place p.events shows)
-
--- what is written where it answers that there is none
-pub Joining-end : (order : Order) (old mid : List Part) (shown : Feed) (names_old names : List Name) (joiner : JoinerState) (place : ℕ) (fo fm : Bool) (from m : Writer)
-    → Joining order old mid names_old names joiner place fo fm from m → IsTrue (feed_of old).told → IsTrue from.told
-    → ShowsItem (feed_of mid) (Ok None) shown
-    → (refusal_in names_old (joined_items 0 [] (run_of old)) ≡ None) × (m.held ≡ from.held ++ text_behind order names_old (joined_items 0 [] (run_of old)))
-Joining-end order old mid shown names_old names joiner place fo fm from m p t w shows =
-    Prints-end (plan_of order names) (text_behind order names_old (joined_items 0 [] (run_of old))) (refusal_in names_old (joined_items 0 [] (run_of old))) from m
-    (feeding mid place p.events) (feeding mid place p.events) (plan_of-is order names) (p.text t) w (p.refusal_same t)
-    (record { items = refl; endings = λ file. refl }, joined-none (run_of mid) place p.events (sym (items-of-run mid) ∙ shows.1))
+pub shows-end : (mid : List Part) (shown : Feed) (place : ℕ) (events : List Event) → ShowsItem (feed_of mid) (Ok None) shown
+    → ShowsItem (feeding mid place events) (Ok None) (feeding mid place events)
+shows-end mid shown place events shows =
+    (record { items = refl; endings = λ file. refl }, joined-none (run_of mid) place events (sym (items-of-run mid) ∙ shows.1))
 
 -- what is written where a packet's datagram isn't written whole, or is refused
 pub Joining-part : (order : Order) (fault : Fault) (old mid shown : List Part) (names_old names : List Name) (joiner : JoinerState) (place : ℕ) (fo fm : Bool) (from m : Writer) (held : List ℕ)
@@ -314,7 +251,7 @@ Joining-part order fault old mid shown names_old names joiner place fo fm from m
     (joined_items place p.events (run_of mid)) (items_of_packet place p.events clock meta frame)
     (joined_items (place + 1) (events_after place p.events clock meta frame) (drop 1 (run_of mid)))
     (joined-at-first mid shown meta frame clock place p.events (head ∙ ap (λ f. packet meta f ∷ drop 1 (feed_of mid).items) (sym lent)) same begins)
-    (p.text t) w (p.refusal_same t) (prints p.events p.stands)
+    (p.walk.text t) w (p.walk.refusal_same t) (prints p.events p.stands)
 
 -- a place is small, where a run of few files has at most that many packets
 pub place-small : (place left all count : ℕ) → place + left ≤ all → all ≤ count * 2 ^ 40 → count ≤ 32 → place < 2 ^ 63

@@ -1,23 +1,20 @@
 -- The packets of a feed, written one by one in the form of pcap.
-use Rattle.std.proofs.Common.{◌≡◌, ℕ, ◌==◌, not, List, ◌∷◌, ◌++◌, Bool, true, false, Option, Some, None, is_none, Result, Ok, Err, refl, sym, ap, ◌∙◌, subst, append-nil, IsTrue, if◌then◌else◌}
+use Rattle.std.proofs.Common.{◌≡◌, ℕ, ◌==◌, not, List, Bool, true, false, Option, Some, None, is_none, Result, Ok, Err, refl, ap, ◌∙◌, if◌then◌else◌}
 use Rattle.std.proofs.lemmas.Bool.{eq-eqb, ne_eqb}
-use Rattle.cap_bytes.proofs.Putting.{Putting}
 use Rattle.cap_bytes.specs.Device.{Writer}
-use Rattle.cap_bytes.specs.Printing.{Prints}
 use Rattle.cap_bytes.specs.declared.faults.Fault.{Fault}
 use Rattle.cap_bytes.specs.declared.faults.Fault.TheVariants.{Refused, Read, Write, Memory}
-use Rattle.cap_bytes.specs.declared.faults.Refusal.{Refusal}
 use Rattle.cap_bytes.specs.declared.faults.Rule.{Rule}
 use Rattle.cap_bytes.specs.declared.faults.Rule.TheVariants.{NoTime, LinkMixed}
 use Rattle.cap_bytes.specs.declared.numbers.Order.{Order}
 use Rattle.cap_source.proofs.Onward.{Went}
-use Rattle.cap_source.proofs.Walking.{Plan, IsPlan, GoesOn, GivesUp, Walking, Prints-refused, Prints-front}
-use Rattle.cap_source.specs.Feed.{Feed, Item, packet}
+use Rattle.cap_source.proofs.Walking.{Plan, IsPlan, GoesOn, GivesUp, Walking}
+use Rattle.cap_source.specs.Feed.{Feed}
 use Rattle.cap_source.specs.declared.packets.Meta.{Meta}
 use Rattle.cap_time.specs.declared.resolutions.Interface.{Interface}
 use Rattle.cap_time.specs.declared.stamps.Unit.{Unit as Fraction}
 use Rattle.cap_write.specs.Names.{HasUnits}
-use Rattle.cap_write.specs.Numbering.{refusal_at, refusal_by}
+use Rattle.cap_write.specs.Numbering.{refusal_at}
 use Rattle.cap_write.specs.Pcap.{fraction_of, whole_time, time_fault, units_fault, record_fault, time_in, packet_record, records_text, records_refusal}
 use Rattle.cap_write.specs.Texts.{text_or}
 use Rattle.cap_write.specs.Times.{HasTime, HasRecord}
@@ -80,14 +77,6 @@ HasRecord-timed first meta units (Err (Read file offset)) is one h = absurd h
 HasRecord-timed first meta units (Err Write) is one h = absurd h
 HasRecord-timed first meta units (Err Memory) is one h = absurd h
 
--- a packet that isn't written
-pub Prints-unwritten : (order : Order) (first : Interface) (meta : Meta) (frame held : List ℕ) (fault : Fault) → HasRecord first meta (Err fault)
-    → Prints {A = Unit {0}} (text_or (record_fault first meta) (packet_record order first meta frame)) (refusal_by meta (record_fault first meta)) held (Err fault) held
-Prints-unwritten order first meta frame held (Refused refusal) h = rw (h.2, h.1) ((refl, sym (append-nil held)))
-Prints-unwritten order first meta frame held (Read file offset) h = absurd h
-Prints-unwritten order first meta frame held Write h = absurd h
-Prints-unwritten order first meta frame held Memory h = absurd h
-
 -- what is to be written after that header
 abbrev pub plan_of : Order → Interface → Plan
 plan_of order first = record { text = records_text order first; refusal = records_refusal first }
@@ -108,41 +97,6 @@ pub plan_of-refused : (order : Order) (first : Interface) (meta : Meta) (frame :
 unfolding records_text records_refusal
 plan_of-refused order first meta frame rule is =
     record { text = λ items. rw is refl; refusal = λ items. rw is refl }
-
-Prints-first : (order : Order) (fault : Fault) (text : List ℕ) (refusal : Option Refusal) (from mid : Writer) (held : List ℕ) (first : Interface) (meta : Meta) (frame : List ℕ) (items : List Item)
-    → Putting from mid text (records_text order first (packet meta frame ∷ items)) → IsTrue from.told
-    → records_refusal first (packet meta frame ∷ items) ≡ refusal
-    → Prints {A = Unit {0}} (text_or (record_fault first meta) (packet_record order first meta frame)) (refusal_by meta (record_fault first meta)) mid.held (Err fault) held
-    → Prints {A = Unit {0}} text refusal from.held (Err fault) held
-Prints-first order fault text refusal from mid held first meta frame items p t same prints = by (record_fault first meta) refl
-  where
-    by : (rule : Option Rule) → record_fault first meta ≡ rule → Prints {A = Unit {0}} text refusal from.held (Err fault) held
-    by (Some rule) is =
-        let gives = plan_of-refused order first meta frame rule is in
-        Prints-refused fault text (records_text order first (packet meta frame ∷ items)) refusal (refusal_at meta rule) from mid held p
-        (gives.text items) t (sym same ∙ gives.refusal items)
-        (subst (λ r. Prints {A = Unit {0}} (text_or r (packet_record order first meta frame)) (refusal_by meta r) mid.held (Err fault) held)
-        is prints)
-    by None is =
-        let line = packet_record order first meta frame in
-        let behind = records_text order first items in
-        Prints-front fault text line behind refusal from mid held
-        (subst (Putting from mid text)
-        ((plan_of-next order first meta frame is).text items ∙ ap (λ r. text_or r line ++ behind) is) p)
-        t
-        (subst (λ r. Prints {A = Unit {0}} (text_or r line) (refusal_by meta r) mid.held (Err fault) held) is prints)
-
--- what is written where a packet is refused, or isn't written whole
-pub Prints-one : (order : Order) (fault : Fault) (text : List ℕ) (refusal : Option Refusal) (from mid : Writer) (held : List ℕ) (first : Interface) (meta : Meta) (frame lent : List ℕ) (items rest : List Item)
-    → items ≡ packet meta frame ∷ rest → lent ≡ frame
-    → Putting from mid text (records_text order first items) → IsTrue from.told → records_refusal first items ≡ refusal
-    → Prints {A = Unit {0}} (text_or (record_fault first meta) (packet_record order first meta lent)) (refusal_by meta (record_fault first meta)) mid.held (Err fault) held
-    → Prints {A = Unit {0}} text refusal from.held (Err fault) held
-Prints-one order fault text refusal from mid held first meta frame lent items rest is same_frame p t same prints =
-    Prints-first order fault text refusal from mid held first meta frame rest
-    (subst (λ l. Putting from mid text (records_text order first l)) is p) t
-    (ap (records_refusal first) (sym is) ∙ same)
-    (subst (λ f. Prints {A = Unit {0}} (text_or (record_fault first meta) (packet_record order first meta f)) (refusal_by meta (record_fault first meta)) mid.held (Err fault) held) same_frame prints)
 
 -- The packets so far of a feed that was `old` are written by a writer that was `from`.
 pub record Recording (order : Order) (first : Interface) (old new : Feed) (failed_old failed_new : Bool) (from to : Writer) : Type 0 where

@@ -1,15 +1,19 @@
 -- What is written for one packet of a list.
-use Rattle.std.proofs.Common.{◌≡◌, ℕ, List, length, Option, Some, None, IsOkUnless, Result, Ok, Err, refl, sym, append-nil}
-use Rattle.cap_bytes.specs.Device.{Puts}
+use Rattle.std.proofs.Common.{◌≡◌, ℕ, List, [], ◌∷◌, length, Option, Some, None, IsTrue, Err, refl, sym, ap, ◌∙◌, subst, append-nil}
+use Rattle.cap_bytes.proofs.Putting.{Putting}
+use Rattle.cap_bytes.specs.Device.{Writer}
 use Rattle.cap_bytes.specs.Printing.{Prints}
 use Rattle.cap_bytes.specs.declared.faults.Fault.{Fault}
 use Rattle.cap_bytes.specs.declared.faults.Fault.TheVariants.{Refused, Read, Write, Memory}
+use Rattle.cap_bytes.specs.declared.faults.Refusal.{Refusal}
 use Rattle.cap_bytes.specs.declared.faults.Rule.{Rule}
 use Rattle.cap_bytes.specs.declared.faults.Rule.TheVariants.{NoTime}
 use Rattle.cap_bytes.specs.declared.numbers.Order.{Order}
+use Rattle.cap_source.proofs.Walking.{Plan, GoesOn, GivesUp, Prints-whole, Prints-front}
+use Rattle.cap_source.specs.Feed.{Item, packet}
 use Rattle.cap_source.specs.declared.packets.Meta.{Meta}
 use Rattle.cap_write.proofs.Numbers.{write_fault-untimed}
-use Rattle.cap_write.specs.Names.{HasUnits, Numbers}
+use Rattle.cap_write.specs.Names.{HasUnits}
 use Rattle.cap_write.specs.Numbering.{Name, refusal_at, refusal_by, write_fault, numbered_of}
 use Rattle.cap_write.specs.Texts.{text_or, numbered_text, one_text}
 
@@ -30,20 +34,20 @@ Prints-untimed order names meta frame held (Read file offset) h = absurd h
 Prints-untimed order names meta frame held Write h = absurd h
 Prints-untimed order names meta frame held Memory h = absurd h
 
--- a packet whose interface has no number is refused
-pub Prints-unnumbered : (order : Order) (names new : List Name) (meta : Meta) (frame held : List ℕ) (fault : Fault)
-    → Numbers meta names (Err fault) new
-    → Prints {A = Unit {0}} (one_text order names meta frame) (refusal_by meta (write_fault names meta)) held (Err fault) held
-Prints-unnumbered order names new meta frame held (Refused refusal) h =
-    rw h.2
-    (Prints-refused (numbered_text order (length names) (numbered_of names meta frame)) meta h.0 (write_fault names meta) held h.1)
-Prints-unnumbered order names new meta frame held (Read file offset) h = absurd h
-Prints-unnumbered order names new meta frame held Write h = absurd h
-Prints-unnumbered order names new meta frame held Memory h = (0, sym (append-nil held))
-
--- a packet that isn't refused is written
-pub Prints-numbered : (text : List ℕ) (meta : Meta) (fault : Option Rule) (old new : List ℕ) (result : Result (Unit {0}) Fault)
-    → fault ≡ None → IsOkUnless result Write → Puts old result new text
-    → Prints (text_or fault text) (refusal_by meta fault) old result new
-Prints-numbered text meta fault old new (Ok x) is only puts = rw is ((refl, puts))
-Prints-numbered text meta fault old new (Err e) is only puts = rw (only, is) puts
+-- what is written of a feed's packets where one is refused, or isn't written whole
+pub Prints-one : (plan next : Plan) (fault : Fault) (text : List ℕ) (refusal : Option Refusal) (from mid : Writer) (held : List ℕ)
+    (meta : Meta) (frame lent : List ℕ) (line : List ℕ → List ℕ) (rule : Option Rule) (items rest : List Item)
+    → ((r : Rule) → rule ≡ Some r → GivesUp plan meta frame (refusal_at meta r))
+    → (rule ≡ None → GoesOn plan meta frame (text_or rule (line frame)) next)
+    → items ≡ packet meta frame ∷ rest → lent ≡ frame
+    → Putting from mid text (plan.text items) → IsTrue from.told → plan.refusal items ≡ refusal
+    → Prints {A = Unit {0}} (text_or rule (line lent)) (refusal_by meta rule) mid.held (Err fault) held
+    → Prints {A = Unit {0}} text refusal from.held (Err fault) held
+Prints-one plan next fault text refusal from mid held meta frame lent line (Some r) items rest refuses goes split is p t same prints =
+    let gives = refuses r refl in
+    Prints-whole fault text [] refusal (refusal_at meta r) from mid held
+    (subst (Putting from mid text) (ap plan.text split ∙ gives.text rest) p) t (sym same ∙ (ap plan.refusal split ∙ gives.refusal rest)) prints
+Prints-one plan next fault text refusal from mid held meta frame lent line None items rest refuses goes split is p t same prints =
+    Prints-front fault text (line frame) (next.text rest) refusal from mid held
+    (subst (Putting from mid text) (ap plan.text split ∙ (goes refl).text rest) p) t
+    (subst (λ f. Prints {A = Unit {0}} (line f) None mid.held (Err fault) held) is prints)

@@ -1,6 +1,6 @@
-use Rattle.std.proofs.Common.{◌≡◌, ◌++◌, ◌∷◌, [], refl, sym, subst, List}
+use Rattle.std.proofs.Common.{◌≡◌, ◌++◌, ◌∷◌, [], drop, refl, sym, subst, List}
 use Rattle.cap_source.specs.Feed.{Feed, HasFile}
-use Rattle.cap_source.specs.Listings.{list_feed}
+use Rattle.cap_source.specs.Listed.{list_feed}
 use Rattle.cap_merge.specs.Parts.{feed_of, new_parts}
 use Rattle.cap_output_tests.proofs.merge.merge_of.Goals as goal
 
@@ -13,5 +13,5 @@ returns c =
     let a = c.args.first in
     let b = c.args.second in
     rw (c.new.ensures.parts, c.in_ok-push-2.ensures.items, c.in_ok-push.ensures.items, c.new-feeds.ensures.items)
-    (two_files (list_feed a.file a.packets.items a.end a.place a.asked) (list_feed b.file b.packets.items b.end b.place b.asked)
+    (two_files (list_feed a.file a.interface a.end a.place (drop a.place a.times.items) a.next) (list_feed b.file b.interface b.end b.place (drop b.place b.times.items) b.next)
     c.requires.first c.requires.second)

@@ -5,16 +5,21 @@ use Rattle.cap_merge.specs.Parts.{feed_of}
 use Rattle.cap_merge.specs.View.{parts_of}
 use Rattle.cap_source.proofs.Onward.{Walks-fault, Walks-end, Walks-stop, Keeps-trans}
 use Rattle.cap_source.specs.Walk.{ShowsItem}
-use Rattle.cap_write.proofs.Joining.{Joining-more, Joining-fault, Joining-end, Joining-part, place-small}
+use Rattle.cap_source.proofs.Walking.{Prints-fault, Prints-end}
+use Rattle.cap_write.proofs.Feeding.{plan_of, plan_of-is}
+use Rattle.cap_write.proofs.Joining.{Joining-more, Joining-part, feeding, shows-fault, shows-end, place-small}
 use Rattle.cap_write.proofs.joined.put_joined.Goals as goal
 
 pub returns-in_err-meta-clause-text : goal.returns-in_err-meta-clause-text
 returns-in_err-meta-clause-text g c = λ t w.
     let p = err_from_is_err_and c.from_residual.result c.from_residual.ensures.1 in
     let i = c.loop-joining.invariant in
+    let mid = parts_of c.loop-joining.merged in
+    let names = c.loop-joining.names.keys in
+    let rest = feeding mid c.loop-joining.place i.events in
     rw (p.1, p.2)
-    (Joining-fault c.args.order c.in_err-meta.field-0.0 (parts_of c.args.merged.now) (parts_of c.loop-joining.merged) (feed_of (parts_of c.next_of.new.merged))
-    c.args.names.now.keys c.loop-joining.names.keys c.loop-joining.joining.joiner c.loop-joining.place _ _ _ _ i t w (c.in_err-meta.ensures.items (i.told t)))
+    (Prints-fault (plan_of c.args.order names) c.in_err-meta.field-0.0 _ _ _ _ rest rest (plan_of-is c.args.order names) (i.walk.text t) w (i.walk.refusal_same t)
+    (shows-fault c.in_err-meta.field-0.0 mid (feed_of (parts_of c.next_of.new.merged)) c.loop-joining.place i.events (c.in_err-meta.ensures.items (i.walk.told t))))
 
 pub invariant_of-run-clause-last : goal.invariant_of-run-clause-last
 invariant_of-run-clause-last g c =
@@ -29,13 +34,13 @@ returns-in_err-put_completed-clause-text g c = λ t w.
     let i = c.loop-joining.invariant in
     let mid = parts_of c.loop-joining.merged in
     let shown = parts_of c.next_of.new.merged in
-    let shows : ShowsItem (feed_of mid) (Ok (Some c.in-Some.meta)) (feed_of shown) = rw c.in-Some.is at (c.in_ok-meta.ensures.items (i.told t)) in
+    let shows : ShowsItem (feed_of mid) (Ok (Some c.in-Some.meta)) (feed_of shown) = rw c.in-Some.is at (c.in_ok-meta.ensures.items (i.walk.told t)) in
     rw (p.1, p.2)
     (Joining-part c.args.order c.in_err-put_completed.field-0.0 (parts_of c.args.merged.now) mid shown
     c.args.names.now.keys c.loop-joining.names.keys c.loop-joining.joining.joiner c.loop-joining.place _ _ _ _ (g.W.Sink.held c.put_completed.new.writer)
     c.in-Some.meta c.frame.result.now c.clock.result c.frame.ensures.frame i t w
-    shows.1 (c.in_ok-meta.ensures.run (i.told t)) (c.clock.ensures.run (c.next_of.ensures.keeps.told (i.told t)))
-    (λ events stands. c.in_err-put_completed.ensures.text (i.writer_told w) events stands))
+    shows.1 (c.in_ok-meta.ensures.run (i.walk.told t)) (c.clock.ensures.run (c.next_of.ensures.keeps.told (i.walk.told t)))
+    (λ events stands. c.in_err-put_completed.ensures.text (i.walk.writer_told w) events stands))
 
 pub overflow_add-place : goal.overflow_add-place
 overflow_add-place g c =
@@ -64,8 +69,11 @@ returns-clause-text g c = λ t w.
     let i = c.loop-joining.invariant in
     let mid = parts_of c.loop-joining.merged in
     let shown = parts_of c.next_of.new.merged in
-    let shows : ShowsItem (feed_of mid) (Ok None) (feed_of shown) = rw c.in_default.is at (c.in_ok-meta.ensures.items (i.told t)) in
-    Joining-end c.args.order (parts_of c.args.merged.now) mid (feed_of shown) c.args.names.now.keys c.loop-joining.names.keys c.loop-joining.joining.joiner c.loop-joining.place _ _ _ _ i t w shows
+    let shows : ShowsItem (feed_of mid) (Ok None) (feed_of shown) = rw c.in_default.is at (c.in_ok-meta.ensures.items (i.walk.told t)) in
+    let names = c.loop-joining.names.keys in
+    let rest = feeding mid c.loop-joining.place i.events in
+    Prints-end (plan_of c.args.order names) _ _ _ _ rest rest (plan_of-is c.args.order names) (i.walk.text t) w (i.walk.refusal_same t)
+    (shows-end mid (feed_of shown) c.loop-joining.place i.events shows)
 
 pub returns-in_err-meta-clause-walks : goal.returns-in_err-meta-clause-walks
 returns-in_err-meta-clause-walks g c =

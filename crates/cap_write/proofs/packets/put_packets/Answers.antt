@@ -1,10 +1,12 @@
-use Rattle.std.proofs.Common.{Some, None, Ok, drop, subst, sym, rules}
+use Rattle.std.proofs.Common.{Some, None, Ok, length, drop, subst, sym, rules}
 use Rattle.std.proofs.lemmas.Result.{err_from_is_err_and}
 use Rattle.cap_source.proofs.Onward.{Went-more, Walks-fault, Walks-end, Walks-stop, Keeps-trans}
 use Rattle.cap_source.proofs.Walking.{GoesOn, Walking-more, Prints-fault, Prints-end}
 use Rattle.cap_source.specs.Walk.{ShowsItem}
-use Rattle.cap_write.proofs.Feeding.{plan_of, plan_of-is, plan_of-next, Prints-one}
-use Rattle.cap_write.specs.Texts.{one_text}
+use Rattle.cap_write.proofs.Feeding.{plan_of, plan_of-is, plan_of-next, plan_of-refused}
+use Rattle.cap_write.proofs.Written.{Prints-one}
+use Rattle.cap_write.specs.Numbering.{numbered_of, with_name, write_fault}
+use Rattle.cap_write.specs.Texts.{numbered_text, one_text}
 use Rattle.cap_write.proofs.packets.put_packets.Goals as goal
 
 pub returns-in_err-meta-clause-text : goal.returns-in_err-meta-clause-text
@@ -24,9 +26,12 @@ returns-in_err-put_one-clause-text g c = λ t w.
     let shown = g.F.PacketFeed.feed c.next_packet.new.feed in
     let names = c.loop-meta.names.keys in
     let shows : ShowsItem mid (Ok (Some c.in-Some.meta)) shown = rw c.in-Some.is at (c.in_ok-meta.ensures.items (i.told t)) in
+    let meta = c.in-Some.meta in
     rw (p.1, p.2)
-    (Prints-one c.args.order c.in_err-put_one.field-0.0 _ _ _ _ _ names c.in-Some.meta shown.frame c.frame.result.now mid.items (drop 1 mid.items)
-    shows.1 c.frame.ensures.frame (i.text t) w (i.refusal_same t) (c.in_err-put_one.ensures.text (i.writer_told w)))
+    (Prints-one (plan_of c.args.order names) (plan_of c.args.order (with_name names meta)) c.in_err-put_one.field-0.0 _ _ _ _ _
+    meta shown.frame c.frame.result.now (λ f. numbered_text c.args.order (length names) (numbered_of names meta f)) (write_fault names meta) mid.items (drop 1 mid.items)
+    (plan_of-refused c.args.order names meta shown.frame) (plan_of-next c.args.order names meta shown.frame) shows.1 c.frame.ensures.frame
+    (i.text t) w (i.refusal_same t) (c.in_err-put_one.ensures.text (i.writer_told w)))
 
 pub loop-meta-preserved : goal.loop-meta-preserved
 loop-meta-preserved g c =

@@ -3,7 +3,8 @@ use Rattle.std.proofs.lemmas.Result.{err_from_is_err_and}
 use Rattle.cap_source.proofs.Onward.{Went-more, Walks-fault, Walks-end, Walks-stop, Keeps-trans}
 use Rattle.cap_source.proofs.Walking.{Walking-more, Prints-fault, Prints-end}
 use Rattle.cap_source.specs.Walk.{ShowsItem}
-use Rattle.cap_write.proofs.Records.{plan_of, plan_of-is, plan_of-next, Prints-one}
+use Rattle.cap_write.proofs.Records.{plan_of, plan_of-is, plan_of-next, plan_of-refused}
+use Rattle.cap_write.proofs.Written.{Prints-one}
 use Rattle.cap_write.specs.Pcap.{record_fault, packet_record}
 use Rattle.cap_write.specs.Texts.{text_or}
 use Rattle.cap_write.proofs.pcap.put_records.Goals as goal
@@ -24,9 +25,13 @@ returns-in_err-put_one-clause-text g c = λ t w.
     let mid = g.F.PacketFeed.feed c.loop-meta.feed in
     let shown = g.F.PacketFeed.feed c.next_packet.new.feed in
     let shows : ShowsItem mid (Ok (Some c.in-Some.meta)) shown = rw c.in-Some.is at (c.in_ok-meta.ensures.items (i.told t)) in
+    let meta = c.in-Some.meta in
+    let first = c.args.first.now in
     rw (p.1, p.2)
-    (Prints-one c.args.order c.in_err-put_one.field-0.0 _ _ _ _ _ c.args.first.now c.in-Some.meta shown.frame c.frame.result.now mid.items (drop 1 mid.items)
-    shows.1 c.frame.ensures.frame (i.text t) w (i.refusal_same t) (c.in_err-put_one.ensures.text (i.writer_told w)))
+    (Prints-one (plan_of c.args.order first) (plan_of c.args.order first) c.in_err-put_one.field-0.0 _ _ _ _ _
+    meta shown.frame c.frame.result.now (packet_record c.args.order first meta) (record_fault first meta) mid.items (drop 1 mid.items)
+    (plan_of-refused c.args.order first meta shown.frame) (plan_of-next c.args.order first meta shown.frame) shows.1 c.frame.ensures.frame
+    (i.text t) w (i.refusal_same t) (c.in_err-put_one.ensures.text (i.writer_told w)))
 
 pub loop-meta-preserved : goal.loop-meta-preserved
 loop-meta-preserved g c =

@@ -1,5 +1,5 @@
 use Rattle.std.proofs.Common.{◌≡◌, sym, ◌∙◌, map, false}
-use Rattle.cap_merge.specs.Lists.{length-mapped}
+use Rattle.std.proofs.lemmas.List.{length-map}
 use Rattle.cap_merge.specs.Parts.{parts, has_next}
 use Rattle.cap_merge.proofs.Bounds.{first-bounded}
 use Rattle.cap_merge.proofs.Placing.{clock-first, parts-each}
@@ -11,8 +11,8 @@ returns-in-Some g c =
     let m = c.args.self.now in
     let leads = rw c.as_slice.ensures.value at c.in-Some.ensures in
     record {
-      clock = clock-first m.lanes.items (map g.F.PacketFeed.feed m.feeds.items) c.in-Some.first (length-mapped g.F.PacketFeed.feed m.feeds.items ∙ sym m.alike) leads;
-      bounded = first-bounded m.lanes.items (map g.F.PacketFeed.feed m.feeds.items) c.in-Some.first (length-mapped g.F.PacketFeed.feed m.feeds.items ∙ sym m.alike) leads m.bounded;
+      clock = clock-first m.lanes.items (map g.F.PacketFeed.feed m.feeds.items) c.in-Some.first (length-map m.feeds.items g.F.PacketFeed.feed ∙ sym m.alike) leads;
+      bounded = first-bounded m.lanes.items (map g.F.PacketFeed.feed m.feeds.items) c.in-Some.first (length-map m.feeds.items g.F.PacketFeed.feed ∙ sym m.alike) leads m.bounded;
       from = clocks-of g.F.PacketFeed.feed m.lanes.items m.feeds.items c.in-Some.first m.some m.alike leads c.requires;
       not_below = not-below-first g.F.PacketFeed.feed m.lanes.items m.feeds.items c.in-Some.first m.some m.alike leads;
       run = begins-of g.F.PacketFeed.feed g.met.F.PacketFeed.lawful m.lanes.items m.feeds.items c.in-Some.first m.some m.alike leads c.requires m.agrees m.reached;

@@ -1,6 +1,6 @@
 use Rattle.std.proofs.Common.{refl, sym, ◌∙◌, map}
 use Rattle.std.proofs.lemmas.Result.{err_from_is_err_and}
-use Rattle.cap_merge.specs.Lists.{length-mapped}
+use Rattle.std.proofs.lemmas.List.{length-map}
 use Rattle.cap_merge.specs.Parts.{parts}
 use Rattle.cap_merge.specs.Sound.{each-agrees, each-reached, lawful-each, numbered-from}
 use Rattle.cap_merge.proofs.Bounds.{asked-bounded}
@@ -85,7 +85,7 @@ returns g c =
     let learns = c.in_ok-ask_all.ensures.asks in
     let lawful = lawful-each g.F.PacketFeed.feed g.met.F.PacketFeed.lawful c.ask_all.new.lanes.items c.ask_all.new.feeds.items in
     let known = (rw c.as_slice-2.ensures.value at c.head_of.ensures) (map g.F.PacketFeed.feed c.ask_all.new.feeds.items)
-    (length-mapped g.F.PacketFeed.feed c.ask_all.new.feeds.items ∙ c.ask_all.ensures.feeds ∙ sym m.alike ∙ sym c.ask_all.ensures.lanes) in
+    (length-map c.ask_all.new.feeds.items g.F.PacketFeed.feed ∙ c.ask_all.ensures.feeds ∙ sym m.alike ∙ sym c.ask_all.ensures.lanes) in
     record {
       answer = knows-asked ps qs c.head_of.result learns known lawful;
       keeps = asked-keeps-all ps qs c.ask_all.result c.ask_all.ensures.asks lawful;

@@ -1,5 +1,5 @@
 use Rattle.cap_source.proofs.Looks.{opened_by}
-use Rattle.cap_source.proofs.readers.open.Goals as goal
+use Rattle.cap_source.proofs.learning.open.Goals as goal
 
 pub returns-in_ok-format-in-Unread-clause-answer : goal.returns-in_ok-format-in-Unread-clause-answer
 returns-in_ok-format-in-Unread-clause-answer g c = λ progress.

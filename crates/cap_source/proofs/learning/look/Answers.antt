@@ -1,7 +1,7 @@
 use Rattle.std.proofs.Common.{◌∙◌, sym, ap}
 use Rattle.cap_blocks.specs.Split.{is_section}
 use Rattle.cap_source.proofs.Looks.{looks_at}
-use Rattle.cap_source.proofs.readers.look.Goals as goal
+use Rattle.cap_source.proofs.learning.look.Goals as goal
 
 pub returns-then-is_section-clause-answer : goal.returns-then-is_section-clause-answer
 returns-then-is_section-clause-answer g c =

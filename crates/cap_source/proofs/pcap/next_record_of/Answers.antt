@@ -2,7 +2,7 @@ use Rattle.std.proofs.Common.{◌∙◌, refl, false}
 use Rattle.cap_source.specs.Items.{pcap_ending_with}
 use Rattle.cap_source.specs.declared.readers.Next.TheVariants as nexts
 use Rattle.cap_source.proofs.Pcaps.{if_some, record_learned, end_learned, refusal_learned}
-use Rattle.cap_source.proofs.readers.next_record_of.Goals as goal
+use Rattle.cap_source.proofs.pcap.next_record_of.Goals as goal
 
 pub returns-in-Ok-Some-clause-answer : goal.returns-in-Ok-Some-clause-answer
 returns-in-Ok-Some-clause-answer g c = λ progress first.

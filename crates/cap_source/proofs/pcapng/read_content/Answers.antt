@@ -1,7 +1,7 @@
 use Rattle.std.proofs.Common.{length}
 use Rattle.cap_source.proofs.Blocks.{total_least, padded_body}
 use Rattle.cap_source.proofs.Pcaps.{if_some}
-use Rattle.cap_source.proofs.readers.read_content.Goals as goal
+use Rattle.cap_source.proofs.pcapng.read_content.Goals as goal
 
 pub content_of-requires-clause-least : goal.content_of-requires-clause-least
 content_of-requires-clause-least g c =

@@ -1,7 +1,7 @@
 use Rattle.std.proofs.Common.{◌≡◌, ◌≤◌, ◌-◌, ◌^◌, None, IsTrue}
 use Rattle.cap_source.specs.Lanes.{LaneKeeps, Waits, pcapng_lane}
 use Rattle.cap_source.specs.Reached.{progress_of, counted, has_room}
-use Rattle.cap_source.proofs.readers.next_of_blocks.Given as goal
+use Rattle.cap_source.proofs.pcapng.next_of_blocks.Given as goal
 
 abbrev pub invariant-loop : goal.invariant-loop
 invariant-loop g l = record {

@@ -2,7 +2,7 @@ use Rattle.std.proofs.Common.{◌∙◌, ap, unwrap_or, []}
 use Rattle.cap_source.specs.Contents.{content_in}
 use Rattle.cap_source.specs.Reached.{progress_of}
 use Rattle.cap_source.proofs.Blocks.{block_stepped, block_kept, end_learned, refusal_kept}
-use Rattle.cap_source.proofs.readers.take_block.Goals as goal
+use Rattle.cap_source.proofs.pcapng.take_block.Goals as goal
 
 pub returns-in-Ok-Some-clause-answer : goal.returns-in-Ok-Some-clause-answer
 returns-in-Ok-Some-clause-answer g c =

@@ -5,7 +5,7 @@ use Rattle.cap_source.specs.Items.{Progress}
 use Rattle.cap_source.specs.Lanes.{pcap_lane}
 use Rattle.cap_source.specs.Reached.{progress_of}
 use Rattle.cap_source.specs.declared.readers.Next.TheVariants as nexts
-use Rattle.cap_source.proofs.readers.next_of_pcap.Goals as goal
+use Rattle.cap_source.proofs.pcap.next_of_pcap.Goals as goal
 
 pub returns-in-Ok-clause-answer : goal.returns-in-Ok-clause-answer
 returns-in-Ok-clause-answer g c =

@@ -1,0 +1,118 @@
+//! What comes next of a file of either format, once its first bytes have told which.
+ghost use Rattle.std.specs.Prelude.{◌≡◌, ◌≤◌, ◌^◌, false, IsTrue, IfOk, None};
+ghost use Rattle.cap_bytes.specs.Window as windows;
+ghost use Rattle.cap_source.specs.Items.{Progress};
+ghost use Rattle.cap_source.specs.Lanes.{IsSound, Tells, Answers, LaneKeeps};
+ghost use Rattle.cap_source.specs.Reached.{progress_of, counted};
+ghost use Rattle.cap_source.specs.Readers.{lane_of, is_there, IsReady, is_stopped, Opens, LooksAtWindow, reader_by, reader_room};
+ghost use Rattle.cap_source.specs.declared.reached.Reached.{Reached};
+
+use crate::packets::Format;
+use crate::pcap::next_of_pcap;
+use crate::pcapng::next_of_blocks;
+use crate::reached::Reached;
+use crate::readers::{Next, Reader};
+use cap_blocks::{BlockReader, is_section};
+use cap_bytes::{Fault, Source, Window};
+use cap_pcap::PcapReader;
+use std::mem;
+
+// The format that the first four bytes tell: that of a pcap file also where they tell none.
+fn look<R: Source>(window: &mut Window<R>) -> Result<Format, Fault>
+    ensures answer { LooksAtWindow window.old result window.new }
+    ensures keeps { windows.Keeps window.old window.new }
+{
+    if !window.need(4)? {
+        return Ok(Format::Pcap);
+    }
+    if is_section(window.bytes()) {
+        Ok(Format::Pcapng)
+    } else {
+        Ok(Format::Pcap)
+    }
+}
+
+// The reader of that format over a window.
+fn reader_of<R: Source>(reader: Reader<R>, format: Format) -> Reader<R>
+    ensures { result ≡ reader_by reader format }
+{
+    match (reader, format) {
+        (Reader::Unread(window, tail), Format::Pcap) => {
+            Reader::Pcap(PcapReader::new(window, tail))
+        }
+        (Reader::Unread(window, tail), Format::Pcapng) => {
+            Reader::Pcapng(BlockReader::new(window, tail))
+        }
+        (reader, _) => reader,
+    }
+}
+
+// Makes the reader, unless it is there.
+fn open<R: Source>(reader: &mut Reader<R>) -> Result<(), Fault>
+    requires there { IsTrue (is_there reader.old) }
+    requires free { is_stopped reader.old ≡ false }
+    ensures there { IsTrue (is_there reader.new) }
+    ensures ready { IfOk result (λ _. IsReady reader.new) }
+    ensures answer { (progress : Progress) → Opens (lane_of reader.old progress) result (lane_of reader.new progress) }
+    ensures keeps { (progress : Progress) → LaneKeeps (lane_of reader.old progress) (lane_of reader.new progress) }
+    ensures room { (reached : Reached) → IsTrue (reader_room reader.old reached) → IsTrue (reader_room reader.new reached) }
+{
+    match reader {
+        Reader::Unread(window, _) => {
+            let format = look(window)?;
+            let unread = mem::replace(reader, Reader::Moved);
+            *reader = reader_of(unread, format);
+            Ok(())
+        }
+        _ => Ok(()),
+    }
+}
+
+/// Puts into `known` what comes next of a file: it is written where it is kept, since copies of it cost more than
+/// reading it.
+pub fn next_of<R: Source>(
+    reader: &mut Reader<R>,
+    reached: &mut Reached,
+    known: &mut Option<Next>,
+) -> Result<(), Fault>
+    requires unknown { known.old ≡ None }
+    requires there { IsTrue (is_there reader.old) }
+    requires free { is_stopped reader.old ≡ false }
+    requires limit { (lane_of reader.old (progress_of reached.old)).offset ≤ 2 ^ 40 }
+    requires counted { counted (progress_of reached.old) ≤ (lane_of reader.old (progress_of reached.old)).offset }
+    requires room { IsTrue (reader_room reader.old reached.old) }
+    ensures there { IsTrue (is_there reader.new) }
+    ensures answer { Answers (lane_of reader.old (progress_of reached.old)) result known.new (lane_of reader.new (progress_of reached.new)) }
+    ensures keeps { LaneKeeps (lane_of reader.old (progress_of reached.old)) (lane_of reader.new (progress_of reached.new)) }
+    ensures room { IsTrue (reader_room reader.new reached.new) }
+{
+    open(reader)?;
+    match reader {
+        Reader::Pcap(reader) => next_of_pcap(reader, reached, known),
+        Reader::Pcapng(reader) => next_of_blocks(reader, reached, known),
+        _ => unreachable!(),
+    }
+}
+
+/// Puts into `known` what comes next of a file, unless it is known.
+#[inline(always)]
+pub fn learn<R: Source>(
+    reader: &mut Reader<R>,
+    reached: &mut Reached,
+    known: &mut Option<Next>,
+) -> Result<(), Fault>
+    requires there { IsTrue (is_there reader.old) }
+    requires sound { IsSound (lane_of reader.old (progress_of reached.old)) known.old }
+    requires room { IsTrue (reader_room reader.old reached.old) }
+    ensures there { IsTrue (is_there reader.new) }
+    ensures sound { IsSound (lane_of reader.new (progress_of reached.new)) known.new }
+    ensures answer { Tells (lane_of reader.old (progress_of reached.old)) known.old result
+        (lane_of reader.new (progress_of reached.new)) known.new }
+    ensures keeps { LaneKeeps (lane_of reader.old (progress_of reached.old)) (lane_of reader.new (progress_of reached.new)) }
+    ensures room { IsTrue (reader_room reader.new reached.new) }
+{
+    match known {
+        Some(_) => Ok(()),
+        None => next_of(reader, reached, known),
+    }
+}

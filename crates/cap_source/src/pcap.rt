@@ -1,0 +1,124 @@
+//! What comes next of a pcap file.
+ghost use Rattle.std.specs.Prelude.{◌≡◌, None, Some};
+ghost use Rattle.cap_source.specs.Items.{Progress, resolution_of_unit, interface_of, pcap_ending_with, meta_of};
+ghost use Rattle.cap_source.specs.Lanes.{Answers, LaneKeeps, pcap_lane};
+ghost use Rattle.cap_source.specs.Reached.{progress_of};
+
+use crate::feeds::Ending;
+use crate::packets::{Format, Meta};
+use crate::reached::Reached;
+use crate::readers::Next;
+use cap_bytes::{Fault, Source};
+use cap_pcap::{PcapHeader, PcapReader, Record};
+use cap_time::{Interface, Resolution, Unit};
+
+// The resolution of a pcap file. draft-ietf-opsawg-pcap, 4.
+#[tactic(auto, using(crate::proofs::Resolutions::same_of_unit))]
+fn resolution_of_pcap(unit: Unit) -> Resolution
+    ensures { result ≡ resolution_of_unit unit }
+{
+    match unit {
+        Unit::Micro => Resolution::from_code(6).unwrap(),
+        Unit::Nano => Resolution::from_code(9).unwrap(),
+    }
+}
+
+// The one interface of a pcap file. draft-ietf-opsawg-pcap, 4.
+fn interface_of_pcap(header: PcapHeader) -> Interface
+    ensures { result ≡ interface_of header }
+{
+    Interface {
+        link: header.link,
+        snaplen: header.snaplen,
+        resolution: resolution_of_pcap(header.unit),
+        offset: 0,
+    }
+}
+
+// How a pcap file ended.
+fn ending_of_pcap(was_cut: bool) -> Ending
+    ensures { result ≡ pcap_ending_with was_cut }
+{
+    Ending {
+        format: Format::Pcap,
+        skipped: 0,
+        was_cut,
+    }
+}
+
+// What a record tells of its packet.
+fn meta_of_record(file: u32, header: PcapHeader, given: Record) -> Meta
+    ensures { result ≡ meta_of file (interface_of header) given }
+{
+    Meta {
+        file,
+        offset: given.offset,
+        format: Format::Pcap,
+        skipped: 0,
+        instance: 0,
+        interface: interface_of_pcap(header),
+        units: Some(given.units),
+        captured: given.captured,
+        original: given.original,
+    }
+}
+
+// Puts into `known` what comes next of a pcap file whose header is known.
+fn next_record_of<R: Source>(
+    reader: &mut PcapReader<R>,
+    header: PcapHeader,
+    known: &mut Option<Next>,
+) -> Result<(), Fault>
+    requires unknown { known.old ≡ None }
+    requires header { reader.old.known ≡ Some header }
+    requires free { reader.old.stop ≡ None }
+    ensures answer { (progress : Progress) → progress.first ≡ Some (interface_of header)
+        → Answers (pcap_lane reader.old progress) result known.new (pcap_lane reader.new progress) }
+    ensures keeps { (progress : Progress) → LaneKeeps (pcap_lane reader.old progress) (pcap_lane reader.new progress) }
+{
+    let file = reader.window().file();
+    match reader.next_record() {
+        Ok(Some(record)) => {
+            *known = Some(Next::Packet(meta_of_record(file, header, record), 0));
+            Ok(())
+        }
+        Ok(None) => {
+            *known = Some(Next::End(ending_of_pcap(reader.was_cut())));
+            Ok(())
+        }
+        Err(Fault::Refused(refusal)) => {
+            *known = Some(Next::Refused(refusal, ending_of_pcap(false)));
+            Ok(())
+        }
+        Err(Fault::Read { file, offset }) => Err(Fault::Read { file, offset }),
+        Err(Fault::Write) => Err(Fault::Write),
+        Err(Fault::Memory) => Err(Fault::Memory),
+    }
+}
+
+/// Puts into `known` what comes next of a pcap file.
+pub fn next_of_pcap<R: Source>(
+    reader: &mut PcapReader<R>,
+    reached: &mut Reached,
+    known: &mut Option<Next>,
+) -> Result<(), Fault>
+    requires unknown { known.old ≡ None }
+    requires free { reader.old.stop ≡ None }
+    ensures answer { Answers (pcap_lane reader.old (progress_of reached.old)) result known.new (pcap_lane reader.new (progress_of reached.new)) }
+    ensures keeps { LaneKeeps (pcap_lane reader.old (progress_of reached.old)) (pcap_lane reader.new (progress_of reached.new)) }
+{
+    match reader.header() {
+        Ok(header) => {
+            reached.first = Some(interface_of_pcap(header));
+            next_record_of(reader, header, known)
+        }
+        Err(Fault::Refused(refusal)) => {
+            reached.first = None;
+            *known = Some(Next::Refused(refusal, ending_of_pcap(false)));
+            Ok(())
+        }
+        Err(Fault::Read { file, offset }) => Err(Fault::Read { file, offset }),
+        Err(Fault::Write) => Err(Fault::Write),
+        Err(Fault::Memory) => Err(Fault::Memory),
+    }
+}

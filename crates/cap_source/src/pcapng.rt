@@ -1,0 +1,178 @@
+//! What comes next of a pcapng file.
+ghost use Rattle.std.specs.Prelude.{◌≡◌, ◌≤◌, ◌<◌, ◌+◌, ◌^◌, [], length, IsTrue, IfSome, None, is_some, unwrap_or, vec_len, vec_capacity};
+ghost use Rattle.cap_blocks.specs.Grammar.{is_known, is_total};
+ghost use Rattle.cap_source.specs.Contents.{content_in};
+ghost use Rattle.cap_source.specs.Items.{ending_with, meta_in, behind};
+ghost use Rattle.cap_source.specs.Lanes.{Answers, LaneKeeps, Steps, pcapng_lane, next_at};
+ghost use Rattle.cap_source.specs.Reached.{progress_of, counted, has_room};
+
+use crate::contents::{Content, Packet, content_of};
+use crate::feeds::Ending;
+use crate::packets::{Format, Meta};
+use crate::reached::{Reached, go_on};
+use crate::readers::Next;
+use cap_blocks::{Block, BlockReader, is_known};
+use cap_bytes::{Fault, Refusal, Rule, Source};
+use cap_time::Interface;
+
+// How a pcapng file ended of which that much was read.
+fn ending_of_blocks(reached: &Reached, was_cut: bool) -> Ending
+    ensures { result ≡ ending_with (progress_of reached.now) was_cut }
+{
+    let skipped = reached.skipped;
+    Ending {
+        format: Format::Pcapng,
+        skipped,
+        was_cut,
+    }
+}
+
+// What the block says that was given last.
+#[tactic(auto, using(crate::proofs::Blocks::other))]
+fn read_content<R: Source>(
+    reader: &BlockReader<R>,
+    block: Block,
+    interfaces: &[Interface],
+) -> Result<Content, Rule>
+    requires known { is_some reader.now.lent ≡ is_known block.kind }
+    requires allowed { IsTrue (is_total block.kind block.total) }
+    requires size { IfSome reader.now.lent (λ body. length body + 12 ≡ block.total) }
+    ensures { result ≡ content_in interfaces.now block.kind block.order (unwrap_or reader.now.lent []) }
+{
+    if is_known(block.kind) {
+        content_of(interfaces, block.kind, block.order, reader.body())
+    } else {
+        Ok(Content::Other)
+    }
+}
+
+// What a block tells of its packet.
+fn meta_of_packet(file: u32, block: Block, reached: &Reached, packet: Packet) -> Meta
+    requires { reached.now.base < 2 ^ 63 }
+    ensures { result ≡ meta_in file (progress_of reached.now) block packet }
+{
+    Meta {
+        file,
+        offset: block.offset,
+        format: Format::Pcapng,
+        skipped: reached.skipped,
+        instance: reached.base + u64::from(packet.number),
+        interface: packet.interface,
+        units: packet.units,
+        captured: packet.captured,
+        original: packet.original,
+    }
+}
+
+// Takes what a block says: a packet or a refusal comes next, which is put into `known`, or the file goes on after the
+// block, and nothing is.
+fn take_content(
+    reached: &mut Reached,
+    file: u32,
+    block: Block,
+    content: Result<Content, Rule>,
+    known: &mut Option<Next>,
+)
+    requires room { vec_len reached.old.interfaces < vec_capacity reached.old.interfaces }
+    requires limit { counted (progress_of reached.old) < 2 ^ 40 }
+    requires unknown { known.old ≡ None }
+    ensures next { known.new ≡ next_at file (progress_of reached.old) block content }
+    ensures behind { progress_of reached.new ≡ behind (progress_of reached.old) content }
+{
+    match content {
+        Ok(Content::Packet(packet)) => {
+            *known = Some(Next::Packet(meta_of_packet(file, block, reached, packet), packet.place));
+        }
+        Ok(content) => {
+            go_on(reached, content);
+        }
+        Err(rule) => {
+            *known = Some(Next::Refused(
+                Refusal {
+                    file,
+                    offset: block.offset,
+                    rule,
+                },
+                ending_of_blocks(reached, false),
+            ));
+        }
+    }
+}
+
+// Takes one block: what comes next, or none where the file goes on after it. There is room for an
+// interface.
+fn take_block<R: Source>(
+    reader: &mut BlockReader<R>,
+    reached: &mut Reached,
+    known: &mut Option<Next>,
+) -> Result<(), Fault>
+    requires room { vec_len reached.old.interfaces < vec_capacity reached.old.interfaces }
+    requires unknown { known.old ≡ None }
+    requires counted { counted (progress_of reached.old) ≤ reader.old.offset }
+    requires free { reader.old.stop ≡ None }
+    ensures answer { Steps (pcapng_lane reader.old (progress_of reached.old)) result known.new (pcapng_lane reader.new (progress_of reached.new)) }
+    ensures keeps { LaneKeeps (pcapng_lane reader.old (progress_of reached.old)) (pcapng_lane reader.new (progress_of reached.new)) }
+    ensures room { IsTrue (has_room reader.new.broken reached.new) }
+{
+    let file = reader.window().file();
+    match reader.next_block() {
+        Ok(Some(block)) => {
+            let content = read_content(reader, block, &reached.interfaces);
+            take_content(reached, file, block, content, known);
+            Ok(())
+        }
+        Ok(None) => {
+            *known = Some(Next::End(ending_of_blocks(reached, reader.was_cut())));
+            Ok(())
+        }
+        Err(Fault::Refused(refusal)) => {
+            *known = Some(Next::Refused(refusal, ending_of_blocks(reached, false)));
+            Ok(())
+        }
+        Err(Fault::Read { file, offset }) => Err(Fault::Read { file, offset }),
+        Err(Fault::Write) => Err(Fault::Write),
+        Err(Fault::Memory) => Err(Fault::Memory),
+    }
+}
+
+// The same, where room for an interface is found first: the block isn't taken without.
+fn step<R: Source>(
+    reader: &mut BlockReader<R>,
+    reached: &mut Reached,
+    known: &mut Option<Next>,
+) -> Result<(), Fault>
+    requires unknown { known.old ≡ None }
+    requires counted { counted (progress_of reached.old) ≤ reader.old.offset }
+    requires free { reader.old.stop ≡ None }
+    requires room { IsTrue (has_room reader.old.broken reached.old) }
+    ensures answer { Steps (pcapng_lane reader.old (progress_of reached.old)) result known.new (pcapng_lane reader.new (progress_of reached.new)) }
+    ensures keeps { LaneKeeps (pcapng_lane reader.old (progress_of reached.old)) (pcapng_lane reader.new (progress_of reached.new)) }
+    ensures room { IsTrue (has_room reader.new.broken reached.new) }
+{
+    reached.interfaces.reserve(1)?;
+    take_block(reader, reached, known)
+}
+
+/// Puts into `known` what comes next of a pcapng file.
+pub fn next_of_blocks<R: Source>(
+    reader: &mut BlockReader<R>,
+    reached: &mut Reached,
+    known: &mut Option<Next>,
+) -> Result<(), Fault>
+    requires unknown { known.old ≡ None }
+    requires counted { counted (progress_of reached.old) ≤ reader.old.offset }
+    requires free { reader.old.stop ≡ None }
+    requires limit { reader.old.offset ≤ 2 ^ 40 }
+    requires room { IsTrue (has_room reader.old.broken reached.old) }
+    ensures answer { Answers (pcapng_lane reader.old (progress_of reached.old)) result known.new (pcapng_lane reader.new (progress_of reached.new)) }
+    ensures keeps { LaneKeeps (pcapng_lane reader.old (progress_of reached.old)) (pcapng_lane reader.new (progress_of reached.new)) }
+    ensures room { IsTrue (has_room reader.new.broken reached.new) }
+{
+    loop {
+        step(reader, reached, known)?;
+        match known {
+            Some(_) => return Ok(()),
+            None => {}
+        }
+    }
+}
