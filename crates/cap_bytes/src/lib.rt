@@ -17,6 +17,3 @@ pub use crate::numbers::{Order, u16_at, u32_at, u64_at};
 pub use crate::stops::Stop;
 pub use crate::streams::Tracked;
 pub use crate::windows::Window;
-
-#[cfg(test)]
-mod tests;
