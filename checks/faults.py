@@ -77,12 +77,11 @@ DEVICES = {
     "blocks": ["options"],
 }
 # Tests that meet a refused growth, by crate, and how many together at most: they call again, or look at what a call left.
-TESTS = {
-    "cap_bytes": ("a_window|a_standard_reader", 1),
-    "cap_input_tests": ("a_refused_growth", 1),
-    "cap_output_tests": ("a_refused_growth", 2),
-    "cap_tasks": ("a_refused_growth", 1),
-}
+TESTS = [
+    ("cap_input_tests", "a_window|a_standard_reader|a_refused_growth", 1),
+    ("cap_output_tests", "steps::a_refused_growth", 2),
+    ("cap_output_tests", "commands::.*a_refused_growth", 1),
+]
 MEMORY, WRITE = b"fault: memory\n", b"fault: write\n"
 
 
@@ -150,10 +149,10 @@ def growths(count, bench, shim, pool):
                 out = os.path.join(bench.folder, f"{task}-{row}-{width}")
                 jobs.append((f"{task} of {row}, {'all' if width == ALL else width} refused",
                              pool.submit(growths_of, bench, shim, out, task, row, width, first)))
-    for crate, (names, width) in TESTS.items():
+    for crate, names, width in TESTS:
         tests, found = tests_of(crate, names)
-        count.check(f"tests of {crate}", found)
-        if crate == "cap_output_tests":
+        count.check(f"tests of {crate}, {names}", found)
+        if names.startswith("steps"):
             seen = run(["steps::a_table_is_dropped_after_any_number_of_steps"], tests, (shim, {}))
             count.check("tables stopped early give all memory back", (seen[0], seen[5]) == (0, 0), seen)
         jobs += [(f"{crate}: {name}, {n} refused", pool.submit(growths_of_test, shim, tests, name, n)) for name in found for n in range(1, width + 1)]

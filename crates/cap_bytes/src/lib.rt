@@ -19,6 +19,3 @@ pub use crate::numbers::{Order, put_u16, put_u32, put_u64, u16_at, u32_at, u64_a
 pub use crate::stops::Stop;
 pub use crate::streams::Tracked;
 pub use crate::windows::Window;
-
-#[cfg(test)]
-mod tests;

@@ -2,7 +2,7 @@
 mod vectors;
 
 use crate::ip::vectors::{
-    FIRST_FRAGMENT, FIRST_FRAGMENT_AGAIN, JOINED_HEADER, LAST_FRAGMENT, MIDDLE_FRAGMENT,
+    CHECKSUMS, FIRST_FRAGMENT, FIRST_FRAGMENT_AGAIN, JOINED_HEADER, LAST_FRAGMENT, MIDDLE_FRAGMENT,
     PADDED_ANSWER, PADDED_OVERLONG, PADDED_PACKET, TCP_PACKET, WHOLE_PACKET,
 };
 use cap_ip::{
@@ -39,6 +39,11 @@ fn header_of<'a>(rt: &impl Abort, bytes: &'a [u8]) -> (Header, &'a [u8]) {
         HeaderOr::Header(header, held) => (header, held),
         _ => panic!(rt; "no header"),
     }
+}
+
+/// That many of the bytes, or all.
+fn front(bytes: &[u8], count: usize) -> &[u8] {
+    bytes.get(..count).unwrap_or(bytes)
 }
 
 /// A packet with other bytes for byte 0 (version and header length), byte 3 (total length), and bytes
@@ -158,7 +163,7 @@ fn steps_at_their_edges(rt: HostRuntime) {
         let packet = altered(front, total, flags);
         assert_eq!(rt; class_of(&packet, captured_whole), class, "{name}");
     }
-    let (nineteen, _) = WHOLE_PACKET.split_at(19);
+    let nineteen = front(&WHOLE_PACKET, 19);
     assert_eq!(rt; class_of(nineteen, true), Class::Bad);
     assert_eq!(rt; class_of(nineteen, false), Class::Cut);
     assert_eq!(rt; class_of(&[0x60], true), Class::Bad);
@@ -168,8 +173,7 @@ fn steps_at_their_edges(rt: HostRuntime) {
 #[test]
 fn short_capture(rt: HostRuntime) {
     for (captured, ports) in [(40, Transport::Ports(1000, 2000)), (39, Transport::Cut)] {
-        let (front, _) = TCP_PACKET.split_at(captured);
-        match Header::read(front, false) {
+        match Header::read(front(&TCP_PACKET, captured), false) {
             HeaderOr::Header(header, held) => {
                 assert_eq!(rt; header.data_length(), 1480);
                 assert_eq!(rt; held.len() + 20, captured);
@@ -193,9 +197,8 @@ fn udp_and_other_ports(rt: HostRuntime) {
         (10, 7, 7, Transport::Bad),
     ] {
         let bytes = [0x03, 0xe8, 0x07, 0xd0, 0x00, size, 0x00, 0x00, 0x68, 0x69];
-        let (front, _) = bytes.split_at(captured);
         assert_eq!(rt;
-            transport(17, front, length),
+            transport(17, front(&bytes, captured), length),
             answer,
             "{size} {captured} {length}"
         );
@@ -206,7 +209,6 @@ fn udp_and_other_ports(rt: HostRuntime) {
 #[test]
 fn tcp_ports(rt: HostRuntime) {
     let ports = Transport::Ports(1000, 2000);
-    let (_, segment) = TCP_PACKET.split_at(20);
     for (words, captured, length, answer) in [
         (0x50, 20, 20, ports),
         (0x40, 20, 20, Transport::Bad),
@@ -215,12 +217,11 @@ fn tcp_ports(rt: HostRuntime) {
         (0x50, 19, 20, Transport::Cut),
         (0x50, 19, 19, Transport::Bad),
     ] {
-        let mut bytes = [0; 20];
-        bytes.copy_from_slice(segment);
-        bytes[12] = words;
-        let (front, _) = bytes.split_at(captured);
+        let bytes = [
+            0x03, 0xe8, 0x07, 0xd0, 0, 0, 0, 1, 0, 0, 0, 0, words, 0x10, 0, 0, 0, 0, 0, 0,
+        ];
         assert_eq!(rt;
-            transport(6, front, length),
+            transport(6, front(&bytes, captured), length),
             answer,
             "{words} {captured} {length}"
         );
@@ -230,24 +231,15 @@ fn tcp_ports(rt: HostRuntime) {
 #[test]
 fn checksums(rt: HostRuntime) {
     checksum_law();
-    for (packet, checksum) in [(PADDED_PACKET, 0x66cc), (PADDED_ANSWER, 0x66cb)] {
-        let mut header = [0; 20];
-        let (front, _) = packet.split_at(20);
-        header.copy_from_slice(front);
+    for (header, checksum) in CHECKSUMS {
         assert_eq!(rt; header_checksum(&header), checksum);
     }
-    assert_eq!(rt; header_checksum(&JOINED_HEADER), 0x66b8);
-    assert_eq!(rt; header_checksum(&[0; 20]), 0xffff);
-    assert_eq!(rt; header_checksum(&[0xff; 20]), 0);
 }
 
 #[test]
 fn written_headers(rt: HostRuntime) {
-    let mut joined = JOINED_HEADER;
-    joined[10] = 0x66;
-    joined[11] = 0xb8;
     let (fragment, _) = header_of(&rt, &FIRST_FRAGMENT);
-    assert_eq!(rt; fragment.to_bytes(24), joined);
+    assert_eq!(rt; fragment.to_bytes(24), JOINED_HEADER);
     let (whole, _) = header_of(&rt, &WHOLE_PACKET);
     let longest = whole.to_bytes(65_515);
     assert_eq!(rt; header_checksum(&longest), 0);

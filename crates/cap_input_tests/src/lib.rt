@@ -1,5 +1,5 @@
-//! Tests of reading and of what it stands on: times, link headers, IPv4 headers, printed lines, the records of pcap, the
-//! blocks of pcapng, the packets of a file, and fragments.
+//! Tests of reading and of what it stands on: numbers, windows, devices, times, link headers, IPv4 headers, printed lines,
+//! the records of pcap, the blocks of pcapng, the packets of a file, and fragments.
 #![tactic(auto)]
 
 #[cfg(test)]
@@ -7,13 +7,13 @@ mod arrivals;
 #[cfg(test)]
 mod blocks;
 #[cfg(test)]
+mod bytes;
+#[cfg(test)]
 mod ip;
 #[cfg(test)]
 mod join;
 #[cfg(test)]
 mod link;
-#[cfg(test)]
-mod making;
 #[cfg(test)]
 mod pcap;
 #[cfg(test)]

@@ -2,7 +2,6 @@
 //! draft-ietf-opsawg-pcap and draft-ietf-opsawg-pcapng.
 ghost use Rattle.std.specs.Prelude.{◌≡◌, ◌≤◌, [], ◌∷◌, Some};
 
-use crate::making::Making;
 use crate::vectors::{CARRY_PCAP, INTERFACE, OPTIONS_PCAPNG, PACKET, SECTION, last_of};
 use cap_bytes::{Fault, Pieces, Refusal, Rule, Tail};
 use cap_source::{Capture, Ending, Format, Head, Listed, Meta, PacketFeed, next_packet};
@@ -375,23 +374,6 @@ fn a_refused_growth(rt: HostRuntime) -> Result<(), Fail> {
     let head = asked(&mut feed)?;
     assert_eq!(rt; head, Head::Packet(carried(&rt, 96, Format::Pcapng)));
     assert_eq!(rt; feed.first()?, Some(interface(&rt, 1, 262_144, 6, 0)));
-    Ok(())
-}
-
-// A long block is skipped in pieces: no more than a window is held.
-#[test]
-fn a_long_block(rt: HostRuntime) -> Result<(), Fail> {
-    let making = Making::new(0x400_0000, 0x400_0000);
-    let mut feed = Capture::new(rt.alloc(), making, 7, Tail::Refuse);
-    let meta = Meta {
-        skipped: 1,
-        ..carried(&rt, 67_108_924, Format::Pcapng)
-    };
-    assert_eq!(rt; feed.head()?, Head::Packet(meta));
-    assert!(rt; feed.feed_held().window <= 524_288);
-    feed.pass();
-    assert_eq!(rt; feed.head()?, Head::End);
-    assert!(rt; feed.feed_held().window <= 524_288);
     Ok(())
 }
 

@@ -1,8 +1,13 @@
-//! Tests of what is made of captures: merged files, written files, the lines of files, the report.
+//! Tests of what is made of captures: merged files, written files, the lines of files, the report; and of the commands,
+//! the command line, outcomes and the line of progress.
 #![tactic(auto)]
 
 #[cfg(test)]
 mod classes;
+#[cfg(test)]
+mod command_lines;
+#[cfg(test)]
+mod commands;
 #[cfg(test)]
 mod conversations;
 #[cfg(test)]
@@ -11,6 +16,10 @@ mod file_lines;
 mod files;
 #[cfg(test)]
 mod merge;
+#[cfg(test)]
+mod outcomes;
+#[cfg(test)]
+mod progress;
 #[cfg(test)]
 mod report;
 #[cfg(test)]

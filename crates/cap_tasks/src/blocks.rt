@@ -50,6 +50,3 @@ pub fn blocks_to<R: Source, W: Sink>(
     let mut reader = BlockReader::new(Window::new(alloc, source, 1), tail);
     print_blocks(&mut reader, writer)
 }
-
-#[cfg(test)]
-mod tests;

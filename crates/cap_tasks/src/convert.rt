@@ -34,6 +34,3 @@ pub fn convert_to<R: Source, W: Sink>(
         Format::Pcapng => to_pcapng(alloc, &mut capture, order, writer),
     }
 }
-
-#[cfg(test)]
-mod tests;

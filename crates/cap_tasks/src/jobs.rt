@@ -69,6 +69,3 @@ pub fn job_to<R: Source, W: Sink>(
         Task::Join => join_to(alloc, sources, tail, job.order, writer),
     }
 }
-
-#[cfg(test)]
-mod tests;

@@ -35,6 +35,3 @@ pub fn join_to<R: Source, W: Sink>(
     let mut merged = merge_files(alloc, sources, tail)?;
     write_joined(alloc, &mut merged, order, writer)
 }
-
-#[cfg(test)]
-mod tests;

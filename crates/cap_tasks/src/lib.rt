@@ -10,8 +10,6 @@ mod list;
 mod merge;
 mod outcomes;
 mod progress;
-#[cfg(test)]
-mod tests;
 mod watched;
 
 pub use crate::blocks::blocks_to;

@@ -50,6 +50,3 @@ pub fn list_to<R: Source, W: Sink>(
     let mut capture = Capture::new(alloc, source, 1, tail);
     list_packets(&mut capture, writer)
 }
-
-#[cfg(test)]
-mod tests;

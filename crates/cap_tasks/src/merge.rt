@@ -34,6 +34,3 @@ pub fn merge_to<R: Source, W: Sink>(
     let mut merged = merge_files(alloc, sources, tail)?;
     write_merged(alloc, &mut merged, order, writer)
 }
-
-#[cfg(test)]
-mod tests;

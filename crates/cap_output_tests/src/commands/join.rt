@@ -1,9 +1,9 @@
 //! Joined files: values from the formats and from worked captures.
 ghost use Rattle.std.specs.Prelude.{◌≤◌};
 
-use crate::join::join_to;
-use crate::tests::{decoded, roomy};
+use crate::commands::{decoded, roomy};
 use cap_bytes::{Fault, Order, Pieces, Room, Tail};
+use cap_tasks::join_to;
 use std::alloc::Global;
 use std::test::Fail;
 

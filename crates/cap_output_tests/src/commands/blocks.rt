@@ -1,9 +1,9 @@
 //! Lines of blocks: values from draft-ietf-opsawg-pcapng and from worked files.
 ghost use Rattle.std.specs.Prelude.{◌≤◌};
 
-use crate::blocks::blocks_to;
-use crate::tests::refused;
+use crate::commands::refused;
 use cap_bytes::{Fault, Pieces, Room, Rule, Tail};
+use cap_tasks::blocks_to;
 use std::alloc::Global;
 use std::test::Fail;
 

@@ -1,10 +1,10 @@
 //! Files written in either format: values from the formats and from worked captures.
 ghost use Rattle.std.specs.Prelude.{◌≤◌};
 
-use crate::convert::convert_to;
-use crate::tests::refused;
+use crate::commands::refused;
 use cap_bytes::{Fault, Order, Pieces, Room, Rule, Tail};
 use cap_source::Format;
+use cap_tasks::convert_to;
 use std::alloc::Global;
 use std::test::Fail;
 

@@ -2,7 +2,7 @@
 //! memory at every place.
 ghost use Rattle.std.specs.Prelude.{◌≤◌};
 
-use crate::{
+use cap_bytes::{
     Broken, Device, Fault, Order, Pieces, Refusal, Room, Rule, Sink, Source, Tracked, Window,
     put_all, put_u16, put_u32, put_u64, u16_at, u32_at, u64_at,
 };

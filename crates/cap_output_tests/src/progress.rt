@@ -1,8 +1,7 @@
 //! The line that shows how far a run is, and devices that are watched.
 
-use crate::progress::{Progress, progress_line};
-use crate::watched::Watched;
 use cap_bytes::{Device, Pieces, Room, Sink, Source};
+use cap_tasks::{Progress, Watched, progress_line};
 
 #[test]
 fn a_line_tells_bytes_rate_and_time_left(rt: HostRuntime) {

@@ -1,10 +1,9 @@
 //! Lines of packets, refusals and faults: values from the formats and from worked captures.
 ghost use Rattle.std.specs.Prelude.{◌≤◌};
 
-use crate::list::list_to;
-use crate::outcomes::{Outcome, outcome_line, status_of};
-use crate::tests::refused;
+use crate::commands::refused;
 use cap_bytes::{Fault, Pieces, Room, Rule, Tail};
+use cap_tasks::{Outcome, list_to, outcome_line, status_of};
 use std::alloc::Global;
 use std::test::Fail;
 

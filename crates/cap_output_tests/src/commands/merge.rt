@@ -1,9 +1,9 @@
 //! Merged files: values from the formats and from worked captures.
 ghost use Rattle.std.specs.Prelude.{◌≤◌};
 
-use crate::merge::merge_to;
-use crate::tests::{decoded, refused, roomy};
+use crate::commands::{decoded, refused, roomy};
 use cap_bytes::{Fault, Order, Pieces, Room, Rule, Tail};
+use cap_tasks::merge_to;
 use std::alloc::Global;
 use std::test::Fail;
 

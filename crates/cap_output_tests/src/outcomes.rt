@@ -1,11 +1,8 @@
-//! Command lines; outcomes and what is told of them.
+//! Outcomes and what is told of them.
 
-mod command_lines;
-mod progress;
-
-use crate::outcomes::{Outcome, end_of, outcome_line, status_of, tell};
 use cap_bytes::{Fault, Refusal, Room, Rule};
 use cap_line::{LineFault, USAGE};
+use cap_tasks::{Outcome, end_of, outcome_line, status_of, tell};
 use std::alloc::Global;
 use std::io;
 use std::io::{BufWriter, Write};
@@ -16,27 +13,6 @@ const SECOND_FILE: Refusal = Refusal {
     offset: 24,
     rule: Rule::BlockTrailer,
 };
-
-/// A refusal of a file.
-pub(crate) fn refused(file: u32, offset: u64, rule: Rule) -> Fault {
-    Fault::Refused(Refusal { file, offset, rule })
-}
-
-/// The bytes of a text in hex, where at most one growth is refused.
-pub(crate) fn decoded(alloc: Global, text: &str) -> Result<Vec<u8>, Fail> {
-    match hex::decode(alloc, text) {
-        Ok(bytes) => Ok(bytes),
-        Err(_) => Ok(hex::decode(alloc, text)?),
-    }
-}
-
-/// Room for that many, where at most one growth is refused.
-pub(crate) fn roomy<T>(alloc: Global, count: usize) -> Result<Vec<T>, Fail> {
-    match Vec::with_capacity(alloc, count) {
-        Ok(room) => Ok(room),
-        Err(_) => Ok(Vec::with_capacity(alloc, count)?),
-    }
-}
 
 // What is told of each outcome but the usage, and the status.
 const TOLD: [(Outcome, &str, u8); 11] = [

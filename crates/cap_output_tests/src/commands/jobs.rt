@@ -1,7 +1,7 @@
 //! Jobs of command lines, over worked captures of the formats.
-use crate::jobs::job_to;
 use cap_bytes::{Fault, Pieces, Refusal, Room, Rule};
 use cap_line::parse;
+use cap_tasks::job_to;
 use std::alloc::Global;
 use std::test::Fail;
 
