@@ -9,7 +9,7 @@ use Rattle.cap_bytes.specs.declared.numbers.Order.TheVariants.{Big, Little}
 use Rattle.cap_bytes.proofs.Spelling.{length-bytes_of, number-bytes_of, number-append}
 use Rattle.cap_time.specs.Resolution.{code_of}
 use Rattle.cap_time.specs.declared.resolutions.Interface.{Interface}
-use Rattle.cap_blocks.specs.Grammar.{section_kind, interface_kind, enhanced_kind, order_magic, is_total, SpellsSection, SpellsBlock, block_text, section_body, option_text, offset_option, interface_options, interface_body, interface_total, packet_body}
+use Rattle.cap_blocks.specs.Grammar.{section_kind, interface_kind, enhanced_kind, order_magic, is_total, SpellsSection, SpellsBlock, block_bytes, section_body, option_bytes, offset_option, interface_options, interface_body, interface_total, packet_body}
 use Rattle.cap_blocks.specs.Laws.{IsRead, SectionAgain, InterfaceAgain, PacketAgain, offset_items}
 use Rattle.cap_blocks.specs.OptionList.{options_of, code_at, length_at, padded}
 use Rattle.cap_blocks.proofs.OptionLaws.{options_of-end, options_of-more}
@@ -31,8 +31,8 @@ first_field order n x rest bytes is few = ap (number order n) is ∙ number-byte
 -- a block that is written spells itself
 pub SpellsBlock-text : (order : Order) (kind : ℕ) (body : List ℕ) → kind < 256 ^ 4 → 12 + length body < 256 ^ 4
     → is_total kind (12 + length body) ≡ true → (kind ≡ section_kind → SpellsSection order body)
-    → SpellsBlock order kind body (block_text order kind body)
-unfolding block_text
+    → SpellsBlock order kind body (block_bytes order kind body)
+unfolding block_bytes
 SpellsBlock-text order kind body few small allowed section =
     let k = bytes_of order 4 kind in
     let t = bytes_of order 4 (12 + length body) in
@@ -88,8 +88,8 @@ magic_literal Big big little = absurd (omega (arith, little))
 magic_literal Little big little = absurd (omega (arith, big))
 
 -- a text that is put in front of others
-text_kind : (order p : Order) (kind : ℕ) (body rest : List ℕ) → number p 4 (block_text order kind body ++ rest) ≡ number p 4 (bytes_of order 4 kind)
-unfolding block_text
+text_kind : (order p : Order) (kind : ℕ) (body rest : List ℕ) → number p 4 (block_bytes order kind body ++ rest) ≡ number p 4 (bytes_of order 4 kind)
+unfolding block_bytes
 text_kind order p kind body rest =
     let k = bytes_of order 4 kind in
     let t = bytes_of order 4 (12 + length body) in
@@ -97,8 +97,8 @@ text_kind order p kind body rest =
     ap (number p 4) (kind_first k t body rest) ∙ number-append p 4 k (t ++ (body ++ (t ++ rest))) (omega arith)
 
 text_body : (order : Order) (kind : ℕ) (body rest : List ℕ)
-    → drop 8 (block_text order kind body ++ rest) ≡ body ++ (bytes_of order 4 (12 + length body) ++ rest)
-unfolding block_text
+    → drop 8 (block_bytes order kind body ++ rest) ≡ body ++ (bytes_of order 4 (12 + length body) ++ rest)
+unfolding block_bytes
 text_body order kind body rest =
     let k = bytes_of order 4 kind in
     let t = bytes_of order 4 (12 + length body) in
@@ -107,7 +107,7 @@ text_body order kind body rest =
 
 -- a text of another kind, and one of a section header
 plain_other : (order : Order) (kind : ℕ) (body rest : List ℕ) → ((p : Order) → number p 4 (bytes_of order 4 kind) ≡ section_kind → ⊥)
-    → Plain (block_text order kind body ++ rest)
+    → Plain (block_bytes order kind body ++ rest)
 plain_other order kind body rest other = record {
   kinds = λ p q is. absurd (other p (sym (text_kind order p kind body rest) ∙ is));
   magics = λ is big little. other Big (sym (text_kind order Big kind body rest) ∙ is);
@@ -151,26 +151,26 @@ magic_front order p rest =
     let size = length-bytes_of order 4 order_magic in
     ap (number p 4) (magic_first a b c d rest) ∙ number-append p 4 a (b ++ (c ++ (d ++ rest))) (omega arith)
 
-magic_text : (order p : Order) (rest : List ℕ)
-    → number p 4 (drop 8 (block_text order section_kind (section_body order) ++ rest)) ≡ number p 4 (bytes_of order 4 order_magic)
-magic_text order p rest =
+magic_bytes : (order p : Order) (rest : List ℕ)
+    → number p 4 (drop 8 (block_bytes order section_kind (section_body order) ++ rest)) ≡ number p 4 (bytes_of order 4 order_magic)
+magic_bytes order p rest =
     ap (number p 4) (text_body order section_kind (section_body order) rest)
     ∙ magic_front order p (bytes_of order 4 (12 + length (section_body order)) ++ rest)
 
-plain_section : (order : Order) (rest : List ℕ) → Plain (block_text order section_kind (section_body order) ++ rest)
+plain_section : (order : Order) (rest : List ℕ) → Plain (block_bytes order section_kind (section_body order) ++ rest)
 plain_section order rest = record {
   kinds = λ p q is. text_kind order q section_kind (section_body order) rest ∙ kind_literal order q;
-  magics = λ is big little. magic_literal order (sym (magic_text order Big rest) ∙ big) (sym (magic_text order Little rest) ∙ little);
+  magics = λ is big little. magic_literal order (sym (magic_bytes order Big rest) ∙ big) (sym (magic_bytes order Little rest) ∙ little);
 }
 
 -- a text that spells a block is read, whatever follows
 IsRead-text : (section : Option Order) (order : Order) (kind : ℕ) (body : List ℕ) → MayFollow section (record { order = order; kind = kind; body = body })
-    → SpellsBlock order kind body (block_text order kind body) → ((rest : List ℕ) → Plain (block_text order kind body ++ rest))
-    → IsRead section (record { order = order; kind = kind; body = body }) (block_text order kind body)
+    → SpellsBlock order kind body (block_bytes order kind body) → ((rest : List ℕ) → Plain (block_bytes order kind body ++ rest))
+    → IsRead section (record { order = order; kind = kind; body = body }) (block_bytes order kind body)
 IsRead-text section order kind body follows s fits = record {
   spelled = s;
   items = λ tail file offset rest limit.
-      let text = block_text order kind body in
+      let text = block_bytes order kind body in
       let piece : Piece = record { order = order; kind = kind; body = body } in
       let front : take (12 + length body) (text ++ rest) ≡ text = take_at text rest (12 + length body) s.size in
       let behind : drop (12 + length body) (text ++ rest) ≡ rest = drop_at text rest (12 + length body) s.size in
@@ -199,18 +199,18 @@ pad_size : (n : ℕ) → n + (padded n - n) ≡ padded n
 pad_size n = omega arith
 
 pub options_of-text : (order : Order) (code : ℕ) (value rest : List ℕ) → 0 < code → code < 256 ^ 2 → length value < 256 ^ 2
-    → options_of order (option_text order code value ++ rest) ≡ Ok (code, value) ∷ options_of order rest
+    → options_of order (option_bytes order code value ++ rest) ≡ Ok (code, value) ∷ options_of order rest
 options_of-text order code value rest some few small =
     let c = bytes_of order 2 code in
     let l = bytes_of order 2 (length value) in
     let pad : List ℕ = replicate (padded (length value) - length value) 0 in
-    let text = option_text order code value ++ rest in
+    let text = option_bytes order code value ++ rest in
     let lc = length-bytes_of order 2 code in
     let ll = length-bytes_of order 2 (length value) in
     let lp = length-replicate {A = ℕ} (padded (length value) - length value) 0 in
     let front : length (c ++ l) ≡ 4 = omega (arith, length-append c l) in
     let padded_is = pad_size (length value) in
-    let whole : length (option_text order code value) ≡ 4 + padded (length value) =
+    let whole : length (option_bytes order code value) ≡ 4 + padded (length value) =
     omega (arith, length-append ((c ++ l) ++ value) pad, length-append (c ++ l) value) in
     let code_is : code_at order text ≡ code = first_field order 2 code (l ++ (value ++ (pad ++ rest))) text (simp append_assoc) few in
     let length_is : length_at order text ≡ length value =
@@ -218,22 +218,22 @@ options_of-text order code value rest some few small =
     let behind : drop 4 text ≡ value ++ (pad ++ rest) =
     ap (drop 4) (five (c ++ l) value pad rest) ∙ drop_at (c ++ l) (value ++ (pad ++ rest)) 4 front in
     let value_is : take (length value) (drop 4 text) ≡ value = ap (take (length value)) behind ∙ take_at value (pad ++ rest) (length value) refl in
-    let rest_is : drop (4 + padded (length value)) text ≡ rest = drop_at (option_text order code value) rest (4 + padded (length value)) whole in
+    let rest_is : drop (4 + padded (length value)) text ≡ rest = drop_at (option_bytes order code value) rest (4 + padded (length value)) whole in
     let more = options_of-more order text (λ zero. absurd (omega (arith, code_is, zero, some)))
-    (omega (arith, length_is, length-append (option_text order code value) rest)) in
+    (omega (arith, length_is, length-append (option_bytes order code value) rest)) in
     rw (code_is, length_is, value_is, rest_is) at more
 
-options_of-last : (order : Order) → options_of order (option_text order 0 []) ≡ []
+options_of-last : (order : Order) → options_of order (option_bytes order 0 []) ≡ []
 options_of-last order =
-    options_of-end order (option_text order 0 [])
-    (first_field order 2 0 (bytes_of order 2 0 ++ ([] ++ [])) (option_text order 0 []) (simp append_assoc) (omega arith))
+    options_of-end order (option_bytes order 0 [])
+    (first_field order 2 0 (bytes_of order 2 0 ++ ([] ++ [])) (option_bytes order 0 []) (simp append_assoc) (omega arith))
 
 options_of-offset : (order : Order) (seconds : ℕ) (zero : Bool) → (seconds == 0) ≡ zero
-    → options_of order (offset_option order seconds ++ option_text order 0 []) ≡ offset_items order seconds
+    → options_of order (offset_option order seconds ++ option_bytes order 0 []) ≡ offset_items order seconds
 options_of-offset order seconds true is = rw is (options_of-last order)
 options_of-offset order seconds false is =
     let size = length-bytes_of order 8 seconds in
-    rw is (options_of-text order 14 (bytes_of order 8 seconds) (option_text order 0 []) (omega arith) (omega arith) (omega arith)
+    rw is (options_of-text order 14 (bytes_of order 8 seconds) (option_bytes order 0 []) (omega arith) (omega arith) (omega arith)
     ∙ ap (λ l. Ok (14, bytes_of order 8 seconds) ∷ l) (options_of-last order))
 
 interface_options-read : (order : Order) (interface : Interface)
@@ -241,9 +241,9 @@ interface_options-read : (order : Order) (interface : Interface)
     ≡ Ok (9, code_of interface.resolution ∷ []) ∷ offset_items order (cast_unsigned w64 interface.offset)
 interface_options-read order interface =
     let seconds = cast_unsigned w64 interface.offset in
-    let first = option_text order 9 (code_of interface.resolution ∷ []) in
-    ap (options_of order) (append_assoc first (offset_option order seconds) (option_text order 0 []))
-    ∙ (options_of-text order 9 (code_of interface.resolution ∷ []) (offset_option order seconds ++ option_text order 0 [])
+    let first = option_bytes order 9 (code_of interface.resolution ∷ []) in
+    ap (options_of order) (append_assoc first (offset_option order seconds) (option_bytes order 0 []))
+    ∙ (options_of-text order 9 (code_of interface.resolution ∷ []) (offset_option order seconds ++ option_bytes order 0 [])
     (omega arith) (omega arith) (omega arith)
     ∙ ap (λ l. Ok (9, code_of interface.resolution ∷ []) ∷ l) (options_of-offset order seconds (seconds == 0) refl))
 

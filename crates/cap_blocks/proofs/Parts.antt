@@ -11,14 +11,14 @@ use Rattle.cap_bytes.specs.declared.numbers.Order.{Order}
 use Rattle.cap_bytes.proofs.Spelling.{length-bytes_of}
 use Rattle.cap_time.specs.Resolution.{code_of}
 use Rattle.cap_time.specs.declared.resolutions.Interface.{Interface}
-use Rattle.cap_blocks.specs.Grammar.{section_kind, interface_kind, enhanced_kind, order_magic, block_text, section_body, option_text, offset_option, interface_body, packet_body, interface_total, packet_head, packet_tail, section_text, interface_text, packet_text}
+use Rattle.cap_blocks.specs.Grammar.{section_kind, interface_kind, enhanced_kind, order_magic, block_bytes, section_body, option_bytes, offset_option, interface_body, packet_body, interface_total, packet_head, packet_tail, section_bytes, interface_bytes, packet_bytes}
 use Rattle.cap_blocks.specs.OptionList.{padded}
 
 -- a block by its total length
-pub block_text-sized : (order : Order) (kind total : ℕ) (body : List ℕ) → 12 + length body ≡ total
-    → block_text order kind body ≡ bytes_of order 4 kind ++ bytes_of order 4 total ++ body ++ bytes_of order 4 total
-unfolding block_text
-block_text-sized order kind total body size = rw size refl
+pub block_bytes-sized : (order : Order) (kind total : ℕ) (body : List ℕ) → 12 + length body ≡ total
+    → block_bytes order kind body ≡ bytes_of order 4 kind ++ bytes_of order 4 total ++ body ++ bytes_of order 4 total
+unfolding block_bytes
+block_bytes-sized order kind total body size = rw size refl
 
 -- how long the written bodies are
 pub length-section_body : (order : Order) → length (section_body order) ≡ 16
@@ -27,7 +27,7 @@ length-section_body order = simp (length-append, length-bytes_of)
 pub length-offset_option : (order : Order) (seconds : ℕ) → length (offset_option order seconds) + 32 ≡ interface_total seconds
 length-offset_option order seconds =
     let eight = length-bytes_of order 8 seconds in
-    let some : length (option_text order 14 (bytes_of order 8 seconds)) ≡ 12 = simp (length-append, length-bytes_of) in
+    let some : length (option_bytes order 14 (bytes_of order 8 seconds)) ≡ 12 = simp (length-append, length-bytes_of) in
     grind (arith, nat_tests)
 
 pub interface_total-most : (seconds : ℕ) → interface_total seconds ≤ 44
@@ -36,7 +36,7 @@ interface_total-most seconds = grind (arith, nat_tests)
 -- the options round that of the offset
 length_around : (order : Order) (link snaplen code : ℕ) (offset : List ℕ)
     → length (bytes_of order 2 link ++ bytes_of order 2 0 ++ bytes_of order 4 snaplen
-    ++ (option_text order 9 (code ∷ []) ++ offset ++ option_text order 0 []))
+    ++ (option_bytes order 9 (code ∷ []) ++ offset ++ option_bytes order 0 []))
     ≡ 20 + length offset
 length_around order link snaplen code offset = simp (length-append, length-bytes_of) (omega arith)
 
@@ -52,30 +52,30 @@ length-packet_body order interface units original bytes =
     simp (length-append, length-bytes_of, length-replicate) (omega arith)
 
 -- a section header, piece by piece
-pub section_text-pieces : (order : Order)
+pub section_bytes-pieces : (order : Order)
     → (((((([] ++ bytes_of order 4 section_kind) ++ bytes_of order 4 28) ++ bytes_of order 4 order_magic) ++ bytes_of order 2 1)
     ++ bytes_of order 2 0) ++ bytes_of order 8 0xFFFF_FFFF_FFFF_FFFF) ++ bytes_of order 4 28
-    ≡ section_text order
-section_text-pieces order =
-    rw (block_text-sized order section_kind 28 (section_body order) (ap (λ n. 12 + n) (length-section_body order))) (simp append_assoc)
+    ≡ section_bytes order
+section_bytes-pieces order =
+    rw (block_bytes-sized order section_kind 28 (section_body order) (ap (λ n. 12 + n) (length-section_body order))) (simp append_assoc)
 
 -- an interface block, piece by piece
-pub interface_text-pieces : (order : Order) (interface : Interface) (total : ℕ) → total ≡ interface_total (cast_unsigned w64 interface.offset)
+pub interface_bytes-pieces : (order : Order) (interface : Interface) (total : ℕ) → total ≡ interface_total (cast_unsigned w64 interface.offset)
     → ((((((((((([] ++ bytes_of order 4 interface_kind) ++ bytes_of order 4 total) ++ bytes_of order 2 interface.link) ++ bytes_of order 2 0)
     ++ bytes_of order 4 interface.snaplen) ++ bytes_of order 2 9) ++ bytes_of order 2 1)
     ++ (code_of interface.resolution ∷ 0 ∷ 0 ∷ 0 ∷ [])) ++ offset_option order (cast_unsigned w64 interface.offset))
     ++ bytes_of order 2 0) ++ bytes_of order 2 0) ++ bytes_of order 4 total
-    ≡ interface_text order interface
-interface_text-pieces order interface total is =
-    rw (block_text-sized order interface_kind total (interface_body order interface)
+    ≡ interface_bytes order interface
+interface_bytes-pieces order interface total is =
+    rw (block_bytes-sized order interface_kind total (interface_body order interface)
     (length-interface_body order interface ∙ sym is)) (simp append_assoc)
 
 -- a packet, in the three parts that are written
-pub packet_text-parts : (order : Order) (interface units original : ℕ) (bytes : List ℕ)
+pub packet_bytes-parts : (order : Order) (interface units original : ℕ) (bytes : List ℕ)
     → packet_head order interface units (length bytes) original ++ (bytes ++ packet_tail order (length bytes))
-    ≡ packet_text order interface units original bytes
-packet_text-parts order interface units original bytes =
-    rw (block_text-sized order enhanced_kind (32 + padded (length bytes)) (packet_body order interface units original bytes)
+    ≡ packet_bytes order interface units original bytes
+packet_bytes-parts order interface units original bytes =
+    rw (block_bytes-sized order enhanced_kind (32 + padded (length bytes)) (packet_body order interface units original bytes)
     (length-packet_body order interface units original bytes)) (simp append_assoc)
 
 -- a prefix of the first part is a prefix of the whole

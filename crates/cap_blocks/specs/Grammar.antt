@@ -70,8 +70,8 @@ pub record SpellsBlock (order : Order) (kind : ℕ) (body bytes : List ℕ) : Ty
   pub section : kind ≡ section_kind → SpellsSection order body
 
 -- a block as it is written: its kind, the total length on both sides, and its body
-unfoldable pub block_text : Order → ℕ → List ℕ → List ℕ
-block_text order kind body =
+unfoldable pub block_bytes : Order → ℕ → List ℕ → List ℕ
+block_bytes order kind body =
     bytes_of order 4 kind ++ bytes_of order 4 (12 + length body) ++ body ++ bytes_of order 4 (12 + length body)
 
 -- the body of a section header of version 1.0, whose length is left open
@@ -80,20 +80,20 @@ section_body order =
     bytes_of order 4 order_magic ++ bytes_of order 2 1 ++ bytes_of order 2 0 ++ bytes_of order 8 0xFFFF_FFFF_FFFF_FFFF
 
 -- an option, of which the value is padded by zeros. draft-ietf-opsawg-pcapng, 3.5.
-abbrev pub option_text : Order → ℕ → List ℕ → List ℕ
-option_text order code value =
+abbrev pub option_bytes : Order → ℕ → List ℕ → List ℕ
+option_bytes order code value =
     bytes_of order 2 code ++ bytes_of order 2 (length value) ++ value ++ replicate (padded (length value) - length value) 0
 
 -- the options of an interface: its resolution, its offset where that isn't 0, in two's complement, and the
 -- end. draft-ietf-opsawg-pcapng, 4.2.
 abbrev pub offset_option : Order → ℕ → List ℕ
-offset_option order seconds = if seconds == 0 then [] else option_text order 14 (bytes_of order 8 seconds)
+offset_option order seconds = if seconds == 0 then [] else option_bytes order 14 (bytes_of order 8 seconds)
 
 abbrev pub interface_options : Order → Interface → List ℕ
 interface_options order interface =
-    option_text order 9 (code_of interface.resolution ∷ [])
+    option_bytes order 9 (code_of interface.resolution ∷ [])
     ++ offset_option order (cast_unsigned w64 interface.offset)
-    ++ option_text order 0 []
+    ++ option_bytes order 0 []
 
 -- the body of an interface block
 abbrev pub interface_body : Order → Interface → List ℕ
@@ -122,12 +122,12 @@ abbrev pub packet_tail : Order → ℕ → List ℕ
 packet_tail order captured = replicate (padded captured - captured) 0 ++ bytes_of order 4 (32 + padded captured)
 
 -- what is written for a section header, an interface and a packet
-abbrev pub section_text : Order → List ℕ
-section_text order = block_text order section_kind (section_body order)
+abbrev pub section_bytes : Order → List ℕ
+section_bytes order = block_bytes order section_kind (section_body order)
 
-abbrev pub interface_text : Order → Interface → List ℕ
-interface_text order interface = block_text order interface_kind (interface_body order interface)
+abbrev pub interface_bytes : Order → Interface → List ℕ
+interface_bytes order interface = block_bytes order interface_kind (interface_body order interface)
 
-abbrev pub packet_text : Order → ℕ → ℕ → ℕ → List ℕ → List ℕ
-packet_text order interface units original bytes =
-    block_text order enhanced_kind (packet_body order interface units original bytes)
+abbrev pub packet_bytes : Order → ℕ → ℕ → ℕ → List ℕ → List ℕ
+packet_bytes order interface units original bytes =
+    block_bytes order enhanced_kind (packet_body order interface units original bytes)

@@ -8,7 +8,7 @@ use Rattle.cap_bytes.specs.declared.faults.Rule.{Rule}
 use Rattle.cap_bytes.specs.declared.faults.Tail.{Tail}
 use Rattle.cap_time.specs.Resolution.{code_of}
 use Rattle.cap_time.specs.declared.resolutions.Interface.{Interface}
-use Rattle.cap_blocks.specs.Grammar.{section_kind, interface_kind, enhanced_kind, SpellsBlock, section_body, section_text, interface_body, interface_text, packet_body, packet_text}
+use Rattle.cap_blocks.specs.Grammar.{section_kind, interface_kind, enhanced_kind, SpellsBlock, section_body, section_bytes, interface_body, interface_bytes, packet_body, packet_bytes}
 use Rattle.cap_blocks.specs.OptionList.{OptionItem, options_of}
 use Rattle.cap_blocks.specs.Split.{Piece, piece_size, MayFollow, Begins, Splits, AreBytes, order_at, total_at, body_at, block_fault, block_at, stop_at, items_from}
 use Rattle.cap_blocks.specs.declared.blocks.Block.{Block}
@@ -110,7 +110,7 @@ pub record IsRead (section : Option Order) (piece : Piece) (text : List ℕ) : T
 abbrev pub SectionAgain : Type 0
 SectionAgain =
     (section : Option Order) (order : Order)
-    → IsRead section (record { order = order; kind = section_kind; body = section_body order }) (section_text order)
+    → IsRead section (record { order = order; kind = section_kind; body = section_body order }) (section_bytes order)
 
 -- the options that are written for an interface
 abbrev pub offset_items : Order → ℕ → List OptionItem
@@ -121,7 +121,7 @@ abbrev pub InterfaceAgain : Type 0
 InterfaceAgain =
     (order : Order) (interface : Interface) → interface.link < 2 ^ 16 → interface.snaplen < 2 ^ 32
     → (let body = interface_body order interface in
-    IsRead (Some order) (record { order = order; kind = interface_kind; body = body }) (interface_text order interface)
+    IsRead (Some order) (record { order = order; kind = interface_kind; body = body }) (interface_bytes order interface)
     × (number order 2 body ≡ interface.link)
     × (number order 4 (drop 4 body) ≡ interface.snaplen)
     × (options_of order (drop 8 body)
@@ -133,7 +133,7 @@ PacketAgain =
     (order : Order) (interface units original : ℕ) (bytes : List ℕ)
     → interface < 2 ^ 32 → units < 2 ^ 64 → original < 2 ^ 32 → length bytes ≤ 262144
     → (let body = packet_body order interface units original bytes in
-    IsRead (Some order) (record { order = order; kind = enhanced_kind; body = body }) (packet_text order interface units original bytes)
+    IsRead (Some order) (record { order = order; kind = enhanced_kind; body = body }) (packet_bytes order interface units original bytes)
     × (number order 4 body ≡ interface)
     × (number order 4 (drop 4 body) * 2 ^ 32 + number order 4 (drop 8 body) ≡ units)
     × (number order 4 (drop 12 body) ≡ length bytes)

@@ -2,7 +2,7 @@
 ghost use Rattle.std.specs.Prelude.{◌≡◌, ◌+◌, ◌≤◌, ◌++◌, length, IsTrue, is_err, IsOkUnless};
 ghost use Rattle.std.specs.Int.{w64, cast_unsigned};
 ghost use Rattle.cap_bytes.specs.Device.{Puts, WriterKeeps, writer_of};
-ghost use Rattle.cap_blocks.specs.Grammar.{section_text, interface_text, interface_total, packet_text, packet_head, packet_tail, offset_option};
+ghost use Rattle.cap_blocks.specs.Grammar.{section_bytes, interface_bytes, interface_total, packet_bytes, packet_head, packet_tail, offset_option};
 ghost use Rattle.cap_blocks.specs.OptionList.{padded};
 
 use crate::blocks::{ENHANCED_PACKET, INTERFACE, ORDER_MAGIC, SECTION};
@@ -22,7 +22,7 @@ const END_OPTION: u16 = 0;
 /// where the writer failed: a prefix of the bytes is written then.
 pub fn put_section<W: Sink>(writer: &mut W, order: Order) -> Result<(), Fault>
     ensures bytes { IsTrue (W.tells_held writer.old)
-        → Puts (W.held writer.old) result (W.held writer.new) (section_text order) }
+        → Puts (W.held writer.old) result (W.held writer.new) (section_bytes order) }
     ensures writer { WriterKeeps (writer_of W.Sink writer.old) (is_err result) (writer_of W.Sink writer.new) }
     ensures fault { IsOkUnless result Fault.Write }
 {
@@ -31,7 +31,7 @@ pub fn put_section<W: Sink>(writer: &mut W, order: Order) -> Result<(), Fault>
 
 // A section header.
 fn section_header(order: Order) -> Text
-    ensures { result ≡ section_text order }
+    ensures { result ≡ section_bytes order }
 {
     let mut text = Text::new();
     text.word(order, SECTION);
@@ -54,7 +54,7 @@ pub fn put_interface<W: Sink>(
     interface: &Interface,
 ) -> Result<(), Fault>
     ensures bytes { IsTrue (W.tells_held writer.old)
-        → Puts (W.held writer.old) result (W.held writer.new) (interface_text order interface.now) }
+        → Puts (W.held writer.old) result (W.held writer.new) (interface_bytes order interface.now) }
     ensures writer { WriterKeeps (writer_of W.Sink writer.old) (is_err result) (writer_of W.Sink writer.new) }
     ensures fault { IsOkUnless result Fault.Write }
 {
@@ -63,7 +63,7 @@ pub fn put_interface<W: Sink>(
 
 // An interface block.
 fn interface_block(order: Order, interface: &Interface) -> Text
-    ensures { result ≡ interface_text order interface.now }
+    ensures { result ≡ interface_bytes order interface.now }
 {
     let seconds = seconds_of(interface);
     let total = total_of(seconds);
@@ -124,7 +124,7 @@ pub fn put_packet<W: Sink>(
 ) -> Result<(), Fault>
     requires captured { length «data».now ≤ 262144 }
     ensures bytes { IsTrue (W.tells_held writer.old)
-        → Puts (W.held writer.old) result (W.held writer.new) (packet_text order interface units original «data».now) }
+        → Puts (W.held writer.old) result (W.held writer.new) (packet_bytes order interface units original «data».now) }
     ensures writer { WriterKeeps (writer_of W.Sink writer.old) (is_err result) (writer_of W.Sink writer.new) }
     ensures fault { IsOkUnless result Fault.Write }
 {

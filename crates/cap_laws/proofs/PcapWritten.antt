@@ -13,7 +13,7 @@ use Rattle.cap_source.specs.Feed.{Item, packet, refused, refusal_of}
 use Rattle.cap_source.specs.Items.{file_first, file_items}
 use Rattle.cap_time.specs.declared.stamps.Stamp.{Stamp}
 use Rattle.cap_write.specs.Laws.{PcapAgain, SamePackets}
-use Rattle.cap_write.specs.Pcap.{pcap_text}
+use Rattle.cap_write.specs.Pcap.{pcap_bytes}
 use Rattle.cap_laws.proofs.LikeReports.{LikeItems, RunsLike, same-but-forms}
 use Rattle.cap_laws.proofs.OneFile.{run-one}
 use Rattle.cap_laws.proofs.SameRun.{told_twice}
@@ -75,7 +75,7 @@ runs-like t u (a ∷ as_) (b ∷ bs) e h k w =
 pub pcap-report : PcapAgain → PcapReport
 pcap-report again-law order tail tail_again bytes are none short =
     let items = file_items tail 1 bytes in
-    let again = file_items tail_again 1 (pcap_text order (file_first tail 1 bytes) items) in
+    let again = file_items tail_again 1 (pcap_bytes order (file_first tail 1 bytes) items) in
     let same = (again-law order tail tail_again 1 1 bytes are).1 none short in
     let one : run_of_lists (items ∷ []) ≡ items = run-one items (never-first items again same) in
     let other : run_of_lists (again ∷ []) ≡ again = run-one again (never-again items again same) in

@@ -3,7 +3,7 @@ use Rattle.std.proofs.Common.{◌≡◌, ℕ, suc, ◌+◌, List, [], ◌∷◌,
 use Rattle.std.specs.List.{AllZip, AllByRecursion, flat_map}
 use Rattle.std.specs.Prelude.{map, is_none, unwrap_or}
 use Rattle.std.proofs.lemmas.List.{map-append}
-use Rattle.cap_blocks.specs.Grammar.{section_text}
+use Rattle.cap_blocks.specs.Grammar.{section_bytes}
 use Rattle.cap_bytes.specs.declared.faults.Refusal.{Refusal}
 use Rattle.cap_bytes.specs.declared.faults.Tail.{Tail}
 use Rattle.cap_merge.specs.Files.{items_of_files, run_of_lists, run_of_files}
@@ -12,10 +12,10 @@ use Rattle.cap_source.specs.Items.{file_items}
 use Rattle.cap_write.specs.Laws.{MergeLaw, instances, numbers}
 use Rattle.cap_write.specs.Numbering.{Name, Numbered, numbered, numbered_of, refusal_in, with_name}
 use Rattle.cap_write.specs.Rounds.{FileRoundsLaw, IsItemOf, IsMergeOf, numbered_files, run_of}
-use Rattle.cap_write.specs.Texts.{packets_text}
+use Rattle.cap_write.specs.Texts.{packets_bytes}
 use Rattle.cap_laws.proofs.FileNumbers.{file-numbered}
 use Rattle.cap_laws.proofs.Twins.{goes, refuses}
-use Rattle.cap_laws.specs.Rounds.{Group, IsMerged, group_text, refused_by, RoundsInBytes}
+use Rattle.cap_laws.specs.Rounds.{Group, IsMerged, group_bytes, refused_by, RoundsInBytes}
 
 -- the items of files of those bytes, each numbered as the first
 abbrev items_each : Tail → List (List ℕ) → List (List Item)
@@ -66,9 +66,9 @@ items-are names (packet meta frame ∷ items) none same =
 -- ---- groups
 
 merge-of : MergeLaw → (tail tail_again : Tail) (group : Group) → IsMerged tail group
-    → IsMergeOf (items_each tail group.files) (file_items tail_again 1 (group_text tail group))
+    → IsMergeOf (items_each tail group.files) (file_items tail_again 1 (group_bytes tail group))
 merge-of law tail tail_again group is =
-    let again = file_items tail_again 1 (group_text tail group) in
+    let again = file_items tail_again 1 (group_bytes tail group) in
     let written = law group.order tail tail_again 1 group.files is.bytes is.size in
     let run = run-each tail group.files in
     record {
@@ -77,7 +77,7 @@ merge-of law tail tail_again group is =
     }
 
 merges-of : MergeLaw → (tail tail_again : Tail) (groups : List Group) → AllByRecursion (IsMerged tail) groups
-    → AllZip IsMergeOf (map (λ group. items_each tail group.files) groups) (items_each tail_again (map (group_text tail) groups))
+    → AllZip IsMergeOf (map (λ group. items_each tail group.files) groups) (items_each tail_again (map (group_bytes tail) groups))
 merges-of law tail tail_again [] are = tt
 merges-of law tail tail_again (group ∷ groups) are = (merge-of law tail tail_again group are.0, merges-of law tail tail_again groups are.1)
 
@@ -94,12 +94,12 @@ pub rounds-in-bytes : MergeLaw → FileRoundsLaw → RoundsInBytes
 rounds-in-bytes merge-law rounds-law order tail tail_again groups are =
     let parts = map (λ group. items_each tail group.files) groups in
     let files = flat_map (λ group. group.files) groups in
-    let texts = map (group_text tail) groups in
+    let texts = map (group_bytes tail) groups in
     let law = rounds-law parts (items_each tail_again texts) (merges-of merge-law tail tail_again groups are) in
     let whole : run_of (flat_map (λ lists. lists) parts) ≡ run_of_files tail files = ap run_of (all-files tail groups) ∙ run-each tail files in
     let rounds = run-each tail_again texts in
     let packets : numbered [] (run_of_files tail_again texts) ≡ numbered [] (run_of_files tail files) =
     sym (ap (numbered []) rounds) ∙ (law.0 ∙ ap (numbered []) whole) in (
-      ap (λ ns. section_text order ++ packets_text order 0 ns) packets,
+      ap (λ ns. section_bytes order ++ packets_bytes order 0 ns) packets,
       sym (ap refused_by rounds) ∙ (law.1 ∙ ap refused_by whole),
     )

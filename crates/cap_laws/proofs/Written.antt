@@ -13,7 +13,7 @@ use Rattle.cap_source.specs.Items.{file_first, file_items}
 use Rattle.cap_time.specs.declared.stamps.Stamp.{Stamp}
 use Rattle.cap_write.specs.Laws.{MergeLaw, PcapngAgain}
 use Rattle.cap_write.specs.Numbering.{Name, numbered, refusal_at, refusal_in, refusal_or, with_name, write_fault}
-use Rattle.cap_write.specs.Texts.{first_names, merged_refusal, merged_text, pcapng_refusal, pcapng_text}
+use Rattle.cap_write.specs.Texts.{first_names, merged_refusal, merged_bytes, pcapng_refusal, pcapng_bytes}
 use Rattle.cap_laws.proofs.OneFile.{run-one}
 use Rattle.cap_laws.proofs.Alike.{AlikeItems, RunsAlike}
 use Rattle.cap_laws.proofs.SameRun.{IsRewritten, rewritten-alike, same-run}
@@ -24,14 +24,14 @@ use Rattle.cap_laws.specs.Runs.{MergedRun, PcapngRun, SameItems, SameRun}
 
 -- what is written of a merge, as the items of a file
 merged_items : (order : Order) (tail tail_again : Tail) (files : List (List ℕ)) → List Item
-merged_items order tail tail_again files = file_items tail_again 1 (merged_text order (run_of_files tail files))
+merged_items order tail tail_again files = file_items tail_again 1 (merged_bytes order (run_of_files tail files))
 
 merged-rewritten : MergeLaw → (order : Order) (tail tail_again : Tail) (files : List (List ℕ)) → AllByRecursion AreBytes files
-    → merged_refusal (run_of_files tail files) ≡ None → length (merged_text order (run_of_files tail files)) ≤ 2 ^ 40
+    → merged_refusal (run_of_files tail files) ≡ None → length (merged_bytes order (run_of_files tail files)) ≤ 2 ^ 40
     → IsRewritten [] [] (items_of_files tail 1 files) (merged_items order tail tail_again files ∷ [])
 unfolding run_of_files merged_items
 merged-rewritten merge-law order tail tail_again files bytes none short =
-    let again = file_items tail_again 1 (merged_text order (run_of_files tail files)) in
+    let again = file_items tail_again 1 (merged_bytes order (run_of_files tail files)) in
     let law = merge-law order tail tail_again 1 files bytes short in
     let same : run_of_lists (again ∷ []) ≡ again = run-one again law.2 in
     record { accepted = none; accepted_again = ap (refusal_in []) same ∙ law.1; packets = ap (numbered []) same ∙ law.0 }
@@ -60,11 +60,11 @@ unrefused names (packet meta frame ∷ items) none = by (write_fault names meta)
     by None none later = later none
 
 pcapng_items : (order : Order) (tail tail_again : Tail) (bytes : List ℕ) → List Item
-pcapng_items order tail tail_again bytes = file_items tail_again 1 (pcapng_text order 1 (file_first tail 1 bytes) (file_items tail 1 bytes))
+pcapng_items order tail tail_again bytes = file_items tail_again 1 (pcapng_bytes order 1 (file_first tail 1 bytes) (file_items tail 1 bytes))
 
 pcapng-rewritten : PcapngAgain → (order : Order) (tail tail_again : Tail) (bytes : List ℕ) → AreBytes bytes
     → pcapng_refusal 1 (file_first tail 1 bytes) (file_items tail 1 bytes) ≡ None
-    → length (pcapng_text order 1 (file_first tail 1 bytes) (file_items tail 1 bytes)) ≤ 2 ^ 40
+    → length (pcapng_bytes order 1 (file_first tail 1 bytes) (file_items tail 1 bytes)) ≤ 2 ^ 40
     → IsRewritten (first_names 1 (file_first tail 1 bytes)) (first_names 1 (file_first tail 1 bytes)) (file_items tail 1 bytes ∷ [])
     (pcapng_items order tail tail_again bytes ∷ [])
 unfolding pcapng_items
@@ -72,7 +72,7 @@ pcapng-rewritten again-law order tail tail_again bytes are none short =
     let items = file_items tail 1 bytes in
     let first = file_first tail 1 bytes in
     let names = first_names 1 first in
-    let again = file_items tail_again 1 (pcapng_text order 1 first items) in
+    let again = file_items tail_again 1 (pcapng_bytes order 1 first items) in
     let law = again-law order tail tail_again 1 1 bytes are short in
     let same : run_of_lists (again ∷ []) ≡ again = run-one again law.2 in
     let whole : run_of_lists (items ∷ []) ≡ items = run-one items (unrefused names items none) in
@@ -115,7 +115,7 @@ run-again tail tail_again names others files text is =
 pub merged-run : MergeLaw → MergedRun
 unfolding merged_items
 merged-run merge-law order tail tail_again files bytes none short =
-    run-again tail tail_again [] [] files (merged_text order (run_of_files tail files))
+    run-again tail tail_again [] [] files (merged_bytes order (run_of_files tail files))
     (merged-rewritten merge-law order tail tail_again files bytes none short)
 
 pub pcapng-run : PcapngAgain → PcapngRun
@@ -123,5 +123,5 @@ unfolding pcapng_items
 pcapng-run again-law order tail tail_again bytes are none short =
     let first = file_first tail 1 bytes in
     let names = first_names 1 first in
-    run-again tail tail_again names names (bytes ∷ []) (pcapng_text order 1 first (file_items tail 1 bytes))
+    run-again tail tail_again names names (bytes ∷ []) (pcapng_bytes order 1 first (file_items tail 1 bytes))
     (pcapng-rewritten again-law order tail tail_again bytes are none short)

@@ -16,7 +16,7 @@ use Rattle.cap_talks.specs.ReportText.{body_text, bytes_of, truncated_of, total_
 use Rattle.cap_talks.specs.TalkText.{talk_texts, talks_text}
 use Rattle.cap_talks.specs.Taken.{Taken}
 use Rattle.cap_talks.specs.Talks.{Talk, rows_of}
-use Rattle.cap_write.specs.Pcap.{pcap_text, pcap_refusal}
+use Rattle.cap_write.specs.Pcap.{pcap_bytes, pcap_refusal}
 use Rattle.cap_laws.specs.Reports.{refused_at}
 
 -- Two rows of conversations have the same protocol and ends, the same counts and places, and the same times, maybe in another form.
@@ -55,6 +55,6 @@ PcapReport =
     (order : Order) (tail tail_again : Tail) (bytes : List ℕ) → AreBytes bytes
     → (let items = file_items tail 1 bytes in
     let first = file_first tail 1 bytes in
-    let text = pcap_text order first items in
+    let text = pcap_bytes order first items in
     pcap_refusal 1 first items ≡ None → length text ≤ 2 ^ 40
     → SameButForms (clocked_run tail (bytes ∷ [])) (clocked_run tail_again (text ∷ [])))

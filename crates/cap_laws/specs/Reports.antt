@@ -12,7 +12,7 @@ use Rattle.cap_source.specs.Feed.{Item}
 use Rattle.cap_source.specs.Items.{file_first, file_items}
 use Rattle.cap_talks.specs.ReportText.{body_text, refusal_here, report_refusal, taken_after, with_item}
 use Rattle.cap_talks.specs.Taken.{Taken}
-use Rattle.cap_write.specs.Texts.{merged_text, merged_refusal, pcapng_text, pcapng_refusal}
+use Rattle.cap_write.specs.Texts.{merged_bytes, merged_refusal, pcapng_bytes, pcapng_refusal}
 
 -- Where a run is refused: after how many taken packets, and by which rule.
 pub record Place : Type 0 where
@@ -46,7 +46,7 @@ abbrev pub MergedReport : Type 0
 MergedReport =
     (order : Order) (tail tail_again : Tail) (files : List (List ℕ)) → AllByRecursion AreBytes files
     → (let items = run_of_files tail files in
-    let text = merged_text order items in
+    let text = merged_bytes order items in
     merged_refusal items ≡ None → length text ≤ 2 ^ 40
     → SameReport (clocked_run tail files) (clocked_run tail_again (text ∷ [])))
 
@@ -56,6 +56,6 @@ PcapngReport =
     (order : Order) (tail tail_again : Tail) (bytes : List ℕ) → AreBytes bytes
     → (let items = file_items tail 1 bytes in
     let first = file_first tail 1 bytes in
-    let text = pcapng_text order 1 first items in
+    let text = pcapng_bytes order 1 first items in
     pcapng_refusal 1 first items ≡ None → length text ≤ 2 ^ 40
     → SameReport (clocked_run tail (bytes ∷ [])) (clocked_run tail_again (text ∷ [])))

@@ -7,7 +7,7 @@ use Rattle.cap_bytes.specs.declared.faults.Tail.{Tail}
 use Rattle.cap_bytes.specs.declared.numbers.Order.{Order}
 use Rattle.cap_merge.specs.Files.{run_of_files}
 use Rattle.cap_source.specs.Feed.{Item}
-use Rattle.cap_write.specs.Texts.{merged_text, merged_refusal}
+use Rattle.cap_write.specs.Texts.{merged_bytes, merged_refusal}
 
 -- Some files, by their bytes, that are merged, and the byte order that is asked for.
 pub record Group : Type 0 where
@@ -18,14 +18,14 @@ pub record Group : Type 0 where
 abbrev pub group_run : Tail → Group → List Item
 group_run tail group = run_of_files tail group.files
 
-abbrev pub group_text : Tail → Group → List ℕ
-group_text tail group = merged_text group.order (group_run tail group)
+abbrev pub group_bytes : Tail → Group → List ℕ
+group_bytes tail group = merged_bytes group.order (group_run tail group)
 
 -- Its merge refuses nothing, and writes at most 2^40 bytes.
 pub record IsMerged (tail : Tail) (group : Group) : Type 0 where
   pub bytes : AllByRecursion AreBytes group.files
   pub accepted : merged_refusal (group_run tail group) ≡ None
-  pub size : length (group_text tail group) ≤ 2 ^ 40
+  pub size : length (group_bytes tail group) ≤ 2 ^ 40
 
 -- the rule by which a merge of those packets is refused, if it is
 abbrev pub refused_by : List Item → Option Rule
@@ -37,6 +37,6 @@ abbrev pub RoundsInBytes : Type 0
 RoundsInBytes =
     (order : Order) (tail tail_again : Tail) (groups : List Group) → AllByRecursion (IsMerged tail) groups
     → (let at_once = run_of_files tail (flat_map (λ group. group.files) groups) in
-    let in_rounds = run_of_files tail_again (map (group_text tail) groups) in
-    (merged_text order in_rounds ≡ merged_text order at_once)
+    let in_rounds = run_of_files tail_again (map (group_bytes tail) groups) in
+    (merged_bytes order in_rounds ≡ merged_bytes order at_once)
     × (refused_by in_rounds ≡ refused_by at_once))

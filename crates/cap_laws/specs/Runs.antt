@@ -12,7 +12,7 @@ use Rattle.cap_source.specs.Feed.{Item, packet, refused}
 use Rattle.cap_source.specs.Items.{file_first, file_items}
 use Rattle.cap_source.specs.declared.packets.Meta.{Meta}
 use Rattle.cap_time.specs.declared.stamps.Stamp.{Stamp}
-use Rattle.cap_write.specs.Texts.{merged_text, merged_refusal, pcapng_text, pcapng_refusal}
+use Rattle.cap_write.specs.Texts.{merged_bytes, merged_refusal, pcapng_bytes, pcapng_refusal}
 
 -- Two packets, with their clocks, have equal clocks by the order, and the same interface, units, lengths and bytes.
 pub record IsSameAtClock (clock clock_again : Option Stamp) (meta again : Meta) (bytes bytes_again : List ℕ) : Type 0 where
@@ -38,7 +38,7 @@ abbrev pub MergedRun : Type 0
 MergedRun =
     (order : Order) (tail tail_again : Tail) (files : List (List ℕ)) → AllByRecursion AreBytes files
     → (let items = run_of_files tail files in
-    let text = merged_text order items in
+    let text = merged_bytes order items in
     merged_refusal items ≡ None → length text ≤ 2 ^ 40
     → SameRun (clocked_run tail files) (clocked_run tail_again (text ∷ [])))
 
@@ -48,6 +48,6 @@ PcapngRun =
     (order : Order) (tail tail_again : Tail) (bytes : List ℕ) → AreBytes bytes
     → (let items = file_items tail 1 bytes in
     let first = file_first tail 1 bytes in
-    let text = pcapng_text order 1 first items in
+    let text = pcapng_bytes order 1 first items in
     pcapng_refusal 1 first items ≡ None → length text ≤ 2 ^ 40
     → SameRun (clocked_run tail (bytes ∷ [])) (clocked_run tail_again (text ∷ [])))

@@ -8,7 +8,7 @@ use Rattle.cap_bytes.specs.declared.numbers.Order.{Order}
 use Rattle.cap_bytes.specs.declared.numbers.Order.TheVariants.{Big, Little}
 use Rattle.cap_time.specs.declared.stamps.Unit.{Unit as Fraction}
 use Rattle.cap_time.specs.declared.stamps.Unit.TheVariants.{Micro, Nano}
-use Rattle.cap_pcap.specs.Grammar.{magic_of, SpellsHeader, header_text, head_text, record_text}
+use Rattle.cap_pcap.specs.Grammar.{magic_of, SpellsHeader, header_bytes, head_bytes, record_bytes}
 use Rattle.cap_pcap.specs.Laws.{HeaderRead, HeaderAgain, RecordAgain}
 use Rattle.cap_pcap.specs.Split.{is_magic, order_at, unit_at, header_fault, header_at, file_items, items_from}
 use Rattle.cap_pcap.specs.declared.headers.PcapHeader.{PcapHeader}
@@ -84,8 +84,8 @@ record_again-law order unit seconds fraction original frame s f o limit =
     let b = λ (x : ℕ). bytes_of order 4 x in
     let n = length frame in
     let len = λ (x : ℕ). length-bytes_of order 4 x in
-    let head_size : length (head_text order seconds fraction n original) ≡ 16 = simp (length-append, length-bytes_of) in
-    let text = record_text order seconds fraction original frame in
+    let head_size : length (head_bytes order seconds fraction n original) ≡ 16 = simp (length-append, length-bytes_of) in
+    let text = record_bytes order seconds fraction original frame in
     let at_seconds : number order 4 text ≡ seconds =
     field order 4 seconds 0 [] (b fraction ++ (b n ++ (b original ++ frame))) text (omega arith) refl (simp append_assoc) in
     let at_fraction : number order 4 (drop 4 text) ≡ fraction =
@@ -95,22 +95,22 @@ record_again-law order unit seconds fraction original frame s f o limit =
     let at_original : number order 4 (drop 12 text) ≡ original =
     field order 4 original 12 (b seconds ++ b fraction ++ b n) frame text (omega arith) (simp (length-append, length-bytes_of)) (simp append_assoc) in
     record {
-      size = omega (arith, head_size, length-append (head_text order seconds fraction n original) frame);
+      size = omega (arith, head_size, length-append (head_bytes order seconds fraction n original) frame);
       units = rw (at_seconds, at_fraction) refl;
       captured = at_captured;
       original = sym at_original;
-      frame = sym (drop_at (head_text order seconds fraction n original) frame 16 head_size);
+      frame = sym (drop_at (head_bytes order seconds fraction n original) frame 16 head_size);
       limit = limit;
     }
 
 -- the magic of a written header, read big
-flipped_text : (unit : Fraction) (rest : List ℕ) → number Big 4 (bytes_of Little 4 (magic_of unit) ++ rest) ≡ flipped unit
+flipped_bytes : (unit : Fraction) (rest : List ℕ) → number Big 4 (bytes_of Little 4 (magic_of unit) ++ rest) ≡ flipped unit
 unfolding number bytes_of
-flipped_text Micro rest = refl
-flipped_text Nano rest = refl
+flipped_bytes Micro rest = refl
+flipped_bytes Nano rest = refl
 
 -- what is written for a header spells it
-spelled : (header : PcapHeader) → header.snaplen < 2 ^ 32 → header.link < 2 ^ 16 → SpellsHeader header (header_text header)
+spelled : (header : PcapHeader) → header.snaplen < 2 ^ 32 → header.link < 2 ^ 16 → SpellsHeader header (header_bytes header)
 spelled header snaplen link =
     let order = header.order in
     let magic = bytes_of order 4 (magic_of header.unit) in
@@ -119,7 +119,7 @@ spelled header snaplen link =
     let none = bytes_of order 4 0 in
     let most = bytes_of order 4 header.snaplen in
     let word = bytes_of order 4 header.link in
-    let text = header_text header in
+    let text = header_bytes header in
     record {
       size = simp (length-append, length-bytes_of);
       magic = field order 4 (magic_of header.unit) 0 [] (major ++ (minor ++ (none ++ (none ++ (most ++ word))))) text (magic_fits header.unit) refl (simp append_assoc);
@@ -132,22 +132,22 @@ spelled header snaplen link =
     }
 
 -- the order and the unit of a written header
-pub flips_text : (header : PcapHeader) → header.order ≡ Little → number Big 4 (header_text header) ≡ flipped header.unit
-flips_text header little =
+pub flips_bytes : (header : PcapHeader) → header.order ≡ Little → number Big 4 (header_bytes header) ≡ flipped header.unit
+flips_bytes header little =
     let order = header.order in
     let back = bytes_of order 2 2 ++ (bytes_of order 2 4 ++ (bytes_of order 4 0 ++ (bytes_of order 4 0
     ++ (bytes_of order 4 header.snaplen ++ bytes_of order 4 header.link)))) in
-    let parts : header_text header ≡ bytes_of order 4 (magic_of header.unit) ++ back = simp append_assoc in
+    let parts : header_bytes header ≡ bytes_of order 4 (magic_of header.unit) ++ back = simp append_assoc in
     ap (number Big 4) parts
     ∙ subst (λ (o : Order). number Big 4 (bytes_of o 4 (magic_of header.unit) ++ back) ≡ flipped header.unit) (sym little)
-    (flipped_text header.unit back)
+    (flipped_bytes header.unit back)
 
-written_items : (header : PcapHeader) → SpellsHeader header (header_text header) → (tail : Tail) (file : ℕ) (rest : List ℕ)
-    → file_items tail file 0 (header_text header ++ rest) ≡ items_from header tail file 24 rest
+written_items : (header : PcapHeader) → SpellsHeader header (header_bytes header) → (tail : Tail) (file : ℕ) (rest : List ℕ)
+    → file_items tail file 0 (header_bytes header ++ rest) ≡ items_from header tail file 24 rest
 unfolding file_items
 written_items header s tail file rest =
-    let r = reads header (header_text header) rest s (flips_text header) in
-    rw (r.0, r.1) (ap (items_from header tail file 24) (drop_at (header_text header) rest 24 s.size))
+    let r = reads header (header_bytes header) rest s (flips_bytes header) in
+    rw (r.0, r.1) (ap (items_from header tail file 24) (drop_at (header_bytes header) rest 24 s.size))
 
 pub header_again-law : HeaderAgain
 header_again-law header snaplen link =
@@ -156,5 +156,5 @@ header_again-law header snaplen link =
 
 -- it is read again as that header, whatever follows
 pub header_at-text : (header : PcapHeader) (rest : List ℕ) → header.snaplen < 2 ^ 32 → header.link < 2 ^ 16
-    → (header_fault 0 (header_text header ++ rest) ≡ None) × (header_at (header_text header ++ rest) ≡ header)
-header_at-text header rest snaplen link = reads header (header_text header) rest (spelled header snaplen link) (flips_text header)
+    → (header_fault 0 (header_bytes header ++ rest) ≡ None) × (header_at (header_bytes header ++ rest) ≡ header)
+header_at-text header rest snaplen link = reads header (header_bytes header) rest (spelled header snaplen link) (flips_bytes header)

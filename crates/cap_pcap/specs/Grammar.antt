@@ -44,18 +44,18 @@ abbrev pub packet_size : Packet → ℕ
 packet_size packet = 16 + length packet.frame
 
 -- what is written for a header
-abbrev pub header_text : PcapHeader → List ℕ
-header_text header =
+abbrev pub header_bytes : PcapHeader → List ℕ
+header_bytes header =
     bytes_of header.order 4 (magic_of header.unit) ++ bytes_of header.order 2 2 ++ bytes_of header.order 2 4
     ++ bytes_of header.order 4 0 ++ bytes_of header.order 4 0
     ++ bytes_of header.order 4 header.snaplen ++ bytes_of header.order 4 header.link
 
 -- the four numbers that are written in front of the captured bytes
-abbrev pub head_text : Order → ℕ → ℕ → ℕ → ℕ → List ℕ
-head_text order seconds fraction captured original =
+abbrev pub head_bytes : Order → ℕ → ℕ → ℕ → ℕ → List ℕ
+head_bytes order seconds fraction captured original =
     bytes_of order 4 seconds ++ bytes_of order 4 fraction ++ bytes_of order 4 captured ++ bytes_of order 4 original
 
 -- what is written for a packet
-abbrev pub record_text : Order → ℕ → ℕ → ℕ → List ℕ → List ℕ
-record_text order seconds fraction original frame =
-    head_text order seconds fraction (length frame) original ++ frame
+abbrev pub record_bytes : Order → ℕ → ℕ → ℕ → List ℕ → List ℕ
+record_bytes order seconds fraction original frame =
+    head_bytes order seconds fraction (length frame) original ++ frame

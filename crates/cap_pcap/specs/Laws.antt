@@ -5,7 +5,7 @@ use Rattle.cap_bytes.specs.Items.{given}
 use Rattle.cap_bytes.specs.declared.faults.Tail.{Tail}
 use Rattle.cap_time.specs.Unit.{in_second}
 use Rattle.cap_time.specs.declared.stamps.Unit.{Unit as Fraction}
-use Rattle.cap_pcap.specs.Grammar.{SpellsHeader, Packet, SpellsRecord, header_text, record_text}
+use Rattle.cap_pcap.specs.Grammar.{SpellsHeader, Packet, SpellsRecord, header_bytes, record_bytes}
 use Rattle.cap_pcap.specs.Split.{header_fault, header_at, stop_at, items_from, file_items, Splits, place_behind, record_of, items_with}
 use Rattle.cap_pcap.specs.declared.headers.PcapHeader.{PcapHeader}
 use Rattle.cap_bytes.specs.declared.stops.Stop.{Stop}
@@ -55,9 +55,9 @@ RecordRead =
 abbrev pub HeaderAgain : Type 0
 HeaderAgain =
     (header : PcapHeader) → header.snaplen < 2 ^ 32 → header.link < 2 ^ 16
-    → SpellsHeader header (header_text header)
+    → SpellsHeader header (header_bytes header)
     × ((tail : Tail) (file : ℕ) (rest : List ℕ)
-    → file_items tail file 0 (header_text header ++ rest) ≡ items_from header tail file 24 rest)
+    → file_items tail file 0 (header_bytes header ++ rest) ≡ items_from header tail file 24 rest)
 
 -- What is written for a packet spells it. So it is read again as it, whatever follows.
 abbrev pub RecordAgain : Type 0
@@ -65,4 +65,4 @@ RecordAgain =
     (order : Order) (unit : Fraction) (seconds fraction original : ℕ) (frame : List ℕ)
     → seconds < 2 ^ 32 → fraction < 2 ^ 32 → original < 2 ^ 32 → length frame ≤ 262144
     → SpellsRecord order unit (record { units = seconds * in_second unit + fraction; original = original; frame = frame })
-    (record_text order seconds fraction original frame)
+    (record_bytes order seconds fraction original frame)

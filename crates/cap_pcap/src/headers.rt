@@ -2,7 +2,7 @@
 ghost use Rattle.std.specs.Prelude.{◌≡◌, true, false, ◌≤◌, ◌^◌, ◌||◌, length, IsTrue, is_err, IsOkUnless, IfSome, IfNone};
 ghost use Rattle.cap_bytes.specs.Device.{Puts, WriterKeeps, writer_of};
 ghost use Rattle.cap_bytes.specs.Window.{Keeps};
-ghost use Rattle.cap_pcap.specs.Grammar.{magic_of, header_text};
+ghost use Rattle.cap_pcap.specs.Grammar.{magic_of, header_bytes};
 ghost use Rattle.cap_pcap.specs.Sights.{HasMagic, ParsesHeader, LooksForHeader};
 ghost use Rattle.cap_pcap.specs.Split.{is_magic, unit_at};
 
@@ -121,7 +121,7 @@ fn magic_number(unit: Unit) -> u32
 
 // The bytes that are written for a header.
 fn header_bytes(header: &PcapHeader) -> [u8; HEADER_SIZE]
-    ensures { result ≡ header_text header.now }
+    ensures { result ≡ header_bytes header.now }
 {
     let mut bytes = [0; HEADER_SIZE];
     put_u32(header.order, &mut bytes, 0, magic_number(header.unit));
@@ -139,7 +139,7 @@ fn header_bytes(header: &PcapHeader) -> [u8; HEADER_SIZE]
 /// draft-ietf-opsawg-pcap, 4.
 pub fn put_header<W: Sink>(writer: &mut W, header: &PcapHeader) -> Result<(), Fault>
     ensures bytes { IsTrue (W.tells_held writer.old)
-        → Puts (W.held writer.old) result (W.held writer.new) (header_text header.now) }
+        → Puts (W.held writer.old) result (W.held writer.new) (header_bytes header.now) }
     ensures writer { WriterKeeps (writer_of W.Sink writer.old) (is_err result) (writer_of W.Sink writer.new) }
     ensures fault { IsOkUnless result Fault.Write }
 {

@@ -2,7 +2,7 @@
 ghost use Rattle.std.specs.Prelude.{◌≡◌, ◌+◌, ◌≤◌, ◌^◌, length, IsTrue, is_err, IsOkUnless};
 ghost use Rattle.cap_bytes.specs.Device.{Puts, WriterKeeps, writer_of};
 ghost use Rattle.cap_bytes.specs.Window.{Keeps};
-ghost use Rattle.cap_pcap.specs.Grammar.{head_text, record_text};
+ghost use Rattle.cap_pcap.specs.Grammar.{head_bytes, record_bytes};
 ghost use Rattle.cap_pcap.specs.Sights.{Measures, LooksForRecord};
 ghost use Rattle.cap_pcap.specs.Split.{record_at};
 
@@ -106,7 +106,7 @@ fn record_head(
     captured: u32,
     original: u32,
 ) -> [u8; HEAD_SIZE]
-    ensures { result ≡ head_text order seconds fraction captured original }
+    ensures { result ≡ head_bytes order seconds fraction captured original }
 {
     let mut bytes = [0; HEAD_SIZE];
     put_u32(order, &mut bytes, 0, seconds);
@@ -131,7 +131,7 @@ pub fn put_record<W: Sink>(
     requires { length frame.now ≤ 262144 }
     ensures bytes { IsTrue (W.tells_held writer.old)
         → Puts (W.held writer.old) result (W.held writer.new)
-        (record_text order seconds fraction original frame.now) }
+        (record_bytes order seconds fraction original frame.now) }
     ensures writer { WriterKeeps (writer_of W.Sink writer.old) (is_err result) (writer_of W.Sink writer.new) }
     ensures fault { IsOkUnless result Fault.Write }
 {

@@ -17,27 +17,27 @@ use Rattle.cap_source.specs.ReadFaults.{FailsOf}
 use Rattle.cap_source.specs.Walk.{Walks}
 use Rattle.cap_tasks.specs.JoinText.{join_text, join_refusal}
 use Rattle.cap_tasks.specs.MergeText.{merge_text, merge_refusal}
-use Rattle.cap_write.specs.Joined.{joined_text, joined_refusal}
-use Rattle.cap_write.specs.Texts.{merged_text, merged_refusal}
+use Rattle.cap_write.specs.Joined.{joined_bytes, joined_refusal}
+use Rattle.cap_write.specs.Texts.{merged_bytes, merged_refusal}
 
 -- the packets of a merge, written
 pub Prints-merged : {A : Type 0} (reader : A → Reader) (tail : Tail) (order : Order) (sources : List A) (ps : List Part)
     (held new : List ℕ) (result : Result (Unit {0}) Fault) → IsUnreadRun tail (map reader sources) ps
-    → (IsTrue (feed_of ps).told → Prints (merged_text order (feed_of ps).items) (merged_refusal (feed_of ps).items) held result new)
+    → (IsTrue (feed_of ps).told → Prints (merged_bytes order (feed_of ps).items) (merged_refusal (feed_of ps).items) held result new)
     → IsTrue (list_all (λ s. (reader s).told) sources)
     → Prints (merge_text order tail (map (λ s. (reader s).bytes) sources)) (merge_refusal tail (map (λ s. (reader s).bytes) sources)) held result new
 Prints-merged reader tail order sources ps held new result u prints t =
-    subst (λ l. Prints (merged_text order l) (merged_refusal l) held result new) (run-items reader tail sources ps u)
+    subst (λ l. Prints (merged_bytes order l) (merged_refusal l) held result new) (run-items reader tail sources ps u)
     (prints (told-readers reader tail sources ps u t))
 
 -- its datagrams, written
 pub Prints-joined : {A : Type 0} (reader : A → Reader) (tail : Tail) (order : Order) (sources : List A) (ps : List Part)
     (held new : List ℕ) (result : Result (Unit {0}) Fault) → IsUnreadRun tail (map reader sources) ps
-    → (IsTrue (feed_of ps).told → Prints (joined_text order (run_of ps)) (joined_refusal (run_of ps)) held result new)
+    → (IsTrue (feed_of ps).told → Prints (joined_bytes order (run_of ps)) (joined_refusal (run_of ps)) held result new)
     → IsTrue (list_all (λ s. (reader s).told) sources)
     → Prints (join_text order tail (map (λ s. (reader s).bytes) sources)) (join_refusal tail (map (λ s. (reader s).bytes) sources)) held result new
 Prints-joined reader tail order sources ps held new result u prints t =
-    subst (λ l. Prints (joined_text order l) (joined_refusal l) held result new)
+    subst (λ l. Prints (joined_bytes order l) (joined_refusal l) held result new)
     (u.run ∙ ap (clocked_run tail) (bytes-readers reader sources))
     (prints (told-readers reader tail sources ps u t))
 

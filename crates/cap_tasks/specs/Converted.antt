@@ -6,13 +6,13 @@ use Rattle.cap_bytes.specs.declared.numbers.Order.{Order}
 use Rattle.cap_source.specs.Items.{file_first, file_items}
 use Rattle.cap_source.specs.declared.packets.Format.{Format}
 use Rattle.cap_source.specs.declared.packets.Format.TheVariants.{Pcap, Pcapng}
-use Rattle.cap_write.specs.Pcap.{pcap_text, pcap_refusal}
-use Rattle.cap_write.specs.Texts.{pcapng_text, pcapng_refusal}
+use Rattle.cap_write.specs.Pcap.{pcap_bytes, pcap_refusal}
+use Rattle.cap_write.specs.Texts.{pcapng_bytes, pcapng_refusal}
 
 -- what is written in that format and order of a file with those bytes
 abbrev pub convert_text : Format → Order → Tail → List ℕ → List ℕ
-convert_text Pcap order tail bytes = pcap_text order (file_first tail 1 bytes) (file_items tail 1 bytes)
-convert_text Pcapng order tail bytes = pcapng_text order 1 (file_first tail 1 bytes) (file_items tail 1 bytes)
+convert_text Pcap order tail bytes = pcap_bytes order (file_first tail 1 bytes) (file_items tail 1 bytes)
+convert_text Pcapng order tail bytes = pcapng_bytes order 1 (file_first tail 1 bytes) (file_items tail 1 bytes)
 
 -- the refusal that is then answered, if there is one
 abbrev pub convert_refusal : Format → Tail → List ℕ → Option Refusal

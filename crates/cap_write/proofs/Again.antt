@@ -7,7 +7,7 @@ use Rattle.std.specs.Prelude.{FitsSigned}
 use Rattle.std.specs.Int.{w64}
 use Rattle.cap_blocks.proofs.Again.{interface_again-law, packet_again-law}
 use Rattle.cap_blocks.proofs.Items.{items_from-none}
-use Rattle.cap_blocks.specs.Grammar.{interface_kind, enhanced_kind, interface_body, packet_body, interface_text}
+use Rattle.cap_blocks.specs.Grammar.{interface_kind, enhanced_kind, interface_body, packet_body, interface_bytes}
 use Rattle.cap_blocks.specs.Laws.{block_of}
 use Rattle.cap_blocks.specs.Split as blocks
 use Rattle.cap_blocks.specs.Split.{Piece}
@@ -25,7 +25,7 @@ use Rattle.cap_time.specs.declared.resolutions.Interface.{Interface}
 use Rattle.cap_write.proofs.Back.{packet_of, content_in-interface, content_in-packet}
 use Rattle.cap_write.specs.Laws.{Fits, AllFit, meta_again, read_items, described, all_described, IsNumbered}
 use Rattle.cap_write.specs.Numbering.{Numbered}
-use Rattle.cap_write.specs.Texts.{packet_part, packets_text}
+use Rattle.cap_write.specs.Texts.{packet_part, packets_bytes}
 
 -- the items of a file at a block that says this
 pub items_in-given : (file : ℕ) (progress : Progress) (block : Block) (body : List ℕ) (rest : List (pieces.Item Block)) (content : Result Content Rule)
@@ -42,35 +42,35 @@ first_in-given progress block body rest content is = rw is refl
 
 -- The blocks of a text that begins with a written interface.
 interface_blocks : (order : Order) (tail : Tail) (file offset : ℕ) (i : Interface) (rest : List ℕ) → i.link < 2 ^ 16 → i.snaplen < 2 ^ 32
-    → offset + length (interface_text order i) ≤ 2 ^ 40
-    → blocks.items_from (Some order) tail file offset (interface_text order i ++ rest)
+    → offset + length (interface_bytes order i) ≤ 2 ^ 40
+    → blocks.items_from (Some order) tail file offset (interface_bytes order i ++ rest)
     ≡ pieces.given (block_of offset (record { order = order; kind = interface_kind; body = interface_body order i })) (interface_body order i)
-    ∷ blocks.items_from (Some order) tail file (offset + length (interface_text order i)) rest
+    ∷ blocks.items_from (Some order) tail file (offset + length (interface_bytes order i)) rest
 interface_blocks order tail file offset i rest link snaplen limit =
     (interface_again-law order i link snaplen).0.items tail file offset rest limit
 
 -- A written interface is passed, and comes after those before it.
 pub items_in-interface : (order : Order) (tail : Tail) (file offset : ℕ) (progress : Progress) (i : Interface) (rest : List ℕ)
     → length progress.interfaces < 1024 → i.link < 2 ^ 16 → i.snaplen < 2 ^ 32 → FitsSigned w64 i.offset
-    → offset + length (interface_text order i) ≤ 2 ^ 40
-    → items_in file progress (blocks.items_from (Some order) tail file offset (interface_text order i ++ rest))
-    ≡ items_in file (after progress (contents.Interface i)) (blocks.items_from (Some order) tail file (offset + length (interface_text order i)) rest)
+    → offset + length (interface_bytes order i) ≤ 2 ^ 40
+    → items_in file progress (blocks.items_from (Some order) tail file offset (interface_bytes order i ++ rest))
+    ≡ items_in file (after progress (contents.Interface i)) (blocks.items_from (Some order) tail file (offset + length (interface_bytes order i)) rest)
 items_in-interface order tail file offset progress i rest few link snaplen fits limit =
     ap (items_in file progress) (interface_blocks order tail file offset i rest link snaplen limit)
     ∙ items_in-given file progress (block_of offset (record { order = order; kind = interface_kind; body = interface_body order i })) (interface_body order i)
-    (blocks.items_from (Some order) tail file (offset + length (interface_text order i)) rest) (Ok (contents.Interface i))
+    (blocks.items_from (Some order) tail file (offset + length (interface_bytes order i)) rest) (Ok (contents.Interface i))
     (content_in-interface progress.interfaces order i few link snaplen fits)
 
 -- The interface of instance 0 is looked for after a written interface, and not after a written packet.
 pub first_in-interface : (order : Order) (tail : Tail) (file offset : ℕ) (progress : Progress) (i : Interface) (rest : List ℕ)
     → length progress.interfaces < 1024 → i.link < 2 ^ 16 → i.snaplen < 2 ^ 32 → FitsSigned w64 i.offset
-    → offset + length (interface_text order i) ≤ 2 ^ 40
-    → first_in progress (blocks.items_from (Some order) tail file offset (interface_text order i ++ rest))
-    ≡ first_in (after progress (contents.Interface i)) (blocks.items_from (Some order) tail file (offset + length (interface_text order i)) rest)
+    → offset + length (interface_bytes order i) ≤ 2 ^ 40
+    → first_in progress (blocks.items_from (Some order) tail file offset (interface_bytes order i ++ rest))
+    ≡ first_in (after progress (contents.Interface i)) (blocks.items_from (Some order) tail file (offset + length (interface_bytes order i)) rest)
 first_in-interface order tail file offset progress i rest few link snaplen fits limit =
     ap (first_in progress) (interface_blocks order tail file offset i rest link snaplen limit)
     ∙ first_in-given progress (block_of offset (record { order = order; kind = interface_kind; body = interface_body order i })) (interface_body order i)
-    (blocks.items_from (Some order) tail file (offset + length (interface_text order i)) rest) (Ok (contents.Interface i))
+    (blocks.items_from (Some order) tail file (offset + length (interface_bytes order i)) rest) (Ok (contents.Interface i))
     (content_in-interface progress.interfaces order i few link snaplen fits)
 
 pub first_in-packet : (order : Order) (tail : Tail) (file offset : ℕ) (progress : Progress) (n : Numbered) (rest : List ℕ)
@@ -118,15 +118,15 @@ abbrev pub reached : List Interface → Option Interface → Progress
 reached interfaces first = record { interfaces = interfaces; base = 0; skipped = 0; first = first }
 
 -- what is written for a packet of a known interface, and of a new one
-packets_text-known : (order : Order) (count : ℕ) (n : Numbered) (rest : List Numbered) → (n.number == count) ≡ false
-    → packets_text order count (n ∷ rest) ≡ packet_part order n ++ packets_text order count rest
-unfolding packets_text
-packets_text-known order count n rest is = rw is refl
+packets_bytes-known : (order : Order) (count : ℕ) (n : Numbered) (rest : List Numbered) → (n.number == count) ≡ false
+    → packets_bytes order count (n ∷ rest) ≡ packet_part order n ++ packets_bytes order count rest
+unfolding packets_bytes
+packets_bytes-known order count n rest is = rw is refl
 
-packets_text-new : (order : Order) (count : ℕ) (n : Numbered) (rest : List Numbered) → (n.number == count) ≡ true
-    → packets_text order count (n ∷ rest) ≡ interface_text order n.interface ++ (packet_part order n ++ packets_text order (count + 1) rest)
-unfolding packets_text
-packets_text-new order count n rest is = rw is (append_assoc (interface_text order n.interface) (packet_part order n) (packets_text order (count + 1) rest))
+packets_bytes-new : (order : Order) (count : ℕ) (n : Numbered) (rest : List Numbered) → (n.number == count) ≡ true
+    → packets_bytes order count (n ∷ rest) ≡ interface_bytes order n.interface ++ (packet_part order n ++ packets_bytes order (count + 1) rest)
+unfolding packets_bytes
+packets_bytes-new order count n rest is = rw is (append_assoc (interface_bytes order n.interface) (packet_part order n) (packets_bytes order (count + 1) rest))
 
 -- and how it is read again
 read_items-known : (order : Order) (file offset count : ℕ) (n : Numbered) (rest : List Numbered) → (n.number == count) ≡ false
@@ -139,8 +139,8 @@ read_items-known order file offset count n rest is =
 
 read_items-new : (order : Order) (file offset count : ℕ) (n : Numbered) (rest : List Numbered) → (n.number == count) ≡ true
     → read_items order file offset count (n ∷ rest)
-    ≡ packet (meta_again file (offset + length (interface_text order n.interface)) n) n.frame
-    ∷ read_items order file (offset + length (interface_text order n.interface) + length (packet_part order n)) (count + 1) rest
+    ≡ packet (meta_again file (offset + length (interface_bytes order n.interface)) n) n.frame
+    ∷ read_items order file (offset + length (interface_bytes order n.interface) + length (packet_part order n)) (count + 1) rest
 unfolding read_items
 read_items-new order file offset count n rest is = rw is refl
 
@@ -153,21 +153,21 @@ slice_get-push xs x =
 -- Some packets are read again, after those interfaces, where their text ends by byte 2^40.
 abbrev IsReadAgain : Order → Tail → ℕ → List Interface → Option Interface → ℕ → List Numbered → Type 0
 IsReadAgain order tail file interfaces first offset ns =
-    items_in file (reached interfaces first) (blocks.items_from (Some order) tail file offset (packets_text order (length interfaces) ns))
+    items_in file (reached interfaces first) (blocks.items_from (Some order) tail file offset (packets_bytes order (length interfaces) ns))
     ≡ read_items order file offset (length interfaces) ns
 
 again-known : (order : Order) (tail : Tail) (file : ℕ) (interfaces : List Interface) (first : Option Interface) (offset : ℕ) (n : Numbered) (rest : List Numbered)
     → (n.number == length interfaces) ≡ false → slice_get interfaces n.number ≡ Some n.interface → n.number < 2 ^ 32 → Fits n
-    → offset + length (packets_text order (length interfaces) (n ∷ rest)) ≤ 2 ^ 40
-    → (offset + length (packet_part order n) + length (packets_text order (length interfaces) rest) ≤ 2 ^ 40
+    → offset + length (packets_bytes order (length interfaces) (n ∷ rest)) ≤ 2 ^ 40
+    → (offset + length (packet_part order n) + length (packets_bytes order (length interfaces) rest) ≤ 2 ^ 40
     → IsReadAgain order tail file interfaces first (offset + length (packet_part order n)) rest)
     → IsReadAgain order tail file interfaces first offset (n ∷ rest)
 again-known order tail file interfaces first offset n rest is known few fits limit later =
     let count = length interfaces in
     let progress = reached interfaces first in
-    let behind = packets_text order count rest in
-    let text = packets_text-known order count n rest is in
-    let size : length (packets_text order count (n ∷ rest)) ≡ length (packet_part order n) + length behind =
+    let behind = packets_bytes order count rest in
+    let text = packets_bytes-known order count n rest is in
+    let size : length (packets_bytes order count (n ∷ rest)) ≡ length (packet_part order n) + length behind =
     ap length text ∙ length-append (packet_part order n) behind in
     ap (λ t. items_in file progress (blocks.items_from (Some order) tail file offset t)) text
     ∙ (items_in-packet order tail file offset progress n behind known few fits refl refl (omega (arith, limit, size))
@@ -176,9 +176,9 @@ again-known order tail file interfaces first offset n rest is known few fits lim
 
 again-new : (order : Order) (tail : Tail) (file : ℕ) (interfaces : List Interface) (first : Option Interface) (offset : ℕ) (n : Numbered) (rest : List Numbered)
     → (n.number == length interfaces) ≡ true → n.number ≡ length interfaces → length interfaces < 1024 → Fits n
-    → offset + length (packets_text order (length interfaces) (n ∷ rest)) ≤ 2 ^ 40
-    → (offset + length (interface_text order n.interface) + length (packet_part order n) + length (packets_text order (length (interfaces ++ n.interface ∷ [])) rest) ≤ 2 ^ 40
-    → IsReadAgain order tail file (interfaces ++ n.interface ∷ []) (Some (first_or first n.interface)) (offset + length (interface_text order n.interface) + length (packet_part order n)) rest)
+    → offset + length (packets_bytes order (length interfaces) (n ∷ rest)) ≤ 2 ^ 40
+    → (offset + length (interface_bytes order n.interface) + length (packet_part order n) + length (packets_bytes order (length (interfaces ++ n.interface ∷ [])) rest) ≤ 2 ^ 40
+    → IsReadAgain order tail file (interfaces ++ n.interface ∷ []) (Some (first_or first n.interface)) (offset + length (interface_bytes order n.interface) + length (packet_part order n)) rest)
     → IsReadAgain order tail file interfaces first offset (n ∷ rest)
 again-new order tail file interfaces first offset n rest is same few fits limit later =
     let i = n.interface in
@@ -186,18 +186,18 @@ again-new order tail file interfaces first offset n rest is same few fits limit 
     let more = interfaces ++ i ∷ [] in
     let next = reached more (Some (first_or first i)) in
     let one : length more ≡ count + 1 = length-append interfaces (i ∷ []) in
-    let behind = packets_text order (count + 1) rest in
-    let text = packets_text-new order count n rest is in
-    let size : length (packets_text order count (n ∷ rest)) ≡ length (interface_text order i) + (length (packet_part order n) + length behind) =
-    ap length text ∙ (length-append (interface_text order i) (packet_part order n ++ behind) ∙ ap (λ k. length (interface_text order i) + k) (length-append (packet_part order n) behind)) in
-    let at = offset + length (interface_text order i) in
+    let behind = packets_bytes order (count + 1) rest in
+    let text = packets_bytes-new order count n rest is in
+    let size : length (packets_bytes order count (n ∷ rest)) ≡ length (interface_bytes order i) + (length (packet_part order n) + length behind) =
+    ap length text ∙ (length-append (interface_bytes order i) (packet_part order n ++ behind) ∙ ap (λ k. length (interface_bytes order i) + k) (length-append (packet_part order n) behind)) in
+    let at = offset + length (interface_bytes order i) in
     let place = at + length (packet_part order n) in
-    let same_behind : length (packets_text order (length more) rest) ≡ length behind = ap (λ k. length (packets_text order k rest)) one in
+    let same_behind : length (packets_bytes order (length more) rest) ≡ length behind = ap (λ k. length (packets_bytes order k rest)) one in
     ap (λ t. items_in file (reached interfaces first) (blocks.items_from (Some order) tail file offset t)) text
     ∙ (items_in-interface order tail file offset (reached interfaces first) i (packet_part order n ++ behind) few fits.link fits.snaplen fits.offset (omega (arith, limit, size))
     ∙ (items_in-packet order tail file at next n behind (ap (slice_get more) same ∙ slice_get-push interfaces i) (omega (arith, same, few)) fits refl refl (omega (arith, limit, size))
     ∙ (ap (λ l. packet (meta_again file at n) n.frame ∷ l)
-    (ap (λ k. items_in file next (blocks.items_from (Some order) tail file place (packets_text order k rest))) (sym one)
+    (ap (λ k. items_in file next (blocks.items_from (Some order) tail file place (packets_bytes order k rest))) (sym one)
     ∙ (later (omega (arith, limit, size, same_behind))
     ∙ ap (λ k. read_items order file place k rest) one))
     ∙ sym (read_items-new order file offset count n rest is))))
@@ -215,9 +215,9 @@ all_described-more interfaces (n ∷ rest) =
 -- Written packets are read again.
 pub items_in-written : (order : Order) (tail : Tail) (file : ℕ) (interfaces : List Interface) (first : Option Interface) (offset : ℕ) (ns : List Numbered)
     → IsNumbered interfaces ns → AllFit ns → length (all_described interfaces ns) ≤ 1024
-    → offset + length (packets_text order (length interfaces) ns) ≤ 2 ^ 40
+    → offset + length (packets_bytes order (length interfaces) ns) ≤ 2 ^ 40
     → IsReadAgain order tail file interfaces first offset ns
-unfolding packets_text read_items items_in
+unfolding packets_bytes read_items items_in
 items_in-written order tail file interfaces first offset [] numbered fit few limit =
     ap (items_in file (reached interfaces first)) (items_from-none (Some order) tail file offset refl)
 items_in-written order tail file interfaces first offset (n ∷ rest) numbered fit few limit =
@@ -227,7 +227,7 @@ items_in-written order tail file interfaces first offset (n ∷ rest) numbered f
     by : (new : Bool) → (n.number == length interfaces) ≡ new
         → ((interfaces : List Interface) (first : Option Interface) (offset : ℕ)
         → IsNumbered interfaces rest → AllFit rest → length (all_described interfaces rest) ≤ 1024
-        → offset + length (packets_text order (length interfaces) rest) ≤ 2 ^ 40
+        → offset + length (packets_bytes order (length interfaces) rest) ≤ 2 ^ 40
         → IsReadAgain order tail file interfaces first offset rest)
         → IsReadAgain order tail file interfaces first offset (n ∷ rest)
     by true is later =
@@ -236,7 +236,7 @@ items_in-written order tail file interfaces first offset (n ∷ rest) numbered f
         again-new order tail file interfaces first offset n rest is (eqb-true n.number (length interfaces) is)
         (omega (arith, few, ap (λ l. length (all_described l rest)) next, all_described-more more rest, length-append interfaces (n.interface ∷ [])))
         fit.0 limit
-        (later more (Some (first_or first n.interface)) (offset + length (interface_text order n.interface) + length (packet_part order n))
+        (later more (Some (first_or first n.interface)) (offset + length (interface_bytes order n.interface) + length (packet_part order n))
         (subst (λ l. IsNumbered l rest) next numbered.1) fit.1 (subst (λ l. length (all_described l rest) ≤ 1024) next few))
     by false is later =
         let next : described interfaces n ≡ interfaces = ap (λ b. if b then interfaces ++ n.interface ∷ [] else interfaces) is in
@@ -250,33 +250,33 @@ items_in-written order tail file interfaces first offset (n ∷ rest) numbered f
 -- The first interface, where one stands before some written packets, is the same after them.
 pub first_in-written : (order : Order) (tail : Tail) (file : ℕ) (interfaces : List Interface) (first : Interface) (offset : ℕ) (ns : List Numbered)
     → IsNumbered interfaces ns → AllFit ns → length (all_described interfaces ns) ≤ 1024
-    → offset + length (packets_text order (length interfaces) ns) ≤ 2 ^ 40
-    → first_in (reached interfaces (Some first)) (blocks.items_from (Some order) tail file offset (packets_text order (length interfaces) ns)) ≡ Some first
-unfolding packets_text first_in
+    → offset + length (packets_bytes order (length interfaces) ns) ≤ 2 ^ 40
+    → first_in (reached interfaces (Some first)) (blocks.items_from (Some order) tail file offset (packets_bytes order (length interfaces) ns)) ≡ Some first
+unfolding packets_bytes first_in
 first_in-written order tail file interfaces first offset [] numbered fit few limit =
     ap (first_in (reached interfaces (Some first))) (items_from-none (Some order) tail file offset refl)
 first_in-written order tail file interfaces first offset (n ∷ rest) numbered fit few limit = by (n.number == length interfaces) refl
   where
     by : (new : Bool) → (n.number == length interfaces) ≡ new
-        → first_in (reached interfaces (Some first)) (blocks.items_from (Some order) tail file offset (packets_text order (length interfaces) (n ∷ rest))) ≡ Some first
+        → first_in (reached interfaces (Some first)) (blocks.items_from (Some order) tail file offset (packets_bytes order (length interfaces) (n ∷ rest))) ≡ Some first
     by true is =
         let i = n.interface in
         let more = interfaces ++ i ∷ [] in
         let next : described interfaces n ≡ more = ap (λ b. if b then more else interfaces) is in
-        let text = packets_text-new order (length interfaces) n rest is in
-        let behind = packets_text order (length interfaces + 1) rest in
-        let size = ap length text ∙ (length-append (interface_text order i) (packet_part order n ++ behind) ∙ ap (λ k. length (interface_text order i) + k) (length-append (packet_part order n) behind)) in
+        let text = packets_bytes-new order (length interfaces) n rest is in
+        let behind = packets_bytes order (length interfaces + 1) rest in
+        let size = ap length text ∙ (length-append (interface_bytes order i) (packet_part order n ++ behind) ∙ ap (λ k. length (interface_bytes order i) + k) (length-append (packet_part order n) behind)) in
         let same = eqb-true n.number (length interfaces) is in
         let room : length interfaces < 1024 = omega (arith, few, ap (λ l. length (all_described l rest)) next, all_described-more more rest, length-append interfaces (i ∷ [])) in
         ap (λ t. first_in (reached interfaces (Some first)) (blocks.items_from (Some order) tail file offset t)) text
         ∙ (first_in-interface order tail file offset (reached interfaces (Some first)) i (packet_part order n ++ behind) room fit.0.link fit.0.snaplen fit.0.offset (omega (arith, limit, size))
-        ∙ first_in-packet order tail file (offset + length (interface_text order i)) (reached more (Some first)) n behind
+        ∙ first_in-packet order tail file (offset + length (interface_bytes order i)) (reached more (Some first)) n behind
         (ap (slice_get more) same ∙ slice_get-push interfaces i) (omega (arith, same, room)) fit.0 (omega (arith, limit, size)))
     by false is =
         let next : described interfaces n ≡ interfaces = ap (λ b. if b then interfaces ++ n.interface ∷ [] else interfaces) is in
         let known = numbered.0 is in
-        let text = packets_text-known order (length interfaces) n rest is in
-        let behind = packets_text order (length interfaces) rest in
+        let text = packets_bytes-known order (length interfaces) n rest is in
+        let behind = packets_bytes order (length interfaces) rest in
         let size = ap length text ∙ length-append (packet_part order n) behind in
         ap (λ t. first_in (reached interfaces (Some first)) (blocks.items_from (Some order) tail file offset t)) text
         ∙ first_in-packet order tail file offset (reached interfaces (Some first)) n behind known

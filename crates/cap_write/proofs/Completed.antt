@@ -26,7 +26,7 @@ use Rattle.cap_write.specs.Names.{HasUnits}
 use Rattle.cap_write.specs.Datagrams.{IsFilled, answered, names_behind}
 use Rattle.cap_write.specs.Joined.{Complete, complete_of, joined_of, completed_by, completed_in, completed, datagram_meta, datagram_items, items_of_packet}
 use Rattle.cap_write.specs.Numbering.{Name, with_name, write_fault, refusal_by, refusal_in, refusal_or, numbered_of}
-use Rattle.cap_write.specs.Texts.{text_behind, one_text, text_or, numbered_text}
+use Rattle.cap_write.specs.Texts.{text_behind, one_bytes, text_or, numbered_bytes}
 
 answered-pieces : (ps : List Piece) (arrived : Arrived) → IsFragmentOf ps arrived → answered arrived ≡ joined_of ps
 unfolding joined_of
@@ -69,14 +69,14 @@ answered-is cut (as_.Joined d) clock stamped events h = absurd h
 
 -- one packet is written as in a list of its own
 pub text-one : (order : Order) (names : List Name) (meta : Meta) (frame : List ℕ)
-    → text_behind order names (packet meta frame ∷ []) ≡ one_text order names meta frame
+    → text_behind order names (packet meta frame ∷ []) ≡ one_bytes order names meta frame
 text-one order names meta frame = by (write_fault names meta) refl
   where
-    by : (fault : Option Rule) → write_fault names meta ≡ fault → text_behind order names (packet meta frame ∷ []) ≡ one_text order names meta frame
-    by (Some rule) is = (plan_of-refused order names meta frame rule is).text [] ∙ sym (ap (λ f. text_or f (numbered_text order (length names) (numbered_of names meta frame))) is)
+    by : (fault : Option Rule) → write_fault names meta ≡ fault → text_behind order names (packet meta frame ∷ []) ≡ one_bytes order names meta frame
+    by (Some rule) is = (plan_of-refused order names meta frame rule is).text [] ∙ sym (ap (λ f. text_or f (numbered_bytes order (length names) (numbered_of names meta frame))) is)
     by None is =
         (plan_of-next order names meta frame is).text []
-        ∙ (ap (λ l. one_text order names meta frame ++ l) (plan_of-is order (with_name names meta)).text_none ∙ append-nil (one_text order names meta frame))
+        ∙ (ap (λ l. one_bytes order names meta frame ++ l) (plan_of-is order (with_name names meta)).text_none ∙ append-nil (one_bytes order names meta frame))
 
 pub refusal-one : (names : List Name) (meta : Meta) (frame : List ℕ) → refusal_in names (packet meta frame ∷ []) ≡ refusal_by meta (write_fault names meta)
 unfolding refusal_in
@@ -124,11 +124,11 @@ abbrev PrintsItems : Order → List Name → List Item → List ℕ → Result (
 PrintsItems order names items held result new = Prints {A = Unit {0}} (text_behind order names items) (refusal_in names items) held result new
 
 Prints-packet : (order : Order) (names : List Name) (meta : Meta) (frame held new : List ℕ) (result : Result (Unit {0}) Fault)
-    → Prints {A = Unit {0}} (one_text order names meta frame) (refusal_by meta (write_fault names meta)) held result new
+    → Prints {A = Unit {0}} (one_bytes order names meta frame) (refusal_by meta (write_fault names meta)) held result new
     → PrintsItems order names (packet meta frame ∷ []) held result new
 Prints-packet order names meta frame held new result h =
     subst (λ t. Prints {A = Unit {0}} t (refusal_in names (packet meta frame ∷ [])) held result new) (sym (text-one order names meta frame))
-    (subst (λ r. Prints {A = Unit {0}} (one_text order names meta frame) r held result new) (sym (refusal-one names meta frame)) h)
+    (subst (λ r. Prints {A = Unit {0}} (one_bytes order names meta frame) r held result new) (sym (refusal-one names meta frame)) h)
 
 -- a packet without a time is refused
 no-time : (meta : Meta) (fault : Fault) → HasUnits meta (Err fault) → meta.units ≡ None
@@ -155,7 +155,7 @@ items-filled place events clock meta frame units some bytes lent size written ti
 
 pub Prints-datagram : (order : Order) (names : List Name) (items : List Item) (written : Meta) (lent held new : List ℕ) (result : Result (Unit {0}) Fault)
     → items ≡ packet written lent ∷ []
-    → Prints {A = Unit {0}} (one_text order names written lent) (refusal_by written (write_fault names written)) held result new
+    → Prints {A = Unit {0}} (one_bytes order names written lent) (refusal_by written (write_fault names written)) held result new
     → PrintsItems order names items held result new
 Prints-datagram order names items written lent held new result is h =
     subst (λ l. PrintsItems order names l held result new) (sym is) (Prints-packet order names written lent held new result h)

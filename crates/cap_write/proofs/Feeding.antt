@@ -10,7 +10,7 @@ use Rattle.cap_source.specs.Feed.{Feed}
 use Rattle.cap_source.specs.declared.packets.Meta.{Meta}
 use Rattle.cap_write.proofs.Places.{position_or_len-none, position_or_len-some}
 use Rattle.cap_write.specs.Numbering.{Name, name_of, is_name, is_used, number_of, numbered_of, numbered, with_name, write_fault, refusal_at, refusal_in}
-use Rattle.cap_write.specs.Texts.{packets_text, count_after, text_behind, one_text}
+use Rattle.cap_write.specs.Texts.{packets_bytes, count_after, text_behind, one_bytes}
 
 eqb-false : (a b : ℕ) → a < b → (a == b) ≡ false
 eqb-false a b h = ne_eqb a b (λ e. omega (arith, h, e))
@@ -33,21 +33,21 @@ abbrev pub plan_of : Order → List Name → Plan
 plan_of order names = record { text = text_behind order names; refusal = refusal_in names }
 
 pub plan_of-is : (order : Order) (names : List Name) → IsPlan (plan_of order names)
-unfolding numbered packets_text refusal_in
+unfolding numbered packets_bytes refusal_in
 plan_of-is order names =
     record { text_none = refl; text_refused = λ r. refl; refusal_none = refl; refusal_refused = λ r. refl }
 
 -- a packet that isn't refused
 pub plan_of-next : (order : Order) (names : List Name) (meta : Meta) (frame : List ℕ) → write_fault names meta ≡ None
-    → GoesOn (plan_of order names) meta frame (one_text order names meta frame) (plan_of order (with_name names meta))
-unfolding numbered packets_text refusal_in
+    → GoesOn (plan_of order names) meta frame (one_bytes order names meta frame) (plan_of order (with_name names meta))
+unfolding numbered packets_bytes refusal_in
 plan_of-next order names meta frame none =
     record { text = λ items. rw (none, count_after-is names meta frame) refl; refusal = λ items. rw none refl }
 
 -- a packet that is
 pub plan_of-refused : (order : Order) (names : List Name) (meta : Meta) (frame : List ℕ) (rule : Rule) → write_fault names meta ≡ Some rule
     → GivesUp (plan_of order names) meta frame (refusal_at meta rule)
-unfolding numbered packets_text refusal_in
+unfolding numbered packets_bytes refusal_in
 plan_of-refused order names meta frame rule is =
     record { text = λ items. rw is refl; refusal = λ items. rw is refl }
 

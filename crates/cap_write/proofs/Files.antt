@@ -4,7 +4,7 @@ use Rattle.std.proofs.lemmas.Bool.{eq-eqb}
 use Rattle.std.proofs.lemmas.Bool.Decides.{nat_tests}
 use Rattle.cap_blocks.proofs.Again.{section_again-law}
 use Rattle.cap_blocks.proofs.Parts.{length-section_body}
-use Rattle.cap_blocks.specs.Grammar.{section_kind, section_body, section_text, interface_text, block_text}
+use Rattle.cap_blocks.specs.Grammar.{section_kind, section_body, section_bytes, interface_bytes, block_bytes}
 use Rattle.cap_blocks.specs.Laws.{block_of}
 use Rattle.cap_blocks.specs.Split as blocks
 use Rattle.cap_blocks.specs.Split.{is_section, Piece}
@@ -21,7 +21,7 @@ use Rattle.cap_write.proofs.Again.{reached, items_in-given, first_in-given, item
 use Rattle.cap_write.proofs.Back.{content_in-section}
 use Rattle.cap_write.specs.Laws.{AllFit, IsNumbered, all_described, read_items}
 use Rattle.cap_write.specs.Numbering.{Numbered}
-use Rattle.cap_write.specs.Texts.{front_text, packets_text}
+use Rattle.cap_write.specs.Texts.{front_bytes, packets_bytes}
 use Rattle.std.specs.Prelude.{FitsSigned}
 use Rattle.std.specs.Int.{w64}
 
@@ -33,8 +33,8 @@ kind_front Little = refl
 four_parts : (a b c d e : List ℕ) → (((a ++ b) ++ c) ++ d) ++ e ≡ a ++ (b ++ (c ++ (d ++ e)))
 four_parts a b c d e = simp append_assoc
 
-section_front : (order : Order) (rest : List ℕ) → number Big 4 (section_text order ++ rest) ≡ section_kind
-unfolding block_text
+section_front : (order : Order) (rest : List ℕ) → number Big 4 (section_bytes order ++ rest) ≡ section_kind
+unfolding block_bytes
 section_front order rest =
     let kind = bytes_of order 4 section_kind in
     let total = bytes_of order 4 (12 + length (section_body order)) in
@@ -43,9 +43,9 @@ section_front order rest =
     ∙ kind_front order)
 
 -- how long a section header is
-pub length-section_text : (order : Order) → length (section_text order) ≡ 28
-unfolding block_text
-length-section_text order =
+pub length-section_bytes : (order : Order) → length (section_bytes order) ≡ 28
+unfolding block_bytes
+length-section_bytes order =
     let n = 12 + length (section_body order) in
     simp (length-append, length-bytes_of, length-section_body) refl
 
@@ -53,77 +53,77 @@ long_enough : (n : ℕ) → 28 ≤ n → nat_le 4 n ≡ true
 long_enough n h = grind (arith, nat_tests)
 
 -- a text that begins with a section header is a pcapng file
-is_pcapng-text : (order : Order) (rest : List ℕ) → is_pcapng (section_text order ++ rest) ≡ true
+is_pcapng-text : (order : Order) (rest : List ℕ) → is_pcapng (section_bytes order ++ rest) ≡ true
 is_pcapng-text order rest =
-    ap (λ b. b && is_section (section_text order ++ rest))
-    (long_enough (length (section_text order ++ rest)) (omega (arith, length-append (section_text order) rest, length-section_text order)))
-    ∙ eq-eqb (number Big 4 (section_text order ++ rest)) section_kind (section_front order rest)
+    ap (λ b. b && is_section (section_bytes order ++ rest))
+    (long_enough (length (section_bytes order ++ rest)) (omega (arith, length-append (section_bytes order) rest, length-section_bytes order)))
+    ∙ eq-eqb (number Big 4 (section_bytes order ++ rest)) section_kind (section_front order rest)
 
 -- after a section header nothing is described
 behind_section : (order : Order) (tail : Tail) (file : ℕ) (rest : List ℕ)
-    → items_in file fresh (blocks.items_from None tail file 0 (section_text order ++ rest))
-    ≡ items_in file (reached [] None) (blocks.items_from (Some order) tail file (0 + length (section_text order)) rest)
+    → items_in file fresh (blocks.items_from None tail file 0 (section_bytes order ++ rest))
+    ≡ items_in file (reached [] None) (blocks.items_from (Some order) tail file (0 + length (section_bytes order)) rest)
 behind_section order tail file rest =
     let piece : Piece = record { order = order; kind = section_kind; body = section_body order } in
-    ap (items_in file fresh) ((section_again-law None order).items tail file 0 rest (omega (arith, length-section_text order)))
+    ap (items_in file fresh) ((section_again-law None order).items tail file 0 rest (omega (arith, length-section_bytes order)))
     ∙ items_in-given file fresh (block_of 0 piece) (section_body order)
-    (blocks.items_from (Some order) tail file (0 + length (section_text order)) rest) (Ok contents.Section)
+    (blocks.items_from (Some order) tail file (0 + length (section_bytes order)) rest) (Ok contents.Section)
     (content_in-section [] order (section_body order))
 
 pub items-behind_section : (order : Order) (tail : Tail) (file : ℕ) (rest : List ℕ)
-    → file_items tail file (section_text order ++ rest)
+    → file_items tail file (section_bytes order ++ rest)
     ≡ items_in file (reached [] None) (blocks.items_from (Some order) tail file 28 rest)
 unfolding items_from
 items-behind_section order tail file rest =
-    let bytes = section_text order ++ rest in
+    let bytes = section_bytes order ++ rest in
     ap (λ b. if b then items_in file fresh (blocks.items_from None tail file 0 bytes)
     else pcap_items file (interface_of (records.header_at bytes)) (records.file_items tail file 0 bytes)) (is_pcapng-text order rest)
     ∙ (behind_section order tail file rest
-    ∙ ap (λ n. items_in file (reached [] None) (blocks.items_from (Some order) tail file n rest)) (omega (arith, length-section_text order)))
+    ∙ ap (λ n. items_in file (reached [] None) (blocks.items_from (Some order) tail file n rest)) (omega (arith, length-section_bytes order)))
 
 pub first-behind_section : (order : Order) (tail : Tail) (file : ℕ) (rest : List ℕ)
-    → file_first tail file (section_text order ++ rest)
+    → file_first tail file (section_bytes order ++ rest)
     ≡ first_in (reached [] None) (blocks.items_from (Some order) tail file 28 rest)
 unfolding first_from
 first-behind_section order tail file rest =
-    let bytes = section_text order ++ rest in
+    let bytes = section_bytes order ++ rest in
     let piece : Piece = record { order = order; kind = section_kind; body = section_body order } in
     ap (λ b. if b then first_in fresh (blocks.items_from None tail file 0 bytes)
     else unless_refused (records.header_fault 0 bytes) (interface_of (records.header_at bytes))) (is_pcapng-text order rest)
-    ∙ (ap (first_in fresh) ((section_again-law None order).items tail file 0 rest (omega (arith, length-section_text order)))
+    ∙ (ap (first_in fresh) ((section_again-law None order).items tail file 0 rest (omega (arith, length-section_bytes order)))
     ∙ (first_in-given fresh (block_of 0 piece) (section_body order)
-    (blocks.items_from (Some order) tail file (0 + length (section_text order)) rest) (Ok contents.Section)
+    (blocks.items_from (Some order) tail file (0 + length (section_bytes order)) rest) (Ok contents.Section)
     (content_in-section [] order (section_body order))
-    ∙ ap (λ n. first_in (reached [] None) (blocks.items_from (Some order) tail file n rest)) (omega (arith, length-section_text order))))
+    ∙ ap (λ n. first_in (reached [] None) (blocks.items_from (Some order) tail file n rest)) (omega (arith, length-section_bytes order))))
 
 -- A merged file is read again: its packets are those that are written.
 pub merged-again : (order : Order) (tail : Tail) (file : ℕ) (ns : List Numbered) → IsNumbered [] ns → AllFit ns → length (all_described [] ns) ≤ 1024
-    → length (section_text order ++ packets_text order 0 ns) ≤ 2 ^ 40
-    → file_items tail file (section_text order ++ packets_text order 0 ns) ≡ read_items order file 28 0 ns
+    → length (section_bytes order ++ packets_bytes order 0 ns) ≤ 2 ^ 40
+    → file_items tail file (section_bytes order ++ packets_bytes order 0 ns) ≡ read_items order file 28 0 ns
 merged-again order tail file ns numbered fit few limit =
-    items-behind_section order tail file (packets_text order 0 ns)
+    items-behind_section order tail file (packets_bytes order 0 ns)
     ∙ items_in-written order tail file [] None 28 ns numbered fit few
-    (omega (arith, limit, length-append (section_text order) (packets_text order 0 ns), length-section_text order))
+    (omega (arith, limit, length-append (section_bytes order) (packets_bytes order 0 ns), length-section_bytes order))
 
 -- A file that is written after its first interface is read again, and so is that interface.
 pub pcapng-again : (order : Order) (tail : Tail) (file : ℕ) (i : Interface) (ns : List Numbered) → i.link < 2 ^ 16 → i.snaplen < 2 ^ 32 → FitsSigned w64 i.offset
     → IsNumbered (i ∷ []) ns → AllFit ns → length (all_described (i ∷ []) ns) ≤ 1024
-    → length (front_text order (Some i) ++ packets_text order 1 ns) ≤ 2 ^ 40
-    → (file_items tail file (front_text order (Some i) ++ packets_text order 1 ns) ≡ read_items order file (28 + length (interface_text order i)) 1 ns)
-    × (file_first tail file (front_text order (Some i) ++ packets_text order 1 ns) ≡ Some i)
+    → length (front_bytes order (Some i) ++ packets_bytes order 1 ns) ≤ 2 ^ 40
+    → (file_items tail file (front_bytes order (Some i) ++ packets_bytes order 1 ns) ≡ read_items order file (28 + length (interface_bytes order i)) 1 ns)
+    × (file_first tail file (front_bytes order (Some i) ++ packets_bytes order 1 ns) ≡ Some i)
 pcapng-again order tail file i ns link snaplen fits numbered fit few limit =
-    let behind = packets_text order 1 ns in
-    let rest = interface_text order i ++ behind in
-    let whole : front_text order (Some i) ++ behind ≡ section_text order ++ rest = append_assoc (section_text order) (interface_text order i) behind in
-    let size = ap length whole ∙ (length-append (section_text order) rest ∙ ap (λ k. length (section_text order) + k) (length-append (interface_text order i) behind)) in
-    let place = 28 + length (interface_text order i) in
-    let fits_all : place + length behind ≤ 2 ^ 40 = omega (arith, limit, size, length-section_text order) in (
+    let behind = packets_bytes order 1 ns in
+    let rest = interface_bytes order i ++ behind in
+    let whole : front_bytes order (Some i) ++ behind ≡ section_bytes order ++ rest = append_assoc (section_bytes order) (interface_bytes order i) behind in
+    let size = ap length whole ∙ (length-append (section_bytes order) rest ∙ ap (λ k. length (section_bytes order) + k) (length-append (interface_bytes order i) behind)) in
+    let place = 28 + length (interface_bytes order i) in
+    let fits_all : place + length behind ≤ 2 ^ 40 = omega (arith, limit, size, length-section_bytes order) in (
       ap (file_items tail file) whole
           ∙ (items-behind_section order tail file rest
-          ∙ (items_in-interface order tail file 28 (reached [] None) i behind (omega arith) link snaplen fits (omega (arith, limit, size, length-section_text order))
+          ∙ (items_in-interface order tail file 28 (reached [] None) i behind (omega arith) link snaplen fits (omega (arith, limit, size, length-section_bytes order))
           ∙ items_in-written order tail file (i ∷ []) (Some i) place ns numbered fit few fits_all)),
       ap (file_first tail file) whole
           ∙ (first-behind_section order tail file rest
-          ∙ (first_in-interface order tail file 28 (reached [] None) i behind (omega arith) link snaplen fits (omega (arith, limit, size, length-section_text order))
+          ∙ (first_in-interface order tail file 28 (reached [] None) i behind (omega arith) link snaplen fits (omega (arith, limit, size, length-section_bytes order))
           ∙ first_in-written order tail file (i ∷ []) i place ns numbered fit few fits_all)),
     )

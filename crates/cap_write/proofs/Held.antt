@@ -9,7 +9,7 @@ use Rattle.cap_bytes.specs.declared.numbers.Order.{Order}
 use Rattle.cap_pcap.proofs.Again.{record_again-law}
 use Rattle.cap_pcap.proofs.Items.{items_from-none}
 use Rattle.cap_pcap.proofs.Splitting.{record_read-law, length-spelled}
-use Rattle.cap_pcap.specs.Grammar.{Packet, packet_size, SpellsRecord, record_text}
+use Rattle.cap_pcap.specs.Grammar.{Packet, packet_size, SpellsRecord, record_bytes}
 use Rattle.cap_bytes.specs.Items.{given}
 use Rattle.cap_pcap.specs.Split.{items_with, items_from, record_of}
 use Rattle.cap_pcap.specs.declared.headers.PcapHeader.{PcapHeader}
@@ -39,9 +39,9 @@ below_second Micro u = omega arith
 below_second Nano u = omega arith
 
 spelled-again : (order : Order) (unit : Fraction) (p : Packet) → p.units / in_second unit < 2 ^ 32 → p.original < 2 ^ 32 → length p.frame ≤ 262144
-    → SpellsRecord order unit p (record_text order (p.units / in_second unit) (p.units % in_second unit) p.original p.frame)
+    → SpellsRecord order unit p (record_bytes order (p.units / in_second unit) (p.units % in_second unit) p.original p.frame)
 spelled-again order unit p seconds original frame =
-    subst (λ q. SpellsRecord order unit q (record_text order (p.units / in_second unit) (p.units % in_second unit) p.original p.frame))
+    subst (λ q. SpellsRecord order unit q (record_bytes order (p.units / in_second unit) (p.units % in_second unit) p.original p.frame))
     (same_units (in_second unit) p)
     (record_again-law order unit (p.units / in_second unit) (p.units % in_second unit) p.original p.frame seconds (below_second unit p.units) original frame)
 
@@ -60,7 +60,7 @@ records-again h tail file offset (p ∷ ps) held limit =
         → items_from h tail file offset (records_form h.order h.unit (if fits h.unit p then p ∷ early h.unit ps else []))
         ≡ items_with offset (if fits h.unit p then p ∷ early h.unit ps else []) stops.End
     by true is later few =
-        let text = record_text h.order (p.units / in_second h.unit) (p.units % in_second h.unit) p.original p.frame in
+        let text = record_bytes h.order (p.units / in_second h.unit) (p.units % in_second h.unit) p.original p.frame in
         let rest = records_form h.order h.unit (early h.unit ps) in
         let s = spelled-again h.order h.unit p (ltb-true (p.units / in_second h.unit) (2 ^ 32) is) held.1 held.2 in
         let size = length-spelled h.order h.unit p text s in

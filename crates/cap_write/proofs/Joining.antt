@@ -22,7 +22,7 @@ use Rattle.cap_write.proofs.Feeding.{plan_of, plan_of-is, plan_of-next, plan_of-
 use Rattle.cap_write.specs.Datagrams.{names_behind}
 use Rattle.cap_write.specs.Joined.{items_of_packet, events_after, items_here, events_here, joined_items}
 use Rattle.cap_write.specs.Numbering.{Name, with_name, write_fault, refusal_at, refusal_in, numbered}
-use Rattle.cap_write.specs.Texts.{text_behind, packets_text, one_text}
+use Rattle.cap_write.specs.Texts.{text_behind, packets_bytes, one_bytes}
 
 none-some : (r : Refusal) → None ≡ Some r → ⊥
 none-some r e = cc
@@ -48,7 +48,7 @@ behind order names (packet meta frame ∷ items) rest none = by (write_fault nam
     by (Some rule) is go = absurd (none-some (refusal_at meta rule) (sym none ∙ (plan_of-refused order names meta frame rule is).refusal items))
     by None is go =
         let next = plan_of-next order names meta frame is in
-        let line = one_text order names meta frame in
+        let line = one_bytes order names meta frame in
         let later = text_behind order (names_behind (with_name names meta) items) rest in
         let both = go (sym (next.refusal items) ∙ none) in (
           next.text (items ++ rest)
@@ -59,7 +59,7 @@ behind order names (packet meta frame ∷ items) rest none = by (write_fault nam
 behind order names (refused r ∷ items) rest none = absurd (none-some r (sym none ∙ refusal-first names r items))
 
 text-first : (order : Order) (names : List Name) (r : Refusal) (items : List Item) → text_behind order names (refused r ∷ items) ≡ []
-unfolding numbered packets_text
+unfolding numbered packets_bytes
 text-first order names r items = refl
 
 -- and where one is: nothing more
@@ -79,7 +79,7 @@ stopped-text order names (packet meta frame ∷ items) rest r some = by (write_f
     by None is go =
         let next = plan_of-next order names meta frame is in
         let both = go (sym (next.refusal items) ∙ some) in
-        (next.text (items ++ rest) ∙ (ap (λ l. one_text order names meta frame ++ l) both.0 ∙ sym (next.text items)), next.refusal (items ++ rest) ∙ both.1)
+        (next.text (items ++ rest) ∙ (ap (λ l. one_bytes order names meta frame ++ l) both.0 ∙ sym (next.text items)), next.refusal (items ++ rest) ∙ both.1)
 stopped-text order names (refused q ∷ items) rest r some =
     (text-first order names q (items ++ rest) ∙ sym (text-first order names q items), refusal-first names q (items ++ rest) ∙ (sym (refusal-first names q items) ∙ some))
 

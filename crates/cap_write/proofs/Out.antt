@@ -22,7 +22,7 @@ use Rattle.cap_write.proofs.Records.{fault_by-timed}
 use Rattle.cap_write.proofs.Trips.{units_of-unit, fraction_of-header, whole_time-header, in_range-pos}
 use Rattle.cap_write.specs.Laws.{kept, record_form, records_form, is_late, timely, late_in, read_items, meta_again}
 use Rattle.cap_write.specs.Numbering.{refusal_at, refusal_or}
-use Rattle.cap_write.specs.Pcap.{fraction_of, whole_time, time_fault, record_fault, time_in, time_text, packet_record, records_text, records_refusal}
+use Rattle.cap_write.specs.Pcap.{fraction_of, whole_time, time_fault, record_fault, time_in, time_bytes, packet_record, records_bytes, records_refusal}
 use Rattle.cap_write.specs.Texts.{interface_part, packet_part, count_after, text_or}
 
 -- whether the seconds of a time fit
@@ -49,11 +49,11 @@ fault-read h meta p interface units =
 line-read : (order : Order) (h : PcapHeader) (meta : Meta) (p : Packet) → meta.interface ≡ interface_of h → meta.units ≡ Some p.units → meta.original ≡ p.original
     → packet_record order (interface_of h) meta p.frame ≡ record_form order h.unit p
 line-read order h meta p interface units original =
-    ap (λ u. time_text order (time_in (fraction_of (interface_of h)) meta.interface u) meta.original p.frame) units
-    ∙ (ap (λ i. time_text order (whole_time (fraction_of (interface_of h)) i p.units) meta.original p.frame) interface
-    ∙ (ap (λ f. time_text order (whole_time f (interface_of h) p.units) meta.original p.frame) (fraction_of-header h)
-    ∙ (ap (λ t. time_text order t meta.original p.frame) (whole_time-header h p.units)
-    ∙ ap (λ o. time_text order (Some (pos (p.units / in_second h.unit), p.units % in_second h.unit)) o p.frame) original)))
+    ap (λ u. time_bytes order (time_in (fraction_of (interface_of h)) meta.interface u) meta.original p.frame) units
+    ∙ (ap (λ i. time_bytes order (whole_time (fraction_of (interface_of h)) i p.units) meta.original p.frame) interface
+    ∙ (ap (λ f. time_bytes order (whole_time f (interface_of h) p.units) meta.original p.frame) (fraction_of-header h)
+    ∙ (ap (λ t. time_bytes order t meta.original p.frame) (whole_time-header h p.units)
+    ∙ ap (λ o. time_bytes order (Some (pos (p.units / in_second h.unit), p.units % in_second h.unit)) o p.frame) original)))
 
 text_by : (b : Bool) (line rest : List ℕ) → text_or (if b then None else Some TimeRange) (line ++ rest) ≡ (if b then line ++ rest else [])
 text_by true line rest = refl
@@ -65,20 +65,20 @@ join_by true order unit p ps = refl
 join_by false order unit p ps = refl
 
 -- what is written of the packets that were read again
-pub records_text-read : (back : Order) (h : PcapHeader) (order : Order) (file offset count : ℕ) (ps : List Packet)
-    → records_text back (interface_of h) (read_items order file offset count (number_all (interface_of h) ps)) ≡ records_form back h.unit (early h.unit ps)
-unfolding records_text read_items
-records_text-read back h order file offset count [] = refl
-records_text-read back h order file offset count (p ∷ ps) =
+pub records_bytes-read : (back : Order) (h : PcapHeader) (order : Order) (file offset count : ℕ) (ps : List Packet)
+    → records_bytes back (interface_of h) (read_items order file offset count (number_all (interface_of h) ps)) ≡ records_form back h.unit (early h.unit ps)
+unfolding records_bytes read_items
+records_bytes-read back h order file offset count [] = refl
+records_bytes-read back h order file offset count (p ∷ ps) =
     let n = number_one (interface_of h) p in
     let place = offset + length (interface_part order count n) in
     let meta = meta_again file place n in
-    let rest = records_text back (interface_of h) (read_items order file (place + length (packet_part order n)) (count_after count n) (number_all (interface_of h) ps)) in
+    let rest = records_bytes back (interface_of h) (read_items order file (place + length (packet_part order n)) (count_after count n) (number_all (interface_of h) ps)) in
     ap (λ f. text_or f (packet_record back (interface_of h) meta p.frame ++ rest)) (fault-read h meta p refl refl)
     ∙ (text_by (fits h.unit p) (packet_record back (interface_of h) meta p.frame) rest
     ∙ (ap (λ l. if fits h.unit p then l ++ rest else []) (line-read back h meta p refl refl refl)
     ∙ (ap (λ l. if fits h.unit p then record_form back h.unit p ++ l else [])
-    (records_text-read back h order file (place + length (packet_part order n)) (count_after count n) ps)
+    (records_bytes-read back h order file (place + length (packet_part order n)) (count_after count n) ps)
     ∙ join_by (fits h.unit p) back h.unit p (early h.unit ps))))
 
 -- a time is late where its seconds don't fit

@@ -11,7 +11,7 @@ use Rattle.cap_bytes.specs.declared.faults.Rule.TheVariants.{NoTime, LinkMixed, 
 use Rattle.cap_bytes.specs.declared.faults.Tail.{Tail}
 use Rattle.cap_bytes.specs.declared.numbers.Order.{Order}
 use Rattle.cap_merge.specs.Clock.{clock_cmp}
-use Rattle.cap_pcap.specs.Grammar.{Packet, packet_size, header_text, record_text}
+use Rattle.cap_pcap.specs.Grammar.{Packet, packet_size, header_bytes, record_bytes}
 use Rattle.cap_pcap.specs.Split.{items_with, record_of}
 use Rattle.cap_pcap.specs.declared.headers.PcapHeader.{PcapHeader}
 use Rattle.cap_bytes.specs.declared.stops.Stop.TheVariants as stops
@@ -35,7 +35,7 @@ use Rattle.cap_write.proofs.RoundTrip.{first-header, items-written}
 use Rattle.cap_write.proofs.Trips.{units_of-unit, in_range-pos}
 use Rattle.cap_write.specs.Laws.{AllWritten, record_form, records_form, IsSamePacket, SamePackets, written_first, PcapAgain}
 use Rattle.cap_write.specs.Numbering.{refusal_or, refusal_at}
-use Rattle.cap_write.specs.Pcap.{fraction_of, header_of, whole_time, is_in_range, time_fault, record_fault, time_in, written_time, time_text, packet_record, records_text, records_refusal, bare_refusal, pcap_text, pcap_refusal}
+use Rattle.cap_write.specs.Pcap.{fraction_of, header_of, whole_time, is_in_range, time_fault, record_fault, time_in, written_time, time_bytes, packet_record, records_bytes, records_refusal, bare_refusal, pcap_bytes, pcap_refusal}
 use Rattle.cap_write.specs.Texts.{text_or}
 
 some-none : {A : Type 0} (a : A) → Some a ≡ None → ⊥
@@ -133,8 +133,8 @@ line_is order first meta frame t =
     let below = (whole first meta t).below in
     let quotient : units_in (fraction_of first) (written_time first meta) / d ≡ t.seconds = ap (λ u. u / d) units ∙ div-mul-add t.seconds d t.rest below in
     let remainder : units_in (fraction_of first) (written_time first meta) % d ≡ t.rest = ap (λ u. u % d) units ∙ mod-mul-add t.seconds d t.rest below in
-    ap (λ w. time_text order w meta.original frame) (written_is first meta t)
-    ∙ (λ i. record_text order (sym quotient i) (sym remainder i) meta.original frame)
+    ap (λ w. time_bytes order w meta.original frame) (written_is first meta t)
+    ∙ (λ i. record_bytes order (sym quotient i) (sym remainder i) meta.original frame)
 
 -- a packet that isn't refused, and those after it
 record Goes (first : Interface) (meta : Meta) (items : List Item) : Type 0 where
@@ -158,13 +158,13 @@ never_refused first refusal items none = absurd (some-none refusal (sym (refuses
 
 -- what is written of the packets of a file
 records-are : (order : Order) (first : Interface) (items : List Item) → records_refusal first items ≡ None
-    → records_text order first items ≡ records_form order (fraction_of first) (forms_of first items)
-unfolding records_text
+    → records_bytes order first items ≡ records_form order (fraction_of first) (forms_of first items)
+unfolding records_bytes
 records-are order first [] none = refl
 records-are order first (refused refusal ∷ items) none = never_refused first refusal items none
 records-are order first (packet meta frame ∷ items) none =
     let g = goes first meta frame items none in
-    ap (λ f. text_or f (packet_record order first meta frame ++ records_text order first items)) g.unrefused
+    ap (λ f. text_or f (packet_record order first meta frame ++ records_bytes order first items)) g.unrefused
     ∙ (λ i. line_is order first meta frame (timed first meta g.unrefused) i ++ records-are order first items g.rest i)
 
 all-written : (first : Interface) (items : List Item) → AllByRecursion ItemFits items → records_refusal first items ≡ None
@@ -220,7 +220,7 @@ pcap_again-law order tail tail_again file file_again bytes are = by (file_first 
   where
     by : (first : Option Interface) → file_first tail file bytes ≡ first
         → (let items = file_items tail file bytes in
-        let text = pcap_text order first items in
+        let text = pcap_bytes order first items in
         (file_first tail_again file_again text ≡ option_map written_first first)
         × (pcap_refusal file first items ≡ None → length text ≤ 2 ^ 40
         → AllZip SamePackets items (file_items tail_again file_again text)))
@@ -231,10 +231,10 @@ pcap_again-law order tail tail_again file file_again bytes are = by (file_first 
         let ps = forms_of first items in
         let fits = (first-of tail file bytes first are is).fits in
         let fit = fields_fit-law tail file bytes are in (
-          first-header tail_again file_again h (records_text order first items) fits.snaplen fits.link,
+          first-header tail_again file_again h (records_bytes order first items) fits.snaplen fits.link,
           λ none limit.
-              let text : pcap_text order (Some first) items ≡ header_text h ++ records_form order (fraction_of first) ps =
-              ap (λ l. header_text h ++ l) (records-are order first items none) in
+              let text : pcap_bytes order (Some first) items ≡ header_bytes h ++ records_form order (fraction_of first) ps =
+              ap (λ l. header_bytes h ++ l) (records-are order first items none) in
               let read = items-written tail_again file_again h ps fits.snaplen fits.link (all-written first items fit none)
               (subst (λ l. length l ≤ 2 ^ 40) text limit) in
               subst (λ (l : List Item). AllZip SamePackets items l) (sym (ap (file_items tail_again file_again) text ∙ read))

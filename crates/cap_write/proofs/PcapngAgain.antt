@@ -3,7 +3,7 @@ use Rattle.std.proofs.Common.{◌≡◌, ◌==◌, ℕ, ◌+◌, ◌≤◌, ◌^
 use Rattle.std.proofs.lemmas.Bool.{eqb-true}
 use Rattle.std.specs.List.{AllByRecursion}
 use Rattle.cap_blocks.specs.Split.{AreBytes}
-use Rattle.cap_blocks.specs.Grammar.{section_text, interface_text}
+use Rattle.cap_blocks.specs.Grammar.{section_bytes, interface_bytes}
 use Rattle.cap_bytes.specs.declared.faults.Tail.{Tail}
 use Rattle.cap_bytes.specs.declared.numbers.Order.{Order}
 use Rattle.cap_blocks.proofs.Items.{items_from-none}
@@ -22,7 +22,7 @@ use Rattle.cap_write.proofs.MergedAgain.{fits-numbered, IsNumbered-given, AllFit
 use Rattle.cap_write.proofs.Renumbered.{numbered-again, refusal-again, refusal_of-again, InOrder-numbered, merged_again-law}
 use Rattle.cap_write.specs.Laws.{AllAlike, AllHave, PcapngAgain}
 use Rattle.cap_write.specs.Numbering.{Name, numbered, refusal_in}
-use Rattle.cap_write.specs.Texts.{first_names, packets_text, pcapng_text, merged_text}
+use Rattle.cap_write.specs.Texts.{first_names, packets_bytes, pcapng_bytes, merged_bytes}
 
 -- the interfaces of a file by their names
 abbrev of_instance : (ℕ → Interface) → Name → Interface
@@ -58,39 +58,39 @@ record IsReadAgain (names others : List Name) (items again : List Item) : Type 0
 -- ---- a file without an interface
 
 without_first : (order : Order) (tail tail_again : Tail) (file file_again : ℕ) (bytes : List ℕ) → AreBytes bytes
-    → length (pcapng_text order file None (file_items tail file bytes)) ≤ 2 ^ 40
-    → IsReadAgain [] [] (file_items tail file bytes) (file_items tail_again file_again (pcapng_text order file None (file_items tail file bytes)))
+    → length (pcapng_bytes order file None (file_items tail file bytes)) ≤ 2 ^ 40
+    → IsReadAgain [] [] (file_items tail file bytes) (file_items tail_again file_again (pcapng_bytes order file None (file_items tail file bytes)))
 without_first order tail tail_again file file_again bytes are limit =
     let items = file_items tail file bytes in
     let alike = one_interface-law tail file bytes in
     let fit = fields_fit-law tail file bytes are in
-    let same : pcapng_text order file None items ≡ merged_text order items =
-    ap (λ front. front ++ packets_text order 0 (numbered [] items)) (append-nil (section_text order)) in
+    let same : pcapng_bytes order file None items ≡ merged_bytes order items =
+    ap (λ front. front ++ packets_bytes order 0 (numbered [] items)) (append-nil (section_bytes order)) in
     let law = merged_again-law order tail_again file_again (of_instance alike.0) items (have_all file alike.0 items alike.1 fit)
     (subst (λ t. length t ≤ 2 ^ 40) same limit) in
     subst (λ t. IsReadAgain [] [] items (file_items tail_again file_again t)) (sym same)
     (record { packets = law.0 ∙ numbered-measured [] items (frames_fit-law tail file bytes); unrefused = law.1; complete = law.2 })
 
 -- after a section header alone there is no interface
-first-section : (order : Order) (tail : Tail) (file : ℕ) → file_first tail file (section_text order ++ []) ≡ None
+first-section : (order : Order) (tail : Tail) (file : ℕ) → file_first tail file (section_bytes order ++ []) ≡ None
 unfolding first_in
 first-section order tail file =
     first-behind_section order tail file [] ∙ ap (first_in (reached [] None)) (items_from-none (Some order) tail file 28 refl)
 
 no_first : (order : Order) (tail tail_again : Tail) (file file_again : ℕ) (bytes : List ℕ) → file_first tail file bytes ≡ None
-    → file_first tail_again file_again (pcapng_text order file None (file_items tail file bytes)) ≡ None
-unfolding packets_text
+    → file_first tail_again file_again (pcapng_bytes order file None (file_items tail file bytes)) ≡ None
+unfolding packets_bytes
 no_first order tail tail_again file file_again bytes none =
-    ap (λ ns. file_first tail_again file_again ((section_text order ++ []) ++ packets_text order 0 ns)) (first-none tail file bytes none)
-    ∙ (ap (file_first tail_again file_again) (append-nil (section_text order ++ [])) ∙ first-section order tail_again file_again)
+    ap (λ ns. file_first tail_again file_again ((section_bytes order ++ []) ++ packets_bytes order 0 ns)) (first-none tail file bytes none)
+    ∙ (ap (file_first tail_again file_again) (append-nil (section_bytes order ++ [])) ∙ first-section order tail_again file_again)
 
 -- ---- one with an interface
 
 behind_first : (order : Order) (tail tail_again : Tail) (file file_again : ℕ) (bytes : List ℕ) (i : Interface) → AreBytes bytes → file_first tail file bytes ≡ Some i
-    → length (pcapng_text order file (Some i) (file_items tail file bytes)) ≤ 2 ^ 40
+    → length (pcapng_bytes order file (Some i) (file_items tail file bytes)) ≤ 2 ^ 40
     → IsReadAgain (first_names file (Some i)) (first_names file_again (Some i)) (file_items tail file bytes)
-    (file_items tail_again file_again (pcapng_text order file (Some i) (file_items tail file bytes)))
-    × (file_first tail_again file_again (pcapng_text order file (Some i) (file_items tail file bytes)) ≡ Some i)
+    (file_items tail_again file_again (pcapng_bytes order file (Some i) (file_items tail file bytes)))
+    × (file_first tail_again file_again (pcapng_bytes order file (Some i) (file_items tail file bytes)) ≡ Some i)
 behind_first order tail tail_again file file_again bytes i are is limit =
     let items = file_items tail file bytes in
     let alike = one_interface-law tail file bytes in
@@ -101,7 +101,7 @@ behind_first order tail tail_again file file_again bytes i are is limit =
     let names = first_names file (Some i) in
     let ns = numbered names items in
     let in_order = InOrder-numbered names items in
-    let place = 28 + length (interface_text order i) in
+    let place = 28 + length (interface_bytes order i) in
     let both = pcapng-again order tail_again file_again i ns first.fits.link first.fits.snaplen first.fits.offset
     (IsNumbered-given given names items have) (AllFit-given given names items have) (all_described-given given names items have (omega arith)) limit in
     let read = both.0 in (
@@ -120,7 +120,7 @@ pcapng_again-law order tail tail_again file file_again bytes are = by (file_firs
   where
     by : (first : Option Interface) → file_first tail file bytes ≡ first
         → (let items = file_items tail file bytes in
-        let text = pcapng_text order file first items in
+        let text = pcapng_bytes order file first items in
         let again = file_items tail_again file_again text in
         length text ≤ 2 ^ 40
         → (numbered (first_names file_again first) again ≡ numbered (first_names file first) items)

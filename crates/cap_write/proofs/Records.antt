@@ -15,7 +15,7 @@ use Rattle.cap_time.specs.declared.resolutions.Interface.{Interface}
 use Rattle.cap_time.specs.declared.stamps.Unit.{Unit as Fraction}
 use Rattle.cap_write.specs.Names.{HasUnits}
 use Rattle.cap_write.specs.Numbering.{refusal_at}
-use Rattle.cap_write.specs.Pcap.{fraction_of, whole_time, time_fault, units_fault, record_fault, time_in, packet_record, records_text, records_refusal}
+use Rattle.cap_write.specs.Pcap.{fraction_of, whole_time, time_fault, units_fault, record_fault, time_in, packet_record, records_bytes, records_refusal}
 use Rattle.cap_write.specs.Texts.{text_or}
 use Rattle.cap_write.specs.Times.{HasTime, HasRecord}
 use Rattle.cap_write.specs.declared.pcap.Time.{Time}
@@ -79,22 +79,22 @@ HasRecord-timed first meta units (Err Memory) is one h = absurd h
 
 -- what is to be written after that header
 abbrev pub plan_of : Order → Interface → Plan
-plan_of order first = record { text = records_text order first; refusal = records_refusal first }
+plan_of order first = record { text = records_bytes order first; refusal = records_refusal first }
 
 pub plan_of-is : (order : Order) (first : Interface) → IsPlan (plan_of order first)
-unfolding records_text records_refusal
+unfolding records_bytes records_refusal
 plan_of-is order first =
     record { text_none = refl; text_refused = λ r. refl; refusal_none = refl; refusal_refused = λ r. refl }
 
 pub plan_of-next : (order : Order) (first : Interface) (meta : Meta) (frame : List ℕ) → record_fault first meta ≡ None
     → GoesOn (plan_of order first) meta frame (text_or (record_fault first meta) (packet_record order first meta frame)) (plan_of order first)
-unfolding records_text records_refusal
+unfolding records_bytes records_refusal
 plan_of-next order first meta frame none =
     record { text = λ items. rw none refl; refusal = λ items. rw none refl }
 
 pub plan_of-refused : (order : Order) (first : Interface) (meta : Meta) (frame : List ℕ) (rule : Rule) → record_fault first meta ≡ Some rule
     → GivesUp (plan_of order first) meta frame (refusal_at meta rule)
-unfolding records_text records_refusal
+unfolding records_bytes records_refusal
 plan_of-refused order first meta frame rule is =
     record { text = λ items. rw is refl; refusal = λ items. rw is refl }
 

@@ -18,7 +18,7 @@ use Rattle.cap_write.proofs.Places.{position_or_len-none, position_or_len-some}
 use Rattle.cap_write.specs.Laws.{read_items, meta_again, instances, numbers, measured, MergedAgain}
 use Rattle.cap_source.specs.Feed.{refusal_of}
 use Rattle.cap_write.specs.Numbering.{Name, name_of, is_name, is_used, number_of, with_name, write_fault, Numbered, numbered_of, numbered_or, numbered, refusal_or, refusal_in}
-use Rattle.cap_write.specs.Texts.{interface_part, packet_part, count_after, merged_text}
+use Rattle.cap_write.specs.Texts.{interface_part, packet_part, count_after, merged_bytes}
 
 -- the names of that many interfaces of one file
 abbrev pub file_names : ℕ → ℕ → List Name
@@ -188,10 +188,10 @@ InOrder-numbered names (packet meta frame ∷ items) = by (write_fault names met
 pub merged_again-law : MergedAgain
 merged_again-law order tail file given items have limit =
     let ns = numbered [] items in
-    let read : file_items tail file (merged_text order items) ≡ read_items order file 28 0 ns =
+    let read : file_items tail file (merged_bytes order items) ≡ read_items order file 28 0 ns =
     merged-again order tail file ns (IsNumbered-given given [] items have) (AllFit-given given [] items have) (all_described-given given [] items have (omega arith)) limit in
     let in_order = InOrder-numbered [] items in
-    let same : numbered [] (file_items tail file (merged_text order items)) ≡ map measured ns = ap (numbered []) read ∙ numbered-again order file 28 0 ns in_order in (
+    let same : numbered [] (file_items tail file (merged_bytes order items)) ≡ map measured ns = ap (numbered []) read ∙ numbered-again order file 28 0 ns in_order in (
       same,
       ap (refusal_in []) read ∙ refusal-again order file 28 0 ns in_order,
       ap refusal_of read ∙ refusal_of-again order file 28 0 ns,

@@ -4,7 +4,7 @@ use Rattle.std.specs.Prelude.{FitsSigned, pos}
 use Rattle.std.specs.Int.{w64}
 use Rattle.std.proofs.lemmas.Bool.{false≢true, ne_eqb}
 use Rattle.cap_blocks.proofs.Parts.{length-packet_body}
-use Rattle.cap_blocks.specs.Grammar.{section_kind, enhanced_kind, packet_body, block_text, section_text, interface_text}
+use Rattle.cap_blocks.specs.Grammar.{section_kind, enhanced_kind, packet_body, block_bytes, section_bytes, interface_bytes}
 use Rattle.cap_blocks.specs.Split.{AreBytes}
 use Rattle.cap_bytes.proofs.Spelling.{number-append, length-bytes_of}
 use Rattle.cap_bytes.specs.Number.{number}
@@ -17,8 +17,8 @@ use Rattle.cap_pcap.specs.Split as records
 use Rattle.cap_pcap.specs.Split.{items_with}
 use Rattle.cap_bytes.specs.declared.stops.Stop.{Stop}
 use Rattle.cap_bytes.specs.declared.stops.Stop.TheVariants as stops
-use Rattle.cap_pcap.proofs.Again.{flipped, flips_text, header_at-text, header_again-law}
-use Rattle.cap_pcap.specs.Grammar.{Packet, magic_of, header_text}
+use Rattle.cap_pcap.proofs.Again.{flipped, flips_bytes, header_at-text, header_again-law}
+use Rattle.cap_pcap.specs.Grammar.{Packet, magic_of, header_bytes}
 use Rattle.cap_pcap.specs.declared.headers.PcapHeader.{PcapHeader}
 use Rattle.cap_source.proofs.Fields.{AllHeld, AreBytes-drop, held-splits, below_header}
 use Rattle.cap_source.proofs.Frames.{read_header}
@@ -27,16 +27,16 @@ use Rattle.cap_source.specs.Items.{is_pcapng, pcap_items, interface_of, unless_r
 use Rattle.cap_time.specs.declared.resolutions.Interface.{Interface}
 use Rattle.cap_time.specs.declared.stamps.Unit.{Unit as Fraction}
 use Rattle.cap_time.specs.declared.stamps.Unit.TheVariants.{Micro, Nano}
-use Rattle.cap_write.proofs.Files.{length-section_text, pcapng-again}
+use Rattle.cap_write.proofs.Files.{length-section_bytes, pcapng-again}
 use Rattle.cap_write.proofs.Held.{AllFit-held, held-written, early-written, records-again}
-use Rattle.cap_write.proofs.Out.{fits, early, records_text-read, records_refusal-read, timely-packets}
+use Rattle.cap_write.proofs.Out.{fits, early, records_bytes-read, records_refusal-read, timely-packets}
 use Rattle.cap_write.proofs.Packed.{number_one, number_all, stop_refusal, numbered-packets, refusal-packets, refusal_of-packets, kept-packets, kept-read, IsNumbered-packets, all_described-packets}
 use Rattle.cap_write.proofs.Trips.{fraction_of-header}
 use Rattle.cap_write.specs.Laws.{kept, timely, late_in, read_items, record_form, records_form, AllWritten, RoundTrip, SameBytes}
 use Rattle.cap_write.specs.Numbering.{Numbered}
-use Rattle.cap_write.specs.Pcap.{header_of, pcap_text, pcap_refusal, records_text, records_refusal}
+use Rattle.cap_write.specs.Pcap.{header_of, pcap_bytes, pcap_refusal, records_bytes, records_refusal}
 use Rattle.cap_source.specs.Feed.{refusal_of}
-use Rattle.cap_write.specs.Texts.{interface_part, packet_part, count_after, packets_text, front_text, pcapng_text, pcapng_refusal}
+use Rattle.cap_write.specs.Texts.{interface_part, packet_part, count_after, packets_bytes, front_bytes, pcapng_bytes, pcapng_refusal}
 
 -- a written pcap header is no section header
 other_magic : (unit : Fraction) (n : ℕ) → n ≡ magic_of unit → (n == section_kind) ≡ false
@@ -48,25 +48,25 @@ other_flipped Micro n is = ne_eqb n section_kind (λ e. absurd (omega (arith, is
 other_flipped Nano n is = ne_eqb n section_kind (λ e. absurd (omega (arith, is, e)))
 
 no_section : (header : PcapHeader) (order : Order) → header.order ≡ order → header.snaplen < 2 ^ 32 → header.link < 2 ^ 16
-    → (number Big 4 (header_text header) == section_kind) ≡ false
+    → (number Big 4 (header_bytes header) == section_kind) ≡ false
 no_section header Big is snaplen link =
     let s = (header_again-law header snaplen link).0 in
-    other_magic header.unit (number Big 4 (header_text header)) (subst (λ o. number o 4 (header_text header) ≡ magic_of header.unit) is s.magic)
+    other_magic header.unit (number Big 4 (header_bytes header)) (subst (λ o. number o 4 (header_bytes header) ≡ magic_of header.unit) is s.magic)
 no_section header Little is snaplen link =
-    other_flipped header.unit (number Big 4 (header_text header)) (flips_text header is)
+    other_flipped header.unit (number Big 4 (header_bytes header)) (flips_bytes header is)
 
 and_false : (b : Bool) → (b && false) ≡ false
 and_false true = refl
 and_false false = refl
 
 pub is_pcapng-header : (header : PcapHeader) (rest : List ℕ) → header.snaplen < 2 ^ 32 → header.link < 2 ^ 16
-    → is_pcapng (header_text header ++ rest) ≡ false
+    → is_pcapng (header_bytes header ++ rest) ≡ false
 is_pcapng-header header rest snaplen link =
     let s = (header_again-law header snaplen link).0 in
     let size = s.size in
-    ap (λ n. nat_le 4 (length (header_text header ++ rest)) && (n == section_kind)) (number-append Big 4 (header_text header) rest (omega (arith, size)))
-    ∙ (ap (λ b. nat_le 4 (length (header_text header ++ rest)) && b) (no_section header header.order refl snaplen link)
-    ∙ and_false (nat_le 4 (length (header_text header ++ rest))))
+    ap (λ n. nat_le 4 (length (header_bytes header ++ rest)) && (n == section_kind)) (number-append Big 4 (header_bytes header) rest (omega (arith, size)))
+    ∙ (ap (λ b. nat_le 4 (length (header_bytes header ++ rest)) && b) (no_section header header.order refl snaplen link)
+    ∙ and_false (nat_le 4 (length (header_bytes header ++ rest))))
 
 -- what an accepted pcap file holds
 pub record Accepted (tail : Tail) (file : ℕ) (bytes : List ℕ) (header : PcapHeader) : Type 0 where
@@ -91,9 +91,9 @@ first_only tail file bytes is = rw is refl
 
 -- what begins with a written header has its interface
 pub first-header : (tail : Tail) (file : ℕ) (header : PcapHeader) (rest : List ℕ) → header.snaplen < 2 ^ 32 → header.link < 2 ^ 16
-    → file_first tail file (header_text header ++ rest) ≡ Some (interface_of header)
+    → file_first tail file (header_bytes header ++ rest) ≡ Some (interface_of header)
 first-header tail file header rest snaplen link =
-    let bytes = header_text header ++ rest in
+    let bytes = header_bytes header ++ rest in
     let read = header_at-text header rest snaplen link in
     first_only tail file bytes (is_pcapng-header header rest snaplen link)
     ∙ (ap (λ f. unless_refused f (interface_of (records.header_at bytes))) read.0
@@ -140,8 +140,8 @@ header_of-with order h = ap (λ (u : Fraction). record { order = order; unit = u
 length-record : (order : Order) (unit : Fraction) (p : Packet) → length (record_form order unit p) ≡ 16 + length p.frame
 length-record order unit p = simp (length-append, length-bytes_of) refl
 
-length-block : (order : Order) (kind : ℕ) (body : List ℕ) → length (block_text order kind body) ≡ 12 + length body
-unfolding block_text
+length-block : (order : Order) (kind : ℕ) (body : List ℕ) → length (block_bytes order kind body) ≡ 12 + length body
+unfolding block_bytes
 length-block order kind body = simp (length-append, length-bytes_of) (omega arith)
 
 length-packet : (order : Order) (n : Numbered) → 16 + length n.frame ≤ length (packet_part order n)
@@ -153,14 +153,14 @@ length-packet order n =
     )
 
 length-packets : (order : Order) (count : ℕ) (n : Numbered) (rest : List Numbered)
-    → 16 + length n.frame + length (packets_text order (count_after count n) rest) ≤ length (packets_text order count (n ∷ rest))
-unfolding packets_text
+    → 16 + length n.frame + length (packets_bytes order (count_after count n) rest) ≤ length (packets_bytes order count (n ∷ rest))
+unfolding packets_bytes
 length-packets order count n rest =
     omega (
       arith,
       length-packet order n,
       length-append (interface_part order count n) (packet_part order n),
-      length-append (interface_part order count n ++ packet_part order n) (packets_text order (count_after count n) rest),
+      length-append (interface_part order count n ++ packet_part order n) (packets_bytes order (count_after count n) rest),
     )
 
 shorter_by : (b : Bool) (back : Order) (unit : Fraction) (p : Packet) (ps : List Packet) (n : ℕ)
@@ -171,16 +171,16 @@ shorter_by true back unit p ps n few =
 shorter_by false back unit p ps n few = omega arith
 
 pub shorter : (back order : Order) (h : PcapHeader) (count : ℕ) (ps : List Packet)
-    → length (records_form back h.unit (early h.unit ps)) ≤ length (packets_text order count (number_all (interface_of h) ps))
+    → length (records_form back h.unit (early h.unit ps)) ≤ length (packets_bytes order count (number_all (interface_of h) ps))
 shorter back order h count [] = omega arith
 shorter back order h count (p ∷ ps) =
     let n = number_one (interface_of h) p in
-    shorter_by (fits h.unit p) back h.unit p (early h.unit ps) (length (packets_text order count (number_all (interface_of h) (p ∷ ps))))
+    shorter_by (fits h.unit p) back h.unit p (early h.unit ps) (length (packets_bytes order count (number_all (interface_of h) (p ∷ ps))))
     (omega (arith, shorter back order h (count_after count n) ps, length-packets order count n (number_all (interface_of h) ps)))
 
 -- What is written of an accepted file as pcapng.
 pub record WrittenOnce (order : Order) (file : ℕ) (items : List Item) (first : Option Interface) (i : Interface) (ps : List Packet) : Type 0 where
-  pub text : pcapng_text order file first items ≡ front_text order (Some i) ++ packets_text order 1 (number_all i ps)
+  pub text : pcapng_bytes order file first items ≡ front_bytes order (Some i) ++ packets_bytes order 1 (number_all i ps)
   pub refusal : pcapng_refusal file first items ≡ None
 
 pub written_once : (order : Order) (tail : Tail) (file : ℕ) (bytes : List ℕ) (h : PcapHeader) (a : Accepted tail file bytes h)
@@ -189,9 +189,9 @@ written_once order tail file bytes h a =
     let i = interface_of h in
     record {
       text =
-          ap (λ f. pcapng_text order file f (file_items tail file bytes)) a.first
-          ∙ (ap (pcapng_text order file (Some i)) a.items
-          ∙ ap (λ ns. front_text order (Some i) ++ packets_text order 1 ns) (numbered-packets file i 24 a.packets a.stop));
+          ap (λ f. pcapng_bytes order file f (file_items tail file bytes)) a.first
+          ∙ (ap (pcapng_bytes order file (Some i)) a.items
+          ∙ ap (λ ns. front_bytes order (Some i) ++ packets_bytes order 1 ns) (numbered-packets file i 24 a.packets a.stop));
       refusal =
           ap (λ f. pcapng_refusal file f (file_items tail file bytes)) a.first
           ∙ (ap (pcapng_refusal file (Some i)) a.items
@@ -199,21 +199,21 @@ written_once order tail file bytes h a =
     }
 
 -- What is written as pcap of the packets that were read again, and read once more.
-out_text : (back order : Order) (h : PcapHeader) (file offset : ℕ) (ps : List Packet)
-    → pcap_text back (Some (interface_of h)) (read_items order file offset 1 (number_all (interface_of h) ps))
-    ≡ header_text (header_with back h) ++ records_form back h.unit (early h.unit ps)
-out_text back order h file offset ps =
-    ap (λ x. header_text x ++ records_text back (interface_of h) (read_items order file offset 1 (number_all (interface_of h) ps))) (header_of-with back h)
-    ∙ ap (λ l. header_text (header_with back h) ++ l) (records_text-read back h order file offset 1 ps)
+out_bytes : (back order : Order) (h : PcapHeader) (file offset : ℕ) (ps : List Packet)
+    → pcap_bytes back (Some (interface_of h)) (read_items order file offset 1 (number_all (interface_of h) ps))
+    ≡ header_bytes (header_with back h) ++ records_form back h.unit (early h.unit ps)
+out_bytes back order h file offset ps =
+    ap (λ x. header_bytes x ++ records_bytes back (interface_of h) (read_items order file offset 1 (number_all (interface_of h) ps))) (header_of-with back h)
+    ∙ ap (λ l. header_bytes (header_with back h) ++ l) (records_bytes-read back h order file offset 1 ps)
 
 out_items : (back : Order) (h : PcapHeader) (tail : Tail) (file : ℕ) (ps : List Packet) → h.snaplen < 2 ^ 32 → h.link < 2 ^ 16 → AllHeld ps
     → 24 + length (records_form back h.unit (early h.unit ps)) ≤ 2 ^ 40
-    → file_items tail file (header_text (header_with back h) ++ records_form back h.unit (early h.unit ps))
+    → file_items tail file (header_bytes (header_with back h) ++ records_form back h.unit (early h.unit ps))
     ≡ pcap_items file (interface_of h) (items_with 24 (early h.unit ps) stops.End)
 out_items back h tail file ps snaplen link held limit =
     let header = header_with back h in
     let rest = records_form back h.unit (early h.unit ps) in
-    let out = header_text header ++ rest in
+    let out = header_bytes header ++ rest in
     pcap_only tail file out (is_pcapng-header header rest snaplen link)
     ∙ (ap (λ x. pcap_items file (interface_of x) (records.file_items tail file 0 out)) (header_at-text header rest snaplen link).1
     ∙ ap (pcap_items file (interface_of h))
@@ -224,23 +224,23 @@ zero_fits = record { sfits = omega arith }
 
 -- what comes of an accepted file that is written as pcapng, read again, and written as pcap
 pub record ComesBack (back order : Order) (tail_again : Tail) (file_again : ℕ) (text : List ℕ) (h : PcapHeader) (ps : List Packet) : Type 0 where
-  pub read : file_items tail_again file_again text ≡ read_items order file_again (28 + length (interface_text order (interface_of h))) 1 (number_all (interface_of h) ps)
+  pub read : file_items tail_again file_again text ≡ read_items order file_again (28 + length (interface_bytes order (interface_of h))) 1 (number_all (interface_of h) ps)
   pub first : file_first tail_again file_again text ≡ Some (interface_of h)
-  pub out : pcap_text back (file_first tail_again file_again text) (file_items tail_again file_again text)
-      ≡ header_text (header_with back h) ++ records_form back h.unit (early h.unit ps)
+  pub out : pcap_bytes back (file_first tail_again file_again text) (file_items tail_again file_again text)
+      ≡ header_bytes (header_with back h) ++ records_form back h.unit (early h.unit ps)
   pub short : 24 + length (records_form back h.unit (early h.unit ps)) ≤ 2 ^ 40
 
 comes_back : (back order : Order) (tail tail_again : Tail) (file file_again : ℕ) (bytes : List ℕ) (h : PcapHeader) (a : Accepted tail file bytes h)
-    → length (pcapng_text order file (file_first tail file bytes) (file_items tail file bytes)) ≤ 2 ^ 40
-    → ComesBack back order tail_again file_again (pcapng_text order file (file_first tail file bytes) (file_items tail file bytes)) h a.packets
+    → length (pcapng_bytes order file (file_first tail file bytes) (file_items tail file bytes)) ≤ 2 ^ 40
+    → ComesBack back order tail_again file_again (pcapng_bytes order file (file_first tail file bytes) (file_items tail file bytes)) h a.packets
 comes_back back order tail tail_again file file_again bytes h a limit =
     let i = interface_of h in
     let ps = a.packets in
     let once = written_once order tail file bytes h a in
-    let text = pcapng_text order file (file_first tail file bytes) (file_items tail file bytes) in
-    let written = front_text order (Some i) ++ packets_text order 1 (number_all i ps) in
+    let text = pcapng_bytes order file (file_first tail file bytes) (file_items tail file bytes) in
+    let written = front_bytes order (Some i) ++ packets_bytes order 1 (number_all i ps) in
     let room : length written ≤ 2 ^ 40 = subst (λ t. length t ≤ 2 ^ 40) once.text limit in
-    let place = 28 + length (interface_text order i) in
+    let place = 28 + length (interface_bytes order i) in
     let again = pcapng-again order tail_again file_again i (number_all i ps) a.link a.snaplen zero_fits (IsNumbered-packets i ps)
     (AllFit-held i ps a.link a.snaplen zero_fits a.held) (omega (arith, ap length (all_described-packets i ps))) room in
     let read : file_items tail_again file_again text ≡ read_items order file_again place 1 (number_all i ps) =
@@ -250,16 +250,16 @@ comes_back back order tail tail_again file file_again bytes h a limit =
       read = read;
       first = first;
       out =
-          ap (λ f. pcap_text back f (file_items tail_again file_again text)) first
-          ∙ (ap (pcap_text back (Some i)) read ∙ out_text back order h file_again place ps);
+          ap (λ f. pcap_bytes back f (file_items tail_again file_again text)) first
+          ∙ (ap (pcap_bytes back (Some i)) read ∙ out_bytes back order h file_again place ps);
       short =
           omega (
             arith,
             room,
             shorter back order h 1 ps,
-            length-append (front_text order (Some i)) (packets_text order 1 (number_all i ps)),
-            length-append (section_text order) (interface_text order i),
-            length-section_text order,
+            length-append (front_bytes order (Some i)) (packets_bytes order 1 (number_all i ps)),
+            length-append (section_bytes order) (interface_bytes order i),
+            length-section_bytes order,
           );
     }
 
@@ -269,9 +269,9 @@ round_trip-law bytes tail file are plain none order back tail_again tail_last fi
     let i = interface_of h in
     let a = accepted tail file bytes are plain none in
     let ps = a.packets in
-    let text = pcapng_text order file (file_first tail file bytes) (file_items tail file bytes) in
+    let text = pcapng_bytes order file (file_first tail file bytes) (file_items tail file bytes) in
     let b = comes_back back order tail tail_again file file_again bytes h a limit in
-    let place = 28 + length (interface_text order i) in
+    let place = 28 + length (interface_bytes order i) in
     let last = ap (file_items tail_last file_last) b.out ∙ out_items back h tail_last file_last ps a.snaplen a.link a.held b.short in (
       (written_once order tail file bytes h a).refusal,
       b.first ∙ sym a.first,
@@ -287,22 +287,22 @@ round_trip-law bytes tail file are plain none order back tail_again tail_last fi
 
 -- what comes of a file in the written form
 pub items-written : (tail : Tail) (file : ℕ) (h : PcapHeader) (ps : List Packet) → h.snaplen < 2 ^ 32 → h.link < 2 ^ 16 → AllWritten h.unit ps
-    → length (header_text h ++ records_form h.order h.unit ps) ≤ 2 ^ 40
-    → file_items tail file (header_text h ++ records_form h.order h.unit ps) ≡ pcap_items file (interface_of h) (items_with 24 ps stops.End)
+    → length (header_bytes h ++ records_form h.order h.unit ps) ≤ 2 ^ 40
+    → file_items tail file (header_bytes h ++ records_form h.order h.unit ps) ≡ pcap_items file (interface_of h) (items_with 24 ps stops.End)
 items-written tail file h ps snaplen link w limit =
     let rest = records_form h.order h.unit ps in
     let whole = early-written h.unit ps w in
     let size = (header_again-law h snaplen link).0.size in
     let room : 24 + length (records_form h.order h.unit (early h.unit ps)) ≤ 2 ^ 40 =
-    omega (arith, limit, length-append (header_text h) rest, size, ap (λ l. length (records_form h.order h.unit l)) whole) in
-    ap (λ l. file_items tail file (header_text h ++ records_form h.order h.unit l)) (sym whole)
+    omega (arith, limit, length-append (header_bytes h) rest, size, ap (λ l. length (records_form h.order h.unit l)) whole) in
+    ap (λ l. file_items tail file (header_bytes h ++ records_form h.order h.unit l)) (sym whole)
     ∙ (out_items h.order h tail file ps snaplen link (held-written h.unit ps w) room
     ∙ ap (λ l. pcap_items file (interface_of h) (items_with 24 l stops.End)) whole)
 
 -- it is accepted
 accepted-written : (tail : Tail) (file : ℕ) (h : PcapHeader) (ps : List Packet) → h.snaplen < 2 ^ 32 → h.link < 2 ^ 16 → AllWritten h.unit ps
-    → length (header_text h ++ records_form h.order h.unit ps) ≤ 2 ^ 40
-    → Accepted tail file (header_text h ++ records_form h.order h.unit ps) h
+    → length (header_bytes h ++ records_form h.order h.unit ps) ≤ 2 ^ 40
+    → Accepted tail file (header_bytes h ++ records_form h.order h.unit ps) h
 accepted-written tail file h ps snaplen link w limit =
     record {
       packets = ps;
@@ -319,5 +319,5 @@ pub same_bytes-law : SameBytes
 unfolding accepted-written
 same_bytes-law h ps tail file snaplen link w order tail_again file_again short limit =
     let a = accepted-written tail file h ps snaplen link w short in
-    let b = comes_back h.order order tail tail_again file file_again (header_text h ++ records_form h.order h.unit ps) h a limit in
-    b.out ∙ ap (λ l. header_text h ++ records_form h.order h.unit l) (early-written h.unit ps w)
+    let b = comes_back h.order order tail tail_again file file_again (header_bytes h ++ records_form h.order h.unit ps) h a limit in
+    b.out ∙ ap (λ l. header_bytes h ++ records_form h.order h.unit l) (early-written h.unit ps w)

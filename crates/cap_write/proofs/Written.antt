@@ -15,7 +15,7 @@ use Rattle.cap_source.specs.declared.packets.Meta.{Meta}
 use Rattle.cap_write.proofs.Numbers.{write_fault-untimed}
 use Rattle.cap_write.specs.Names.{HasUnits}
 use Rattle.cap_write.specs.Numbering.{Name, refusal_at, refusal_by, write_fault, numbered_of}
-use Rattle.cap_write.specs.Texts.{text_or, numbered_text, one_text}
+use Rattle.cap_write.specs.Texts.{text_or, numbered_bytes, one_bytes}
 
 -- where a packet is refused nothing is written
 Prints-refused : (text : List ℕ) (meta : Meta) (rule : Rule) (fault : Option Rule) (held : List ℕ) → fault ≡ Some rule
@@ -25,10 +25,10 @@ Prints-refused text meta rule fault held is =
 
 -- a packet without a time is refused
 pub Prints-untimed : (order : Order) (names : List Name) (meta : Meta) (frame held : List ℕ) (fault : Fault) → HasUnits meta (Err fault)
-    → Prints {A = Unit {0}} (one_text order names meta frame) (refusal_by meta (write_fault names meta)) held (Err fault) held
+    → Prints {A = Unit {0}} (one_bytes order names meta frame) (refusal_by meta (write_fault names meta)) held (Err fault) held
 Prints-untimed order names meta frame held (Refused refusal) h =
     rw h.1
-    (Prints-refused (numbered_text order (length names) (numbered_of names meta frame)) meta NoTime (write_fault names meta) held
+    (Prints-refused (numbered_bytes order (length names) (numbered_of names meta frame)) meta NoTime (write_fault names meta) held
     (write_fault-untimed names meta h.0))
 Prints-untimed order names meta frame held (Read file offset) h = absurd h
 Prints-untimed order names meta frame held Write h = absurd h

@@ -5,13 +5,13 @@ use Rattle.cap_join.specs.Joiners.{JoinerState, StandsFor}
 use Rattle.cap_join.specs.declared.arrivals.Arrived.{Arrived}
 use Rattle.cap_join.specs.declared.arrivals.Arrived.TheVariants as as_
 use Rattle.cap_source.specs.Feed.{Item, packet, refused}
-use Rattle.cap_write.specs.Joined.{Complete, complete_of, datagram_text}
+use Rattle.cap_write.specs.Joined.{Complete, complete_of, datagram_bytes}
 use Rattle.cap_write.specs.Numbering.{Name, with_name}
 
 -- A buffer has the bytes of the datagram, where there is one.
 abbrev pub IsFilled : Option Complete → Bool → List ℕ → Type 0
 IsFilled None some bytes = some ≡ false
-IsFilled (Some d) some bytes = (some ≡ true) × (bytes ≡ datagram_text d)
+IsFilled (Some d) some bytes = (some ≡ true) × (bytes ≡ datagram_bytes d)
 
 -- the datagram that a joiner answered, where it is complete
 abbrev pub answered : Arrived → Option Complete

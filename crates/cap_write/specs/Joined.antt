@@ -23,7 +23,7 @@ use Rattle.cap_source.specs.Feed.{Item, packet, refused}
 use Rattle.cap_source.specs.declared.packets.Meta.{Meta}
 use Rattle.cap_time.specs.declared.resolutions.Interface.{Interface}
 use Rattle.cap_time.specs.declared.stamps.Stamp.{Stamp}
-use Rattle.cap_write.specs.Texts.{merged_text, merged_refusal}
+use Rattle.cap_write.specs.Texts.{merged_bytes, merged_refusal}
 
 -- A datagram with all of its data.
 pub record Complete : Type 0 where
@@ -31,8 +31,8 @@ pub record Complete : Type 0 where
   pub bytes : List ℕ
 
 -- a datagram as one packet
-abbrev pub datagram_text : Complete → List ℕ
-datagram_text d = header_bytes d.header (length d.bytes) ++ d.bytes
+abbrev pub datagram_bytes : Complete → List ℕ
+datagram_bytes d = header_bytes d.header (length d.bytes) ++ d.bytes
 
 -- its data has the form of its protocol, as far as its ports
 abbrev pub has_form : Transport → Bool
@@ -104,7 +104,7 @@ abbrev pub datagram_meta : Meta → ℕ → Meta
 datagram_meta meta size = record meta { interface = raw_interface meta.interface; captured = size; original = size }
 
 abbrev pub datagram_item : Meta → Complete → Item
-datagram_item meta d = packet (datagram_meta meta (length (datagram_text d))) (datagram_text d)
+datagram_item meta d = packet (datagram_meta meta (length (datagram_bytes d))) (datagram_bytes d)
 
 abbrev pub datagram_items : Meta → Option Complete → List Item
 datagram_items meta None = []
@@ -132,8 +132,8 @@ joined_items place events (x ∷ xs) =
     items_here place events x.clock x.item ++ joined_items (place + 1) (events_here place events x.clock x.item) xs
 
 -- What is written for a run: as for a merged list, over its datagrams.
-abbrev pub joined_text : Order → List (Clocked Item) → List ℕ
-joined_text order run = merged_text order (joined_items 0 [] run)
+abbrev pub joined_bytes : Order → List (Clocked Item) → List ℕ
+joined_bytes order run = merged_bytes order (joined_items 0 [] run)
 
 abbrev pub joined_refusal : List (Clocked Item) → Option Refusal
 joined_refusal run = merged_refusal (joined_items 0 [] run)

@@ -6,7 +6,7 @@ use Rattle.cap_bytes.specs.declared.faults.Refusal.{Refusal}
 use Rattle.cap_bytes.specs.declared.faults.Rule.TheVariants.{TimeRange}
 use Rattle.cap_bytes.specs.declared.faults.Tail.{Tail}
 use Rattle.cap_blocks.specs.Split.{AreBytes}
-use Rattle.cap_pcap.specs.Grammar.{Packet, header_text, record_text}
+use Rattle.cap_pcap.specs.Grammar.{Packet, header_bytes, record_bytes}
 use Rattle.cap_pcap.specs.declared.headers.PcapHeader.{PcapHeader}
 use Rattle.std.specs.List.{AllByRecursion, AllZip}
 use Rattle.std.specs.declared.cmp.Ordering.TheVariants.{Equal}
@@ -19,11 +19,11 @@ use Rattle.cap_time.specs.Stamp.{seconds_of, stamp_in}
 use Rattle.cap_time.specs.Unit.{in_second}
 use Rattle.cap_time.specs.declared.stamps.Unit.{Unit as Fraction}
 use Rattle.cap_write.specs.Numbering.{Name, name_of, Numbered, numbered_of, numbered, refusal_in, refusal_at}
-use Rattle.cap_write.specs.Pcap.{fraction_of, pcap_text, pcap_refusal}
+use Rattle.cap_write.specs.Pcap.{fraction_of, pcap_bytes, pcap_refusal}
 use Rattle.cap_merge.specs.Clock.{clock_cmp}
 use Rattle.cap_merge.specs.Files.{run_of_files}
 use Rattle.cap_merge.specs.Parts.{meta_time}
-use Rattle.cap_write.specs.Texts.{interface_part, packet_part, count_after, first_names, pcapng_text, pcapng_refusal, merged_text}
+use Rattle.cap_write.specs.Texts.{interface_part, packet_part, count_after, first_names, pcapng_bytes, pcapng_refusal, merged_bytes}
 
 -- The fields of a packet and of its interface fit in their widths, and that many bytes may be captured.
 pub record Fits (n : Numbered) : Type 0 where
@@ -124,10 +124,10 @@ RoundTrip =
     → (order back : Order) (tail_again tail_last : Tail) (file_again file_last : ℕ)
     → (let items = file_items tail file bytes in
     let first = file_first tail file bytes in
-    let text = pcapng_text order file first items in
+    let text = pcapng_bytes order file first items in
     let read = file_items tail_again file_again text in
     let first_again = file_first tail_again file_again text in
-    let out = pcap_text back first_again read in
+    let out = pcap_bytes back first_again read in
     length text ≤ 2 ^ 40
     → (pcapng_refusal file first items ≡ None)
     × (first_again ≡ first)
@@ -140,7 +140,7 @@ RoundTrip =
 -- A packet in the form in which it is written as pcap: its whole seconds, and the units of that fraction
 -- above them.
 abbrev pub record_form : Order → Fraction → Packet → List ℕ
-record_form order unit p = record_text order (p.units / in_second unit) (p.units % in_second unit) p.original p.frame
+record_form order unit p = record_bytes order (p.units / in_second unit) (p.units % in_second unit) p.original p.frame
 
 abbrev pub records_form : Order → Fraction → List Packet → List ℕ
 records_form order unit [] = []
@@ -158,10 +158,10 @@ SameBytes =
     (header : PcapHeader) (packets : List Packet) (tail : Tail) (file : ℕ)
     → header.snaplen < 2 ^ 32 → header.link < 2 ^ 16 → AllWritten header.unit packets
     → (order : Order) (tail_again : Tail) (file_again : ℕ)
-    → (let bytes = header_text header ++ records_form header.order header.unit packets in
-    let text = pcapng_text order file (file_first tail file bytes) (file_items tail file bytes) in
+    → (let bytes = header_bytes header ++ records_form header.order header.unit packets in
+    let text = pcapng_bytes order file (file_first tail file bytes) (file_items tail file bytes) in
     length bytes ≤ 2 ^ 40 → length text ≤ 2 ^ 40
-    → pcap_text header.order (file_first tail_again file_again text) (file_items tail_again file_again text) ≡ bytes)
+    → pcap_bytes header.order (file_first tail_again file_again text) (file_items tail_again file_again text) ≡ bytes)
 
 -- An interface for each name, which the packets of a list have, and the fields of which fit, as theirs do.
 pub record HasFields (given : Name → Interface) (meta : Meta) (bytes : List ℕ) : Type 0 where
@@ -194,7 +194,7 @@ measured n = record n { captured = length n.frame }
 abbrev pub MergedAgain : Type 0
 MergedAgain =
     (order : Order) (tail : Tail) (file : ℕ) (given : Name → Interface) (items : List Item) → AllHave given items
-    → (let text = merged_text order items in
+    → (let text = merged_bytes order items in
     let again = file_items tail file text in
     length text ≤ 2 ^ 40
     → (numbered [] again ≡ map measured (numbered [] items))
@@ -220,7 +220,7 @@ abbrev pub MergeLaw : Type 0
 MergeLaw =
     (order : Order) (tail tail_again : Tail) (file_again : ℕ) (files : List (List ℕ)) → AllByRecursion AreBytes files
     → (let items = run_of_files tail files in
-    let text = merged_text order items in
+    let text = merged_bytes order items in
     let again = file_items tail_again file_again text in
     length text ≤ 2 ^ 40
     → (numbered [] again ≡ numbered [] items)
@@ -236,7 +236,7 @@ PcapngAgain =
     (order : Order) (tail tail_again : Tail) (file file_again : ℕ) (bytes : List ℕ) → AreBytes bytes
     → (let items = file_items tail file bytes in
     let first = file_first tail file bytes in
-    let text = pcapng_text order file first items in
+    let text = pcapng_bytes order file first items in
     let again = file_items tail_again file_again text in
     length text ≤ 2 ^ 40
     → (numbered (first_names file_again first) again ≡ numbered (first_names file first) items)
@@ -270,7 +270,7 @@ PcapAgain =
     (order : Order) (tail tail_again : Tail) (file file_again : ℕ) (bytes : List ℕ) → AreBytes bytes
     → (let items = file_items tail file bytes in
     let first = file_first tail file bytes in
-    let text = pcap_text order first items in
+    let text = pcap_bytes order first items in
     (file_first tail_again file_again text ≡ option_map written_first first)
     × (pcap_refusal file first items ≡ None → length text ≤ 2 ^ 40
     → AllZip SamePackets items (file_items tail_again file_again text)))

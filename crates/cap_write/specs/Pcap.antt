@@ -4,7 +4,7 @@ use Rattle.cap_bytes.specs.declared.faults.Refusal.{Refusal}
 use Rattle.cap_bytes.specs.declared.faults.Rule.{Rule}
 use Rattle.cap_bytes.specs.declared.faults.Rule.TheVariants.{NoTime, LinkMixed, Inexact, TimeRange, NoInterface}
 use Rattle.cap_bytes.specs.declared.numbers.Order.{Order}
-use Rattle.cap_pcap.specs.Grammar.{header_text, record_text}
+use Rattle.cap_pcap.specs.Grammar.{header_bytes, record_bytes}
 use Rattle.cap_pcap.specs.declared.headers.PcapHeader.{PcapHeader}
 use Rattle.cap_source.specs.Feed.{Item, packet, refused}
 use Rattle.cap_source.specs.declared.packets.Meta.{Meta}
@@ -60,19 +60,19 @@ abbrev pub written_time : Interface → Meta → Option (ℤ × ℕ)
 written_time first meta = time_in (fraction_of first) meta.interface meta.units
 
 -- what is written for it. draft-ietf-opsawg-pcap, 5.
-abbrev pub time_text : Order → Option (ℤ × ℕ) → ℕ → List ℕ → List ℕ
-time_text order None original frame = []
-time_text order (Some time) original frame = record_text order (nat_abs time.0) time.1 original frame
+abbrev pub time_bytes : Order → Option (ℤ × ℕ) → ℕ → List ℕ → List ℕ
+time_bytes order None original frame = []
+time_bytes order (Some time) original frame = record_bytes order (nat_abs time.0) time.1 original frame
 
 abbrev pub packet_record : Order → Interface → Meta → List ℕ → List ℕ
-packet_record order first meta frame = time_text order (written_time first meta) meta.original frame
+packet_record order first meta frame = time_bytes order (written_time first meta) meta.original frame
 
 -- what is written for the packets of a list, and the refusal after them, if there is one
-unfoldable pub records_text : Order → Interface → List Item → List ℕ
-records_text order first [] = []
-records_text order first (packet meta frame ∷ items) =
-    text_or (record_fault first meta) (packet_record order first meta frame ++ records_text order first items)
-records_text order first (refused refusal ∷ items) = []
+unfoldable pub records_bytes : Order → Interface → List Item → List ℕ
+records_bytes order first [] = []
+records_bytes order first (packet meta frame ∷ items) =
+    text_or (record_fault first meta) (packet_record order first meta frame ++ records_bytes order first items)
+records_bytes order first (refused refusal ∷ items) = []
 
 unfoldable pub records_refusal : Interface → List Item → Option Refusal
 records_refusal first [] = None
@@ -87,9 +87,9 @@ bare_refusal file (packet meta frame ∷ items) = record { file = file; offset =
 bare_refusal file (refused refusal ∷ items) = refusal
 
 -- What is written of a file with that first interface, and the refusal after it.
-abbrev pub pcap_text : Order → Option Interface → List Item → List ℕ
-pcap_text order None items = []
-pcap_text order (Some first) items = header_text (header_of order first) ++ records_text order first items
+abbrev pub pcap_bytes : Order → Option Interface → List Item → List ℕ
+pcap_bytes order None items = []
+pcap_bytes order (Some first) items = header_bytes (header_of order first) ++ records_bytes order first items
 
 abbrev pub pcap_refusal : ℕ → Option Interface → List Item → Option Refusal
 pcap_refusal file None items = Some (bare_refusal file items)

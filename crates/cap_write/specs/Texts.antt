@@ -3,7 +3,7 @@ use Rattle.std.specs.Prelude.{◌==◌, ℕ, ◌+◌, if◌then◌else◌, List,
 use Rattle.cap_bytes.specs.declared.faults.Refusal.{Refusal}
 use Rattle.cap_bytes.specs.declared.faults.Rule.{Rule}
 use Rattle.cap_bytes.specs.declared.numbers.Order.{Order}
-use Rattle.cap_blocks.specs.Grammar.{section_text, interface_text, packet_text}
+use Rattle.cap_blocks.specs.Grammar.{section_bytes, interface_bytes, packet_bytes}
 use Rattle.cap_source.specs.Feed.{Item}
 use Rattle.cap_source.specs.declared.packets.Meta.{Meta}
 use Rattle.cap_time.specs.declared.resolutions.Interface.{Interface}
@@ -12,23 +12,23 @@ use Rattle.cap_write.specs.Numbering.{Name, Numbered, numbered_of, numbered, wri
 -- what is written for a packet, where `count` interfaces were described before it: its interface, if it
 -- wasn't, and the packet
 abbrev pub interface_part : Order → ℕ → Numbered → List ℕ
-interface_part order count n = if n.number == count then interface_text order n.interface else []
+interface_part order count n = if n.number == count then interface_bytes order n.interface else []
 
 abbrev pub packet_part : Order → Numbered → List ℕ
-packet_part order n = packet_text order n.number n.units n.original n.frame
+packet_part order n = packet_bytes order n.number n.units n.original n.frame
 
-abbrev pub numbered_text : Order → ℕ → Numbered → List ℕ
-numbered_text order count n = interface_part order count n ++ packet_part order n
+abbrev pub numbered_bytes : Order → ℕ → Numbered → List ℕ
+numbered_bytes order count n = interface_part order count n ++ packet_part order n
 
 -- how many are described after it
 abbrev pub count_after : ℕ → Numbered → ℕ
 count_after count n = if n.number == count then count + 1 else count
 
 -- what is written for some packets, one after the other
-unfoldable pub packets_text : Order → ℕ → List Numbered → List ℕ
-packets_text order count [] = []
-packets_text order count (n ∷ rest) =
-    numbered_text order count n ++ packets_text order (count_after count n) rest
+unfoldable pub packets_bytes : Order → ℕ → List Numbered → List ℕ
+packets_bytes order count [] = []
+packets_bytes order count (n ∷ rest) =
+    numbered_bytes order count n ++ packets_bytes order (count_after count n) rest
 
 -- what is written for the next packet of a list, where those interfaces were described before: nothing if
 -- it is refused
@@ -36,18 +36,18 @@ abbrev pub text_or : Option Rule → List ℕ → List ℕ
 text_or (Some rule) text = []
 text_or None text = text
 
-abbrev pub one_text : Order → List Name → Meta → List ℕ → List ℕ
-one_text order names meta frame =
-    text_or (write_fault names meta) (numbered_text order (length names) (numbered_of names meta frame))
+abbrev pub one_bytes : Order → List Name → Meta → List ℕ → List ℕ
+one_bytes order names meta frame =
+    text_or (write_fault names meta) (numbered_bytes order (length names) (numbered_of names meta frame))
 
 -- What is written for a list where those interfaces were described before. A written interface block or
--- packet block has the form of `interface_text` or `packet_text`.
+-- packet block has the form of `interface_bytes` or `packet_bytes`.
 abbrev pub text_behind : Order → List Name → List Item → List ℕ
-text_behind order names items = packets_text order (length names) (numbered names items)
+text_behind order names items = packets_bytes order (length names) (numbered names items)
 
 -- what is written for a merged list: a section header, and each interface in front of its first packet
-abbrev pub merged_text : Order → List Item → List ℕ
-merged_text order items = section_text order ++ text_behind order [] items
+abbrev pub merged_bytes : Order → List Item → List ℕ
+merged_bytes order items = section_bytes order ++ text_behind order [] items
 
 abbrev pub merged_refusal : List Item → Option Refusal
 merged_refusal items = refusal_in [] items
@@ -58,16 +58,16 @@ abbrev pub first_names : ℕ → Option Interface → List Name
 first_names file None = []
 first_names file (Some interface) = (file, 0) ∷ []
 
-abbrev pub first_text : Order → Option Interface → List ℕ
-first_text order None = []
-first_text order (Some interface) = interface_text order interface
+abbrev pub first_bytes : Order → Option Interface → List ℕ
+first_bytes order None = []
+first_bytes order (Some interface) = interface_bytes order interface
 
-abbrev pub front_text : Order → Option Interface → List ℕ
-front_text order first = section_text order ++ first_text order first
+abbrev pub front_bytes : Order → Option Interface → List ℕ
+front_bytes order first = section_bytes order ++ first_bytes order first
 
-abbrev pub pcapng_text : Order → ℕ → Option Interface → List Item → List ℕ
-pcapng_text order file first items =
-    front_text order first ++ text_behind order (first_names file first) items
+abbrev pub pcapng_bytes : Order → ℕ → Option Interface → List Item → List ℕ
+pcapng_bytes order file first items =
+    front_bytes order first ++ text_behind order (first_names file first) items
 
 abbrev pub pcapng_refusal : ℕ → Option Interface → List Item → Option Refusal
 pcapng_refusal file first items = refusal_in (first_names file first) items

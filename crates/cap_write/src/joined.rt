@@ -9,7 +9,7 @@ ghost use Rattle.cap_merge.specs.View.{parts_of};
 ghost use Rattle.cap_source.specs.Feed.{Keeps};
 ghost use Rattle.cap_source.specs.Walk.{Walks};
 ghost use Rattle.cap_write.specs.Datagrams.{Stands, names_behind};
-ghost use Rattle.cap_write.specs.Joined.{datagram_meta, events_after, joined_items, joined_text, joined_refusal};
+ghost use Rattle.cap_write.specs.Joined.{datagram_meta, events_after, joined_items, joined_bytes, joined_refusal};
 ghost use Rattle.cap_write.specs.Numbering.{refusal_in};
 ghost use Rattle.cap_write.specs.RunPackets.{items_in};
 ghost use Rattle.cap_write.specs.Texts.{text_behind};
@@ -141,7 +141,7 @@ pub fn write_joined<F: PacketFeed, W: Sink>(
     writer: &mut W,
 ) -> Result<(), Fault>
     ensures text { IsTrue (feed_of (parts_of merged.old)).told → IsTrue (W.tells_held writer.old)
-        → Prints (joined_text order (run_of (parts_of merged.old))) (joined_refusal (run_of (parts_of merged.old)))
+        → Prints (joined_bytes order (run_of (parts_of merged.old))) (joined_refusal (run_of (parts_of merged.old)))
         (W.held writer.old) result (W.held writer.new) }
     ensures writer { WriterKeeps (writer_of W.Sink writer.old) (is_write result) (writer_of W.Sink writer.new) }
     ensures walks { Walks (feed_of (parts_of merged.old)) result (feed_of (parts_of merged.new)) }

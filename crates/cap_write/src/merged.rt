@@ -4,7 +4,7 @@ ghost use Rattle.cap_bytes.specs.Device.{WriterKeeps, writer_of};
 ghost use Rattle.cap_bytes.specs.Printing.{Prints, is_write};
 ghost use Rattle.cap_source.specs.Feed.{Keeps};
 ghost use Rattle.cap_source.specs.Walk.{Walks};
-ghost use Rattle.cap_write.specs.Texts.{merged_text, merged_refusal};
+ghost use Rattle.cap_write.specs.Texts.{merged_bytes, merged_refusal};
 
 use crate::names::Names;
 use crate::packets::put_packets;
@@ -26,7 +26,7 @@ pub fn write_merged<F: PacketFeed, W: Sink>(
     writer: &mut W,
 ) -> Result<(), Fault>
     ensures text { IsTrue (F.feed feed.old).told → IsTrue (W.tells_held writer.old)
-        → Prints (merged_text order (F.feed feed.old).items) (merged_refusal (F.feed feed.old).items)
+        → Prints (merged_bytes order (F.feed feed.old).items) (merged_refusal (F.feed feed.old).items)
         (W.held writer.old) result (W.held writer.new) }
     ensures writer { WriterKeeps (writer_of W.Sink writer.old) (is_write result) (writer_of W.Sink writer.new) }
     ensures walks { Walks (F.feed feed.old) result (F.feed feed.new) }

@@ -2,11 +2,11 @@
 ghost use Rattle.std.specs.Prelude.{◌≡◌, ◌+◌, ◌≤◌, ◌++◌, length, IsTrue, is_err, IsOkUnless, OnOk, None, if◌then◌else◌, ◌==◌, []};
 ghost use Rattle.cap_bytes.specs.Device.{Puts, WriterKeeps, writer_of};
 ghost use Rattle.cap_bytes.specs.Printing.{Prints, IsRead, is_write};
-ghost use Rattle.cap_blocks.specs.Grammar.{interface_text, packet_text};
+ghost use Rattle.cap_blocks.specs.Grammar.{interface_bytes, packet_bytes};
 ghost use Rattle.cap_source.specs.Feed.{Keeps};
 ghost use Rattle.cap_source.specs.Walk.{Walks};
 ghost use Rattle.cap_write.specs.Numbering.{number_of, with_name, refusal_in, refusal_by, write_fault};
-ghost use Rattle.cap_write.specs.Texts.{text_behind, one_text};
+ghost use Rattle.cap_write.specs.Texts.{text_behind, one_bytes};
 
 use crate::names::{Names, number_of, units_of};
 use cap_blocks::{put_interface, put_packet};
@@ -22,7 +22,7 @@ fn put_new_interface<W: Sink>(
 ) -> Result<(), Fault>
     ensures bytes { IsTrue (W.tells_held writer.old)
         → Puts (W.held writer.old) result (W.held writer.new)
-        (if is_new then interface_text order meta.now.interface else []) }
+        (if is_new then interface_bytes order meta.now.interface else []) }
     ensures writer { WriterKeeps (writer_of W.Sink writer.old) (is_err result) (writer_of W.Sink writer.new) }
     ensures fault { IsOkUnless result Fault.Write }
 {
@@ -51,8 +51,8 @@ struct Numbered<'a> {
 fn put_numbered<W: Sink>(writer: &mut W, order: Order, packet: &Numbered<'_>) -> Result<(), Fault>
     ensures bytes { IsTrue (W.tells_held writer.old)
         → Puts (W.held writer.old) result (W.held writer.new)
-        ((if packet.now.is_new then interface_text order packet.now.meta.now.interface else [])
-        ++ packet_text order packet.now.number packet.now.units packet.now.meta.now.original packet.now.frame.now) }
+        ((if packet.now.is_new then interface_bytes order packet.now.meta.now.interface else [])
+        ++ packet_bytes order packet.now.number packet.now.units packet.now.meta.now.original packet.now.frame.now) }
     ensures writer { WriterKeeps (writer_of W.Sink writer.old) (is_err result) (writer_of W.Sink writer.new) }
     ensures fault { IsOkUnless result Fault.Write }
 {
@@ -78,7 +78,7 @@ pub fn put_one<W: Sink>(
     requires captured { length frame.now ≤ 262144 }
     requires limit { length names.old.keys ≤ 1024 }
     ensures text { IsTrue (W.tells_held writer.old)
-        → Prints (one_text order names.old.keys meta.now frame.now)
+        → Prints (one_bytes order names.old.keys meta.now frame.now)
         (refusal_by meta.now (write_fault names.old.keys meta.now))
         (W.held writer.old) result (W.held writer.new) }
     ensures names { OnOk result ((names.new.keys ≡ with_name names.old.keys meta.now) × (write_fault names.old.keys meta.now ≡ None)) }

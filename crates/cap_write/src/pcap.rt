@@ -5,7 +5,7 @@ ghost use Rattle.cap_bytes.specs.Printing.{Prints, IsRead, is_write};
 ghost use Rattle.cap_source.specs.Captures.{feed_of, number_of, first_of};
 ghost use Rattle.cap_source.specs.Feed.{Keeps};
 ghost use Rattle.cap_source.specs.Walk.{Walks};
-ghost use Rattle.cap_write.specs.Pcap.{fraction_of, header_of, packet_record, record_fault, records_text, records_refusal, pcap_text, pcap_refusal};
+ghost use Rattle.cap_write.specs.Pcap.{fraction_of, header_of, packet_record, record_fault, records_bytes, records_refusal, pcap_bytes, pcap_refusal};
 ghost use Rattle.cap_write.specs.Times.{HasTime, HasRecord, IsBare};
 ghost use Rattle.cap_write.specs.Texts.{text_or};
 ghost use Rattle.cap_write.specs.Numbering.{refusal_by};
@@ -110,7 +110,7 @@ fn put_records<F: PacketFeed, W: Sink>(
     writer: &mut W,
 ) -> Result<(), Fault>
     ensures text { IsTrue (F.feed feed.old).told → IsTrue (W.tells_held writer.old)
-        → Prints (records_text order first.now (F.feed feed.old).items)
+        → Prints (records_bytes order first.now (F.feed feed.old).items)
         (records_refusal first.now (F.feed feed.old).items)
         (W.held writer.old) result (W.held writer.new) }
     ensures writer { WriterKeeps (writer_of W.Sink writer.old) (is_write result) (writer_of W.Sink writer.new) }
@@ -132,7 +132,7 @@ fn put_file<F: PacketFeed, W: Sink>(
     writer: &mut W,
 ) -> Result<(), Fault>
     ensures text { IsTrue (F.feed feed.old).told → IsTrue (W.tells_held writer.old)
-        → Prints (pcap_text order (Some first.now) (F.feed feed.old).items)
+        → Prints (pcap_bytes order (Some first.now) (F.feed feed.old).items)
         (records_refusal first.now (F.feed feed.old).items)
         (W.held writer.old) result (W.held writer.new) }
     ensures writer { WriterKeeps (writer_of W.Sink writer.old) (is_write result) (writer_of W.Sink writer.new) }
@@ -176,7 +176,7 @@ pub fn to_pcap<R: Source, W: Sink>(
     writer: &mut W,
 ) -> Result<(), Fault>
     ensures text { IsTrue (feed_of capture.old).told → IsTrue (W.tells_held writer.old)
-        → Prints (pcap_text order (first_of capture.old) (feed_of capture.old).items)
+        → Prints (pcap_bytes order (first_of capture.old) (feed_of capture.old).items)
         (pcap_refusal (number_of capture.old) (first_of capture.old) (feed_of capture.old).items)
         (W.held writer.old) result (W.held writer.new) }
     ensures writer { WriterKeeps (writer_of W.Sink writer.old) (is_write result) (writer_of W.Sink writer.new) }
@@ -197,7 +197,7 @@ fn put_pcap<F: PacketFeed, W: Sink>(
     writer: &mut W,
 ) -> Result<(), Fault>
     ensures text { IsTrue (F.feed feed.old).told → IsTrue (W.tells_held writer.old)
-        → Prints (pcap_text order first (F.feed feed.old).items)
+        → Prints (pcap_bytes order first (F.feed feed.old).items)
         (pcap_refusal file first (F.feed feed.old).items)
         (W.held writer.old) result (W.held writer.new) }
     ensures writer { WriterKeeps (writer_of W.Sink writer.old) (is_write result) (writer_of W.Sink writer.new) }

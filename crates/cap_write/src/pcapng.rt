@@ -6,7 +6,7 @@ ghost use Rattle.cap_source.specs.Captures.{feed_of, number_of, first_of};
 ghost use Rattle.cap_source.specs.Feed.{Keeps};
 ghost use Rattle.cap_source.specs.Walk.{Walks};
 ghost use Rattle.cap_write.specs.Names.{Holds};
-ghost use Rattle.cap_write.specs.Texts.{first_names, first_text, front_text, pcapng_text, pcapng_refusal};
+ghost use Rattle.cap_write.specs.Texts.{first_names, first_bytes, front_bytes, pcapng_bytes, pcapng_refusal};
 
 use crate::names::Names;
 use crate::packets::put_packets;
@@ -40,7 +40,7 @@ fn first_names(alloc: Global, begun: Begun) -> Result<Names, Fault>
 // Writes the first interface, where there is one.
 fn put_first<W: Sink>(writer: &mut W, order: Order, first: Option<Interface>) -> Result<(), Fault>
     ensures bytes { IsTrue (W.tells_held writer.old)
-        → Puts (W.held writer.old) result (W.held writer.new) (first_text order first) }
+        → Puts (W.held writer.old) result (W.held writer.new) (first_bytes order first) }
     ensures writer { WriterKeeps (writer_of W.Sink writer.old) (is_err result) (writer_of W.Sink writer.new) }
     ensures fault { IsOkUnless result Fault.Write }
 {
@@ -53,7 +53,7 @@ fn put_first<W: Sink>(writer: &mut W, order: Order, first: Option<Interface>) ->
 // Writes what stands before the first packet: a section header, and the first interface.
 fn put_front<W: Sink>(writer: &mut W, order: Order, first: Option<Interface>) -> Result<(), Fault>
     ensures bytes { IsTrue (W.tells_held writer.old)
-        → Puts (W.held writer.old) result (W.held writer.new) (front_text order first) }
+        → Puts (W.held writer.old) result (W.held writer.new) (front_bytes order first) }
     ensures writer { WriterKeeps (writer_of W.Sink writer.old) (is_err result) (writer_of W.Sink writer.new) }
     ensures fault { IsOkUnless result Fault.Write }
 {
@@ -74,7 +74,7 @@ pub fn to_pcapng<R: Source, W: Sink>(
     writer: &mut W,
 ) -> Result<(), Fault>
     ensures text { IsTrue (feed_of capture.old).told → IsTrue (W.tells_held writer.old)
-        → Prints (pcapng_text order (number_of capture.old) (first_of capture.old) (feed_of capture.old).items)
+        → Prints (pcapng_bytes order (number_of capture.old) (first_of capture.old) (feed_of capture.old).items)
         (pcapng_refusal (number_of capture.old) (first_of capture.old) (feed_of capture.old).items)
         (W.held writer.old) result (W.held writer.new) }
     ensures writer { WriterKeeps (writer_of W.Sink writer.old) (is_write result) (writer_of W.Sink writer.new) }
@@ -95,7 +95,7 @@ fn put_pcapng<F: PacketFeed, W: Sink>(
     writer: &mut W,
 ) -> Result<(), Fault>
     ensures text { IsTrue (F.feed feed.old).told → IsTrue (W.tells_held writer.old)
-        → Prints (pcapng_text order begun.file begun.first (F.feed feed.old).items)
+        → Prints (pcapng_bytes order begun.file begun.first (F.feed feed.old).items)
         (pcapng_refusal begun.file begun.first (F.feed feed.old).items)
         (W.held writer.old) result (W.held writer.new) }
     ensures writer { WriterKeeps (writer_of W.Sink writer.old) (is_write result) (writer_of W.Sink writer.new) }

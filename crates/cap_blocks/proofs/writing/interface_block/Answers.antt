@@ -1,7 +1,7 @@
 use Rattle.std.proofs.Common.{◌≡◌, ◌∙◌, [], ◌∷◌, ◌++◌, ap, arith, length}
 use Rattle.cap_bytes.specs.Number.{bytes_of}
 use Rattle.cap_blocks.specs.Grammar.{offset_option}
-use Rattle.cap_blocks.proofs.Parts.{interface_text-pieces, length-offset_option, interface_total-most}
+use Rattle.cap_blocks.proofs.Parts.{interface_bytes-pieces, length-offset_option, interface_total-most}
 use Rattle.cap_blocks.proofs.writing.interface_block.Goals as goal
 
 pub short-requires-5 : goal.short-requires-5
@@ -34,4 +34,4 @@ returns c =
     ++ (c.code.result ∷ 0 ∷ 0 ∷ 0 ∷ [])) ++ offset_option order seconds)
     ++ bytes_of order 2 0) ++ bytes_of order 2 0) ++ bytes_of order 4 total = cc in
     rw (c.code.ensures.value, c.seconds_of-seconds.ensures) at pieces
-    ∙ interface_text-pieces order interface total (rw c.seconds_of-seconds.ensures at c.total_of-total.ensures)
+    ∙ interface_bytes-pieces order interface total (rw c.seconds_of-seconds.ensures at c.total_of-total.ensures)

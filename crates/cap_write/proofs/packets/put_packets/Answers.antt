@@ -6,7 +6,7 @@ use Rattle.cap_source.specs.Walk.{ShowsItem}
 use Rattle.cap_write.proofs.Feeding.{plan_of, plan_of-is, plan_of-next, plan_of-refused}
 use Rattle.cap_write.proofs.Written.{Prints-one}
 use Rattle.cap_write.specs.Numbering.{numbered_of, with_name, write_fault}
-use Rattle.cap_write.specs.Texts.{numbered_text, one_text}
+use Rattle.cap_write.specs.Texts.{numbered_bytes, one_bytes}
 use Rattle.cap_write.proofs.packets.put_packets.Goals as goal
 
 pub returns-in_err-meta-clause-text : goal.returns-in_err-meta-clause-text
@@ -29,7 +29,7 @@ returns-in_err-put_one-clause-text g c = λ t w.
     let meta = c.in-Some.meta in
     rw (p.1, p.2)
     (Prints-one (plan_of c.args.order names) (plan_of c.args.order (with_name names meta)) c.in_err-put_one.field-0.0 _ _ _ _ _
-    meta shown.frame c.frame.result.now (λ f. numbered_text c.args.order (length names) (numbered_of names meta f)) (write_fault names meta) mid.items (drop 1 mid.items)
+    meta shown.frame c.frame.result.now (λ f. numbered_bytes c.args.order (length names) (numbered_of names meta f)) (write_fault names meta) mid.items (drop 1 mid.items)
     (plan_of-refused c.args.order names meta shown.frame) (plan_of-next c.args.order names meta shown.frame) shows.1 c.frame.ensures.frame
     (i.text t) w (i.refusal_same t) (c.in_err-put_one.ensures.text (i.writer_told w)))
 
@@ -41,7 +41,7 @@ loop-meta-preserved g c =
     let names = c.loop-meta.names.keys in
     let meta = c.in-Some.meta in
     let e = c.in_ok-put_one.ensures in
-    let line = one_text c.args.order names meta shown.frame in
+    let line = one_bytes c.args.order names meta shown.frame in
     let goes : GoesOn (plan_of c.args.order names) meta shown.frame line (plan_of c.args.order c.put_one.new.names.keys) =
     subst (λ n. GoesOn (plan_of c.args.order names) meta shown.frame line (plan_of c.args.order n)) (sym e.names.0)
     (plan_of-next c.args.order names meta shown.frame e.names.1) in
