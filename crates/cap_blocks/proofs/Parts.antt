@@ -1,12 +1,9 @@
--- Texts that are put together in pieces, and written in parts.
-use Rattle.std.proofs.Common.{◌≡◌, ℕ, ◌+◌, ◌≤◌, List, [], ◌∷◌, ◌++◌, length, take, Result, Ok, Err, min, refl, sym, ◌∙◌, ap, arith, append_assoc, length-append}
+-- Texts that are put together in pieces.
+use Rattle.std.proofs.Common.{◌≡◌, ℕ, ◌+◌, ◌≤◌, List, [], ◌∷◌, ◌++◌, length, refl, sym, ◌∙◌, ap, arith, append_assoc, length-append}
 use Rattle.std.proofs.lemmas.Bool.Decides.{nat_tests}
-use Rattle.std.proofs.lemmas.List.{take-append-le, take_min, length-replicate}
-use Rattle.std.proofs.Math.Seq.{take-append-add}
+use Rattle.std.proofs.lemmas.List.{length-replicate}
 use Rattle.std.specs.Int.{w64, cast_unsigned}
-use Rattle.cap_bytes.specs.Device.{Puts}
 use Rattle.cap_bytes.specs.Number.{bytes_of}
-use Rattle.cap_bytes.specs.declared.faults.Fault.{Fault}
 use Rattle.cap_bytes.specs.declared.numbers.Order.{Order}
 use Rattle.cap_bytes.proofs.Spelling.{length-bytes_of}
 use Rattle.cap_time.specs.Resolution.{code_of}
@@ -77,22 +74,3 @@ pub packet_bytes-parts : (order : Order) (interface units original : ℕ) (bytes
 packet_bytes-parts order interface units original bytes =
     rw (block_bytes-sized order enhanced_kind (32 + padded (length bytes)) (packet_body order interface units original bytes)
     (length-packet_body order interface units original bytes)) (simp append_assoc)
-
--- a prefix of the first part is a prefix of the whole
-pub Puts-first : (A : Type 0) (old new head rest : List ℕ) (fault : Fault) → Puts {A = A} old (Err fault) new head
-    → Puts {A = A} old (Err fault) new (head ++ rest)
-Puts-first A old new head rest fault p = (
-  min p.0 (length head),
-  p.1 ∙ ap (λ l. old ++ l) (sym (take-append-le (min p.0 (length head)) head rest (omega arith) ∙ take_min p.0 head)),
-)
-
--- the second part follows the first
-pub Puts-second : (A : Type 0) (old mid new head rest : List ℕ) (result : Result A Fault) → mid ≡ old ++ head → Puts mid result new rest
-    → Puts old result new (head ++ rest)
-Puts-second A old mid new head rest (Ok x) first second =
-    second ∙ (ap (λ l. l ++ rest) first ∙ append_assoc old head rest)
-Puts-second A old mid new head rest (Err fault) first second = (
-  length head + second.0,
-  second.1 ∙ (ap (λ l. l ++ take second.0 rest) first ∙ (append_assoc old head (take second.0 rest)
-      ∙ ap (λ l. old ++ l) (sym (take-append-add head rest second.0)))),
-)

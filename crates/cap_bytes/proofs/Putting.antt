@@ -101,3 +101,22 @@ Prints-behind refusal old mid new head text (Err (Refused r)) first p = (p.0, jo
 Prints-behind refusal old mid new head text (Err (Read file offset)) first p = front_behind old mid new head text first p
 Prints-behind refusal old mid new head text (Err Write) first p = front_behind old mid new head text first p
 Prints-behind refusal old mid new head text (Err Memory) first p = front_behind old mid new head text first p
+
+-- Bytes are written in two parts: a prefix of the first is a prefix of the whole.
+pub Puts-first : (A : Type 0) (old new head rest : List ℕ) (fault : Fault) → Puts {A = A} old (Err fault) new head
+    → Puts {A = A} old (Err fault) new (head ++ rest)
+Puts-first A old new head rest fault p = (
+  min p.0 (length head),
+  p.1 ∙ ap (λ l. old ++ l) (sym (take-append-le (min p.0 (length head)) head rest (omega arith) ∙ take_min p.0 head)),
+)
+
+-- The second part follows the first.
+pub Puts-second : (A : Type 0) (old mid new head rest : List ℕ) (result : Result A Fault) → mid ≡ old ++ head → Puts mid result new rest
+    → Puts old result new (head ++ rest)
+Puts-second A old mid new head rest (Ok x) first second =
+    second ∙ (ap (λ l. l ++ rest) first ∙ append_assoc old head rest)
+Puts-second A old mid new head rest (Err fault) first second = (
+  length head + second.0,
+  second.1 ∙ (ap (λ l. l ++ take second.0 rest) first ∙ (append_assoc old head (take second.0 rest)
+      ∙ ap (λ l. old ++ l) (sym (take-append-add head rest second.0)))),
+)

@@ -1,7 +1,8 @@
 use Rattle.std.proofs.Common.{◌++◌, length, Err}
 use Rattle.std.proofs.lemmas.Result.{err_from_is_err_and}
 use Rattle.cap_blocks.specs.Grammar.{packet_tail}
-use Rattle.cap_blocks.proofs.Parts.{Puts-first, Puts-second, packet_bytes-parts}
+use Rattle.cap_bytes.proofs.Putting.{Puts-first, Puts-second}
+use Rattle.cap_blocks.proofs.Parts.{packet_bytes-parts}
 use Rattle.cap_blocks.proofs.writing.put_packet.Goals as goal
 
 pub returns-in_err-put_all-clause-bytes : goal.returns-in_err-put_all-clause-bytes

@@ -1,5 +1,5 @@
 use Rattle.std.proofs.lemmas.Result.{err_from_is_err_and}
-use Rattle.cap_pcap.proofs.Writing.{Puts-first, Puts-second}
+use Rattle.cap_bytes.proofs.Putting.{Puts-first, Puts-second}
 use Rattle.cap_pcap.proofs.records.put_record.Goals as goal
 
 pub returns-in_err-put_all-clause-bytes : goal.returns-in_err-put_all-clause-bytes

@@ -1,7 +1,7 @@
 use Rattle.std.proofs.Common.{if◌then◌else◌, []}
 use Rattle.std.proofs.lemmas.Result.{err_from_is_err_and}
 use Rattle.cap_blocks.specs.Grammar.{interface_bytes, packet_bytes}
-use Rattle.cap_pcap.proofs.Writing.{Puts-first, Puts-second}
+use Rattle.cap_bytes.proofs.Putting.{Puts-first, Puts-second}
 use Rattle.cap_write.proofs.packets.put_numbered.Goals as goal
 
 pub returns-in_err-put_new_interface-clause-bytes : goal.returns-in_err-put_new_interface-clause-bytes

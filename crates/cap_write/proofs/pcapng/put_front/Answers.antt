@@ -1,6 +1,6 @@
 use Rattle.std.proofs.lemmas.Result.{err_from_is_err_and}
 use Rattle.cap_blocks.specs.Grammar.{section_bytes}
-use Rattle.cap_pcap.proofs.Writing.{Puts-first, Puts-second}
+use Rattle.cap_bytes.proofs.Putting.{Puts-first, Puts-second}
 use Rattle.cap_write.specs.Texts.{first_bytes}
 use Rattle.cap_write.proofs.pcapng.put_front.Goals as goal
 
