@@ -136,33 +136,49 @@ fn skip<R: Source>(window: &mut Window<R>, n: u32) -> Result<bool, Fault> {
     }
 }
 
+// What is asked of a window.
+#[derive(Clone, Copy, Debug)]
+enum Asked {
+    Need(usize),
+    Pass(usize),
+    Skip(u32),
+}
+
+fn answer<R: Source>(window: &mut Window<R>, asked: Asked) -> Result<bool, Fault> {
+    match asked {
+        Asked::Need(n) => need(window, n.min(524_288)),
+        Asked::Pass(n) => Ok(pass_shown(window, n)),
+        Asked::Skip(n) => skip(window, n),
+    }
+}
+
+// Steps over a file of 70,000 bytes: the answer of each, the offset then, and a place where the window shows the byte of the file
+// that stands as far from the offset.
+const STEPS: [(Asked, bool, u64, Option<usize>); 7] = [
+    (Asked::Need(3), true, 0, Some(0)),
+    (Asked::Pass(3), true, 3, None),
+    (Asked::Need(66_000), true, 3, Some(65_999)),
+    (Asked::Skip(69_990), true, 69_993, None),
+    (Asked::Need(7), true, 69_993, Some(6)),
+    (Asked::Need(8), false, 69_993, Some(0)),
+    (Asked::Skip(8), false, 70_000, None),
+];
+
 #[test]
 fn always_memory_a_window_shows_the_next_bytes_or_the_end(rt: HostRuntime) -> Result<(), Fail> {
     for piece in [1, 2, 4_096] {
-        let mut window = Window::new(
-            rt.alloc(),
-            Pieces::new(counted(rt.alloc(), 70_000)?, piece, None),
-            7,
-        );
-        assert!(rt; need(&mut window, 3)?);
-        assert_eq!(rt; window.bytes().first().copied(), Some(0));
-        assert!(rt; pass_shown(&mut window, 3));
-        assert_eq!(rt; window.offset(), 3);
-        assert!(rt; need(&mut window, 66_000)?);
-        assert_eq!(rt; window.bytes().first().copied(), Some(3));
-        assert_eq!(rt;
-            window.bytes().get(65_999).copied(),
-            Some((66_002 % 251) as u8)
-        );
-        assert!(rt; window.held() >= 66_000 && window.held() <= 524_288);
-        assert!(rt; skip(&mut window, 69_990)?);
-        assert_eq!(rt; window.offset(), 69_993);
-        assert!(rt; need(&mut window, 7)?);
-        assert_eq!(rt; window.bytes().first().copied(), Some((69_993 % 251) as u8));
-        assert!(rt; !need(&mut window, 8)?);
-        assert_eq!(rt; window.bytes().len(), 7);
-        assert!(rt; !skip(&mut window, 8)?);
-        assert_eq!(rt; window.offset(), 70_000);
+        let pieces = Pieces::new(counted(rt.alloc(), 70_000)?, piece, None);
+        let mut window = Window::new(rt.alloc(), pieces, 7);
+        for (asked, wanted, offset, shown) in STEPS {
+            assert_eq!(rt; answer(&mut window, asked)?, wanted, "{asked:?}");
+            assert_eq!(rt; window.offset(), offset, "{asked:?}");
+            assert!(rt; window.held() <= 524_288);
+            if let Some(place) = shown {
+                let byte = window.bytes().get(place).copied();
+                let expected = (offset.saturating_add(place as u64) % 251) as u8;
+                assert_eq!(rt; byte, Some(expected), "{asked:?}");
+            }
+        }
         assert!(rt; window.bytes().is_empty());
         assert_eq!(rt; window.file(), 7);
         assert!(rt; !window.failed());

@@ -223,15 +223,16 @@ fn exact_order(rt: HostRuntime) -> Result<(), Fail> {
         ((250, 3, 0), (1, 0x82, 0), Ordering::Equal),
         ((7, 0x83, -3), (875, 3, -3), Ordering::Equal),
     ];
-    for (left, right, order) in rows {
+    for (row, (left, right, order)) in rows.into_iter().enumerate() {
         let a = stamp_of(left).ok_or("left")?;
         let b = stamp_of(right).ok_or("right")?;
-        assert_eq!(rt; a.cmp(&b), order, "{left:?} {right:?}");
-        assert_eq!(rt; a.partial_cmp(&b), Some(order), "{left:?} {right:?}");
-        assert_eq!(rt; a == b, order == Ordering::Equal, "{left:?} {right:?}");
-        if order == Ordering::Equal {
-            assert_eq!(rt; hash_of(&a), hash_of(&b), "{left:?} {right:?}");
-        }
+        let is_equal = order == Ordering::Equal;
+        assert_eq!(rt;
+            (a.cmp(&b), a.partial_cmp(&b), a == b),
+            (order, Some(order), is_equal),
+            "row {row}"
+        );
+        assert!(rt; !is_equal || hash_of(&a) == hash_of(&b), "row {row}");
     }
     Ok(())
 }
@@ -270,10 +271,13 @@ fn whole_units(rt: HostRuntime) -> Result<(), Fail> {
             Some((9_223_372_036_854_775_807, 999_999_999)),
         ),
     ];
-    for (source, micro, nano) in rows {
+    for (row, (source, micro, nano)) in rows.into_iter().enumerate() {
         let stamp = stamp_of(source).ok_or("source")?;
-        assert_eq!(rt; stamp.whole_in(Unit::Micro), micro, "{source:?}");
-        assert_eq!(rt; stamp.whole_in(Unit::Nano), nano, "{source:?}");
+        assert_eq!(rt;
+            (stamp.whole_in(Unit::Micro), stamp.whole_in(Unit::Nano)),
+            (micro, nano),
+            "row {row}"
+        );
     }
     assert_eq!(rt; Unit::Micro.in_second(), 1_000_000);
     assert_eq!(rt; Unit::Nano.in_second(), 1_000_000_000);
