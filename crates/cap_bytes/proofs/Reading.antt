@@ -4,11 +4,11 @@ use Rattle.std.proofs.lemmas.List.{drop-append-le}
 use Rattle.std.proofs.lemmas.Slice.{between_is}
 use Rattle.std.proofs.Math.Seq.{take-append-add, take-append_seam, drop-append-add}
 use Rattle.cap_bytes.specs.Device.{Takes}
-use Rattle.cap_bytes.specs.Feed.{Feed, Reads, IsWithin}
+use Rattle.cap_bytes.specs.SourceState.{SourceState, Reads, IsWithin}
 use Rattle.cap_bytes.specs.declared.devices.Broken.{Broken}
 
 -- n bytes came into the room after the front
-pub Reads-room : (old new : Feed) (front room : List ℕ) (end n : ℕ) → length front ≡ end
+pub Reads-room : (old new : SourceState) (front room : List ℕ) (end n : ℕ) → length front ≡ end
     → (IsTrue old.told → old.coming ≡ take n room ++ new.coming)
     → (IsTrue old.told → IsTrue new.told) → new.most ≡ old.most → (IsTrue new.can_fail → IsTrue old.can_fail)
     → Reads old new front (take (end + n) (front ++ room))
@@ -25,7 +25,7 @@ Reads-room old new front room end n size came told most cannot =
     }
 
 -- the same of what a read answered
-pub Reads-taken : (old new : Feed) (front room : List ℕ) (end : ℕ) (r : Result ℕ Broken) → length front ≡ end
+pub Reads-taken : (old new : SourceState) (front room : List ℕ) (end : ℕ) (r : Result ℕ Broken) → length front ≡ end
     → IfOk r (λ n. n ≤ length room)
     → (IsTrue old.told → Takes old.coming r new.coming room)
     → (IsTrue old.told → IsTrue new.told) → new.most ≡ old.most → (IsTrue new.can_fail → IsTrue old.can_fail)
@@ -37,7 +37,7 @@ Reads-taken old new front room end (Ok n) size count bytes told most cannot = (
 Reads-taken old new front room end (Err e) size count bytes told most cannot = tt
 
 -- one reading after another
-pub Reads-trans : (a b c : Feed) (front mid whole : List ℕ) → length front ≤ length mid → Reads a b front mid → Reads b c mid whole → Reads a c front whole
+pub Reads-trans : (a b c : SourceState) (front mid whole : List ℕ) → length front ≤ length mid → Reads a b front mid → Reads b c mid whole → Reads a c front whole
 Reads-trans a b c front mid whole longer p q = record {
   front_stays =
       sym (take-take (length front) (length mid) whole longer) ∙ (ap (take (length front)) q.front_stays ∙ p.front_stays);
@@ -48,7 +48,7 @@ Reads-trans a b c front mid whole longer p q = record {
 }
 
 -- nothing was read
-pub Reads-refl : (a : Feed) (front : List ℕ) → Reads a a front front
+pub Reads-refl : (a : SourceState) (front : List ℕ) → Reads a a front front
 Reads-refl a front = record {
   front_stays = take_all (length front) front (omega arith);
   bytes = λ t. refl;
@@ -58,7 +58,7 @@ Reads-refl a front = record {
 }
 
 -- a buffer that is being filled: `count` bytes stand in it, the first `end` of which stood there before
-pub record Filled (old new : Feed) (front whole : List ℕ) (end count room n : ℕ) : Type 0 where
+pub record Filled (old new : SourceState) (front whole : List ℕ) (end count room n : ℕ) : Type 0 where
   pub reads : Reads old new front whole
   pub failed : new.failed ≡ old.failed
   pub longer : end ≤ count
@@ -66,7 +66,7 @@ pub record Filled (old new : Feed) (front whole : List ℕ) (end count room n : 
   pub asked : end < n → IsWithin old.most n count
 
 -- n bytes are being dropped from a reader, `left` of which are still to come
-pub record Dropping (n left : ℕ) (old new : Feed) : Type 0 where
+pub record Dropping (n left : ℕ) (old new : SourceState) : Type 0 where
   pub failed : new.failed ≡ old.failed
   pub fewer : left ≤ n
   pub told : IsTrue old.told → IsTrue new.told
@@ -76,7 +76,7 @@ pub record Dropping (n left : ℕ) (old new : Feed) : Type 0 where
   pub bytes : IsTrue old.told → drop left new.coming ≡ drop n old.coming
 
 -- a piece came, all of which is dropped
-pub Dropping-more : (n left count : ℕ) (old mid new : Feed) (piece : List ℕ) → length piece ≡ count → count ≤ left
+pub Dropping-more : (n left count : ℕ) (old mid new : SourceState) (piece : List ℕ) → length piece ≡ count → count ≤ left
     → Dropping n left old mid → Reads mid new [] piece → new.failed ≡ mid.failed → Dropping n (left - count) old new
 Dropping-more n left count old mid new piece size few p r failed =
     let split : left ≡ length piece + (left - count) = omega arith in
@@ -96,7 +96,7 @@ Dropping-more n left count old mid new piece size few p r failed =
     }
 
 -- a piece came that has all that is left to drop, and `rest` after it
-pub Dropping-last : (n left count : ℕ) (old mid new : Feed) (buffer : List ℕ) → count ≤ length buffer → left ≤ count
+pub Dropping-last : (n left count : ℕ) (old mid new : SourceState) (buffer : List ℕ) → count ≤ length buffer → left ≤ count
     → Dropping n left old mid → Reads mid new [] (take count buffer)
     → (IsTrue old.told → n ≤ length old.coming)
     × (IsTrue old.told → slice_range buffer left count ++ new.coming ≡ drop n old.coming)

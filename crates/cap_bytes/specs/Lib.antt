@@ -1,6 +1,6 @@
 pub mod Calls
 pub mod Device
-pub mod Feed
+pub mod SourceState
 pub mod Items
 pub mod Number
 pub mod Printing

@@ -1,6 +1,6 @@
 -- What a window over a reader is at one moment, and what its calls do.
 use Rattle.std.specs.Prelude.{◌≡◌, ◌+◌, ◌^◌, ◌≤◌, ◌<◌, ℕ, List, [], ◌++◌, length, take, drop, Bool, true, false, IsTrue, Option, Some, None, IfSome, IfNone, IsSome, Result, Ok, Err}
-use Rattle.cap_bytes.specs.Feed.{Feed}
+use Rattle.cap_bytes.specs.SourceState.{SourceState}
 use Rattle.cap_bytes.specs.declared.faults.Fault.{Fault}
 use Rattle.cap_bytes.specs.declared.faults.Fault.TheVariants.{Refused, Read, Write, Memory}
 
@@ -25,18 +25,18 @@ abbrev pub coming : State → List ℕ
 coming window = window.shown ++ window.unread
 
 -- a new window, of which nothing has been read
-abbrev pub opened : ℕ → Feed → State
-opened file feed =
+abbrev pub opened : ℕ → SourceState → State
+opened file source =
     record {
       file = file;
       offset = 0;
       shown = [];
-      told = feed.told;
-      unread = feed.coming;
-      most = feed.most;
+      told = source.told;
+      unread = source.coming;
+      most = source.most;
       broken = None;
-      failed = feed.failed;
-      can_fail = feed.can_fail;
+      failed = source.failed;
+      can_fail = source.can_fail;
       held = 0;
       room = 0;
     }

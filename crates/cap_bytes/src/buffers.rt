@@ -1,6 +1,6 @@
 //! A buffer that is read into after what it holds.
 ghost use Rattle.std.specs.Prelude.{◌≡◌, ℕ, List, Bool, ◌||◌, ◌+◌, ◌-◌, ◌≤◌, ◌<◌, ◌++◌, [], length, take, drop, is_err, IsTrue, IsErr, IfOk, IfSome, OnOk, OnErr, vec_len, slice_range};
-ghost use Rattle.cap_bytes.specs.Feed.{feed_of, Reads, IsWithin, Fills, Discards};
+ghost use Rattle.cap_bytes.specs.SourceState.{source_of, Reads, IsWithin, Fills, Discards};
 
 use crate::devices::{Broken, Source};
 use std::alloc::AllocError;
@@ -30,13 +30,13 @@ fn take_more<R: Source>(reader: &mut R, buffer: &mut [u8], end: usize) -> Result
     requires { end < length buffer.old }
     ensures front { take end buffer.new ≡ take end buffer.old }
     ensures reads { IfOk result (λ n. (end + n ≤ length buffer.new)
-        × Reads (feed_of R.Source reader.old) (feed_of R.Source reader.new)
+        × Reads (source_of R.Source reader.old) (source_of R.Source reader.new)
         (take end buffer.old) (take (end + n) buffer.new)) }
     ensures ended { IfOk result (λ n. n ≡ 0 → IsTrue (R.tells_coming reader.old) → R.coming reader.new ≡ []) }
     ensures few { IfSome (R.most reader.old) (λ most. IfOk result (λ n. n ≤ most)) }
     ensures failed { R.has_failed reader.new ≡ (R.has_failed reader.old || is_err result) }
     ensures can { IsErr result → IsTrue (R.can_fail reader.old) }
-    ensures err { OnErr result (Reads (feed_of R.Source reader.old) (feed_of R.Source reader.new)
+    ensures err { OnErr result (Reads (source_of R.Source reader.old) (source_of R.Source reader.new)
         (take end buffer.old) (take end buffer.new)) }
 {
     let (_, room) = buffer.split_at_mut(end);
@@ -48,10 +48,10 @@ fn fill<R: Source>(reader: &mut R, buffer: &mut [u8], end: usize, n: usize) -> (
     requires some { end ≤ n }
     requires room { n ≤ length buffer.old }
     ensures within { result.0 ≤ length buffer.new }
-    ensures reads { Reads (feed_of R.Source reader.old) (feed_of R.Source reader.new)
+    ensures reads { Reads (source_of R.Source reader.old) (source_of R.Source reader.new)
         (take end buffer.old) (take result.0 buffer.new) }
     ensures asked { end < n → IsWithin (R.most reader.old) n result.0 }
-    ensures outcome { Fills n result.0 result.1 (feed_of R.Source reader.old) (feed_of R.Source reader.new) }
+    ensures outcome { Fills n result.0 result.1 (source_of R.Source reader.old) (source_of R.Source reader.new) }
 {
     let mut count = end;
     while count < n {
@@ -116,10 +116,10 @@ pub fn read_on<R: Source>(
     ensures room { OnOk result (n ≤ vec_len buffer.new) }
     ensures bounded { vec_len buffer.new ≤ LIMIT }
     ensures grows { vec_len buffer.old ≤ vec_len buffer.new }
-    ensures reads { IfOk result (λ r. Reads (feed_of R.Source reader.old) (feed_of R.Source reader.new)
+    ensures reads { IfOk result (λ r. Reads (source_of R.Source reader.old) (source_of R.Source reader.new)
         (slice_range buffer.old.items start end) (take r.0 buffer.new.items)) }
     ensures asked { end - start < n → IfOk result (λ r. IsWithin (R.most reader.old) n r.0) }
-    ensures outcome { IfOk result (λ r. Fills n r.0 r.1 (feed_of R.Source reader.old) (feed_of R.Source reader.new)) }
+    ensures outcome { IfOk result (λ r. Fills n r.0 r.1 (source_of R.Source reader.old) (source_of R.Source reader.new)) }
     ensures full { OnErr result (vec_len buffer.old < n) }
     ensures err { OnErr result ((buffer.new.items ≡ buffer.old.items) × (reader.new ≡ reader.old)) }
 {
@@ -150,7 +150,7 @@ pub fn discard<R: Source>(reader: &mut R, buffer: &mut [u8], n: u64) -> Discarde
     ensures cannot { IsTrue (R.can_fail reader.new) → IsTrue (R.can_fail reader.old) }
     ensures told { IsTrue (R.tells_coming reader.old) → IsTrue (R.tells_coming reader.new) }
     ensures most { R.most reader.new ≡ R.most reader.old }
-    ensures outcome { Discards n result (feed_of R.Source reader.old) (feed_of R.Source reader.new)
+    ensures outcome { Discards n result (source_of R.Source reader.old) (source_of R.Source reader.new)
         (slice_range buffer.new result.start result.end) }
 {
     let mut left = n;

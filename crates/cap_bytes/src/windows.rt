@@ -1,6 +1,6 @@
 //! A window over a reader: the one cursor by which bytes are read.
 ghost use Rattle.std.specs.Prelude.{◌≡◌, ℕ, ◌+◌, ◌^◌, ◌≤◌, ◌<◌, IsSome, None, length};
-ghost use Rattle.cap_bytes.specs.Feed.{feed_of, IsWithin};
+ghost use Rattle.cap_bytes.specs.SourceState.{source_of, IsWithin};
 ghost use Rattle.cap_bytes.specs.Window.{opened, Keeps, Needs, Passes, Skips, FailsAt};
 
 use crate::buffers::{Filling, discard, make_room, read_on};
@@ -52,7 +52,7 @@ impl<R: Source> Model for Window<R> {
 impl<R: Source> Window<R> {
     /// A window over the bytes of `reader`, which is the file of that number. It reads nothing yet.
     pub fn new(alloc: Global, reader: R, file: u32) -> Window<R>
-        ensures { result ≡ opened file (feed_of R.Source reader) }
+        ensures { result ≡ opened file (source_of R.Source reader) }
     {
         Window {
             reader,

@@ -21,7 +21,7 @@ use Rattle.cap_source.specs.Clocks.{options_fault, interface_at, interface_or, i
 use Rattle.cap_source.specs.Contents.{fitting, of_interface, timed_in, simple_in, of_body, content_in}
 use Rattle.cap_source.specs.Feed as feeds
 use Rattle.cap_source.specs.Items.{Progress, after, behind, meta_in, frame_in, items_at, items_in, ending_with, ending_in, unless_faulty, first_in, unless_item, is_cut}
-use Rattle.cap_source.specs.Lanes.{pcapng_lane, size_of, part_of, Learns, LaneKeeps, GoesOn, StepsTo, next_at}
+use Rattle.cap_source.specs.FileState.{pcapng_state, size_of, part_of, Learns, FileKeeps, GoesOn, StepsTo, next_at}
 use Rattle.cap_source.specs.Reached.{counted}
 use Rattle.cap_source.specs.declared.contents.Content.{Content}
 use Rattle.cap_source.specs.declared.contents.Content.TheVariants as contents
@@ -147,7 +147,7 @@ pub block_steps : (file : ℕ) (old new : State Order) (p : Progress) (block : B
     → file ≡ old.file → GivesBlock old block new → Keeps old new
     → (IsTrue old.told → items_of old ≡ given block (body_in block.total old.coming) ∷ items_of new)
     → content ≡ content_in p.interfaces block.kind block.order (unwrap_or new.lent [])
-    → StepsTo (pcapng_lane old p) (next_at file p block content) (pcapng_lane new (behind p content))
+    → StepsTo (pcapng_state old p) (next_at file p block content) (pcapng_state new (behind p content))
 block_steps file old new p block content named g k taken is =
     by content is
     (subst (IsFit (length p.interfaces) (unwrap_or new.lent [])) (sym is) (content_fit p.interfaces block.kind block.order (unwrap_or new.lent [])))
@@ -161,7 +161,7 @@ block_steps file old new p block content named g k taken is =
     goes : (q : Progress) → (IsTrue old.told → items_in new.file q (items_of new) ≡ items_in old.file p (items_of old))
         → (IsTrue old.told → ending_in q (items_of new) ≡ ending_in p (items_of old))
         → (IsTrue old.told → first_in q (items_of new) ≡ first_in p (items_of old))
-        → GoesOn (pcapng_lane old p) (pcapng_lane new q)
+        → GoesOn (pcapng_state old p) (pcapng_state new q)
     goes q items ending first = record {
       waits = record {
         stops = none_stops new.stop g.gives.stop;
@@ -177,7 +177,7 @@ block_steps file old new p block content named g k taken is =
         → (IsTrue old.told → items_at new.file p block (body_in block.total old.coming) c (items_in new.file (behind p c) (items_of new)) ≡ items_in old.file p (items_of old))
         → (IsTrue old.told → unless_faulty c (ending_with p false) (ending_in (behind p c) (items_of new)) ≡ ending_in p (items_of old))
         → (IsTrue old.told → unless_item c p.first (first_in (behind p c) (items_of new)) ≡ first_in p (items_of old))
-        → StepsTo (pcapng_lane old p) (next_at file p block c) (pcapng_lane new (behind p c))
+        → StepsTo (pcapng_state old p) (next_at file p block c) (pcapng_state new (behind p c))
     by (Ok contents.Section) same fit items ending first = goes (after p contents.Section) items ending first
     by (Ok (contents.Interface interface)) same fit items ending first = goes (after p (contents.Interface interface)) items ending first
     by (Ok contents.Other) same fit items ending first = goes (after p contents.Other) items ending first
@@ -219,7 +219,7 @@ block_steps file old new p block content named g k taken is =
 -- What a block leaves of the counts.
 pub block_keeps : (old new : State Order) (p : Progress) (block : Block) (content : Result Content Rule) → GivesBlock old block new → Keeps old new
     → content ≡ content_in p.interfaces block.kind block.order (unwrap_or new.lent [])
-    → LaneKeeps (pcapng_lane old p) (pcapng_lane new (behind p content))
+    → FileKeeps (pcapng_state old p) (pcapng_state new (behind p content))
 block_keeps old new p block content g k is = record {
   file = k.file;
   told = k.told;
@@ -270,7 +270,7 @@ refused_items refusal file p items is = rw is refl
 pub end_learned : (cut : Bool) (stop : Stop) (old new : State Order) (p : Progress) → old.stop ≡ None
     → IsEnd stop → GivesStop (is_some old.known) (block_fault old.known old.offset old.coming) stop old new → IsTrue cut ↔ (new.stop ≡ Some stops.Cut) → Keeps old new
     → (IsTrue old.told → items_of new ≡ items_of old)
-    → Learns (pcapng_lane old p) (nexts.End (ending_with p cut)) (pcapng_lane new p)
+    → Learns (pcapng_state old p) (nexts.End (ending_with p cut)) (pcapng_state new p)
 end_learned cut stop old new p free ends g was k same =
     let at = if_none old.stop _ free g.first in
     let which = cut_is cut stop (rw (g.stop_is) at was) in
@@ -288,7 +288,7 @@ end_learned cut stop old new p free ends g was k same =
 pub refusal_learned : (refusal : Refusal) (old new : State Order) (p : Progress) → old.stop ≡ None
     → GivesStop (is_some old.known) (block_fault old.known old.offset old.coming) (stops.Refused refusal) old new → Keeps old new
     → (IsTrue old.told → items_of old ≡ stopped (stops.Refused refusal) ∷ [])
-    → Learns (pcapng_lane old p) (nexts.Refused refusal (ending_with p false)) (pcapng_lane new p)
+    → Learns (pcapng_state old p) (nexts.Refused refusal (ending_with p false)) (pcapng_state new p)
 refusal_learned refusal old new p free g k same =
     let at = if_none old.stop _ free g.first in
     record {
@@ -307,21 +307,21 @@ pub block_stepped : (file : ℕ) (old new : State Order) (p q : Progress) (block
     → file ≡ old.file → GivesBlock old block new → Keeps old new
     → (IsTrue old.told → items_of old ≡ given block (body_in block.total old.coming) ∷ items_of new)
     → content ≡ content_in p.interfaces block.kind block.order (unwrap_or new.lent [])
-    → StepsTo (pcapng_lane old p) next (pcapng_lane new q)
+    → StepsTo (pcapng_state old p) next (pcapng_state new q)
 block_stepped file old new p q block content next is_next is_q named g k taken is =
-    subst (λ (n : Option Next). StepsTo (pcapng_lane old p) n (pcapng_lane new q)) (sym is_next)
-    (subst (λ (r : Progress). StepsTo (pcapng_lane old p) (next_at file p block content) (pcapng_lane new r)) (sym is_q)
+    subst (λ (n : Option Next). StepsTo (pcapng_state old p) n (pcapng_state new q)) (sym is_next)
+    (subst (λ (r : Progress). StepsTo (pcapng_state old p) (next_at file p block content) (pcapng_state new r)) (sym is_q)
     (block_steps file old new p block content named g k taken is))
 
 pub block_kept : (old new : State Order) (p q : Progress) (block : Block) (content : Result Content Rule) → q ≡ behind p content → GivesBlock old block new → Keeps old new
     → content ≡ content_in p.interfaces block.kind block.order (unwrap_or new.lent [])
-    → LaneKeeps (pcapng_lane old p) (pcapng_lane new q)
+    → FileKeeps (pcapng_state old p) (pcapng_state new q)
 block_kept old new p q block content is_q g k is =
-    subst (λ (r : Progress). LaneKeeps (pcapng_lane old p) (pcapng_lane new r)) (sym is_q) (block_keeps old new p block content g k is)
+    subst (λ (r : Progress). FileKeeps (pcapng_state old p) (pcapng_state new r)) (sym is_q) (block_keeps old new p block content g k is)
 
 pub refusal_kept : (refusal : Refusal) (ending : Ending) (old new : State Order) (p : Progress) → ending ≡ ending_with p false → old.stop ≡ None
     → GivesStop (is_some old.known) (block_fault old.known old.offset old.coming) (stops.Refused refusal) old new → Keeps old new
     → (IsTrue old.told → items_of old ≡ stopped (stops.Refused refusal) ∷ [])
-    → Learns (pcapng_lane old p) (nexts.Refused refusal ending) (pcapng_lane new p)
+    → Learns (pcapng_state old p) (nexts.Refused refusal ending) (pcapng_state new p)
 refusal_kept refusal ending old new p is_ending free g k same =
-    subst (λ (e : Ending). Learns (pcapng_lane old p) (nexts.Refused refusal e) (pcapng_lane new p)) (sym is_ending) (refusal_learned refusal old new p free g k same)
+    subst (λ (e : Ending). Learns (pcapng_state old p) (nexts.Refused refusal e) (pcapng_state new p)) (sym is_ending) (refusal_learned refusal old new p free g k same)

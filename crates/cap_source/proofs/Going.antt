@@ -2,11 +2,11 @@
 use Rattle.std.proofs.Common.{◌≡◌, ◌≤◌, ℕ, Option, Some, None, IfSome, IfNone, Result, Ok, Err, sym, subst, ◌∙◌, arith}
 use Rattle.cap_bytes.specs.declared.faults.Fault.{Fault}
 use Rattle.cap_bytes.specs.declared.faults.Fault.TheVariants.{Refused, Read, Write, Memory}
-use Rattle.cap_source.specs.Lanes.{Lane, LaneKeeps, SameRest, Waits, Learns, Fails, Answers}
+use Rattle.cap_source.specs.FileState.{FileState, FileKeeps, SameRest, Waits, Learns, Fails, Answers}
 use Rattle.cap_source.specs.declared.readers.Next.{Next}
 
-pub LaneKeeps-trans : (a b c : Lane) → LaneKeeps a b → LaneKeeps b c → LaneKeeps a c
-LaneKeeps-trans a b c k l = record {
+pub FileKeeps-trans : (a b c : FileState) → FileKeeps a b → FileKeeps b c → FileKeeps a c
+FileKeeps-trans a b c k l = record {
   file = l.file ∙ k.file;
   told = λ t. l.told (k.told t);
   can_fail = λ f. k.can_fail (l.can_fail f);
@@ -17,10 +17,10 @@ LaneKeeps-trans a b c k l = record {
   counted = λ h. l.counted (k.counted h);
 }
 
-pub SameRest-trans : (a b c : Lane) → SameRest a b → SameRest b c → SameRest a c
+pub SameRest-trans : (a b c : FileState) → SameRest a b → SameRest b c → SameRest a c
 SameRest-trans a b c s t = record { items = t.items ∙ s.items; ending = t.ending ∙ s.ending; first = t.first ∙ s.first }
 
-pub Waits-trans : (a b c : Lane) → Waits a b → LaneKeeps a b → Waits b c → Waits a c
+pub Waits-trans : (a b c : FileState) → Waits a b → FileKeeps a b → Waits b c → Waits a c
 Waits-trans a b c v k w = record {
   stops = w.stops;
   broken = w.broken ∙ v.broken;
@@ -28,12 +28,12 @@ Waits-trans a b c v k w = record {
   rest = λ t. SameRest-trans a b c (v.rest t) (w.rest (k.told t));
 }
 
-behind_first : (a b c : Lane) (offset : ℕ) → a.offset ≤ b.offset → (broken : Option ℕ) → IfNone broken (b.offset ≤ offset) → IfNone broken (a.offset ≤ offset)
+behind_first : (a b c : FileState) (offset : ℕ) → a.offset ≤ b.offset → (broken : Option ℕ) → IfNone broken (b.offset ≤ offset) → IfNone broken (a.offset ≤ offset)
 behind_first a b c offset le None h = omega (arith, le, h)
 behind_first a b c offset le (Some first) h = tt
 
 -- What is answered after something that left what is to come.
-Learns-behind : (a b c : Lane) (next : Next) → Waits a b → LaneKeeps a b → Learns b next c → Learns a next c
+Learns-behind : (a b c : FileState) (next : Next) → Waits a b → FileKeeps a b → Learns b next c → Learns a next c
 Learns-behind a b c next w k h = record {
   is = h.is;
   place = omega (arith, h.place, k.offset);
@@ -44,7 +44,7 @@ Learns-behind a b c next w k h = record {
   first = λ t. h.first (k.told t) ∙ (w.rest t).first;
 }
 
-Fails-behind : (a b c : Lane) (file offset : ℕ) → Waits a b → LaneKeeps a b → Fails b file offset c → Fails a file offset c
+Fails-behind : (a b c : FileState) (file offset : ℕ) → Waits a b → FileKeeps a b → Fails b file offset c → Fails a file offset c
 Fails-behind a b c file offset w k h = record {
   stops = h.stops;
   file_is = h.file_is ∙ k.file;
@@ -55,7 +55,7 @@ Fails-behind a b c file offset w k h = record {
   can_fail = k.can_fail h.can_fail;
 }
 
-pub Answers-behind : {A : Type 0} (a b c : Lane) (result : Result A Fault) (after : Option Next) → Waits a b → LaneKeeps a b → Answers b result after c → Answers a result after c
+pub Answers-behind : {A : Type 0} (a b c : FileState) (result : Result A Fault) (after : Option Next) → Waits a b → FileKeeps a b → Answers b result after c → Answers a result after c
 Answers-behind a b c (Ok x) after w k h = (h.0, h.1, Learns-behind a b c h.0 w k h.2)
 Answers-behind a b c (Err (Refused refusal)) after w k h = absurd h
 Answers-behind a b c (Err (Read file offset)) after w k h = (h.0, Fails-behind a b c file offset w k h.1)

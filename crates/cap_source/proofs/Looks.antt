@@ -9,8 +9,8 @@ use Rattle.cap_pcap.specs.Split as records
 use Rattle.cap_blocks.specs.Split as splits
 use Rattle.cap_blocks.specs.Split.{is_section}
 use Rattle.cap_source.specs.Items.{Progress, interface_of, is_pcapng, items_in, ending_in, first_in, pcap_items, pcap_ending, unless_refused, items_from, ending_from, first_from}
-use Rattle.cap_source.specs.Lanes.{unread_lane, Waits}
-use Rattle.cap_source.specs.Readers.{lane_of, reader_by, has_format, LooksAtWindow}
+use Rattle.cap_source.specs.FileState.{unread_state, Waits}
+use Rattle.cap_source.specs.Readers.{state_of, reader_by, has_format, LooksAtWindow}
 use Rattle.cap_source.specs.declared.packets.Format.{Format}
 use Rattle.cap_source.specs.declared.packets.Format.TheVariants.{Pcap, Pcapng}
 use Rattle.cap_source.specs.declared.readers.Reader.{Reader}
@@ -59,7 +59,7 @@ pcapng_first_from tail f g p o q old new fg oq is there = rw (fg, oq, is, there)
 
 -- The reader that is made gives what the window did.
 pub opened_waits : (R : Type 0) (w v : WindowState) (tail : Tail) (format : Format) (p : Progress) → Shows w v → Keeps w v
-    → (IsTrue w.told → has_format format (coming w)) → Waits (unread_lane w tail p) (lane_of {R = R} (reader_by (readers.Unread v tail) format) p)
+    → (IsTrue w.told → has_format format (coming w)) → Waits (unread_state w tail p) (state_of {R = R} (reader_by (readers.Unread v tail) format) p)
 opened_waits R w v tail Pcap p s k is = record {
   stops = refl;
   broken = s.goes.after ∙ sym s.goes.before;
@@ -84,8 +84,8 @@ opened_waits R w v tail Pcapng p s k is = record {
 -- the same of what calls answered
 pub opened_by : {R : Type 0} (old unread new : Reader R) (w v : WindowState) (tail : Tail) (format : Format) (p : Progress)
     → old ≡ readers.Unread w tail → unread ≡ readers.Unread v tail → new ≡ reader_by unread format
-    → LooksAtWindow w (Ok format) v → Keeps w v → Waits (lane_of old p) (lane_of new p)
+    → LooksAtWindow w (Ok format) v → Keeps w v → Waits (state_of old p) (state_of new p)
 opened_by {R} old unread new w v tail format p is_old is_unread is_new s k =
     let made : new ≡ reader_by (readers.Unread v tail) format = is_new ∙ ap (λ (r : Reader R). reader_by r format) is_unread in
-    subst (λ (r : Reader R). Waits (lane_of r p) (lane_of new p)) (sym is_old)
-    (subst (λ (r : Reader R). Waits (unread_lane w tail p) (lane_of r p)) (sym made) (opened_waits R w v tail format p s.0 k s.1))
+    subst (λ (r : Reader R). Waits (state_of r p) (state_of new p)) (sym is_old)
+    (subst (λ (r : Reader R). Waits (unread_state w tail p) (state_of r p)) (sym made) (opened_waits R w v tail format p s.0 k s.1))

@@ -16,7 +16,7 @@ use Rattle.cap_bytes.specs.declared.stops.Stop.{Stop}
 use Rattle.cap_bytes.specs.declared.stops.Stop.TheVariants as stops
 use Rattle.cap_source.specs.Feed as feeds
 use Rattle.cap_source.specs.Items.{Progress, interface_of, meta_of, pcap_items, pcap_ending, pcap_ending_with, is_cut}
-use Rattle.cap_source.specs.Lanes.{pcap_lane, header_or, first_of, size_of, part_of, Learns, Waits, LaneKeeps}
+use Rattle.cap_source.specs.FileState.{pcap_state, header_or, first_of, size_of, part_of, Learns, Waits, FileKeeps}
 use Rattle.cap_source.specs.declared.readers.Next.TheVariants as nexts
 
 -- a value where it is known which
@@ -67,7 +67,7 @@ pub record_learned : (header : PcapHeader) (file : ℕ) (r : Record) (old new : 
     → file ≡ old.file → old.known ≡ Some header → progress.first ≡ Some (interface_of header)
     → GivesRecord header old r new → Keeps old new
     → (IsTrue old.told → IsSomeAnd new.lent (λ bytes. items_of old ≡ given r bytes ∷ items_of new))
-    → Learns (pcap_lane old progress) (nexts.Packet (meta_of file (interface_of header) r) 0) (pcap_lane new progress)
+    → Learns (pcap_state old progress) (nexts.Packet (meta_of file (interface_of header) r) 0) (pcap_state new progress)
 record_learned header file r old new progress named known first g k taken =
     let known_new : new.known ≡ Some header = g.gives.known_is ∙ known in
     record {
@@ -122,7 +122,7 @@ pub end_learned : (header : PcapHeader) (cut : Bool) (stop : Stop) (old new : St
     → old.known ≡ Some header → progress.first ≡ Some (interface_of header) → old.stop ≡ None
     → IsEnd stop → GivesStop true (record_fault header.order old.offset old.coming) stop old new → IsTrue cut ↔ (new.stop ≡ Some stops.Cut) → Keeps old new
     → (IsTrue old.told → items_of new ≡ items_of old)
-    → Learns (pcap_lane old progress) (nexts.End (pcap_ending_with cut)) (pcap_lane new progress)
+    → Learns (pcap_state old progress) (nexts.End (pcap_ending_with cut)) (pcap_state new progress)
 end_learned header cut stop old new progress known first free ends g was k same =
     let at = if_none old.stop _ free g.first in
     let which = cut_is cut stop (rw (g.stop_is) at was) in
@@ -141,7 +141,7 @@ pub refusal_learned : (header : PcapHeader) (refusal : Refusal) (old new : State
     → old.known ≡ Some header → progress.first ≡ Some (interface_of header) → old.stop ≡ None
     → GivesStop true (record_fault header.order old.offset old.coming) (stops.Refused refusal) old new → Keeps old new
     → (IsTrue old.told → items_of old ≡ stopped (stops.Refused refusal) ∷ [])
-    → Learns (pcap_lane old progress) (nexts.Refused refusal (pcap_ending_with false)) (pcap_lane new progress)
+    → Learns (pcap_state old progress) (nexts.Refused refusal (pcap_ending_with false)) (pcap_state new progress)
 refusal_learned header refusal old new progress known first free g k same =
     let at = if_none old.stop _ free g.first in
     record {
@@ -162,7 +162,7 @@ refused_first h stop offset bytes rule unknown free is = rw (unknown, free, is) 
 pub header_refused : (refusal : Refusal) (old new : State PcapHeader) (p q : Progress) → q.first ≡ None → old.stop ≡ None
     → GivesHeader old (Err (Refused refusal)) new → Keeps old new
     → (IsTrue old.told → items_of old ≡ stopped (stops.Refused refusal) ∷ [])
-    → Learns (pcap_lane old p) (nexts.Refused refusal (pcap_ending_with false)) (pcap_lane new q)
+    → Learns (pcap_state old p) (nexts.Refused refusal (pcap_ending_with false)) (pcap_state new q)
 header_refused refusal old new p q none free g k same =
     let at = if_none old.stop _ free g.0.first in
     record {
@@ -206,7 +206,7 @@ header_free header (Some was) old new is free h = ap (λ (s : State PcapHeader).
 
 -- The file's header is read, after which everything is to come as before.
 pub header_waits : (header : PcapHeader) (old new : State PcapHeader) (p q : Progress) → old.stop ≡ None → HasHeader header old new → Keeps old new
-    → (IsTrue old.told → items_of new ≡ items_of old) → Waits (pcap_lane old p) (pcap_lane new q)
+    → (IsTrue old.told → items_of new ≡ items_of old) → Waits (pcap_state old p) (pcap_state new q)
 header_waits header old new p q free h k same = record {
   stops = is_none new.stop (header_free header old.known old new refl free h);
   broken = header_broken header old.known old new refl h;
@@ -223,7 +223,7 @@ header_waits header old new p q free h k same = record {
 }
 
 pub pcap_keeps : (old new : State PcapHeader) (p q : Progress) → q.interfaces ≡ p.interfaces → q.base ≡ p.base → q.skipped ≡ p.skipped → Keeps old new
-    → LaneKeeps (pcap_lane old p) (pcap_lane new q)
+    → FileKeeps (pcap_state old p) (pcap_state new q)
 pcap_keeps old new p q i b s k = record {
   file = k.file;
   told = k.told;

@@ -3,7 +3,7 @@ use Rattle.std.proofs.Common.{◌≡◌, ◌≤◌, ◌+◌, ◌^◌, ℕ, false
 use Rattle.std.proofs.lemmas.List.{length-take-le}
 use Rattle.std.proofs.lemmas.Bool.Decides.{nat_tests}
 use Rattle.cap_source.specs.Feed.{HasFile, Leads, IfPacket, IsPacketOf, IsRefusedOf, IsFeed}
-use Rattle.cap_source.specs.Lanes.{Lane, feed_of, items_by, end_of, size_of, captured_of, behind_of, file_of, part_of, frame_of, head_by, is_whole, break_at}
+use Rattle.cap_source.specs.FileState.{FileState, feed_of, items_by, end_of, size_of, captured_of, behind_of, file_of, part_of, frame_of, head_by, is_whole, break_at}
 use Rattle.cap_source.specs.declared.readers.Next.{Next}
 use Rattle.cap_source.specs.declared.readers.Next.TheVariants as nexts
 
@@ -24,38 +24,38 @@ part_size : (lent : Option (List ℕ)) (place captured : ℕ) → place + captur
 part_size None place captured h = absurd (omega (arith, h))
 part_size (Some bytes) place captured h = length-take-le captured (drop place bytes) (omega (arith, h, length-drop place bytes))
 
-packet : (lane : Lane) (next : Option Next) → file_of next lane.file ≡ lane.file → end_of next ≤ size_of lane.lent → captured_of next ≤ 262144
-    → behind_of next ≤ lane.offset → lane.offset ≤ 2 ^ 40 → IfPacket (head_by next) (λ meta. IsPacketOf (feed_of lane next) meta)
-packet lane None own lent captured behind limit = tt
-packet lane (Some (nexts.Packet meta place)) own lent captured behind limit = record {
-  file = has_file lane.file meta.file own;
-  captured = part_size lane.lent place meta.captured lent;
+packet : (state : FileState) (next : Option Next) → file_of next state.file ≡ state.file → end_of next ≤ size_of state.lent → captured_of next ≤ 262144
+    → behind_of next ≤ state.offset → state.offset ≤ 2 ^ 40 → IfPacket (head_by next) (λ meta. IsPacketOf (feed_of state next) meta)
+packet state None own lent captured behind limit = tt
+packet state (Some (nexts.Packet meta place)) own lent captured behind limit = record {
+  file = has_file state.file meta.file own;
+  captured = part_size state.lent place meta.captured lent;
   limit = captured;
   place = omega arith;
   offset = omega (arith, behind, limit);
   left = omega (arith, behind, limit);
 }
-packet lane (Some (nexts.Refused refusal ending)) own lent captured behind limit = tt
-packet lane (Some (nexts.End ending)) own lent captured behind limit = tt
+packet state (Some (nexts.Refused refusal ending)) own lent captured behind limit = tt
+packet state (Some (nexts.End ending)) own lent captured behind limit = tt
 
-refusal : (lane : Lane) (next : Option Next) → file_of next lane.file ≡ lane.file → IsRefusedOf (lane.file ∷ []) (head_by next)
-refusal lane None own = tt
-refusal lane (Some (nexts.Packet meta place)) own = tt
-refusal lane (Some (nexts.Refused r ending)) own = has_file lane.file r.file own
-refusal lane (Some (nexts.End ending)) own = tt
+refusal : (state : FileState) (next : Option Next) → file_of next state.file ≡ state.file → IsRefusedOf (state.file ∷ []) (head_by next)
+refusal state None own = tt
+refusal state (Some (nexts.Packet meta place)) own = tt
+refusal state (Some (nexts.Refused r ending)) own = has_file state.file r.file own
+refusal state (Some (nexts.End ending)) own = tt
 
 whole : (next : Option Next) (file : ℕ) (broken : Option ℕ) → IsTrue (is_whole next broken) → IfSome (head_by next) (λ head. break_at file broken ≡ None)
 whole None file broken is = tt
 whole (Some next) file None is = refl
 whole (Some next) file (Some first) is = absurd (let e : false ≡ true = is in cc)
 
-pub captures_lawful : (lane : Lane) (next : Option Next) → IsTrue (is_whole next lane.broken) → file_of next lane.file ≡ lane.file → end_of next ≤ size_of lane.lent → captured_of next ≤ 262144
-    → behind_of next ≤ lane.offset → lane.offset ≤ 2 ^ 40 → lane.held ≤ 524288 → lane.interfaces ≤ 1024 → IsFeed (feed_of lane next)
-captures_lawful lane next unbroken own lent captured behind limit held interfaces = record {
-  leads = λ t. leads next (frame_of next lane.lent) lane.items;
-  packet = packet lane next own lent captured behind limit;
-  refusal = refusal lane next own;
-  whole = whole next lane.file lane.broken unbroken;
+pub captures_lawful : (state : FileState) (next : Option Next) → IsTrue (is_whole next state.broken) → file_of next state.file ≡ state.file → end_of next ≤ size_of state.lent → captured_of next ≤ 262144
+    → behind_of next ≤ state.offset → state.offset ≤ 2 ^ 40 → state.held ≤ 524288 → state.interfaces ≤ 1024 → IsFeed (feed_of state next)
+captures_lawful state next unbroken own lent captured behind limit held interfaces = record {
+  leads = λ t. leads next (frame_of next state.lent) state.items;
+  packet = packet state next own lent captured behind limit;
+  refusal = refusal state next own;
+  whole = whole next state.file state.broken unbroken;
   most = omega arith;
   window = held;
   interfaces = interfaces;

@@ -4,7 +4,7 @@ pub mod Contents
 pub mod Feed
 pub mod Fields
 pub mod Items
-pub mod Lanes
+pub mod FileState
 pub mod Laws
 pub mod Listed
 pub mod ReadFaults

@@ -8,15 +8,15 @@ use Rattle.cap_source.specs.Items.{is_pcapng}
 use Rattle.cap_source.specs.declared.packets.Format.{Format}
 use Rattle.cap_source.specs.declared.packets.Format.TheVariants.{Pcap, Pcapng}
 use Rattle.cap_source.specs.Items.{Progress, ending_with}
-use Rattle.cap_source.specs.Lanes.{Lane, Fails, Waits, unread_lane, pcap_lane, pcapng_lane}
+use Rattle.cap_source.specs.FileState.{FileState, Fails, Waits, unread_state, pcap_state, pcapng_state}
 use Rattle.cap_source.specs.Reached.{has_room}
 use Rattle.cap_source.specs.declared.reached.Reached.{Reached}
 use Rattle.cap_source.specs.declared.readers.Reader.{Reader}
 use Rattle.cap_source.specs.declared.readers.Reader.TheVariants as readers
 
 -- the reader that is on its way has nothing to come
-abbrev pub moved_lane : Progress → Lane
-moved_lane progress =
+abbrev pub moved_state : Progress → FileState
+moved_state progress =
     record {
       file = 0;
       told = true;
@@ -35,11 +35,11 @@ moved_lane progress =
       counted = 0;
     }
 
-abbrev pub lane_of : {R : Type 0} → Reader R → Progress → Lane
-lane_of (readers.Unread window tail) progress = unread_lane window tail progress
-lane_of (readers.Pcap reader) progress = pcap_lane reader progress
-lane_of (readers.Pcapng reader) progress = pcapng_lane reader progress
-lane_of readers.Moved progress = moved_lane progress
+abbrev pub state_of : {R : Type 0} → Reader R → Progress → FileState
+state_of (readers.Unread window tail) progress = unread_state window tail progress
+state_of (readers.Pcap reader) progress = pcap_state reader progress
+state_of (readers.Pcapng reader) progress = pcapng_state reader progress
+state_of readers.Moved progress = moved_state progress
 
 -- whether the bytes are those of a file of that format
 abbrev pub has_format : Format → List ℕ → Type 0
@@ -84,7 +84,7 @@ reader_room (readers.Pcapng reader) reached = has_room reader.broken reached
 reader_room readers.Moved reached = true
 
 -- what making the reader answers, of the file before and after that
-abbrev pub Opens : {A : Type 0} → Lane → Result A Fault → Lane → Type 0
+abbrev pub Opens : {A : Type 0} → FileState → Result A Fault → FileState → Type 0
 Opens old (Ok _) new = Waits old new
 Opens old (Err (Read file offset)) new = Fails old file offset new
 Opens old (Err Memory) new = Waits old new × (old.broken ≡ None)

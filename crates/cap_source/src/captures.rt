@@ -2,10 +2,10 @@
 ghost use Rattle.std.specs.Prelude.{◌≡◌, ◌+◌, ◌≤◌, ◌^◌, List, [], ◌∷◌, ℕ, None, IsTrue, length};
 ghost use Rattle.cap_source.specs.Feed.{Keeps};
 ghost use Rattle.cap_source.specs.Items.{file_items, file_ending, file_first};
-ghost use Rattle.cap_source.specs.Lanes.{feed_of, GivesFirst, KeepsFirst, IsNext, end_of, size_of, captured_of, behind_of, file_of, is_free, is_whole};
+ghost use Rattle.cap_source.specs.FileState.{feed_of, GivesFirst, KeepsFirst, IsNext, end_of, size_of, captured_of, behind_of, file_of, is_free, is_whole};
 ghost use Rattle.cap_source.specs.Laws.{captures_lawful};
 ghost use Rattle.cap_source.specs.Reached.{progress_of};
-ghost use Rattle.cap_source.specs.Readers.{lane_of, is_there, reader_room};
+ghost use Rattle.cap_source.specs.Readers.{state_of, is_there, reader_room};
 
 use crate::feeds::{Ending, FeedHeld, Head, PacketFeed};
 use crate::learning::learn;
@@ -24,17 +24,17 @@ pub struct Capture<R: Source> {
     // what comes next, once it was asked for
     next: Option<Next>,
     ghost there: { IsTrue (is_there reader) },
-    ghost free: { IsTrue (is_free next (lane_of reader (progress_of reached)).stops) },
-    ghost whole: { IsTrue (is_whole next (lane_of reader (progress_of reached)).broken) },
+    ghost free: { IsTrue (is_free next (state_of reader (progress_of reached)).stops) },
+    ghost whole: { IsTrue (is_whole next (state_of reader (progress_of reached)).broken) },
     ghost room: { IsTrue (reader_room reader reached) },
-    ghost own: { file_of next (lane_of reader (progress_of reached)).file ≡ (lane_of reader (progress_of reached)).file },
-    ghost lent: { end_of next ≤ size_of (lane_of reader (progress_of reached)).lent },
+    ghost own: { file_of next (state_of reader (progress_of reached)).file ≡ (state_of reader (progress_of reached)).file },
+    ghost lent: { end_of next ≤ size_of (state_of reader (progress_of reached)).lent },
     ghost captured: { captured_of next ≤ 262144 },
-    ghost behind: { behind_of next ≤ (lane_of reader (progress_of reached)).offset },
-    ghost limit: { (lane_of reader (progress_of reached)).offset ≤ 2 ^ 40 },
-    ghost held: { (lane_of reader (progress_of reached)).held ≤ 524288 },
-    ghost interfaces: { (lane_of reader (progress_of reached)).interfaces ≤ 1024 },
-    ghost counted: { (lane_of reader (progress_of reached)).counted ≤ (lane_of reader (progress_of reached)).offset },
+    ghost behind: { behind_of next ≤ (state_of reader (progress_of reached)).offset },
+    ghost limit: { (state_of reader (progress_of reached)).offset ≤ 2 ^ 40 },
+    ghost held: { (state_of reader (progress_of reached)).held ≤ 524288 },
+    ghost interfaces: { (state_of reader (progress_of reached)).interfaces ≤ 1024 },
+    ghost counted: { (state_of reader (progress_of reached)).counted ≤ (state_of reader (progress_of reached)).offset },
 }
 
 impl<R: Source> Capture<R> {
@@ -82,7 +82,7 @@ impl<R: Source> Capture<R> {
 }
 
 impl<R: Source> PacketFeed for Capture<R> {
-    ghost feed = { λ c. feed_of (lane_of c.reader (progress_of c.reached)) c.next };
+    ghost feed = { λ c. feed_of (state_of c.reader (progress_of c.reached)) c.next };
 
     fn head(&mut self) -> Result<Head, Fault> {
         learn(&mut self.reader, &mut self.reached, &mut self.next)?;
@@ -109,6 +109,6 @@ impl<R: Source> PacketFeed for Capture<R> {
         }
     }
 
-    ghost lawful = { λ c. captures_lawful (lane_of c.reader (progress_of c.reached)) c.next
+    ghost lawful = { λ c. captures_lawful (state_of c.reader (progress_of c.reached)) c.next
         c.whole c.own c.lent c.captured c.behind c.limit c.held c.interfaces };
 }

@@ -2,9 +2,9 @@
 ghost use Rattle.std.specs.Prelude.{◌≡◌, ◌≤◌, ◌^◌, false, IsTrue, IfOk, None};
 ghost use Rattle.cap_bytes.specs.Window as windows;
 ghost use Rattle.cap_source.specs.Items.{Progress};
-ghost use Rattle.cap_source.specs.Lanes.{IsSound, Tells, Answers, LaneKeeps};
+ghost use Rattle.cap_source.specs.FileState.{IsSound, Tells, Answers, FileKeeps};
 ghost use Rattle.cap_source.specs.Reached.{progress_of, counted};
-ghost use Rattle.cap_source.specs.Readers.{lane_of, is_there, IsReady, is_stopped, Opens, LooksAtWindow, reader_by, reader_room};
+ghost use Rattle.cap_source.specs.Readers.{state_of, is_there, IsReady, is_stopped, Opens, LooksAtWindow, reader_by, reader_room};
 ghost use Rattle.cap_source.specs.declared.reached.Reached.{Reached};
 
 use crate::packets::Format;
@@ -53,8 +53,8 @@ fn open<R: Source>(reader: &mut Reader<R>) -> Result<(), Fault>
     requires free { is_stopped reader.old ≡ false }
     ensures there { IsTrue (is_there reader.new) }
     ensures ready { IfOk result (λ _. IsReady reader.new) }
-    ensures answer { (progress : Progress) → Opens (lane_of reader.old progress) result (lane_of reader.new progress) }
-    ensures keeps { (progress : Progress) → LaneKeeps (lane_of reader.old progress) (lane_of reader.new progress) }
+    ensures answer { (progress : Progress) → Opens (state_of reader.old progress) result (state_of reader.new progress) }
+    ensures keeps { (progress : Progress) → FileKeeps (state_of reader.old progress) (state_of reader.new progress) }
     ensures room { (reached : Reached) → IsTrue (reader_room reader.old reached) → IsTrue (reader_room reader.new reached) }
 {
     match reader {
@@ -78,12 +78,12 @@ pub fn next_of<R: Source>(
     requires unknown { known.old ≡ None }
     requires there { IsTrue (is_there reader.old) }
     requires free { is_stopped reader.old ≡ false }
-    requires limit { (lane_of reader.old (progress_of reached.old)).offset ≤ 2 ^ 40 }
-    requires counted { counted (progress_of reached.old) ≤ (lane_of reader.old (progress_of reached.old)).offset }
+    requires limit { (state_of reader.old (progress_of reached.old)).offset ≤ 2 ^ 40 }
+    requires counted { counted (progress_of reached.old) ≤ (state_of reader.old (progress_of reached.old)).offset }
     requires room { IsTrue (reader_room reader.old reached.old) }
     ensures there { IsTrue (is_there reader.new) }
-    ensures answer { Answers (lane_of reader.old (progress_of reached.old)) result known.new (lane_of reader.new (progress_of reached.new)) }
-    ensures keeps { LaneKeeps (lane_of reader.old (progress_of reached.old)) (lane_of reader.new (progress_of reached.new)) }
+    ensures answer { Answers (state_of reader.old (progress_of reached.old)) result known.new (state_of reader.new (progress_of reached.new)) }
+    ensures keeps { FileKeeps (state_of reader.old (progress_of reached.old)) (state_of reader.new (progress_of reached.new)) }
     ensures room { IsTrue (reader_room reader.new reached.new) }
 {
     open(reader)?;
@@ -102,13 +102,13 @@ pub fn learn<R: Source>(
     known: &mut Option<Next>,
 ) -> Result<(), Fault>
     requires there { IsTrue (is_there reader.old) }
-    requires sound { IsSound (lane_of reader.old (progress_of reached.old)) known.old }
+    requires sound { IsSound (state_of reader.old (progress_of reached.old)) known.old }
     requires room { IsTrue (reader_room reader.old reached.old) }
     ensures there { IsTrue (is_there reader.new) }
-    ensures sound { IsSound (lane_of reader.new (progress_of reached.new)) known.new }
-    ensures answer { Tells (lane_of reader.old (progress_of reached.old)) known.old result
-        (lane_of reader.new (progress_of reached.new)) known.new }
-    ensures keeps { LaneKeeps (lane_of reader.old (progress_of reached.old)) (lane_of reader.new (progress_of reached.new)) }
+    ensures sound { IsSound (state_of reader.new (progress_of reached.new)) known.new }
+    ensures answer { Tells (state_of reader.old (progress_of reached.old)) known.old result
+        (state_of reader.new (progress_of reached.new)) known.new }
+    ensures keeps { FileKeeps (state_of reader.old (progress_of reached.old)) (state_of reader.new (progress_of reached.new)) }
     ensures room { IsTrue (reader_room reader.new reached.new) }
 {
     match known {

@@ -1,7 +1,7 @@
 //! What comes next of a pcap file.
 ghost use Rattle.std.specs.Prelude.{◌≡◌, None, Some};
 ghost use Rattle.cap_source.specs.Items.{Progress, resolution_of_unit, interface_of, pcap_ending_with, meta_of};
-ghost use Rattle.cap_source.specs.Lanes.{Answers, LaneKeeps, pcap_lane};
+ghost use Rattle.cap_source.specs.FileState.{Answers, FileKeeps, pcap_state};
 ghost use Rattle.cap_source.specs.Reached.{progress_of};
 
 use crate::feeds::Ending;
@@ -73,8 +73,8 @@ fn next_record_of<R: Source>(
     requires header { reader.old.known ≡ Some header }
     requires free { reader.old.stop ≡ None }
     ensures answer { (progress : Progress) → progress.first ≡ Some (interface_of header)
-        → Answers (pcap_lane reader.old progress) result known.new (pcap_lane reader.new progress) }
-    ensures keeps { (progress : Progress) → LaneKeeps (pcap_lane reader.old progress) (pcap_lane reader.new progress) }
+        → Answers (pcap_state reader.old progress) result known.new (pcap_state reader.new progress) }
+    ensures keeps { (progress : Progress) → FileKeeps (pcap_state reader.old progress) (pcap_state reader.new progress) }
 {
     let file = reader.window().file();
     match reader.next_record() {
@@ -104,8 +104,8 @@ pub fn next_of_pcap<R: Source>(
 ) -> Result<(), Fault>
     requires unknown { known.old ≡ None }
     requires free { reader.old.stop ≡ None }
-    ensures answer { Answers (pcap_lane reader.old (progress_of reached.old)) result known.new (pcap_lane reader.new (progress_of reached.new)) }
-    ensures keeps { LaneKeeps (pcap_lane reader.old (progress_of reached.old)) (pcap_lane reader.new (progress_of reached.new)) }
+    ensures answer { Answers (pcap_state reader.old (progress_of reached.old)) result known.new (pcap_state reader.new (progress_of reached.new)) }
+    ensures keeps { FileKeeps (pcap_state reader.old (progress_of reached.old)) (pcap_state reader.new (progress_of reached.new)) }
 {
     match reader.header() {
         Ok(header) => {

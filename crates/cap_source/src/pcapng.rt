@@ -3,7 +3,7 @@ ghost use Rattle.std.specs.Prelude.{◌≡◌, ◌≤◌, ◌<◌, ◌+◌, ◌^
 ghost use Rattle.cap_blocks.specs.Grammar.{is_known, is_total};
 ghost use Rattle.cap_source.specs.Contents.{content_in};
 ghost use Rattle.cap_source.specs.Items.{ending_with, meta_in, behind};
-ghost use Rattle.cap_source.specs.Lanes.{Answers, LaneKeeps, Steps, pcapng_lane, next_at};
+ghost use Rattle.cap_source.specs.FileState.{Answers, FileKeeps, Steps, pcapng_state, next_at};
 ghost use Rattle.cap_source.specs.Reached.{progress_of, counted, has_room};
 
 use crate::contents::{Content, Packet, content_of};
@@ -110,8 +110,8 @@ fn take_block<R: Source>(
     requires unknown { known.old ≡ None }
     requires counted { counted (progress_of reached.old) ≤ reader.old.offset }
     requires free { reader.old.stop ≡ None }
-    ensures answer { Steps (pcapng_lane reader.old (progress_of reached.old)) result known.new (pcapng_lane reader.new (progress_of reached.new)) }
-    ensures keeps { LaneKeeps (pcapng_lane reader.old (progress_of reached.old)) (pcapng_lane reader.new (progress_of reached.new)) }
+    ensures answer { Steps (pcapng_state reader.old (progress_of reached.old)) result known.new (pcapng_state reader.new (progress_of reached.new)) }
+    ensures keeps { FileKeeps (pcapng_state reader.old (progress_of reached.old)) (pcapng_state reader.new (progress_of reached.new)) }
     ensures room { IsTrue (has_room reader.new.broken reached.new) }
 {
     let file = reader.window().file();
@@ -145,8 +145,8 @@ fn step<R: Source>(
     requires counted { counted (progress_of reached.old) ≤ reader.old.offset }
     requires free { reader.old.stop ≡ None }
     requires room { IsTrue (has_room reader.old.broken reached.old) }
-    ensures answer { Steps (pcapng_lane reader.old (progress_of reached.old)) result known.new (pcapng_lane reader.new (progress_of reached.new)) }
-    ensures keeps { LaneKeeps (pcapng_lane reader.old (progress_of reached.old)) (pcapng_lane reader.new (progress_of reached.new)) }
+    ensures answer { Steps (pcapng_state reader.old (progress_of reached.old)) result known.new (pcapng_state reader.new (progress_of reached.new)) }
+    ensures keeps { FileKeeps (pcapng_state reader.old (progress_of reached.old)) (pcapng_state reader.new (progress_of reached.new)) }
     ensures room { IsTrue (has_room reader.new.broken reached.new) }
 {
     reached.interfaces.reserve(1)?;
@@ -164,8 +164,8 @@ pub fn next_of_blocks<R: Source>(
     requires free { reader.old.stop ≡ None }
     requires limit { reader.old.offset ≤ 2 ^ 40 }
     requires room { IsTrue (has_room reader.old.broken reached.old) }
-    ensures answer { Answers (pcapng_lane reader.old (progress_of reached.old)) result known.new (pcapng_lane reader.new (progress_of reached.new)) }
-    ensures keeps { LaneKeeps (pcapng_lane reader.old (progress_of reached.old)) (pcapng_lane reader.new (progress_of reached.new)) }
+    ensures answer { Answers (pcapng_state reader.old (progress_of reached.old)) result known.new (pcapng_state reader.new (progress_of reached.new)) }
+    ensures keeps { FileKeeps (pcapng_state reader.old (progress_of reached.old)) (pcapng_state reader.new (progress_of reached.new)) }
     ensures room { IsTrue (has_room reader.new.broken reached.new) }
 {
     loop {

@@ -2,8 +2,8 @@
 ghost use Rattle.std.specs.Prelude.{◌≡◌, ◌≤◌, IsTrue, IsSome, Some};
 ghost use Rattle.cap_source.specs.Feed.{IsPacket};
 ghost use Rattle.cap_source.specs.Items.{Progress};
-ghost use Rattle.cap_source.specs.Lanes.{head_by, end_of, size_of, frame_of, ending_by};
-ghost use Rattle.cap_source.specs.Readers.{lane_of, is_there, lent_of};
+ghost use Rattle.cap_source.specs.FileState.{head_by, end_of, size_of, frame_of, ending_by};
+ghost use Rattle.cap_source.specs.Readers.{state_of, is_there, lent_of};
 
 use crate::feeds::{Ending, Head};
 use crate::packets::Meta;
@@ -89,7 +89,7 @@ pub fn ending_of(next: Option<Next>) -> Ending
 /// The number of a file.
 pub fn number_of<R: Source>(reader: &Reader<R>) -> u32
     requires { IsTrue (is_there reader.now) }
-    ensures { (progress : Progress) → result ≡ (lane_of reader.now progress).file }
+    ensures { (progress : Progress) → result ≡ (state_of reader.now progress).file }
 {
     match reader {
         Reader::Unread(window, _) => window.file(),
@@ -102,7 +102,7 @@ pub fn number_of<R: Source>(reader: &Reader<R>) -> u32
 /// How many bytes are kept of a file.
 pub fn held_of<R: Source>(reader: &Reader<R>) -> u64
     requires { IsTrue (is_there reader.now) }
-    ensures { (progress : Progress) → result ≡ (lane_of reader.now progress).held }
+    ensures { (progress : Progress) → result ≡ (state_of reader.now progress).held }
 {
     match reader {
         Reader::Unread(window, _) => window.held(),
@@ -115,7 +115,7 @@ pub fn held_of<R: Source>(reader: &Reader<R>) -> u64
 /// Whether a file's device has failed.
 pub fn failed_of<R: Source>(reader: &Reader<R>) -> bool
     requires { IsTrue (is_there reader.now) }
-    ensures { (progress : Progress) → result ≡ (lane_of reader.now progress).failed }
+    ensures { (progress : Progress) → result ≡ (state_of reader.now progress).failed }
 {
     match reader {
         Reader::Unread(window, _) => window.failed(),

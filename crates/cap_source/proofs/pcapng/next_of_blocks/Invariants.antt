@@ -1,13 +1,13 @@
 use Rattle.std.proofs.Common.{◌≡◌, ◌≤◌, ◌-◌, ◌^◌, None, IsTrue}
-use Rattle.cap_source.specs.Lanes.{LaneKeeps, Waits, pcapng_lane}
+use Rattle.cap_source.specs.FileState.{FileKeeps, Waits, pcapng_state}
 use Rattle.cap_source.specs.Reached.{progress_of, counted, has_room}
 use Rattle.cap_source.proofs.pcapng.next_of_blocks.Given as goal
 
 abbrev pub invariant-loop : goal.invariant-loop
 invariant-loop g l = record {
   unknown : l.known ≡ None;
-  waits : Waits (pcapng_lane l.initial.reader (progress_of l.initial.reached)) (pcapng_lane l.reader (progress_of l.reached));
-  keeps : LaneKeeps (pcapng_lane l.initial.reader (progress_of l.initial.reached)) (pcapng_lane l.reader (progress_of l.reached));
+  waits : Waits (pcapng_state l.initial.reader (progress_of l.initial.reached)) (pcapng_state l.reader (progress_of l.reached));
+  keeps : FileKeeps (pcapng_state l.initial.reader (progress_of l.initial.reached)) (pcapng_state l.reader (progress_of l.reached));
   room : IsTrue (has_room l.reader.broken l.reached);
   counted : counted (progress_of l.reached) ≤ l.reader.offset;
   free : l.reader.stop ≡ None;

@@ -6,7 +6,7 @@ use Rattle.cap_bytes.specs.declared.buffers.Filling.TheVariants.{Whole, Ended, F
 
 -- a reader: whether it tells the bytes to come, which they are, how many it gives at a time at most, where it tells that,
 -- whether it has failed, whether it can
-pub record Feed : Type 0 where
+pub record SourceState : Type 0 where
   pub told : Bool
   pub coming : List ℕ
   pub most : Option ℕ
@@ -14,8 +14,8 @@ pub record Feed : Type 0 where
   pub can_fail : Bool
 
 -- a reader by the ghost members of `Source`
-abbrev pub feed_of : {R : Type 0} → record { has_failed : R → Bool; can_fail : R → Bool; tells_coming : R → Bool; coming : R → List ℕ; most : R → Option ℕ } → R → Feed
-feed_of source r =
+abbrev pub source_of : {R : Type 0} → record { has_failed : R → Bool; can_fail : R → Bool; tells_coming : R → Bool; coming : R → List ℕ; most : R → Option ℕ } → R → SourceState
+source_of source r =
     record {
       told = source.tells_coming r;
       coming = source.coming r;
@@ -25,7 +25,7 @@ feed_of source r =
     }
 
 -- bytes were read after those that stood in a buffer, so that `whole` stands there now
-pub record Reads (old new : Feed) (front whole : List ℕ) : Type 0 where
+pub record Reads (old new : SourceState) (front whole : List ℕ) : Type 0 where
   pub front_stays : take (length front) whole ≡ front
   pub bytes : IsTrue old.told → whole ++ new.coming ≡ front ++ old.coming
   pub told : IsTrue old.told → IsTrue new.told
@@ -38,13 +38,13 @@ IsWithin None n count = ⊤
 IsWithin (Some most) n count = count < n + most
 
 -- how reading up to n bytes ended, `count` being there
-abbrev pub Fills : ℕ → ℕ → Filling → Feed → Feed → Type 0
+abbrev pub Fills : ℕ → ℕ → Filling → SourceState → SourceState → Type 0
 Fills n count Whole old new = (n ≤ count) × (new.failed ≡ old.failed)
 Fills n count Ended old new = (count < n) × (IsTrue old.told → new.coming ≡ []) × (new.failed ≡ old.failed)
 Fills n count Failed old new = IsTrue new.failed × IsTrue old.can_fail × (count < n)
 
 -- How dropping the next n bytes of a reader ended: `rest` was read after them.
-abbrev pub DiscardsBy : ℕ → Filling → ℕ → Feed → Feed → List ℕ → Type 0
+abbrev pub DiscardsBy : ℕ → Filling → ℕ → SourceState → SourceState → List ℕ → Type 0
 DiscardsBy n Whole left old new rest =
     (left ≡ 0) × (new.failed ≡ old.failed) × (IsTrue old.told → n ≤ length old.coming)
     × (IsTrue old.told → rest ++ new.coming ≡ drop n old.coming)
@@ -53,5 +53,5 @@ DiscardsBy n Ended left old new rest =
     × (IsTrue old.told → new.coming ≡ [])
 DiscardsBy n Failed left old new rest = IsTrue new.failed × IsTrue old.can_fail
 
-abbrev pub Discards : ℕ → Discarded → Feed → Feed → List ℕ → Type 0
+abbrev pub Discards : ℕ → Discarded → SourceState → SourceState → List ℕ → Type 0
 Discards n result old new rest = DiscardsBy n result.filling result.left old new rest

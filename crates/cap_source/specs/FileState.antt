@@ -32,7 +32,7 @@ use Rattle.cap_source.specs.declared.readers.Next.TheVariants as nexts
 -- later, and `lent` is what the reader lends of the one that was given last. `stops` says that the reader
 -- has come to an end. `broken` is where the header, the record or the block begins in which a read failed,
 -- once one has. `counted` blocks were counted.
-pub record Lane : Type 0 where
+pub record FileState : Type 0 where
   pub file : ℕ
   pub told : Bool
   pub items : List Item
@@ -50,8 +50,8 @@ pub record Lane : Type 0 where
   pub counted : ℕ
 
 -- a file of which nothing was read
-abbrev pub unread_lane : WindowState → Tail → Progress → Lane
-unread_lane window tail progress =
+abbrev pub unread_state : WindowState → Tail → Progress → FileState
+unread_state window tail progress =
     record {
       file = window.file;
       told = window.told;
@@ -85,8 +85,8 @@ first_of (Some header) stop offset bytes = Some (interface_of header)
 first_of None stop offset bytes = first_unless stop offset bytes
 
 -- a pcap file
-abbrev pub pcap_lane : State PcapHeader → Progress → Lane
-pcap_lane reader progress =
+abbrev pub pcap_state : State PcapHeader → Progress → FileState
+pcap_state reader progress =
     record {
       file = reader.file;
       told = reader.told;
@@ -106,8 +106,8 @@ pcap_lane reader progress =
     }
 
 -- a pcapng file
-abbrev pub pcapng_lane : State Order → Progress → Lane
-pcapng_lane reader progress =
+abbrev pub pcapng_state : State Order → Progress → FileState
+pcapng_state reader progress =
     record {
       file = reader.file;
       told = reader.told;
@@ -127,7 +127,7 @@ pcapng_lane reader progress =
     }
 
 -- what every answer keeps of a file
-pub record LaneKeeps (old new : Lane) : Type 0 where
+pub record FileKeeps (old new : FileState) : Type 0 where
   pub file : new.file ≡ old.file
   pub told : IsTrue old.told → IsTrue new.told
   pub can_fail : IsTrue new.can_fail → IsTrue old.can_fail
@@ -138,7 +138,7 @@ pub record LaneKeeps (old new : Lane) : Type 0 where
   pub counted : old.counted ≤ old.offset → new.counted ≤ new.offset
 
 -- what is to come of a file is the same
-pub record SameRest (old new : Lane) : Type 0 where
+pub record SameRest (old new : FileState) : Type 0 where
   pub items : new.items ≡ old.items
   pub ending : new.ending ≡ old.ending
   pub first : new.first ≡ old.first
@@ -206,11 +206,11 @@ is_whole None broken = true
 is_whole (Some next) broken = not (is_some broken)
 
 -- what is always true of what comes next of a file
-pub record IsNext (next : Option Next) (lane : Lane) : Type 0 where
-  pub file : file_of next lane.file ≡ lane.file
-  pub lent : end_of next ≤ size_of lane.lent
+pub record IsNext (next : Option Next) (state : FileState) : Type 0 where
+  pub file : file_of next state.file ≡ state.file
+  pub lent : end_of next ≤ size_of state.lent
   pub captured : captured_of next ≤ 262144
-  pub behind : behind_of next ≤ lane.offset
+  pub behind : behind_of next ≤ state.offset
 
 -- the items to come, by what comes next
 abbrev pub items_by : Option Next → List ℕ → List Item → List Item
@@ -227,9 +227,9 @@ ending_by (Some (nexts.Refused refusal ending)) later = ending
 ending_by (Some (nexts.End ending)) later = ending
 
 -- its first interface, where it stands before what comes next
-abbrev pub first_by : Option Next → Lane → Option Interface
-first_by None lane = lane.first
-first_by (Some next) lane = lane.noted
+abbrev pub first_by : Option Next → FileState → Option Interface
+first_by None state = state.first
+first_by (Some next) state = state.noted
 
 abbrev pub head_of : Next → Head
 head_of (nexts.Packet meta place) = heads.Packet meta
@@ -251,30 +251,30 @@ offset_at None offset = offset
 offset_at (Some first) offset = first
 
 -- the file, of which that comes next where it is known, as a feed
-abbrev pub feed_of : Lane → Option Next → Feed
-feed_of lane next =
+abbrev pub feed_of : FileState → Option Next → Feed
+feed_of state next =
     record {
-      files = lane.file ∷ [];
-      told = lane.told;
-      items = items_by next (frame_of next lane.lent) lane.items;
-      endings = λ file. ending_by next lane.ending;
+      files = state.file ∷ [];
+      told = state.told;
+      items = items_by next (frame_of next state.lent) state.items;
+      endings = λ file. ending_by next state.ending;
       known = head_by next;
-      frame = frame_of next lane.lent;
-      broken = break_at lane.file lane.broken;
-      places = λ file. place_of next (offset_at lane.broken lane.offset);
-      left = 2 ^ 40 - place_of next lane.offset;
-      can_fail = lane.can_fail;
-      held = record { window = lane.held; interfaces = lane.interfaces; failed = lane.failed };
+      frame = frame_of next state.lent;
+      broken = break_at state.file state.broken;
+      places = λ file. place_of next (offset_at state.broken state.offset);
+      left = 2 ^ 40 - place_of next state.offset;
+      can_fail = state.can_fail;
+      held = record { window = state.held; interfaces = state.interfaces; failed = state.failed };
     }
 
 -- No read has failed of a file, and none does.
-pub record Goes (old new : Lane) : Type 0 where
+pub record Goes (old new : FileState) : Type 0 where
   pub before : old.broken ≡ None
   pub after : new.broken ≡ None
   pub failed : new.failed ≡ old.failed
 
 -- What comes next of a file is learned.
-pub record Learns (old : Lane) (next : Next) (new : Lane) : Type 0 where
+pub record Learns (old : FileState) (next : Next) (new : FileState) : Type 0 where
   pub is : IsNext (Some next) new
   pub place : old.offset ≤ place_of (Some next) new.offset
   pub free : IsTrue (is_free (Some next) new.stops)
@@ -284,7 +284,7 @@ pub record Learns (old : Lane) (next : Next) (new : Lane) : Type 0 where
   pub first : IsTrue old.told → new.noted ≡ old.first
 
 -- A read of it fails in this call, or failed in an earlier one: then the offset is the same.
-pub record Fails (old : Lane) (file offset : ℕ) (new : Lane) : Type 0 where
+pub record Fails (old : FileState) (file offset : ℕ) (new : FileState) : Type 0 where
   pub stops : new.stops ≡ false
   pub file_is : file ≡ old.file
   pub again : IfSome old.broken (λ first. offset ≡ first)
@@ -294,14 +294,14 @@ pub record Fails (old : Lane) (file offset : ℕ) (new : Lane) : Type 0 where
   pub can_fail : IsTrue old.can_fail
 
 -- Nothing is learned, and what is to come is the same.
-pub record Waits (old new : Lane) : Type 0 where
+pub record Waits (old new : FileState) : Type 0 where
   pub stops : new.stops ≡ false
   pub broken : new.broken ≡ old.broken
   pub failed : new.failed ≡ old.failed
   pub rest : IsTrue old.told → SameRest old new
 
 -- what a look at what comes next answers, and what is known of that after it
-abbrev pub Answers : {A : Type 0} → Lane → Result A Fault → Option Next → Lane → Type 0
+abbrev pub Answers : {A : Type 0} → FileState → Result A Fault → Option Next → FileState → Type 0
 Answers old (Ok x) after new = (next : Next) × (after ≡ Some next) × Learns old next new
 Answers old (Err (Refused refusal)) after new = ⊥
 Answers old (Err (Read file offset)) after new = (after ≡ None) × Fails old file offset new
@@ -309,15 +309,15 @@ Answers old (Err Write) after new = ⊥
 Answers old (Err Memory) after new = (after ≡ None) × Waits old new × (old.broken ≡ None)
 
 -- the same of a look at one block, after which a pcapng file may go on
-pub record GoesOn (old new : Lane) : Type 0 where
+pub record GoesOn (old new : FileState) : Type 0 where
   pub waits : Waits old new
   pub further : old.offset < new.offset
 
-abbrev pub StepsTo : Lane → Option Next → Lane → Type 0
+abbrev pub StepsTo : FileState → Option Next → FileState → Type 0
 StepsTo old (Some next) new = Learns old next new
 StepsTo old None new = GoesOn old new
 
-abbrev pub Steps : {A : Type 0} → Lane → Result A Fault → Option Next → Lane → Type 0
+abbrev pub Steps : {A : Type 0} → FileState → Result A Fault → Option Next → FileState → Type 0
 Steps old (Ok x) after new = StepsTo old after new
 Steps old (Err (Refused refusal)) after new = ⊥
 Steps old (Err (Read file offset)) after new = (after ≡ None) × Fails old file offset new
@@ -334,22 +334,22 @@ next_at file progress block (Err rule) =
     Some (nexts.Refused (record { file = file; offset = block.offset; rule = rule }) (ending_with progress false))
 
 -- what is always true of a file and of what comes next of it, where that is known
-pub record IsSound (lane : Lane) (next : Option Next) : Type 0 where
-  pub is : IsNext next lane
-  pub free : IsTrue (is_free next lane.stops)
-  pub whole : IsTrue (is_whole next lane.broken)
-  pub limit : lane.offset ≤ 2 ^ 40
-  pub held : lane.held ≤ 524288
-  pub interfaces : lane.interfaces ≤ 1024
-  pub counted : lane.counted ≤ lane.offset
+pub record IsSound (state : FileState) (next : Option Next) : Type 0 where
+  pub is : IsNext next state
+  pub free : IsTrue (is_free next state.stops)
+  pub whole : IsTrue (is_whole next state.broken)
+  pub limit : state.offset ≤ 2 ^ 40
+  pub held : state.held ≤ 524288
+  pub interfaces : state.interfaces ≤ 1024
+  pub counted : state.counted ≤ state.offset
 
 -- What is learned, or was known before.
-abbrev pub LearnsOr : Lane → Option Next → Next → Lane → Type 0
+abbrev pub LearnsOr : FileState → Option Next → Next → FileState → Type 0
 LearnsOr old None next new = Learns old next new
 LearnsOr old (Some known) next new = (next ≡ known) × (new ≡ old)
 
 -- what asking for what comes next answers
-abbrev pub Tells : {A : Type 0} → Lane → Option Next → Result A Fault → Lane → Option Next → Type 0
+abbrev pub Tells : {A : Type 0} → FileState → Option Next → Result A Fault → FileState → Option Next → Type 0
 Tells old known (Ok x) new after = (next : Next) × (after ≡ Some next) × LearnsOr old known next new
 Tells old known (Err (Refused refusal)) new after = ⊥
 Tells old known (Err (Read file offset)) new after = (known ≡ None) × (after ≡ None) × Fails old file offset new
