@@ -42,10 +42,7 @@ fn time_of(head: &Head) -> Option<Stamp>
     ensures bounded { is_bounded result ≡ true }
 {
     match head {
-        Head::Packet(meta) => match meta.units {
-            Some(units) => Some(Stamp::new(units, &meta.interface)),
-            None => None,
-        },
+        Head::Packet(meta) => meta.time(),
         Head::Refused(_) => None,
         Head::End => None,
     }
@@ -223,7 +220,7 @@ pub(crate) fn found(lanes: &[Lane], known: Option<usize>) -> Option<usize>
 }
 
 /// Which lane's item comes first, and its clock; its place may be known.
-#[inline]
+#[inline(always)]
 pub(crate) fn first_of(lanes: &[Lane], known: Option<usize>) -> Option<First>
     requires { IsFound lanes.now known }
     ensures { IsFirstLane lanes.now result }

@@ -11,4 +11,5 @@ pub mod Listings
 pub mod ReadFaults
 pub mod Reached
 pub mod Readers
+pub mod Times
 pub mod Walk
