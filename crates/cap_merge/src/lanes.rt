@@ -48,14 +48,6 @@ fn time_of(head: &Head) -> Option<Stamp>
     }
 }
 
-// The later of two times, of equal ones the first.
-fn later(a: Option<Stamp>, b: Option<Stamp>) -> Option<Stamp>
-    ensures later { result ≡ later a b }
-    ensures bounded { is_bounded a ≡ true → is_bounded b ≡ true → is_bounded result ≡ true }
-{
-    if a < b { b } else { a }
-}
-
 // The time of what comes next, if that is known.
 fn known_time(head: &Option<Head>) -> Option<Stamp>
     ensures time { result ≡ known_time head.now }
@@ -73,7 +65,10 @@ fn reach(lane: &mut Lane)
     ensures lane { lane.new ≡ record { clock = later lane.old.clock (known_time lane.old.head); head = lane.old.head } }
     ensures bounded { is_bounded lane.old.clock ≡ true → is_bounded lane.new.clock ≡ true }
 {
-    lane.clock = later(lane.clock, known_time(&lane.head));
+    let time = known_time(&lane.head);
+    if lane.clock < time {
+        lane.clock = time;
+    }
 }
 
 // Asks a feed what comes next, unless that is known.
