@@ -5,7 +5,7 @@ ghost use Rattle.std.specs.Prelude.{◌≡◌, ◌≤◌, [], ◌∷◌, Some};
 use crate::vectors::{CARRY_PCAP, INTERFACE, OPTIONS_PCAPNG, PACKET, SECTION, last_of};
 use cap_bytes::{Fault, Pieces, Refusal, Rule, Tail};
 use cap_source::{Capture, Ending, Format, Head, Listed, Meta, PacketFeed, next_packet};
-use cap_time::{Interface, Resolution};
+use cap_time::{Interface, Resolution, Stamp};
 use std::alloc::{AllocError, Global};
 use std::process::Abort;
 use std::test::Fail;
@@ -120,6 +120,16 @@ fn always_memory_a_pcap_file(rt: HostRuntime) -> Result<(), Fail> {
         assert_eq!(rt; held.interfaces, 0);
     }
     Ok(())
+}
+
+// 2,500,000 millionths of a second are five halves; a packet without units has no time.
+#[test]
+fn the_time_of_a_packet(rt: HostRuntime) {
+    let halves = interface(&rt, 1, 0, 129, 0);
+    let mut meta = carried(&rt, 24, Format::Pcap);
+    assert_eq!(rt; meta.time(), Some(Stamp::new(5, &halves)));
+    meta.units = None;
+    assert_eq!(rt; meta.time(), None);
 }
 
 // A little-endian section with a packet on interface 0, and a big-endian one.

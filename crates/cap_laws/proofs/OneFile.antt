@@ -5,7 +5,8 @@ use Rattle.cap_bytes.specs.declared.faults.Refusal.{Refusal}
 use Rattle.cap_merge.specs.Clock.{later}
 use Rattle.cap_merge.specs.Files.{run_of_lists}
 use Rattle.cap_merge.specs.MergedList.{merged-next, merged-none}
-use Rattle.cap_merge.specs.Parts.{item_time, is_refusal, meta_time}
+use Rattle.cap_merge.specs.Parts.{item_time, is_refusal}
+use Rattle.cap_source.specs.Times.{meta_time}
 use Rattle.cap_merge.specs.Run.{Clocked, merged, through_first}
 use Rattle.cap_source.specs.Feed.{Item, packet, refused, refusal_of}
 use Rattle.cap_time.specs.declared.stamps.Stamp.{Stamp}

@@ -1,13 +1,12 @@
 -- The feeds of a merge at one moment, each with what is known of it.
 use Rattle.std.specs.Prelude.{◌≡◌, ⊤, ◌+◌, ◌^◌, pos, int_lt, ℕ, Bool, true, false, ◌&&◌, ◌||◌, List, [], ◌∷◌, ◌++◌, length, map, max, not, Option, Some, None, is_some, Result, Ok, Err, if◌then◌else◌, ◌==◌}
 use Rattle.std.specs.List.{AllByRecursion, list_all, list_any, flat_map, range_with_len}
-use Rattle.std.specs.Option.{option_map}
 use Rattle.std.specs.Ordering.{is_lt, is_gt}
 use Rattle.std.specs.declared.cmp.Ordering.TheVariants.{Less}
 use Rattle.cap_bytes.specs.declared.faults.Fault.{Fault}
 use Rattle.cap_bytes.specs.declared.faults.Fault.TheVariants.{Refused, Read, Write, Memory}
 use Rattle.cap_time.specs.declared.stamps.Stamp.{Stamp}
-use Rattle.cap_time.specs.Stamp.{stamp_in, seconds_of}
+use Rattle.cap_time.specs.Stamp.{seconds_of}
 use Rattle.cap_source.specs.declared.feeds.Head.{Head}
 use Rattle.cap_source.specs.declared.feeds.Head.TheVariants as heads
 use Rattle.cap_source.specs.declared.feeds.Ending.{Ending}
@@ -15,14 +14,11 @@ use Rattle.cap_source.specs.declared.feeds.FeedHeld.{FeedHeld}
 use Rattle.cap_source.specs.declared.packets.Format.TheVariants.{Pcap}
 use Rattle.cap_source.specs.declared.packets.Meta.{Meta}
 use Rattle.cap_source.specs.Feed.{Item, packet, refused, Feed}
+use Rattle.cap_source.specs.Times.{meta_time}
 use Rattle.cap_merge.specs.declared.lanes.Lane.{Lane}
 use Rattle.cap_merge.specs.declared.lanes.First.{First}
 use Rattle.cap_merge.specs.Clock.{clock_cmp}
 use Rattle.cap_merge.specs.Run.{Track, Clocked, run}
-
--- the time of a packet, where it has one
-abbrev pub meta_time : Meta → Option Stamp
-meta_time meta = option_map (λ units. stamp_in units meta.interface) meta.units
 
 abbrev pub head_time : Head → Option Stamp
 head_time (heads.Packet meta) = meta_time meta

@@ -42,21 +42,10 @@ fn time_of(head: &Head) -> Option<Stamp>
     ensures bounded { is_bounded result ≡ true }
 {
     match head {
-        Head::Packet(meta) => match meta.units {
-            Some(units) => Some(Stamp::new(units, &meta.interface)),
-            None => None,
-        },
+        Head::Packet(meta) => meta.time(),
         Head::Refused(_) => None,
         Head::End => None,
     }
-}
-
-// The later of two times, of equal ones the first.
-fn later(a: Option<Stamp>, b: Option<Stamp>) -> Option<Stamp>
-    ensures later { result ≡ later a b }
-    ensures bounded { is_bounded a ≡ true → is_bounded b ≡ true → is_bounded result ≡ true }
-{
-    if a < b { b } else { a }
 }
 
 // The time of what comes next, if that is known.
@@ -76,7 +65,10 @@ fn reach(lane: &mut Lane)
     ensures lane { lane.new ≡ record { clock = later lane.old.clock (known_time lane.old.head); head = lane.old.head } }
     ensures bounded { is_bounded lane.old.clock ≡ true → is_bounded lane.new.clock ≡ true }
 {
-    lane.clock = later(lane.clock, known_time(&lane.head));
+    let time = known_time(&lane.head);
+    if lane.clock < time {
+        lane.clock = time;
+    }
 }
 
 // Asks a feed what comes next, unless that is known.
@@ -223,7 +215,7 @@ pub(crate) fn found(lanes: &[Lane], known: Option<usize>) -> Option<usize>
 }
 
 /// Which lane's item comes first, and its clock; its place may be known.
-#[inline]
+#[inline(always)]
 pub(crate) fn first_of(lanes: &[Lane], known: Option<usize>) -> Option<First>
     requires { IsFound lanes.now known }
     ensures { IsFirstLane lanes.now result }

@@ -97,7 +97,7 @@ impl<F: PacketFeed> Merged<F> {
     {
         match first_of(self.lanes.as_slice(), self.first) {
             Some(first) => first.clock,
-            None => None,
+            None => unreachable!(),
         }
     }
 }

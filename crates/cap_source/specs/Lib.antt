@@ -10,4 +10,5 @@ pub mod Listed
 pub mod ReadFaults
 pub mod Reached
 pub mod Readers
+pub mod Times
 pub mod Walk

@@ -1,6 +1,7 @@
 //! What is told of a packet beside its bytes.
+ghost use Rattle.std.specs.Prelude.{◌≡◌, ◌<ℤ◌, ◌^◌, pos, IfSome};
 
-use cap_time::Interface;
+use cap_time::{Interface, Stamp};
 
 /// The format of a capture file.
 #[derive(Clone, Copy, Debug, PartialEq, Eq)]
@@ -32,4 +33,21 @@ pub struct Meta {
     pub captured: u32,
     /// How many bytes it had.
     pub original: u32,
+}
+
+impl Meta {
+    ghost use Rattle.cap_time.specs.Stamp.{seconds_of};
+    ghost use Rattle.cap_source.specs.Times.{meta_time};
+
+    /// The time of the packet, if it has one. Its seconds are below 2^65.
+    #[inline(always)]
+    pub fn time(&self) -> Option<Stamp>
+        ensures time { result ≡ meta_time self.now }
+        ensures bounded { IfSome result (λ time. seconds_of time <ℤ pos (2 ^ 65)) }
+    {
+        match self.units {
+            Some(units) => Some(Stamp::new(units, &self.interface)),
+            None => None,
+        }
+    }
 }

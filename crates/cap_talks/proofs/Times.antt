@@ -6,7 +6,8 @@ use Rattle.cap_source.specs.declared.packets.Meta.{Meta}
 use Rattle.cap_time.specs.Stamp.{stamp_cmp}
 use Rattle.cap_time.specs.StampLaws.{stamp_cmp_total}
 use Rattle.cap_time.specs.declared.stamps.Stamp.{Stamp}
-use Rattle.cap_talks.specs.Counting.{time_of, earlier, later, least_time, greatest_time}
+use Rattle.cap_source.specs.Times.{meta_time}
+use Rattle.cap_talks.specs.Counting.{earlier, later, least_time, greatest_time}
 use Rattle.cap_talks.proofs.Chosen.{chosen, chosen-assoc, chosen-alone}
 
 -- the order of times from the greatest down
@@ -37,12 +38,12 @@ later-assoc a b c =
     ∙ sym (ap (chosen down a) (later_is b c)) ∙ sym (later_is a (later b c))
 
 -- one time more
-pub least-more : (metas : List Meta) (meta : Meta) → least_time (metas ++ meta ∷ []) ≡ earlier (least_time metas) (time_of meta)
-least-more [] meta = earlier_is (time_of meta) None ∙ chosen-alone stamp_cmp (time_of meta)
+pub least-more : (metas : List Meta) (meta : Meta) → least_time (metas ++ meta ∷ []) ≡ earlier (least_time metas) (meta_time meta)
+least-more [] meta = earlier_is (meta_time meta) None ∙ chosen-alone stamp_cmp (meta_time meta)
 least-more (m ∷ metas) meta =
-    ap (earlier (time_of m)) (least-more metas meta) ∙ sym (earlier-assoc (time_of m) (least_time metas) (time_of meta))
+    ap (earlier (meta_time m)) (least-more metas meta) ∙ sym (earlier-assoc (meta_time m) (least_time metas) (meta_time meta))
 
-pub greatest-more : (metas : List Meta) (meta : Meta) → greatest_time (metas ++ meta ∷ []) ≡ later (greatest_time metas) (time_of meta)
-greatest-more [] meta = later_is (time_of meta) None ∙ chosen-alone down (time_of meta)
+pub greatest-more : (metas : List Meta) (meta : Meta) → greatest_time (metas ++ meta ∷ []) ≡ later (greatest_time metas) (meta_time meta)
+greatest-more [] meta = later_is (meta_time meta) None ∙ chosen-alone down (meta_time meta)
 greatest-more (m ∷ metas) meta =
-    ap (later (time_of m)) (greatest-more metas meta) ∙ sym (later-assoc (time_of m) (greatest_time metas) (time_of meta))
+    ap (later (meta_time m)) (greatest-more metas meta) ∙ sym (later-assoc (meta_time m) (greatest_time metas) (meta_time meta))

@@ -3,8 +3,9 @@ use Rattle.std.specs.Prelude.{ℕ, ◌+◌, nat_lt, List, [], ◌∷◌, length,
 use Rattle.std.specs.Option.{option_map_or}
 use Rattle.std.specs.Ordering.{is_lt}
 use Rattle.cap_source.specs.Feed.{Item, packet, refused}
+use Rattle.cap_source.specs.Times.{meta_time}
 use Rattle.cap_source.specs.declared.packets.Meta.{Meta}
-use Rattle.cap_time.specs.Stamp.{stamp_cmp, stamp_in}
+use Rattle.cap_time.specs.Stamp.{stamp_cmp}
 use Rattle.cap_time.specs.declared.stamps.Stamp.{Stamp}
 use Rattle.cap_talks.specs.declared.counts.Counts.{Counts}
 
@@ -13,10 +14,6 @@ unfoldable pub packets_of : List Item → List Meta
 packets_of [] = []
 packets_of (packet meta frame ∷ items) = meta ∷ packets_of items
 packets_of (refused refusal ∷ items) = []
-
--- the time of a packet, where it has one
-abbrev pub time_of : Meta → Option Stamp
-time_of meta = option_map (λ units. stamp_in units meta.interface) meta.units
 
 -- the earlier of two times, of equal ones the first, or the only one
 abbrev pub earlier : Option Stamp → Option Stamp → Option Stamp
@@ -33,11 +30,11 @@ later (Some a) (Some b) = if is_lt (stamp_cmp a b) then Some b else Some a
 -- the least and the greatest time of some packets: of equal ones that of the packet which stands first
 abbrev pub least_time : List Meta → Option Stamp
 least_time [] = None
-least_time (meta ∷ metas) = earlier (time_of meta) (least_time metas)
+least_time (meta ∷ metas) = earlier (meta_time meta) (least_time metas)
 
 abbrev pub greatest_time : List Meta → Option Stamp
 greatest_time [] = None
-greatest_time (meta ∷ metas) = later (time_of meta) (greatest_time metas)
+greatest_time (meta ∷ metas) = later (meta_time meta) (greatest_time metas)
 
 -- the sum of their original lengths
 abbrev pub original_bytes : List Meta → ℕ
@@ -78,6 +75,6 @@ with_packet counts meta =
       bytes = counts.bytes + meta.original;
       truncated = counts.truncated + (if nat_lt meta.captured meta.original then 1 else 0);
       skipped = meta.skipped;
-      first = earlier counts.first (time_of meta);
-      last = later counts.last (time_of meta);
+      first = earlier counts.first (meta_time meta);
+      last = later counts.last (meta_time meta);
     }

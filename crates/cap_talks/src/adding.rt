@@ -1,6 +1,7 @@
 //! Units that packets complete, and how they are added to the conversations.
 ghost use Rattle.std.specs.Prelude.{◌≡◌, ◌+◌, ◌++◌, ◌<◌, ◌≤◌, ◌^◌, List, length, OnOk, OnErr};
 ghost use Rattle.cap_ip.specs.Transport.{transport_of};
+ghost use Rattle.cap_source.specs.Times.{meta_time};
 ghost use Rattle.cap_talks.specs.Rows.{StandsFor, frames_in, bytes_in};
 ghost use Rattle.cap_talks.specs.Talks.{frames_of, bytes_of};
 ghost use Rattle.cap_talks.specs.declared.units.CountedUnit.{CountedUnit};
@@ -11,20 +12,22 @@ ghost use Rattle.cap_talks.specs.Tallies.{LimitBy};
 ghost use Rattle.cap_talks.specs.CountedUnits.{listed, whole_unit};
 
 use crate::classes::Class;
-use crate::counts::time_of;
 use crate::talks::{Talks, TalksFault};
 use crate::tallies::TallyFault;
 use crate::units::{CountedUnit, ends_of, timed_frame};
 use cap_ip::{Header, Transport, transport};
 use cap_join::{Datagram, Stamped};
 use cap_source::Meta;
+use cap_time::Stamp;
 
-/// What is told of a packet's frame, that has a place in the run.
-pub fn stamped_of(place: u64, meta: &Meta) -> Stamped
+/// What is told of a packet's frame, that has a place in the run and that time.
+#[inline(always)]
+pub fn stamped_of(place: u64, time: Option<Stamp>, meta: &Meta) -> Stamped
+    requires time { time ≡ meta_time meta.now }
     ensures { result ≡ stamped_of place meta.now }
 {
     Stamped {
-        time: time_of(meta),
+        time,
         place,
         original: meta.original,
     }
@@ -43,6 +46,7 @@ pub fn class_of(transport: Transport) -> Class
 }
 
 /// The unit that a whole datagram is, of which some data was captured.
+#[inline(always)]
 pub fn whole_unit(
     header: &Header,
     captured: &[u8],
@@ -97,6 +101,7 @@ pub fn joined_class(datagram: &Datagram) -> Class
 }
 
 /// Adds a unit to the conversations, where there is one.
+#[inline(always)]
 pub fn add_unit(talks: &mut Talks, unit: &Option<CountedUnit>) -> Result<(), TallyFault>
     requires frames { frames_in talks.old.rows + frames_of (listed unit.now) < 2 ^ 64 }
     requires bytes { bytes_in talks.old.rows + bytes_of (listed unit.now) < 2 ^ 128 }

@@ -1,7 +1,8 @@
 //! Running counts of the packets of one file.
 ghost use Rattle.std.specs.Prelude.{◌≡◌, ◌≤◌, ◌<◌, ◌*◌, ◌^◌, ◌++◌, List, [], ◌∷◌, if◌then◌else◌};
 ghost use Rattle.cap_source.specs.declared.packets.Meta.{Meta};
-ghost use Rattle.cap_talks.specs.Counting.{counted, with_packet, earlier, later, time_of};
+ghost use Rattle.cap_source.specs.Times.{meta_time};
+ghost use Rattle.cap_talks.specs.Counting.{counted, with_packet, earlier, later};
 
 use cap_source::{Format, Meta};
 use cap_time::Stamp;
@@ -41,28 +42,29 @@ impl Counts {
         }
     }
 
-    /// Takes one more packet, after those that were taken.
+    /// Takes one more packet, which has that time, after those that were taken.
     #[inline(always)]
-    pub fn take(&mut self, meta: &Meta)
+    pub fn take(&mut self, time: Option<Stamp>, meta: &Meta)
+        requires time { time ≡ meta_time meta.now }
         requires packets { self.old.packets < 2 ^ 45 }
         requires bytes { self.old.bytes ≤ 2 ^ 45 * 2 ^ 32 }
         requires truncated { self.old.truncated < 2 ^ 45 }
         ensures counts { (metas : List Meta) → self.old ≡ counted metas → self.new ≡ counted (metas ++ meta.now ∷ []) }
         ensures one_more { self.new ≡ with_packet self.old meta.now }
     {
-        count(self, meta);
+        count(self, time, meta);
     }
 }
 
 // Counts one packet more.
 #[inline(always)]
-fn count(counts: &mut Counts, meta: &Meta)
+fn count(counts: &mut Counts, time: Option<Stamp>, meta: &Meta)
+    requires time { time ≡ meta_time meta.now }
     requires packets { counts.old.packets < 2 ^ 45 }
     requires bytes { counts.old.bytes ≤ 2 ^ 45 * 2 ^ 32 }
     requires truncated { counts.old.truncated < 2 ^ 45 }
     ensures { counts.new ≡ with_packet counts.old meta.now }
 {
-    let time = time_of(meta);
     counts.format = Some(meta.format);
     counts.packets += 1;
     counts.bytes += u128::from(meta.original);
@@ -73,16 +75,6 @@ fn count(counts: &mut Counts, meta: &Meta)
     }
     if is_later(&time, &counts.last) {
         counts.last = time;
-    }
-}
-
-// The time of a packet, where it has one.
-pub(crate) fn time_of(meta: &Meta) -> Option<Stamp>
-    ensures { result ≡ time_of meta.now }
-{
-    match meta.units {
-        Some(units) => Some(Stamp::new(units, &meta.interface)),
-        None => None,
     }
 }
 

@@ -33,7 +33,7 @@ fn count_packets<F: PacketFeed>(feed: &mut F) -> Result<Counts, Fault>
 {
     let mut counts = Counts::new();
     while let Some(meta) = next_packet(feed)? {
-        counts.take(&meta);
+        counts.take(meta.time(), &meta);
         feed.pass();
     }
     Ok(counts)

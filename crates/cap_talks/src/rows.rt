@@ -49,20 +49,24 @@ impl Hash for TalkKey {
 
 impl TalkKey {
     /// The conversation that a unit belongs to.
+    #[inline(always)]
     pub fn of(unit: &CountedUnit) -> TalkKey
         ensures { result ≡ key_of unit.now }
     {
-        if is_forward(unit) {
+        let protocol = unit.protocol;
+        let source = unit.source;
+        let destination = unit.destination;
+        if source <= destination {
             TalkKey {
-                protocol: unit.protocol,
-                lesser: unit.source,
-                greater: unit.destination,
+                protocol,
+                lesser: source,
+                greater: destination,
             }
         } else {
             TalkKey {
-                protocol: unit.protocol,
-                lesser: unit.destination,
-                greater: unit.source,
+                protocol,
+                lesser: destination,
+                greater: source,
             }
         }
     }
@@ -108,6 +112,7 @@ impl TalkRow {
     }
 
     // Counts one unit more.
+    #[inline(always)]
     pub(crate) fn take(&mut self, unit: &CountedUnit)
         requires frames { frames_of_row self.old + unit.now.frames < 2 ^ 64 }
         requires bytes { bytes_of_row self.old + unit.now.bytes < 2 ^ 128 }

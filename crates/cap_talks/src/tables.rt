@@ -113,9 +113,10 @@ impl<F: PacketFeed> Table<F> {
         let meta = self.merged.packet();
         let clock = self.merged.clock();
         let frame = self.merged.frame();
-        match self.tally.take(clock, meta, frame) {
+        let time = meta.time();
+        match self.tally.take(clock, time, meta, frame) {
             Ok(()) => {
-                self.totals.take(meta, frame);
+                self.totals.take(time, meta, frame);
                 self.merged.pass();
                 Ok(Step::Took)
             }

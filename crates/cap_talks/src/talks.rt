@@ -63,6 +63,7 @@ impl Talks {
     ///
     /// `Limit` comes exactly where the unit's conversation is a new one and 1,048,576 stand, `Memory`
     /// where a growth was refused. Both leave the table as it was.
+    #[inline(always)]
     pub fn add(&mut self, unit: &CountedUnit) -> Result<(), TalksFault>
         requires frames { frames_in self.old.rows + unit.now.frames < 2 ^ 64 }
         requires bytes { bytes_in self.old.rows + unit.now.bytes < 2 ^ 128 }
@@ -96,6 +97,7 @@ impl Talks {
 }
 
 // Counts one unit more in the row at a place.
+#[inline(always)]
 fn add_at(rows: &mut IndexMap<TalkKey, TalkRow>, place: usize, unit: &CountedUnit)
     requires place { place < length rows.old.entries }
     requires frames { frames_of_row (row_in rows.old.entries place) + unit.now.frames < 2 ^ 64 }
@@ -109,14 +111,15 @@ fn add_at(rows: &mut IndexMap<TalkKey, TalkRow>, place: usize, unit: &CountedUni
 }
 
 // Adds the row of a new conversation, of one unit.
+#[inline(never)]
 fn add_row(
     rows: &mut IndexMap<TalkKey, TalkRow>,
     key: TalkKey,
-    unit: &CountedUnit,
+    unit: CountedUnit,
 ) -> Result<(), TalksFault>
-    requires frames { unit.now.frames < 2 ^ 64 }
-    requires bytes { unit.now.bytes < 2 ^ 128 }
-    ensures entries { OnOk result (rows.new.entries ≡ insert_entry same_talk rows.old.entries key (with_unit (row_of []) unit.now)) }
+    requires frames { unit.frames < 2 ^ 64 }
+    requires bytes { unit.bytes < 2 ^ 128 }
+    ensures entries { OnOk result (rows.new.entries ≡ insert_entry same_talk rows.old.entries key (with_unit (row_of []) unit)) }
     ensures limit { is_limit result ≡ not (nat_lt (length rows.old.entries) talk_limit) }
     ensures err { OnErr result (rows.new.entries ≡ rows.old.entries) }
 {
@@ -124,7 +127,7 @@ fn add_row(
         return Err(TalksFault::Limit);
     }
     let mut row = TalkRow::new();
-    row.take(unit);
+    row.take(&unit);
     match rows.insert(key, row) {
         Ok(_) => Ok(()),
         Err(_) => Err(TalksFault::Memory),
@@ -132,6 +135,7 @@ fn add_row(
 }
 
 // Counts one unit more in the rows.
+#[inline(always)]
 fn add_unit(rows: &mut IndexMap<TalkKey, TalkRow>, unit: &CountedUnit) -> Result<(), TalksFault>
     requires frames { frames_in rows.old.entries + unit.now.frames < 2 ^ 64 }
     requires bytes { bytes_in rows.old.entries + unit.now.bytes < 2 ^ 128 }
@@ -145,6 +149,6 @@ fn add_unit(rows: &mut IndexMap<TalkKey, TalkRow>, unit: &CountedUnit) -> Result
             add_at(rows, place, unit);
             Ok(())
         }
-        None => add_row(rows, key, unit),
+        None => add_row(rows, key, *unit),
     }
 }

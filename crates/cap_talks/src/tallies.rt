@@ -1,15 +1,16 @@
 //! What is counted of packets beside what is told of files.
-ghost use Rattle.std.specs.Prelude.{◌≡◌, false, ◌+◌, ◌*◌, ◌++◌, IsOkUnless, max, ◌≤◌, ◌<◌, ◌<ℤ◌, ◌^◌, pos, List, [], ◌∷◌, length, IsTrue, IfSome, IsSome, OnOk, OnErr, IfOk, IfErr, Option, Some, None, Err, if◌then◌else◌};
+ghost use Rattle.std.specs.Prelude.{◌≡◌, ℕ, false, ◌+◌, ◌*◌, ◌++◌, IsOkUnless, max, ◌≤◌, ◌<◌, ◌<ℤ◌, ◌^◌, pos, List, [], ◌∷◌, length, IsTrue, IfSome, IsSome, OnOk, OnErr, IfOk, IfErr, Option, Some, None, Err, if◌then◌else◌};
 ghost use Rattle.cap_bytes.specs.Device.{WriterKeeps, writer_of};
 ghost use Rattle.cap_bytes.specs.Printing.{Prints, is_write};
 ghost use Rattle.cap_join.specs.Fitting.{FitsPut};
 ghost use Rattle.cap_join.specs.Fragments.{piece_of};
 ghost use Rattle.cap_join.specs.History.{Event, arrives, state_of, joined_pieces};
 ghost use Rattle.cap_join.specs.Joiners.{StandsFor, IsAnswer, most_bytes, open_limit};
+ghost use Rattle.cap_source.specs.Times.{meta_time};
 ghost use Rattle.cap_time.specs.Stamp.{seconds_of};
 ghost use Rattle.cap_talks.specs.Looking.{taken};
 ghost use Rattle.cap_talks.specs.ReportText.{frames_text, joined_text};
-ghost use Rattle.cap_talks.specs.Taken.{Taken, stamped_of};
+ghost use Rattle.cap_talks.specs.Taken.{Taken, fragment, look, stamped_of};
 ghost use Rattle.cap_talks.specs.Tallies.{Stands, LimitBy, one_if, tally_text, waiting_bytes, counted_one, Looks, WaitsIf, with_frames, with_group};
 ghost use Rattle.cap_talks.specs.declared.tallies.TallyFault.TheVariants.{Memory};
 ghost use Rattle.cap_talks.specs.Classes.{sum_of};
@@ -153,17 +154,56 @@ impl Tally {
         }
     }
 
+    // Takes a packet that is a fragment, while no datagram waits. It is counted, or it completes a datagram, which waits from then on:
+    // that is answered. It isn't inlined, so that what it answers takes no room where whole datagrams are taken.
+    #[inline(never)]
+    fn take_fragment(
+        &mut self,
+        clock: Option<Stamp>,
+        meta: &Meta,
+        frame: &[u8],
+        header: Header,
+        bytes: &[u8],
+    ) -> Result<bool, TallyFault>
+        requires none { self.old.waiting ≡ None }
+        requires clock { IfSome clock (λ c. seconds_of c <ℤ pos (2 ^ 65)) }
+        requires few { self.old.place < 2 ^ 62 }
+        requires fragment { IsSome header.fragment }
+        requires whole { length bytes.now ≡ header.data_length }
+        requires look { (place : ℕ) → look place (taken clock meta.now frame.now) ≡ fragment (piece_of header bytes.now (stamped_of place meta.now)) }
+        ensures looks { IfOk result (λ waits. Looks self.old (taken clock meta.now frame.now) waits self.new) }
+        ensures waits { IfOk result (λ waits. WaitsIf self.new.waiting waits) }
+        ensures place { IfOk result (λ waits. self.new.place ≡ (if waits then self.old.place else self.old.place + 1)) }
+        ensures fault { IfErr result (λ e. e ≡ Memory) }
+        ensures err { OnErr result (self.new ≡ self.old) }
+    {
+        let stamped = stamped_of(self.place, meta.time(), meta);
+        match put_fragment(&mut self.joiner, clock, &header, bytes, stamped)? {
+            Put::Kept => {
+                self.classes = with_frames(self.classes, Class::Unjoined, 1);
+                self.place += 1;
+                Ok(false)
+            }
+            Put::Joined(datagram) => {
+                self.waiting = Some(datagram);
+                Ok(true)
+            }
+        }
+    }
+
     // Looks at the packet that comes next, while no datagram waits. It is counted, or it completes a datagram, which waits from then
     // on: that is answered.
     fn look_at(
         &mut self,
         clock: Option<Stamp>,
+        time: Option<Stamp>,
         meta: &Meta,
         frame: &[u8],
     ) -> Result<bool, TallyFault>
         requires none { self.old.waiting ≡ None }
         requires clock { IfSome clock (λ c. seconds_of c <ℤ pos (2 ^ 65)) }
         requires few { self.old.place < 2 ^ 62 }
+        requires time { time ≡ meta_time meta.now }
         ensures looks { IfOk result (λ waits. Looks self.old (taken clock meta.now frame.now) waits self.new) }
         ensures waits { IfOk result (λ waits. WaitsIf self.new.waiting waits) }
         ensures place { IfOk result (λ waits. self.new.place ≡ (if waits then self.old.place else self.old.place + 1)) }
@@ -171,7 +211,7 @@ impl Tally {
             → LimitBy (Err e) (is_limit_at xs (taken clock meta.now frame.now))) }
         ensures err { OnErr result (self.new ≡ self.old) }
     {
-        let stamped = stamped_of(self.place, meta);
+        let stamped = stamped_of(self.place, time, meta);
         match look(meta, frame) {
             Seen::Plain(class) => {
                 self.classes = with_frames(self.classes, class, 1);
@@ -189,19 +229,7 @@ impl Tally {
                 self.place += 1;
                 Ok(false)
             }
-            Seen::Fragment(header, bytes) => {
-                match put_fragment(&mut self.joiner, clock, &header, bytes, stamped)? {
-                    Put::Kept => {
-                        self.classes = with_frames(self.classes, Class::Unjoined, 1);
-                        self.place += 1;
-                        Ok(false)
-                    }
-                    Put::Joined(datagram) => {
-                        self.waiting = Some(datagram);
-                        Ok(true)
-                    }
-                }
-            }
+            Seen::Fragment(header, bytes) => self.take_fragment(clock, meta, frame, header, bytes),
         }
     }
 
@@ -229,7 +257,7 @@ impl Tally {
         Ok(())
     }
 
-    /// Takes the packet that comes next, which has that clock in the run.
+    /// Takes the packet that comes next, which has that clock in the run and that time.
     ///
     /// `Limit` comes exactly if it completes a unit of a new conversation and 1,048,576 stand, `Memory` if a growth was
     /// refused. Both leave the counts as they were, and the same call may be made again; a datagram that the packet joined is kept
@@ -237,11 +265,13 @@ impl Tally {
     pub fn take(
         &mut self,
         clock: Option<Stamp>,
+        time: Option<Stamp>,
         meta: &Meta,
         frame: &[u8],
     ) -> Result<(), TallyFault>
         requires clock { IfSome clock (λ c. seconds_of c <ℤ pos (2 ^ 65)) }
         requires few { self.old.place < 2 ^ 62 }
+        requires time { time ≡ meta_time meta.now }
         ensures stands { OnOk result (Looks self.old (taken clock meta.now frame.now) false self.new) }
         ensures limit { IfErr result (λ e. (xs : List Taken) → Stands self.old xs (Some (taken clock meta.now frame.now))
             → LimitBy (Err e) (is_limit_at xs (taken clock meta.now frame.now))) }
@@ -254,7 +284,7 @@ impl Tally {
         if self.is_waiting() {
             return self.take_waiting();
         }
-        if self.look_at(clock, meta, frame)? {
+        if self.look_at(clock, time, meta, frame)? {
             return self.take_waiting();
         }
         Ok(())

@@ -1,5 +1,6 @@
 //! What is counted of the packets that were taken: of each file, and of all.
 ghost use Rattle.std.specs.Prelude.{◌≡◌, ◌+◌, ◌-◌, ◌*◌, ◌≤◌, ◌<◌, ◌^◌, List, [], ◌∷◌, Option, true, length, replicate, slice_index_or, slice_set, if◌then◌else◌};
+ghost use Rattle.cap_source.specs.Times.{meta_time};
 ghost use Rattle.cap_talks.specs.Counting.{counted, with_packet};
 ghost use Rattle.cap_talks.specs.Looking.{taken};
 ghost use Rattle.cap_talks.specs.Taken.{Taken};
@@ -9,6 +10,7 @@ ghost use Rattle.cap_time.specs.declared.stamps.Stamp.{Stamp};
 use crate::counts::Counts;
 use arrayvec::ArrayVec;
 use cap_source::Meta;
+use cap_time::Stamp;
 use std::marker::Model;
 
 /// Running counts of the packets of a run: of each of its at most 32 files, and of all.
@@ -45,12 +47,14 @@ fn new_files(count: u32) -> ArrayVec<Counts, 32>
 }
 
 // Takes a packet into the counts of the file at a place.
-fn take_at(files: &mut [Counts], place: usize, meta: &Meta)
+#[inline(always)]
+fn take_at(files: &mut [Counts], place: usize, time: Option<Stamp>, meta: &Meta)
+    requires time { time ≡ meta_time meta.now }
     requires place { place < length files.old }
     requires room { is_room (slice_index_or files.old place (counted [])) ≡ true }
     ensures { files.new ≡ slice_set files.old place (with_packet (slice_index_or files.old place (counted [])) meta.now) }
 {
-    files[place].take(meta);
+    files[place].take(time, meta);
 }
 
 // One, if that is so.
@@ -75,8 +79,10 @@ impl Totals {
         }
     }
 
-    /// Takes the packet that comes next of the run, of which those bytes were captured.
-    pub fn take(&mut self, meta: &Meta, frame: &[u8])
+    /// Takes the packet that comes next of the run, which has that time, and of which those bytes were captured.
+    #[inline(always)]
+    pub fn take(&mut self, time: Option<Stamp>, meta: &Meta, frame: &[u8])
+        requires time { time ≡ meta_time meta.now }
         requires first { 1 ≤ meta.now.file }
         requires last { meta.now.file ≤ length self.old.files }
         requires few { self.old.packets < 2 ^ 45 }
@@ -85,7 +91,12 @@ impl Totals {
         ensures packets { self.new.packets ≡ self.old.packets + 1 }
     {
         let original = meta.original;
-        take_at(self.files.as_mut_slice(), meta.file as usize - 1, meta);
+        take_at(
+            self.files.as_mut_slice(),
+            meta.file as usize - 1,
+            time,
+            meta,
+        );
         self.packets += 1;
         self.bytes += u128::from(original);
         self.truncated += one_if(frame.len() < original as usize);

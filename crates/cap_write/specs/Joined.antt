@@ -17,7 +17,7 @@ use Rattle.cap_join.specs.Joiners.{open_limit}
 use Rattle.cap_join.specs.declared.datagrams.Stamped.{Stamped}
 use Rattle.cap_link.specs.Links.{network_of, is_whole}
 use Rattle.cap_link.specs.Seen.{Carried, ipv4, other_link, not_ipv4, short, cut as ends}
-use Rattle.cap_merge.specs.Parts.{meta_time}
+use Rattle.cap_source.specs.Times.{meta_time}
 use Rattle.cap_merge.specs.Run.{Clocked}
 use Rattle.cap_source.specs.Feed.{Item, packet, refused}
 use Rattle.cap_source.specs.declared.packets.Meta.{Meta}

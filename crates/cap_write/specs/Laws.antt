@@ -22,7 +22,7 @@ use Rattle.cap_write.specs.Numbering.{Name, name_of, Numbered, numbered_of, numb
 use Rattle.cap_write.specs.Pcap.{fraction_of, pcap_bytes, pcap_refusal}
 use Rattle.cap_merge.specs.Clock.{clock_cmp}
 use Rattle.cap_merge.specs.Files.{run_of_files}
-use Rattle.cap_merge.specs.Parts.{meta_time}
+use Rattle.cap_source.specs.Times.{meta_time}
 use Rattle.cap_write.specs.Texts.{interface_part, packet_part, count_after, first_names, pcapng_bytes, pcapng_refusal, merged_bytes}
 
 -- The fields of a packet and of its interface fit in their widths, and that many bytes may be captured.

@@ -6,7 +6,6 @@ ghost use Rattle.cap_ip.specs.Written.{header_bytes};
 ghost use Rattle.cap_join.specs.Arrivals.{events_with};
 ghost use Rattle.cap_join.specs.History.{Event};
 ghost use Rattle.cap_join.specs.Joiners.{StandsFor};
-ghost use Rattle.cap_merge.specs.Parts.{meta_time};
 ghost use Rattle.cap_time.specs.Stamp.{seconds_of};
 ghost use Rattle.cap_write.specs.Datagrams.{IsFilled, IsShort, Stands, answered};
 ghost use Rattle.cap_write.specs.RunPackets.{stamped_in, whole_in};
@@ -103,22 +102,12 @@ fn fill_answered(packet: &mut Vec<u8>, arrived: Arrived<'_>) -> Result<bool, Fau
     }
 }
 
-// The time of a packet, where it has one.
-fn time_of(meta: &Meta) -> Option<Stamp>
-    ensures { result ≡ meta_time meta.now }
-{
-    match meta.units {
-        Some(units) => Some(Stamp::new(units, &meta.interface)),
-        None => None,
-    }
-}
-
 // What is told of a packet's frame.
 fn stamped_of(run: &RunPacket<'_>) -> Stamped
     ensures { result ≡ stamped_in run.now }
 {
     Stamped {
-        time: time_of(run.meta),
+        time: run.meta.time(),
         place: run.place,
         original: run.meta.original,
     }

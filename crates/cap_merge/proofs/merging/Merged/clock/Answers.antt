@@ -6,8 +6,8 @@ use Rattle.cap_merge.proofs.Placing.{clock-first, parts-each}
 use Rattle.cap_merge.proofs.Firsts.{clocks-of, begins-of, not-below-first, no-next}
 use Rattle.cap_merge.proofs.merging.Merged.clock.Goals as goal
 
-pub returns-in-Some : goal.returns-in-Some
-returns-in-Some g c =
+pub returns : goal.returns
+returns g c =
     let m = c.args.self.now in
     let leads = rw c.as_slice.ensures.value at c.in-Some.ensures in
     record {
@@ -18,8 +18,8 @@ returns-in-Some g c =
       run = begins-of g.F.PacketFeed.feed g.met.F.PacketFeed.lawful m.lanes.items m.feeds.items c.in-Some.first m.some m.alike leads c.requires m.agrees m.reached;
     }
 
-pub returns-in-None : goal.returns-in-None
-returns-in-None g c =
+pub unreachable-requires : goal.unreachable-requires
+unreachable-requires g c =
     let m = c.args.self.now in
     no-next (parts m.lanes.items (map g.F.PacketFeed.feed m.feeds.items))
     (parts-each (λ l. has_next l.head ≡ false) m.lanes.items (map g.F.PacketFeed.feed m.feeds.items)
