@@ -10,7 +10,9 @@ mod rests;
 mod texts;
 mod writing;
 
-pub use crate::blocks::{Block, is_known};
+pub use crate::blocks::{
+    Block, ENHANCED_PACKET, INTERFACE, OBSOLETE_PACKET, SECTION, SIMPLE_PACKET, is_known,
+};
 pub use crate::fronts::is_section;
 pub use crate::options::Options;
 pub use crate::readers::BlockReader;

@@ -4,19 +4,9 @@ ghost use Rattle.cap_blocks.specs.Grammar.{least_total};
 ghost use Rattle.cap_source.specs.Contents.{fitting, timed_in, simple_captured, simple_in, content_in};
 
 use crate::interfaces::interface_of;
+use cap_blocks::{ENHANCED_PACKET, INTERFACE, OBSOLETE_PACKET, SECTION, SIMPLE_PACKET};
 use cap_bytes::{Order, PACKET_LIMIT, Rule, u16_at, u32_at};
 use cap_time::Interface;
-
-// The kind of a section header, which reads the same in both orders.
-const SECTION: u32 = 0x0A0D_0D0A;
-// The kind of an interface block.
-const INTERFACE: u32 = 1;
-// The kind of an obsolete packet block.
-const OBSOLETE_PACKET: u32 = 2;
-// The kind of a simple packet block.
-const SIMPLE_PACKET: u32 = 3;
-// The kind of an enhanced packet block.
-const ENHANCED_PACKET: u32 = 6;
 
 // Where the captured bytes begin in the body of a packet with a time, and of a simple one.
 const TIMED_HEAD: u32 = 20;

@@ -31,14 +31,11 @@ fn put_data(line: &mut Line, label: &[u8], bytes: &[u8])
     put_text(line, room);
 }
 
-// The time of a packet, where it has one.
+// The time of a packet, if it has one, as it is printed.
 fn stamp_of(meta: &Meta) -> Option<Stamp>
     ensures { option_map printed_of result ≡ printed_in meta.now.units meta.now.interface }
 {
-    match meta.units {
-        Some(units) => Some(Stamp::new(units, &meta.interface)),
-        None => None,
-    }
+    meta.time()
 }
 
 /// Makes a line that of the packet number n, from 1:
