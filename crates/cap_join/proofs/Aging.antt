@@ -1,9 +1,8 @@
 -- Deadlines of open groups, and groups in the order of their clocks, under what a step does to the table.
-use Rattle.std.proofs.Common.{◌≡◌, Bool, true, false, List, [], ◌∷◌, ◌++◌, refl, sym, ◌∙◌, ap, subst, cond, not, true≢false, Option, Some, None, append_assoc, lit<}
+use Rattle.std.proofs.Common.{arith, ◌≡◌, Bool, true, false, List, [], ◌∷◌, ◌++◌, refl, sym, ◌∙◌, ap, subst, cond, not, Option, Some, None, append_assoc, lit<}
 use Rattle.std.specs.Prelude.{IsSome, remove, if◌then◌else◌}
 use Rattle.std.specs.Ordering.{is_lt, is_gt, ordering_reverse}
 use Rattle.std.specs.declared.cmp.Ordering.{Ordering}
-use Rattle.std.specs.declared.cmp.Ordering.TheVariants.{Less, Equal, Greater}
 use Rattle.std.specs.Map.{lookup, set_value, remove_entry}
 use Rattle.cap_ip.specs.declared.headers.Key.{Key}
 use Rattle.cap_time.specs.declared.stamps.Stamp.{Stamp}
@@ -17,18 +16,13 @@ use Rattle.cap_join.specs.Ages.{deadline_of, is_past, sooner, latest_of, is_in_t
 use Rattle.cap_join.specs.Tables.{live_entries}
 
 pub is_past-deadline : (clock now : Option Stamp) → is_past (deadline_of clock) now ≡ is_too_old clock now
-is_past-deadline None now = refl
-is_past-deadline (Some c) now = refl
+is_past-deadline clock now = grind arith
 
 back : (r : Ordering) → is_gt r ≡ false → is_lt (ordering_reverse r) ≡ false
-back Less h = refl
-back Equal h = refl
-back Greater h = absurd (true≢false h)
+back r h = grind arith
 
 not_after : (r : Ordering) → is_lt r ≡ true → is_gt r ≡ false
-not_after Less h = refl
-not_after Equal h = refl
-not_after Greater h = absurd (true≢false (sym h))
+not_after r h = grind arith
 
 -- a time from another on isn't before what that one isn't before
 from_on : (x y n : Stamp) → is_gt (stamp_cmp x y) ≡ false → is_lt (stamp_cmp x n) ≡ false → is_lt (stamp_cmp y n) ≡ false
@@ -59,29 +53,17 @@ sooner-second (Some a) (Some b) (Some n) h = by (is_lt (stamp_cmp b a)) refl h
 -- where none is too old all stay
 pub live-all : (now : Option Stamp) (es : List Entry) → NoneOld now es → live_entries now es ≡ es
 live-all now [] h = refl
-live-all now (e ∷ es) h =
-    ap (λ (b : Bool). cond (not b) (e ∷ live_entries now es) (live_entries now es)) h.0 ∙ ap (λ (l : List Entry). e ∷ l) (live-all now es h.1)
+live-all now (e ∷ es) h = cc (live-all now es h.1)
 
 -- a group with one more fragment
 NoneOld-set_value : (test : Key → Bool) (now : Option Stamp) (before after : GroupState) (es : List Entry) → lookup test es ≡ Some before → after.clock ≡ before.clock
     → NoneOld now es → NoneOld now (set_value test es after)
 NoneOld-set_value test now before after [] found same h = h
-NoneOld-set_value test now before after (e ∷ es) found same h = by (test e.0) found (λ f. NoneOld-set_value test now before after es f same h.1)
-  where
-    by : (b : Bool) → cond b (Some e.1) (lookup test es) ≡ Some before → (lookup test es ≡ Some before → NoneOld now (set_value test es after))
-        → NoneOld now (cond b ((e.0, after) ∷ es) (e ∷ set_value test es after))
-    by true f rest =
-        let is : e.1 ≡ before = cc in
-        (ap (λ (c : Option Stamp). is_too_old c now) (same ∙ ap (λ (s : GroupState). s.clock) (sym is)) ∙ h.0, h.1)
-    by false f rest = (h.0, rest f)
+NoneOld-set_value test now before after (e ∷ es) found same h = grind (arith, NoneOld-set_value test now before after es)
 
 NoneOld-remove_entry : (test : Key → Bool) (now : Option Stamp) (es : List Entry) → NoneOld now es → NoneOld now (remove_entry test es)
 NoneOld-remove_entry test now [] h = h
-NoneOld-remove_entry test now (e ∷ es) h = by (test e.0) (NoneOld-remove_entry test now es h.1)
-  where
-    by : (b : Bool) → NoneOld now (remove_entry test es) → NoneOld now (cond b es (e ∷ remove_entry test es))
-    by true rest = h.1
-    by false rest = (h.0, rest)
+NoneOld-remove_entry test now (e ∷ es) h = grind (arith, NoneOld-remove_entry test now es h.1)
 
 NoneOld-push : (now : Option Stamp) (es : List Entry) (e : Entry) → NoneOld now es → is_too_old e.1.clock now ≡ false → NoneOld now (es ++ e ∷ [])
 NoneOld-push now [] e h fresh = (fresh, tt)
@@ -92,8 +74,7 @@ NoneOld-append now [] rest h k = k
 NoneOld-append now (e ∷ es) rest h k = (h.0, NoneOld-append now es rest h.1 k)
 
 Precedes-more : (clock : Option Stamp) (es new : List Entry) → ((now : Option Stamp) → NoneOld now es → NoneOld now new) → Precedes clock es → Precedes clock new
-Precedes-more None es new f h = tt
-Precedes-more (Some c) es new f h = λ now p. f now (h now p)
+Precedes-more clock es new f h = grind arith
 
 -- what holds of a table under one more fragment of a group
 module _ (test : Key → Bool) (before after : GroupState) (same : after.clock ≡ before.clock) where
@@ -106,17 +87,11 @@ module _ (test : Key → Bool) (before after : GroupState) (same : after.clock �
     where
       by : (b : Bool) → cond b (Some e.1) (lookup test es) ≡ Some before → (lookup test es ≡ Some before → AreInTurn (set_value test es after))
           → AreInTurn (cond b ((e.0, after) ∷ es) (e ∷ set_value test es after))
-      by true f rest = (subst (λ (c : Option Stamp). Precedes c es) (same_clock e es f) h.0, h.1)
-      by false f rest = (Precedes-more e.1.clock es (set_value test es after) (λ now p. NoneOld-set_value test now before after es f same p) h.0, rest f)
+      by b f rest = grind (arith, same_clock, Precedes-more, NoneOld-set_value)
 
   pub AreUpTo-set_value : (latest : Option Stamp) (es : List Entry) → lookup test es ≡ Some before → AreUpTo latest es → AreUpTo latest (set_value test es after)
   AreUpTo-set_value latest [] found h = h
-  AreUpTo-set_value latest (e ∷ es) found h = by (test e.0) found (λ f. AreUpTo-set_value latest es f h.1)
-    where
-      by : (b : Bool) → cond b (Some e.1) (lookup test es) ≡ Some before → (lookup test es ≡ Some before → AreUpTo latest (set_value test es after))
-          → AreUpTo latest (cond b ((e.0, after) ∷ es) (e ∷ set_value test es after))
-      by true f rest = (subst (λ (c : Option Stamp). IsUpTo (deadline_of c) latest) (same_clock e es f) h.0, h.1)
-      by false f rest = (h.0, rest f)
+  AreUpTo-set_value latest (e ∷ es) found h = grind (arith, AreUpTo-set_value latest es)
 
   pub IsDeadline-set_value : (deadline : Option Stamp) (es : List Entry) → lookup test es ≡ Some before → IsDeadline deadline es → IsDeadline deadline (set_value test es after)
   IsDeadline-set_value deadline es found h = λ now p. NoneOld-set_value test now before after es found same (h now p)
@@ -125,35 +100,24 @@ module _ (test : Key → Bool) (before after : GroupState) (same : after.clock �
 module _ (test : Key → Bool) where
   pub AreInTurn-remove_entry : (es : List Entry) → AreInTurn es → AreInTurn (remove_entry test es)
   AreInTurn-remove_entry [] h = h
-  AreInTurn-remove_entry (e ∷ es) h = by (test e.0) (AreInTurn-remove_entry es h.1)
-    where
-      by : (b : Bool) → AreInTurn (remove_entry test es) → AreInTurn (cond b es (e ∷ remove_entry test es))
-      by true rest = h.1
-      by false rest = (Precedes-more e.1.clock es (remove_entry test es) (λ now p. NoneOld-remove_entry test now es p) h.0, rest)
+  AreInTurn-remove_entry (e ∷ es) h = grind (arith, AreInTurn-remove_entry es h.1, Precedes-more, NoneOld-remove_entry)
 
   pub AreUpTo-remove_entry : (latest : Option Stamp) (es : List Entry) → AreUpTo latest es → AreUpTo latest (remove_entry test es)
   AreUpTo-remove_entry latest [] h = h
-  AreUpTo-remove_entry latest (e ∷ es) h = by (test e.0) (AreUpTo-remove_entry latest es h.1)
-    where
-      by : (b : Bool) → AreUpTo latest (remove_entry test es) → AreUpTo latest (cond b es (e ∷ remove_entry test es))
-      by true rest = h.1
-      by false rest = (h.0, rest)
+  AreUpTo-remove_entry latest (e ∷ es) h = grind (arith, AreUpTo-remove_entry latest es h.1)
 
   pub IsDeadline-remove_entry : (deadline : Option Stamp) (es : List Entry) → IsDeadline deadline es → IsDeadline deadline (remove_entry test es)
   IsDeadline-remove_entry deadline es h = λ now p. NoneOld-remove_entry test now es (h now p)
 
 -- the first is
 pub AreInTurn-first : (es : List Entry) → AreInTurn es → AreInTurn (remove es 0)
-AreInTurn-first [] h = h
-AreInTurn-first (e ∷ es) h = h.1
+AreInTurn-first es h = grind arith
 
 pub AreUpTo-first : (latest : Option Stamp) (es : List Entry) → AreUpTo latest es → AreUpTo latest (remove es 0)
-AreUpTo-first latest [] h = h
-AreUpTo-first latest (e ∷ es) h = h.1
+AreUpTo-first latest es h = grind arith
 
 NoneOld-first : (now : Option Stamp) (es : List Entry) → NoneOld now es → NoneOld now (remove es 0)
-NoneOld-first now [] h = h
-NoneOld-first now (e ∷ es) h = h.1
+NoneOld-first now es h = grind arith
 
 pub IsDeadline-first : (deadline : Option Stamp) (es : List Entry) → IsDeadline deadline es → IsDeadline deadline (remove es 0)
 IsDeadline-first deadline es h = λ now p. NoneOld-first now es (h now p)
@@ -165,23 +129,14 @@ AreInTurn-live now (e ∷ es) h = by (is_too_old e.1.clock now) (AreInTurn-live 
   where
     stays : (at : Option Stamp) (es : List Entry) → NoneOld at es → NoneOld at (live_entries now es)
     stays at [] h = h
-    stays at (x ∷ xs) h = one (is_too_old x.1.clock now) (stays at xs h.1)
-      where
-        one : (b : Bool) → NoneOld at (live_entries now xs) → NoneOld at (cond (not b) (x ∷ live_entries now xs) (live_entries now xs))
-        one true r = r
-        one false r = (h.0, r)
+    stays at (x ∷ xs) h = grind (arith, stays at xs h.1)
 
     by : (b : Bool) → AreInTurn (live_entries now es) → AreInTurn (cond (not b) (e ∷ live_entries now es) (live_entries now es))
-    by true rest = rest
-    by false rest = (Precedes-more e.1.clock es (live_entries now es) (λ at p. stays at es p) h.0, rest)
+    by b rest = grind (arith, Precedes-more, stays)
 
 pub AreUpTo-live : (latest now : Option Stamp) (es : List Entry) → AreUpTo latest es → AreUpTo latest (live_entries now es)
 AreUpTo-live latest now [] h = h
-AreUpTo-live latest now (e ∷ es) h = by (is_too_old e.1.clock now) (AreUpTo-live latest now es h.1)
-  where
-    by : (b : Bool) → AreUpTo latest (live_entries now es) → AreUpTo latest (cond (not b) (e ∷ live_entries now es) (live_entries now es))
-    by true rest = rest
-    by false rest = (h.0, rest)
+AreUpTo-live latest now (e ∷ es) h = grind (arith, AreUpTo-live latest now es h.1)
 
 -- a group is opened
 later : (latest : Option Stamp) (c : Stamp) (k now : Option Stamp) → IsUpTo (Some (stamp_plus c wait)) latest → is_in_turn latest (deadline_of k) ≡ true
@@ -193,47 +148,34 @@ later (Some l) c (Some k) (Some n) upto turn fresh =
     from_on l (stamp_plus k wait) n (stamp_upto_turned (stamp_plus k wait) l (flipped (is_lt (stamp_cmp (stamp_plus k wait) l)) turn)) (from_on (stamp_plus c wait) l n upto fresh)
   where
     flipped : (b : Bool) → not b ≡ true → b ≡ false
-    flipped true h = sym h
-    flipped false h = refl
+    flipped b h = grind arith
 
 Precedes-none : (clock : Option Stamp) → Precedes clock []
-Precedes-none None = tt
-Precedes-none (Some c) = λ now p. tt
+Precedes-none clock = grind arith
 
 Precedes-push : (latest clock : Option Stamp) (es : List Entry) (e : Entry) → IsUpTo (deadline_of clock) latest → is_in_turn latest (deadline_of e.1.clock) ≡ true → Precedes clock es
     → Precedes clock (es ++ e ∷ [])
-Precedes-push latest None es e upto turn h = tt
-Precedes-push latest (Some c) es e upto turn h = λ now p. NoneOld-push now es e (h now p) (later latest c e.1.clock now upto turn p)
+Precedes-push latest clock es e upto turn h = grind (arith, NoneOld-push, later)
 
 pub AreInTurn-push : (latest : Option Stamp) (es : List Entry) (e : Entry) → is_in_turn latest (deadline_of e.1.clock) ≡ true → AreUpTo latest es → AreInTurn es → AreInTurn (es ++ e ∷ [])
 AreInTurn-push latest [] e turn upto h = (Precedes-none e.1.clock, tt)
 AreInTurn-push latest (x ∷ es) e turn upto h = (Precedes-push latest x.1.clock es e upto.0 turn h.0, AreInTurn-push latest es e turn upto.1 h.1)
 
 IsUpTo-later : (latest d x : Option Stamp) → is_in_turn latest d ≡ true → IsUpTo x latest → IsUpTo x (latest_of latest d)
-IsUpTo-later latest None x turn h = h
-IsUpTo-later latest (Some d) None turn h = tt
-IsUpTo-later None (Some d) (Some x) turn h = absurd h
-IsUpTo-later (Some l) (Some d) (Some x) turn h = stamp_upto_trans x l d h (stamp_upto_turned d l (flipped (is_lt (stamp_cmp d l)) turn))
-  where
-    flipped : (b : Bool) → not b ≡ true → b ≡ false
-    flipped true h = sym h
-    flipped false h = refl
+IsUpTo-later latest d x turn h = grind (arith, stamp_upto_trans, stamp_upto_turned)
 
 itself : (d : Stamp) → is_gt (stamp_cmp d d) ≡ false
 itself d = ap is_gt (stamp_cmp_itself d)
 
 IsUpTo-itself : (latest d : Option Stamp) → IsUpTo d (latest_of latest d)
-IsUpTo-itself latest None = tt
-IsUpTo-itself latest (Some d) = itself d
+IsUpTo-itself latest d = grind (arith, itself)
 
 pub AreUpTo-push : (latest : Option Stamp) (es : List Entry) (e : Entry) → is_in_turn latest (deadline_of e.1.clock) ≡ true → AreUpTo latest es → AreUpTo (latest_of latest (deadline_of e.1.clock)) (es ++ e ∷ [])
 AreUpTo-push latest [] e turn h = (IsUpTo-itself latest (deadline_of e.1.clock), tt)
 AreUpTo-push latest (x ∷ es) e turn h = (IsUpTo-later latest (deadline_of e.1.clock) (deadline_of x.1.clock) turn h.0, AreUpTo-push latest es e turn h.1)
 
 pub IsDeadline-push : (deadline : Option Stamp) (es : List Entry) (e : Entry) → IsDeadline deadline es → IsDeadline (sooner deadline (deadline_of e.1.clock)) (es ++ e ∷ [])
-IsDeadline-push deadline es e h = λ now p.
-    NoneOld-push now es e (h now (sooner-first deadline (deadline_of e.1.clock) now p))
-    (sym (is_past-deadline e.1.clock now) ∙ sooner-second deadline (deadline_of e.1.clock) now p)
+IsDeadline-push deadline es e h = grind (arith, NoneOld-push, sooner-first, is_past-deadline, sooner-second)
 
 -- a group isn't too old at the clock at which it is opened
 pub new-fresh : (clock : Option Stamp) → is_too_old clock clock ≡ false
@@ -262,14 +204,11 @@ turn_behind [] left h = h
 turn_behind (e ∷ seen) left h = turn_behind seen left h.1
 
 pub none_behind : (clock now : Option Stamp) (es : List Entry) → IsSome clock → is_too_old clock now ≡ false → Precedes clock es → NoneOld now es
-none_behind None now es some fresh h = absurd (true≢false (sym some))
-none_behind (Some c) now es some fresh h = h now fresh
+none_behind clock now es some fresh h = grind arith
 
 -- where the groups are in order, none after one that isn't too old is
 pub Looked-turn : (now : Option Stamp) (es : List Entry) (e : Entry) (left : List Entry) → AreInTurn es → IsSome e.1.clock → is_too_old e.1.clock now ≡ false → Looked now es (e ∷ left) → NoneOld now es
-Looked-turn now es e left turn some fresh l =
-    let here : AreInTurn (e ∷ left) = turn_behind l.seen (e ∷ left) (subst AreInTurn l.split turn) in
-    subst (NoneOld now) (sym l.split) (NoneOld-append now l.seen (e ∷ left) l.none (fresh, none_behind e.1.clock now left some fresh here.0))
+Looked-turn now es e left turn some fresh l = grind (arith, turn_behind, NoneOld-append, none_behind)
 
 -- Where a deadline isn't past and no group of some is too old, none of the table is.
 abbrev pub Leaves : Option Stamp → List Entry → List Entry → Type 0
@@ -277,12 +216,8 @@ Leaves deadline left es = (now : Option Stamp) → is_past deadline now ≡ fals
 
 -- one more group was looked at
 pub Leaves-more : (deadline : Option Stamp) (e : Entry) (left es : List Entry) → Leaves deadline (e ∷ left) es → Leaves (sooner deadline (deadline_of e.1.clock)) left es
-Leaves-more deadline e left es h = λ now p rest.
-    h now (sooner-first deadline (deadline_of e.1.clock) now p)
-    (sym (is_past-deadline e.1.clock now) ∙ sooner-second deadline (deadline_of e.1.clock) now p, rest)
+Leaves-more deadline e left es h = grind (arith, sooner-first, is_past-deadline, sooner-second)
 
 -- where the groups are in order, no more need be
 pub Leaves-turn : (deadline : Option Stamp) (e : Entry) (left es : List Entry) → IsSome e.1.clock → AreInTurn (e ∷ left) → Leaves deadline (e ∷ left) es → IsDeadline (sooner deadline (deadline_of e.1.clock)) es
-Leaves-turn deadline e left es some turn h = λ now p.
-    let fresh : is_too_old e.1.clock now ≡ false = sym (is_past-deadline e.1.clock now) ∙ sooner-second deadline (deadline_of e.1.clock) now p in
-    h now (sooner-first deadline (deadline_of e.1.clock) now p) (fresh, none_behind e.1.clock now left some fresh turn.0)
+Leaves-turn deadline e left es some turn h = grind (arith, is_past-deadline, sooner-second, sooner-first, none_behind)

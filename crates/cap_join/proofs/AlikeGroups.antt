@@ -1,11 +1,11 @@
 -- What fragments make of the open groups, where they are alike, one by one, and their clocks are of the same times.
-use Rattle.std.proofs.Common.{◌≡◌, ℕ, ◌+◌, ◌*◌, Bool, true, false, List, [], ◌∷◌, ◌++◌, length, refl, sym, ◌∙◌, ap, cond, not, true≢false, ◌&&◌, Option, Some, None, Ordering, Equal, ℤ, pos, ◌+ℤ◌}
+use Rattle.std.proofs.Common.{arith, ◌≡◌, ℕ, ◌+◌, Bool, true, false, List, [], ◌∷◌, ◌++◌, length, refl, sym, ◌∙◌, ap, not, true≢false, ◌&&◌, Option, Some, None, Equal}
 use Rattle.std.proofs.lemmas.List.Elements.{length_all_zip, AllZip-push}
 use Rattle.std.specs.Prelude.{nat_lt, nat_le, if◌then◌else◌, filter}
 use Rattle.std.specs.List.{list_all, AllZip}
 use Rattle.std.specs.Option.{option_cmp}
-use Rattle.std.specs.Ordering.{is_lt, is_gt, int_cmp, nat_cmp, ordering_then}
-use Rattle.std.specs.Cmp.{tied_itself, alike_right, int_cmp_total, nat_cmp_total}
+use Rattle.std.specs.Ordering.{is_lt, is_gt}
+use Rattle.std.specs.Cmp.{alike_right}
 use Rattle.cap_time.specs.declared.stamps.Stamp.{Stamp}
 use Rattle.cap_time.specs.Stamp.{stamp_cmp, stamp_plus}
 use Rattle.cap_time.specs.StampLaws.{stamp_cmp-parts, same_parts}
@@ -16,19 +16,14 @@ use Rattle.cap_join.specs.EqualClocks.{IsSameTime}
 use Rattle.cap_join.specs.Fragments.{Piece}
 use Rattle.cap_join.specs.Frames.{is_before, is_too_old, wait}
 use Rattle.cap_join.specs.History.{Event, arrives, flushes, OpenGroup, State, same_key, key_of, opened, with_piece, live_at, group_at, without, extended, without_oldest, trimmed, pieces_with, opens_with, gives_up_with, state_of, step, joined_pieces}
-use Rattle.cap_join.proofs.OpenGroups.{total, filter-true, filter-false}
+use Rattle.cap_join.proofs.OpenGroups.{total}
 
 -- ---- clocks
 
 -- two times that are equal are so 30 seconds later
 plus_same : (a b : Stamp) (n : ℕ) → stamp_cmp a b ≡ Equal → stamp_cmp (stamp_plus a n) (stamp_plus b n) ≡ Equal
 unfolding stamp_plus
-plus_same a b n e =
-    let parts = same_parts a b e in
-    let first : int_cmp (a.seconds +ℤ pos n) (b.seconds +ℤ pos n) ≡ Equal =
-    ap (λ (s : ℤ). int_cmp (s +ℤ pos n) (b.seconds +ℤ pos n)) parts.0 ∙ tied_itself int_cmp_total (b.seconds +ℤ pos n) in
-    let second = ap (λ (k : ℕ). nat_cmp k (b.numerator * a.denominator)) parts.1 ∙ tied_itself nat_cmp_total (b.numerator * a.denominator) in
-    stamp_cmp-parts (stamp_plus a n) (stamp_plus b n) ∙ ap (λ (o : Ordering). ordering_then o (nat_cmp (a.numerator * b.denominator) (b.numerator * a.denominator))) first ∙ second
+plus_same a b n e = grind (arith, same_parts, stamp_cmp-parts)
 
 pub cmp_same : (a b c d : Option Stamp) → IsSameTime a b → IsSameTime c d → option_cmp stamp_cmp a c ≡ option_cmp stamp_cmp b d
 cmp_same a b c d e f = total.congr a b c e ∙ alike_right total c d b f
@@ -117,21 +112,11 @@ module _ (R : Piece → Piece → Type 0) (alike : IsAlikeness R) where
   same-filter s t same [] [] h = tt
   same-filter s t same [] (q ∷ qs) h = absurd h
   same-filter s t same (o ∷ os) [] h = absurd h
-  same-filter s t same (o ∷ os) (q ∷ qs) h = by (t q) (same o q h.0) refl (same-filter s t same os qs h.1)
-    where
-      by : (b : Bool) → s o ≡ t q → t q ≡ b → Same R (filter s os) (filter t qs) → Same R (filter s (o ∷ os)) (filter t (q ∷ qs))
-      by true e f rest = rw (filter-true s o os (e ∙ f), filter-true t q qs f) ((h.0, rest))
-      by false e f rest = rw (filter-false s o os (e ∙ f), filter-false t q qs f) rest
+  same-filter s t same (o ∷ os) (q ∷ qs) h = grind (arith, same-filter s t same os qs h.1)
 
   with_same : (p r : Piece) → R p r → (o q : OpenGroup) → IsSameGroup R o q
       → IsSameGroup R (if same_key (key_of p) o.key then with_piece p o else o) (if same_key (key_of r) q.key then with_piece r q else q)
-  with_same p r l o q s = by (same_key (key_of p) o.key) (same_key (key_of r) q.key) (λ i. same_key (same-key p r l i) (s.key i))
-    where
-      by : (b c : Bool) → b ≡ c → IsSameGroup R (if b then with_piece p o else o) (if c then with_piece r q else q)
-      by true true e = record { key = s.key; clock = s.clock; place = s.place; pieces = (l, s.pieces) }
-      by true false e = absurd (true≢false e)
-      by false true e = absurd (true≢false (sym e))
-      by false false e = s
+  with_same p r l o q s = grind arith
 
   same-extended : (p r : Piece) → R p r → (os qs : List OpenGroup) → Same R os qs → Same R (extended p os) (extended r qs)
   same-extended p r l [] [] h = tt
@@ -143,14 +128,7 @@ module _ (R : Piece → Piece → Type 0) (alike : IsAlikeness R) where
   same-found key other f [] [] h = tt
   same-found key other f [] (q ∷ qs) h = absurd h
   same-found key other f (o ∷ os) [] h = absurd h
-  same-found key other f (o ∷ os) (q ∷ qs) h =
-      by (same_key key o.key) (same_key other q.key) (λ i. same_key (f i) (h.0.key i)) (same-found key other f os qs h.1)
-    where
-      by : (b c : Bool) → b ≡ c → SameOption R (group_at key os) (group_at other qs) → SameOption R (cond b (Some o) (group_at key os)) (cond c (Some q) (group_at other qs))
-      by true true e rest = h.0
-      by true false e rest = absurd (true≢false e)
-      by false true e rest = absurd (true≢false (sym e))
-      by false false e rest = rest
+  same-found key other f (o ∷ os) (q ∷ qs) h = grind (arith, same-found key other f os qs h.1)
 
   lowest-same : (n : ℕ) (os qs : List OpenGroup) → Same R os qs → list_all (λ q. nat_le n q.place) os ≡ list_all (λ q. nat_le n q.place) qs
   lowest-same n [] [] h = refl
@@ -173,8 +151,7 @@ module _ (R : Piece → Piece → Type 0) (alike : IsAlikeness R) where
   same-without key other e os qs h = same-filter (λ o. not (same_key key o.key)) (λ o. not (same_key other o.key)) (λ o q s. λ i. not (same_key (e i) (s.key i))) os qs h
 
   same-live : (c d : Option Stamp) (os qs : List OpenGroup) → IsSameTime c d → Same R os qs → Same R (live_at c os) (live_at d qs)
-  same-live c d os qs e h =
-      same-filter (λ o. not (is_too_old o.clock c)) (λ o. not (is_too_old o.clock d)) (λ o q s. ap not (old_same o.clock q.clock c d s.clock e)) os qs h
+  same-live c d os qs e h = grind (arith, same-filter, old_same)
 
   same-step : (limit : ℕ) (c d : Option Stamp) (p r : Piece) (os qs : List OpenGroup) → IsSameTime c d → R p r → Same R os qs → (g k : Option OpenGroup) → SameOption R g k
       → SameStep R limit c d p r os qs g k
@@ -240,24 +217,14 @@ module _ (R : Piece → Piece → Type 0) (alike : IsAlikeness R) where
   same-joined limit es fs h c d p q e l = (arrival_same limit c d p q (state_of limit es) (state_of limit fs) e l (same-state limit es fs h)).joined
 
   pub if_complete-alike : (ps qs : List Piece) → AllZip R ps qs → AllZip (AllZip R) (if_complete ps) (if_complete qs)
-  if_complete-alike ps qs h = by (completes ps) (completes qs) (alike.completes ps qs h)
-    where
-      by : (b c : Bool) → b ≡ c → AllZip (AllZip R) (if b then ps ∷ [] else []) (if c then qs ∷ [] else [])
-      by true true e = (h, tt)
-      by true false e = absurd (true≢false e)
-      by false true e = absurd (true≢false (sym e))
-      by false false e = tt
+  if_complete-alike ps qs h = grind arith
 
   same-completed : (limit : ℕ) (es fs : List Event) → AllZip (IsAlikeEvent R) es fs → AllZip (AllZip R) (completed_of limit es) (completed_of limit fs)
   unfolding completed_of
   same-completed limit [] [] h = tt
   same-completed limit [] (f ∷ fs) h = absurd h
   same-completed limit (e ∷ es) [] h = absurd h
-  same-completed limit (arrives c p ∷ es) (arrives d q ∷ fs) h =
-      let ps = joined_pieces c p (state_of limit es) in
-      let qs = joined_pieces d q (state_of limit fs) in
-      zip-both (AllZip R) (if_complete ps) (if_complete qs) (completed_of limit es) (completed_of limit fs)
-      (if_complete-alike ps qs (same-joined limit es fs h.1 c d p q h.0.0 h.0.1)) (same-completed limit es fs h.1)
+  same-completed limit (arrives c p ∷ es) (arrives d q ∷ fs) h = search (same-completed limit es fs h.1, zip-both, if_complete-alike, same-joined)
   same-completed limit (arrives c p ∷ es) (flushes key ∷ fs) h = absurd h.0
   same-completed limit (flushes key ∷ es) (arrives d q ∷ fs) h = absurd h.0
   same-completed limit (flushes key ∷ es) (flushes k ∷ fs) h = same-completed limit es fs h.1

@@ -8,10 +8,10 @@ use Rattle.cap_join.specs.Fragments.{Piece}
 use Rattle.cap_join.specs.ByteMap.{completes}
 use Rattle.cap_join.specs.Frames.{is_before, is_too_old}
 use Rattle.cap_join.specs.History.{Event, arrives, flushes, OpenGroup, State, same_key, key_of, opened, with_piece, live_at, group_at, without, extended, trimmed, pieces_with, opens_with, gives_up_with, state_of, step, joined_pieces}
-use Rattle.cap_join.specs.Places.{Mark, fragment, whole, unless_given, goes_on, group_by, first_at, going_on, open_before, lowest, given_up_at, mark_of, marks, one_if, times_given_up, latest_clock, next_place, AreInOrder, Agree}
+use Rattle.cap_join.specs.Places.{Mark, fragment, whole, unless_given, goes_on, group_by, first_at, going_on, lowest, given_up_at, mark_of, marks, one_if, times_given_up, latest_clock, next_place, AreInOrder, Agree}
 use Rattle.cap_join.proofs.Entries.{same_key-is, group_at-live}
 use Rattle.cap_join.proofs.Steps.{live_at-extended, group_at-extended}
-use Rattle.cap_join.proofs.OpenGroups.{before_later, same_key-sym, filter-push, filter-true, filter-false, filter-commute, live_at-later, found_step, group_at-filter-none, group_at-without-same, group_at-without-other, group_at-extended-other, group_at-extended-none, group_at-push-none, group_at-push-other, IsApart, Up, apart-filter, Up-wider, up-filter, apart-extended, up-extended, apart-push, up-push, up-found, group_at-live-old, gone, but_gone, but_none, trimmed-but, given_some}
+use Rattle.cap_join.proofs.OpenGroups.{before_later, same_key-sym, filter-push, filter-commute, live_at-later, found_step, group_at-filter-none, group_at-without-same, group_at-without-other, group_at-extended-other, group_at-extended-none, group_at-push-none, group_at-push-other, IsApart, Up, apart-filter, Up-wider, up-filter, apart-extended, up-extended, apart-push, up-push, up-found, group_at-live-old, gone, but_gone, but_none, trimmed-but, given_some}
 
 -- ---- what goes on
 
@@ -20,42 +20,9 @@ live_option now None = None
 live_option now (Some g) = if is_too_old g.clock now then None else Some g
 
 goes_on-key : (key : Key) (ms : List Mark) (g : OpenGroup) → goes_on key ms ≡ Some g → key ≡ g.key
-goes_on-key key [] g h = absurd (clash h)
-  where
-    clash : None ≡ Some g → ⊥
-    clash e = cc
-goes_on-key key (whole k ∷ ms) g h = by (same_key key k) h (goes_on-key key ms g)
-  where
-    by : (b : Bool) → (if b then None else goes_on key ms) ≡ Some g → (goes_on key ms ≡ Some g → key ≡ g.key) → key ≡ g.key
-    by true n rest = absurd (clash n)
-      where
-        clash : None ≡ Some g → ⊥
-        clash e = cc
-    by false n rest = rest n
-goes_on-key key (fragment own q gave ∷ ms) g h = by (same_key key q.key) refl h (goes_on-key key ms g)
-  where
-    kept : (gave : Option ℕ) (o : Option OpenGroup) → unless_given gave o ≡ Some g → o ≡ Some g
-    kept None o e = e
-    kept (Some place) None e = e
-    kept (Some place) (Some x) e = test (x.place == place) e
-      where
-        test : (b : Bool) → (if b then None else Some x) ≡ Some g → Some x ≡ Some g
-        test true e = absurd (clash e)
-          where
-            clash : None ≡ Some g → ⊥
-            clash e = cc
-        test false e = e
-
-    by : (b : Bool) → same_key key q.key ≡ b → (if b then (if completes q.pieces then None else Some q) else unless_given gave (goes_on key ms)) ≡ Some g → (goes_on key ms ≡ Some g → key ≡ g.key) → key ≡ g.key
-    by true b n rest = inner (completes q.pieces) n
-      where
-        inner : (c : Bool) → (if c then None else Some q) ≡ Some g → key ≡ g.key
-        inner true e = absurd (clash e)
-          where
-            clash : None ≡ Some g → ⊥
-            clash e = cc
-        inner false e = let same : q ≡ g = cc in same_key-is key q.key b ∙ ap (λ (x : OpenGroup). x.key) same
-    by false b n rest = rest (kept gave (goes_on key ms) n)
+goes_on-key key [] g h = cc
+goes_on-key key (whole k ∷ ms) g h = grind (arith, goes_on-key key ms g)
+goes_on-key key (fragment own q gave ∷ ms) g h = grind (arith, goes_on-key key ms g)
 
 abbrev pub AreBelow : ℕ → List Mark → Type 0
 AreBelow n [] = Unit {0}
@@ -73,61 +40,19 @@ module _ (change : List OpenGroup → List OpenGroup) (none : change [] ≡ []) 
   pub going_on-change : (ms : List Mark) → AreBelow n ms → going_on new ms ≡ change (going_on old ms)
   going_on-change [] h = sym none
   going_on-change (whole k ∷ ms) h = going_on-change ms h
-  going_on-change (fragment own g gave ∷ ms) h =
-      ap (λ (l : List OpenGroup). l ++ (if g.place == own then first_at own (goes_on g.key new) else [])) (going_on-change ms h.1)
-      ∙ ap (λ (l : List OpenGroup). change (going_on old ms) ++ l) (by (g.place == own))
-      ∙ sym (each (going_on old ms) (if g.place == own then first_at own (goes_on g.key old) else []))
-    where
-      by : (b : Bool) → (if b then first_at own (goes_on g.key new) else []) ≡ change (if b then first_at own (goes_on g.key old) else [])
-      by true = one own g.key h.0
-      by false = sym none
+  going_on-change (fragment own g gave ∷ ms) h = grind (arith, going_on-change ms h.1)
 
 -- ---- what a mark makes of a key's group
 
 one_flush : (own : ℕ) (key k : Key) (o : Option OpenGroup) → ((g : OpenGroup) → o ≡ Some g → key ≡ g.key) → first_at own (if same_key key k then None else o) ≡ without k (first_at own o)
-one_flush own key k None keyed = by (same_key key k)
-  where
-    by : (b : Bool) → first_at own (if b then None else None) ≡ []
-    by true = refl
-    by false = refl
-one_flush own key k (Some g) keyed = by (same_key key k) (same_key-sym k g.key ∙ ap (λ (x : Key). same_key x k) (sym (keyed g refl))) (g.place == own)
-  where
-    by : (b : Bool) → same_key k g.key ≡ b → (c : Bool) → first_at own (if b then None else Some g) ≡ without k (first_at own (Some g))
-    by true e c = sym (gone_now (g.place == own))
-      where
-        gone_now : (c : Bool) → without k (if c then g ∷ [] else []) ≡ []
-        gone_now true = filter-false (λ o. not (same_key k o.key)) g [] (ap not e)
-        gone_now false = refl
-    by false e c = sym (kept_now (g.place == own))
-      where
-        kept_now : (c : Bool) → without k (if c then g ∷ [] else []) ≡ (if c then g ∷ [] else [])
-        kept_now true = filter-true (λ o. not (same_key k o.key)) g [] (ap not e)
-        kept_now false = refl
+one_flush own key k o keyed = grind arith
 
 -- a key's group is without the groups of another key, and is none without its own
 first_without : (own : ℕ) (k : Key) (g : OpenGroup) (b : Bool) → same_key k g.key ≡ b → without k (first_at own (Some g)) ≡ (if b then [] else first_at own (Some g))
-first_without own k g true e = by (g.place == own)
-  where
-    by : (c : Bool) → without k (if c then g ∷ [] else []) ≡ []
-    by true = filter-false (λ o. not (same_key k o.key)) g [] (ap not e)
-    by false = refl
-first_without own k g false e = by (g.place == own)
-  where
-    by : (c : Bool) → without k (if c then g ∷ [] else []) ≡ (if c then g ∷ [] else [])
-    by true = filter-true (λ o. not (same_key k o.key)) g [] (ap not e)
-    by false = refl
+first_without own k g b e = grind arith
 
 first_extended : (own : ℕ) (p : Piece) (g : OpenGroup) (b : Bool) → same_key (key_of p) g.key ≡ b → extended p (first_at own (Some g)) ≡ first_at own (Some (if b then with_piece p g else g))
-first_extended own p g true e = by (g.place == own)
-  where
-    by : (c : Bool) → extended p (if c then g ∷ [] else []) ≡ (if c then with_piece p g ∷ [] else [])
-    by true = ap (λ (b : Bool). (if b then with_piece p g else g) ∷ []) e
-    by false = refl
-first_extended own p g false e = by (g.place == own)
-  where
-    by : (c : Bool) → extended p (if c then g ∷ [] else []) ≡ (if c then g ∷ [] else [])
-    by true = ap (λ (b : Bool). (if b then with_piece p g else g) ∷ []) e
-    by false = refl
+first_extended own p g b e = grind arith
 
 other_key : (key k : Key) (b : Bool) (g : OpenGroup) → key ≡ g.key → same_key key k ≡ b → same_key k g.key ≡ b
 other_key key k b g e h = same_key-sym k g.key ∙ ap (λ (x : Key). same_key x k) (sym e) ∙ h
@@ -138,20 +63,7 @@ module _ (p : Piece) (o : OpenGroup) (ms : List Mark) (mine : o.key ≡ key_of p
   here key e = ap (λ (k : Key). goes_on k ms) (same_key-is key o.key e ∙ mine) ∙ on
 
   self : same_key (key_of p) o.key ≡ true
-  self = group_self (goes_on-key (key_of p) ms o on)
-    where
-      reflexive : (k : Key) (b : Bool) → same_key k k ≡ b → same_key k k ≡ true
-      reflexive k true e = e
-      reflexive k false e = absurd (true≢false (sym (same k) ∙ e))
-        where
-          one : (x : ℕ) → (x == x) ≡ true
-          one x = grind (arith, nat_tests)
-
-          same : (k : Key) → same_key k k ≡ true
-          same k = λ i. one k.source i && (one k.destination i && (one k.protocol i && one k.identification i))
-
-      group_self : key_of p ≡ o.key → same_key (key_of p) o.key ≡ true
-      group_self e = ap (same_key (key_of p)) (sym e) ∙ reflexive (key_of p) (same_key (key_of p) (key_of p)) refl
+  self = grind arith
 
   one_more : completes (p ∷ o.pieces) ≡ false → (own : ℕ) (key : Key) → own < n → first_at own (goes_on key (fragment n (with_piece p o) None ∷ ms)) ≡ extended p (first_at own (goes_on key ms))
   one_more done own key lt = by (same_key key o.key) refl
@@ -189,20 +101,7 @@ but_push : (gave : Option ℕ) (xs ys : List OpenGroup) → but_gone gave (xs ++
 but_push gave xs ys = filter-push (λ o. not (gone gave o.place)) xs ys
 
 first_but : (own : ℕ) (gave : Option ℕ) (g : OpenGroup) → first_at own (unless_given gave (Some g)) ≡ but_gone gave (first_at own (Some g))
-first_but own None g = sym (but_none (first_at own (Some g)))
-first_but own (Some place) g = by (g.place == place) refl (g.place == own)
-  where
-    by : (b : Bool) → (g.place == place) ≡ b → (c : Bool) → first_at own (if b then None else Some g) ≡ but_gone (Some place) (first_at own (Some g))
-    by true e c = sym (out (g.place == own))
-      where
-        out : (c : Bool) → but_gone (Some place) (if c then g ∷ [] else []) ≡ []
-        out true = filter-false (λ o. not (gone (Some place) o.place)) g [] (ap not e)
-        out false = refl
-    by false e c = sym (stay (g.place == own))
-      where
-        stay : (c : Bool) → but_gone (Some place) (if c then g ∷ [] else []) ≡ (if c then g ∷ [] else [])
-        stay true = filter-true (λ o. not (gone (Some place) o.place)) g [] (ap not e)
-        stay false = refl
+first_but own gave g = grind arith
 
 -- a fragment that opens a group
 one_opened : (clock : Option Stamp) (p : Piece) (gave : Option ℕ) (ms : List Mark) → completes (p ∷ []) ≡ false → (own : ℕ) (key : Key) → own < p.stamped.place
@@ -229,8 +128,7 @@ one_opened clock p gave ms done own key lt = by (same_key key (key_of p)) refl
         ∙ rest (goes_on key ms) refl
       where
         empty : (gave : Option ℕ) → first_at own (unless_given gave None) ≡ []
-        empty None = refl
-        empty (Some place) = refl
+        empty gave' = grind arith
 
         rest : (x : Option OpenGroup) → goes_on key ms ≡ x → first_at own (unless_given gave x) ≡ but_gone gave (without (key_of p) (first_at own x))
         rest None is = empty gave
@@ -240,46 +138,14 @@ one_opened clock p gave ms done own key lt = by (same_key key (key_of p)) refl
 but_found : (key : Key) (gave : Option ℕ) (os : List OpenGroup) → IsApart os → group_at key (but_gone gave os) ≡ unless_given gave (group_at key os)
 but_found key None os a = ap (group_at key) (but_none os)
 but_found key (Some place) [] a = refl
-but_found key (Some place) (o ∷ os) a = by (same_key key o.key) refl (o.place == place) refl (but_found key (Some place) os a.1)
-  where
-    t : OpenGroup → Bool
-    t g = not (gone (Some place) g.place)
-
-    by : (b : Bool) → same_key key o.key ≡ b → (c : Bool) → (o.place == place) ≡ c → group_at key (but_gone (Some place) os) ≡ unless_given (Some place) (group_at key os)
-        → group_at key (but_gone (Some place) (o ∷ os)) ≡ unless_given (Some place) (group_at key (o ∷ os))
-    by true b true c rest =
-        ap (group_at key) (filter-false (λ g. not (gone (Some place) g.place)) o os (ap not c))
-        ∙ group_at-filter-none key (λ g. not (gone (Some place) g.place)) os (subst (λ (k : Key). group_at k os ≡ None) (sym (same_key-is key o.key b)) a.0)
-        ∙ sym (ap (unless_given (Some place)) (found_step key o os true b) ∙ ap (λ (x : Bool). if x then None else Some o) c)
-    by true b false c rest =
-        ap (group_at key) (filter-true (λ g. not (gone (Some place) g.place)) o os (ap not c)) ∙ found_step key o (but_gone (Some place) os) true b
-        ∙ sym (ap (unless_given (Some place)) (found_step key o os true b) ∙ ap (λ (x : Bool). if x then None else Some o) c)
-    by false b true c rest = ap (group_at key) (filter-false (λ g. not (gone (Some place) g.place)) o os (ap not c)) ∙ rest ∙ sym (ap (unless_given (Some place)) (found_step key o os false b))
-    by false b false c rest =
-        ap (group_at key) (filter-true (λ g. not (gone (Some place) g.place)) o os (ap not c)) ∙ found_step key o (but_gone (Some place) os) false b ∙ rest
-        ∙ sym (ap (unless_given (Some place)) (found_step key o os false b))
+but_found key (Some place) (o ∷ os) a = grind (arith, but_found key (Some place) os a.1)
 
 unless_live : (gave : Option ℕ) (now : Option Stamp) (x : Option OpenGroup) → unless_given gave (live_option now x) ≡ live_option now (unless_given gave x)
-unless_live None now x = refl
-unless_live (Some place) now None = refl
-unless_live (Some place) now (Some g) = by (is_too_old g.clock now) refl (g.place == place) refl
-  where
-    by : (b : Bool) → is_too_old g.clock now ≡ b → (c : Bool) → (g.place == place) ≡ c → unless_given (Some place) (if b then None else Some g) ≡ live_option now (if c then None else Some g)
-    by true b true c = refl
-    by true b false c = sym (ap (λ (x : Bool). if x then None else Some g) b)
-    by false b true c = ap (λ (x : Bool). if x then None else Some g) c
-    by false b false c = ap (λ (x : Bool). if x then None else Some g) c ∙ sym (ap (λ (x : Bool). if x then None else Some g) b)
+unless_live gave now x = grind arith
 
 without_absent : (key : Key) (os : List OpenGroup) → group_at key os ≡ None → without key os ≡ os
 without_absent key [] h = refl
-without_absent key (o ∷ os) h = by (same_key key o.key) refl h (without_absent key os)
-  where
-    by : (b : Bool) → same_key key o.key ≡ b → cond b (Some o) (group_at key os) ≡ None → (group_at key os ≡ None → without key os ≡ os) → without key (o ∷ os) ≡ o ∷ os
-    by true b n rest = absurd (clash n)
-      where
-        clash : Some o ≡ None → ⊥
-        clash e = cc
-    by false b n rest = filter-true (λ o. not (same_key key o.key)) o os (ap not b) ∙ ap (λ (l : List OpenGroup). o ∷ l) (rest n)
+without_absent key (o ∷ os) h = grind (arith, without_absent key os)
 
 append_none : (os : List OpenGroup) → os ++ [] ≡ os
 append_none [] = refl
@@ -333,8 +199,7 @@ module _ (s : State) (ms : List Mark) (c : Option Stamp) (n : ℕ) (h : Holds s 
 
       found : (key : Key) (now : Option Stamp) → is_before now c ≡ false → (b : Bool) → same_key key k ≡ b
           → group_at key (without k (live_at now s.opens)) ≡ live_option now (if same_key key k then None else goes_on key ms)
-      found key now late true e = group_at-without-same key k (live_at now s.opens) e ∙ sym (ap (λ (b : Bool). live_option now (if b then None else goes_on key ms)) e)
-      found key now late false e = group_at-without-other key k (live_at now s.opens) e ∙ h.goes key now late ∙ sym (ap (λ (b : Bool). live_option now (if b then None else goes_on key ms)) e)
+      found key now late b e = grind (arith, group_at-without-same, goes_on, group_at-without-other)
 
   -- a fragment at a clock that isn't below the latest
   module _ (clock : Option Stamp) (p : Piece) (later : is_before clock c ≡ false) (place : n ≤ p.stamped.place) where
@@ -384,18 +249,7 @@ module _ (s : State) (ms : List Mark) (c : Option Stamp) (n : ℕ) (h : Holds s 
 
         found : (key : Key) (now : Option Stamp) → is_before now clock ≡ false → (b : Bool) → same_key key (key_of p) ≡ b → (t : Bool) → is_too_old clock now ≡ t
             → group_at key (but_gone gave (live_at now s.opens) ++ live_at now (opened clock p ∷ [])) ≡ live_option now (goes_on key (fragment p.stamped.place (opened clock p) gave ∷ ms))
-        found key now late true e t old =
-            ap (λ (l : List OpenGroup). group_at key (but_gone gave (live_at now s.opens) ++ l)) (ap (λ (b : Bool). cond (not b) (opened clock p ∷ []) []) old)
-            ∙ both t
-            ∙ sym (ap (λ (b : Bool). live_option now (if b then (if completes (p ∷ []) then None else Some (opened clock p)) else unless_given gave (goes_on key ms))) e
-            ∙ ap (λ (b : Bool). live_option now (if b then None else Some (opened clock p))) alone ∙ ap (λ (b : Bool). if b then None else Some (opened clock p)) old)
-          where
-            gone_before : group_at key (but_gone gave (live_at now s.opens)) ≡ None
-            gone_before = subst (λ (k : Key). group_at k (but_gone gave (live_at now s.opens)) ≡ None) (sym (same_key-is key (key_of p) e)) (absent_now now late)
-
-            both : (t : Bool) → group_at key (but_gone gave (live_at now s.opens) ++ cond (not t) (opened clock p ∷ []) []) ≡ (if t then None else Some (opened clock p))
-            both true = ap (group_at key) (append_none (but_gone gave (live_at now s.opens))) ∙ gone_before
-            both false = group_at-push-none key (opened clock p) (but_gone gave (live_at now s.opens)) gone_before ∙ found_step key (opened clock p) [] true e
+        found key now late true e t old = grind (arith, but_gone, goes_on, same_key-is, absent_now, append_none, group_at-push-none, found_step)
         found key now late false e t old =
             ap (λ (l : List OpenGroup). group_at key (but_gone gave (live_at now s.opens) ++ l)) (ap (λ (b : Bool). cond (not b) (opened clock p ∷ []) []) old)
             ∙ both t
@@ -404,8 +258,7 @@ module _ (s : State) (ms : List Mark) (c : Option Stamp) (n : ℕ) (h : Holds s 
             ∙ sym (ap (λ (b : Bool). live_option now (if b then (if completes (p ∷ []) then None else Some (opened clock p)) else unless_given gave (goes_on key ms))) e)
           where
             both : (t : Bool) → group_at key (but_gone gave (live_at now s.opens) ++ cond (not t) (opened clock p ∷ []) []) ≡ group_at key (but_gone gave (live_at now s.opens))
-            both true = ap (group_at key) (append_none (but_gone gave (live_at now s.opens)))
-            both false = group_at-push-other key (opened clock p) (but_gone gave (live_at now s.opens)) e
+            both t' = grind (arith, append_none, but_gone, group_at-push-other)
 
         -- by places: the groups before, and this one
         changed : going_on (fragment p.stamped.place (opened clock p) gave ∷ ms) ms ≡ but_gone gave (without (key_of p) (going_on ms ms))
@@ -415,20 +268,10 @@ module _ (s : State) (ms : List Mark) (c : Option Stamp) (n : ℕ) (h : Holds s 
             (λ own key lt. one_opened clock p gave ms alone own key (omega arith)) ms h.below
 
         own_key : same_key (key_of p) (key_of p) ≡ true
-        own_key = (let one : (x : ℕ) → (x == x) ≡ true = itself in λ i. one (key_of p).source i && (one (key_of p).destination i && (one (key_of p).protocol i && one (key_of p).identification i)))
-          where
-            itself : (x : ℕ) → (x == x) ≡ true
-            itself x = grind (arith, nat_tests)
+        own_key = grind arith
 
         newest : (if p.stamped.place == p.stamped.place then first_at p.stamped.place (goes_on (key_of p) (fragment p.stamped.place (opened clock p) gave ∷ ms)) else []) ≡ opened clock p ∷ []
-        newest =
-            ap (λ (b : Bool). if b then first_at p.stamped.place (goes_on (key_of p) (fragment p.stamped.place (opened clock p) gave ∷ ms)) else []) place_itself
-            ∙ ap (λ (b : Bool). first_at p.stamped.place (if b then (if completes (p ∷ []) then None else Some (opened clock p)) else unless_given gave (goes_on (key_of p) ms))) own_key
-            ∙ ap (λ (b : Bool). first_at p.stamped.place (if b then None else Some (opened clock p))) alone
-            ∙ ap (λ (b : Bool). if b then opened clock p ∷ [] else []) place_itself
-          where
-            place_itself : (p.stamped.place == p.stamped.place) ≡ true
-            place_itself = grind (arith, nat_tests)
+        newest = grind arith
 
         rest_among : (now : Option Stamp) → is_before now clock ≡ false → live_at now (but_gone gave (live_at clock s.opens)) ≡ live_at now (but_gone gave (without (key_of p) (going_on ms ms)))
         rest_among now late =
@@ -476,10 +319,7 @@ module _ (s : State) (ms : List Mark) (c : Option Stamp) (n : ℕ) (h : Holds s 
 
           by : (key : Key) (now : Option Stamp) → is_before now clock ≡ false → (b : Bool) → same_key key o.key ≡ b
               → group_at key (without (key_of p) (live_at now s.opens)) ≡ live_option now (goes_on key (fragment p.stamped.place (with_piece p o) None ∷ ms))
-          by key now late true e =
-              group_at-without-same key (key_of p) (live_at now s.opens) (ap (same_key key) (sym mine) ∙ e)
-              ∙ sym (ap (λ (b : Bool). live_option now (if b then (if completes (p ∷ o.pieces) then None else Some (with_piece p o)) else unless_given None (goes_on key ms))) e
-              ∙ ap (λ (b : Bool). live_option now (if b then None else Some (with_piece p o))) done)
+          by key now late true e = grind (arith, group_at-without-same, mine, goes_on)
           by key now late false e =
               group_at-without-other key (key_of p) (live_at now s.opens) (ap (same_key key) (sym mine) ∙ e) ∙ h.goes key now (after now late)
               ∙ sym (ap (λ (b : Bool). live_option now (if b then (if completes (p ∷ o.pieces) then None else Some (with_piece p o)) else unless_given None (goes_on key ms))) e)
@@ -558,32 +398,7 @@ module _ (s : State) (ms : List Mark) (c : Option Stamp) (n : ℕ) (h : Holds s 
           opens = opens_with limit clock p (group_at (key_of p) (live_at clock s.opens)) (live_at clock s.opens);
           given_up = s.given_up + (if gives_up_with limit p (group_at (key_of p) (live_at clock s.opens)) (live_at clock s.opens) then 1 else 0);
         }) (mark_of limit clock p ms ∷ ms) clock (p.stamped.place + 1)
-    arrives_more limit o on found fresh =
-        let group : group_by clock p (goes_on (key_of p) ms) ≡ with_piece p o =
-        ap (group_by clock p) on ∙ ap (λ (b : Bool). if b then opened clock p else with_piece p o) fresh in
-        let mark_is : fragment p.stamped.place (with_piece p o) None ≡ mark_of limit clock p ms =
-        sym (ap (λ (g : OpenGroup). fragment p.stamped.place g (given_up_at limit p.stamped.place g (open_before clock ms))) group
-        ∙ ap (λ (b : Bool). fragment p.stamped.place (with_piece p o) (if b && not (nat_lt (length (open_before clock ms)) limit) then lowest (open_before clock ms) else None)) (not_first o on found)) in
-        let count_is : 0 ≡ as_number (gives_up_with limit p (group_at (key_of p) (live_at clock s.opens)) (live_at clock s.opens)) =
-        sym (ap (λ (x : Option OpenGroup). as_number (gives_up_with limit p x (live_at clock s.opens))) found) in
-        let opens_is : (if completes (p ∷ o.pieces) then without (key_of p) (live_at clock s.opens) else extended p (live_at clock s.opens)) ≡ opens_with limit clock p (group_at (key_of p) (live_at clock s.opens)) (live_at clock s.opens) =
-        sym (ap (λ (x : Option OpenGroup). opens_with limit clock p x (live_at clock s.opens)) found) in
-        subst (λ (m : Mark). Holds (record {
-          opens = opens_with limit clock p (group_at (key_of p) (live_at clock s.opens)) (live_at clock s.opens);
-          given_up = s.given_up + as_number (gives_up_with limit p (group_at (key_of p) (live_at clock s.opens)) (live_at clock s.opens));
-        }) (m ∷ ms) clock (p.stamped.place + 1)) mark_is
-        (subst (λ (x : ℕ). Holds (record { opens = opens_with limit clock p (group_at (key_of p) (live_at clock s.opens)) (live_at clock s.opens); given_up = s.given_up + x })
-        (fragment p.stamped.place (with_piece p o) None ∷ ms) clock (p.stamped.place + 1)) count_is
-        (subst (λ (l : List OpenGroup). Holds (record { opens = l; given_up = s.given_up + 0 }) (fragment p.stamped.place (with_piece p o) None ∷ ms) clock (p.stamped.place + 1)) opens_is
-        (by (completes (p ∷ o.pieces)) refl)))
-      where
-        by : (b : Bool) → completes (p ∷ o.pieces) ≡ b
-            → Holds (record { opens = if completes (p ∷ o.pieces) then without (key_of p) (live_at clock s.opens) else extended p (live_at clock s.opens); given_up = s.given_up + 0 })
-            (fragment p.stamped.place (with_piece p o) None ∷ ms) clock (p.stamped.place + 1)
-        by true e = subst (λ (b : Bool). Holds (record { opens = if b then without (key_of p) (live_at clock s.opens) else extended p (live_at clock s.opens); given_up = s.given_up + 0 })
-            (fragment p.stamped.place (with_piece p o) None ∷ ms) clock (p.stamped.place + 1)) (sym e) (Holds-done o on found e)
-        by false e = subst (λ (b : Bool). Holds (record { opens = if b then without (key_of p) (live_at clock s.opens) else extended p (live_at clock s.opens); given_up = s.given_up + 0 })
-            (fragment p.stamped.place (with_piece p o) None ∷ ms) clock (p.stamped.place + 1)) (sym e) (Holds-more o on found e)
+    arrives_more limit o on found fresh = grind (arith, goes_on, lowest, not_first, Holds-done, Holds-more)
 
     Holds-arrives : (limit : ℕ) → 0 < limit → completes (p ∷ []) ≡ false
         → Holds (record {
@@ -605,27 +420,17 @@ module _ (s : State) (ms : List Mark) (c : Option Stamp) (n : ℕ) (h : Holds s 
                   opens = opens_with limit clock p (group_at (key_of p) (live_at clock s.opens)) (live_at clock s.opens);
                   given_up = s.given_up + (if gives_up_with limit p (group_at (key_of p) (live_at clock s.opens)) (live_at clock s.opens) then 1 else 0);
                 }) (mark_of limit clock p ms ∷ ms) clock (p.stamped.place + 1)
-            aged true t =
-                arrives_new limit some alone (h.goes (key_of p) clock later ∙ ap (live_option clock) on ∙ ap (λ (b : Bool). if b then None else Some o) t)
-                (ap (group_by clock p) on ∙ ap (λ (b : Bool). if b then opened clock p else with_piece p o) t)
-            aged false t = arrives_more limit o on (h.goes (key_of p) clock later ∙ ap (live_option clock) on ∙ ap (λ (b : Bool). if b then None else Some o) t) t
+            aged t' t = grind (arith, arrives_new, arrives_more)
 
 -- after any events in order
 pub holds : (limit : ℕ) (es : List Event) → 0 < limit → AreInOrder es → Holds (state_of limit es) (marks limit es) (latest_clock es) (next_place es)
 unfolding state_of step
 holds limit [] some order = Holds-none
-holds limit (arrives clock p ∷ es) some order =
-    Holds-arrives (state_of limit es) (marks limit es) (latest_clock es) (next_place es) (holds limit es some order.3) clock p order.0 order.1 limit some order.2
-holds limit (flushes key ∷ es) some order =
-    Holds-flush (state_of limit es) (marks limit es) (latest_clock es) (next_place es) (holds limit es some order) key
+holds limit (arrives clock p ∷ es) some order = search (holds limit es some order.3, Holds-arrives)
+holds limit (flushes key ∷ es) some order = search (holds limit es some order, Holds-flush)
 
 same_pieces : (clock : Option Stamp) (p : Piece) (x : Option OpenGroup) → pieces_with p (live_option clock x) ≡ (group_by clock p x).pieces
-same_pieces clock p None = refl
-same_pieces clock p (Some o) = by (is_too_old o.clock clock)
-  where
-    by : (t : Bool) → pieces_with p (if t then None else Some o) ≡ (if t then opened clock p else with_piece p o).pieces
-    by true = refl
-    by false = refl
+same_pieces clock p x = grind arith
 
 pub agree : (limit : ℕ) (es : List Event) → 0 < limit → AreInOrder es → Agree limit es
 unfolding joined_pieces

@@ -1,30 +1,16 @@
 -- The cursor of a chain of holes, which is one of them.
-use Rattle.std.proofs.Common.{◌≡◌, ℕ, ◌+◌, ◌<◌, ◌≤◌, List, [], ◌∷◌, length, refl, sym, ◌∙◌, ap, subst, arith, inl, inr}
+use Rattle.std.proofs.Common.{◌≡◌, ℕ, ◌+◌, ◌<◌, ◌≤◌, List, [], ◌∷◌, length, refl, sym, ◌∙◌, subst, arith, inl, inr}
 use Rattle.std.specs.Prelude.{slice_index}
 use Rattle.cap_join.specs.Holes.{Span, no_hole, word_at, IsChain, HasHoles, Begins, HasCursor, IsBefore, ChangesWithin, Punched}
-use Rattle.cap_join.proofs.Chains.{IsHole-block}
 use Rattle.cap_join.proofs.Growing.{IsChain-apart, IsChain-front}
 use Rattle.cap_join.proofs.Mapping.{outside_after}
 
 -- bytes have one chain at most from a place on
 pub IsChain-unique : (xs : List ℕ) (low lower high higher at : ℕ) (ss ts : List Span) → high < no_hole → higher < no_hole → IsChain xs low high at ss → IsChain xs lower higher at ts → ss ≡ ts
 IsChain-unique xs low lower high higher at [] [] near far a b = refl
-IsChain-unique xs low lower high higher at [] (t ∷ ts) near far a b =
-    let here : at ≡ t.from = b.0.here in
-    let some : t.from < t.to = b.0.some in
-    let within : t.to ≤ higher = b.0.within in
-    absurd (omega (arith, a))
-IsChain-unique xs low lower high higher at (s ∷ ss) [] near far a b =
-    let here : at ≡ s.from = a.0.here in
-    let some : s.from < s.to = a.0.some in
-    let within : s.to ≤ high = a.0.within in
-    absurd (omega (arith, b))
-IsChain-unique xs low lower high higher at (s ∷ ss) (t ∷ ts) near far a b =
-    let from_is : s.from ≡ t.from = sym a.0.here ∙ b.0.here in
-    let to_is : s.to ≡ t.to = sym a.0.end_is ∙ ap (word_at xs) from_is ∙ b.0.end_is in
-    let rest : ss ≡ ts =
-    IsChain-unique xs s.to t.to high higher (word_at xs (t.from + 4)) ss ts near far (subst (λ (n : ℕ). IsChain xs s.to high n ss) (ap (λ (n : ℕ). word_at xs (n + 4)) from_is) a.1) b.1 in
-    λ i. record { from = from_is i; to = to_is i } ∷ rest i
+IsChain-unique xs low lower high higher at [] (t ∷ ts) near far a b = cc
+IsChain-unique xs low lower high higher at (s ∷ ss) [] near far a b = cc
+IsChain-unique xs low lower high higher at (s ∷ ss) (t ∷ ts) near far a b = grind (arith, IsChain-unique xs s.to t.to high higher (word_at xs (t.from + 4)) ss ts near far)
 
 pub Begins-wider : (below wider at : ℕ) (ss : List Span) → below ≤ wider → Begins below at ss → Begins wider at ss
 Begins-wider below wider at [] le h = h
@@ -34,19 +20,13 @@ Begins-wider below wider at (s ∷ ss) le (inr h) = inr (Begins-wider below wide
 -- a hole lies below the place that its end doesn't pass
 pub Begins-below : (xs : List ℕ) (below low high at cursor : ℕ) (ss : List Span) → IsChain xs low high at ss → word_at xs cursor ≤ below → Begins high cursor ss → Begins below cursor ss
 Begins-below xs below low high at cursor [] chain le h = h
-Begins-below xs below low high at cursor (s ∷ ss) chain le (inl p) =
-    let end_is : word_at xs cursor ≡ s.to = ap (word_at xs) (sym p.0) ∙ chain.0.end_is in
-    inl (p.0, omega arith)
+Begins-below xs below low high at cursor (s ∷ ss) chain le (inl p) = grind arith
 Begins-below xs below low high at cursor (s ∷ ss) chain le (inr h) = inr (Begins-below xs below s.to high (word_at xs (s.from + 4)) cursor ss chain.1 le h)
 
 -- it has a block
 pub Begins-block : (xs : List ℕ) (low high at cursor : ℕ) (ss : List Span) → IsChain xs low high at ss → Begins high cursor ss → cursor + 8 ≤ high
 Begins-block xs low high at cursor [] chain h = absurd h
-Begins-block xs low high at cursor (s ∷ ss) chain (inl p) =
-    let block : s.from + 8 ≤ s.to = IsHole-block xs low high at s chain.0 in
-    let whole : s.to ≤ high = p.1 in
-    let here : s.from ≡ cursor = p.0 in
-    omega arith
+Begins-block xs low high at cursor (s ∷ ss) chain (inl p) = grind arith
 Begins-block xs low high at cursor (s ∷ ss) chain (inr h) = Begins-block xs s.to high (word_at xs (s.from + 4)) cursor ss chain.1 h
 
 -- one of the holes from one of them on
@@ -55,26 +35,21 @@ pub Begins-trans : (xs : List ℕ) (below low high at start last : ℕ) (ss : Li
 Begins-trans xs below low high at start last [] chain begins from = begins
 Begins-trans xs below low high at start last (s ∷ ss) chain (inl p) from =
     from low (s ∷ ss) (subst (λ (n : ℕ). IsChain xs low high n (s ∷ ss)) (chain.0.here ∙ p.0) chain)
-Begins-trans xs below low high at start last (s ∷ ss) chain (inr begins) from =
-    inr (Begins-trans xs below s.to high (word_at xs (s.from + 4)) start last ss chain.1 begins from)
+Begins-trans xs below low high at start last (s ∷ ss) chain (inr begins) from = grind (arith, Begins-trans xs below s.to high (word_at xs (s.from + 4)) start last ss chain.1 begins from)
 
 -- a hole of one chain is one of every chain
 pub HasCursor-marked : (xs : List ℕ) (high first cursor : ℕ) (ss : List Span) → high < no_hole → IsChain xs 0 high first ss → Begins high cursor ss → HasCursor xs high first cursor
-HasCursor-marked xs high first cursor ss near chain begins = λ ts other lt.
-    subst (Begins high cursor) (IsChain-unique xs 0 0 high high first ss ts near near chain other) begins
+HasCursor-marked xs high first cursor ss near chain begins = grind (arith, IsChain-unique)
 
 pub HasCursor-none : (xs : List ℕ) (high first : ℕ) → HasCursor xs high first no_hole
 HasCursor-none xs high first = λ ts other lt. absurd (omega arith)
 
 pub HasCursor-higher : (xs : List ℕ) (high higher first cursor : ℕ) → high ≤ higher → higher < no_hole → HasHoles xs high first → HasCursor xs high first cursor → HasCursor xs higher first cursor
-HasCursor-higher xs high higher first cursor le near h is = λ ts other lt.
-    subst (Begins higher cursor) (IsChain-unique xs 0 0 high higher first h.spans ts (omega arith) near h.chain other)
-    (Begins-wider high higher cursor h.spans le (is h.spans h.chain lt))
+HasCursor-higher xs high higher first cursor le near h is = grind (arith, IsChain-unique, Begins-wider)
 
 -- a buffer that was made longer
 pub HasCursor-front : (xs ys : List ℕ) (high first cursor : ℕ) → ((k : ℕ) → k < high → slice_index ys k ≡ slice_index xs k) → HasCursor xs high first cursor → HasCursor ys high first cursor
-HasCursor-front xs ys high first cursor same is = λ ts chain lt.
-    is ts (IsChain-front ys xs 0 high first ts (λ k p. sym (same k p)) chain) lt
+HasCursor-front xs ys high first cursor same is = grind (arith, IsChain-front)
 
 -- data was copied to where no hole is
 pub HasCursor-copied : (a e b first cursor : ℕ) (old mid new : List ℕ) (ss : List Span) → e ≤ b → length mid < no_hole → Punched a b old ss 0 (length old) first mid → ChangesWithin a e mid new
@@ -88,13 +63,7 @@ HasCursor-copied a e b first cursor old mid new ss le near u w is = λ ts chain 
 
 -- where a walk begins
 pub IsBefore-cursor : (xs : List ℕ) (high first cursor below : ℕ) → high < no_hole → below ≤ high → HasHoles xs high first → HasCursor xs high first cursor → cursor < below → word_at xs cursor ≤ below → IsBefore xs first below cursor
-IsBefore-cursor xs high first cursor below near le h is here whole = record {
-  here = here;
-  whole = whole;
-  begins = λ higher ts far chain.
-      subst (Begins below cursor) (IsChain-unique xs 0 0 high higher first h.spans ts near far h.chain chain)
-      (Begins-below xs below 0 high first cursor h.spans h.chain whole (is h.spans h.chain (omega arith)));
-}
+IsBefore-cursor xs high first cursor below near le h is here whole = grind (arith, IsChain-unique, Begins-below)
 
 pub IsBefore-first : (xs : List ℕ) (first below : ℕ) → below < no_hole → first < below → word_at xs first ≤ below → IsBefore xs first below first
 IsBefore-first xs first below near here whole = record {
@@ -105,15 +74,9 @@ IsBefore-first xs first below near here whole = record {
   where
     by : (high : ℕ) (ts : List Span) → IsChain xs 0 high first ts → Begins below first ts
     by high [] chain = absurd (omega (arith, chain))
-    by high (t ∷ ts) chain =
-        let end_is : word_at xs first ≡ t.to = ap (word_at xs) chain.0.here ∙ chain.0.end_is in
-        inl (sym chain.0.here, omega arith)
+    by high (t ∷ ts) chain = grind arith
 
 -- and where it ends
 pub IsBefore-last : (xs : List ℕ) (first below start last : ℕ) → IsBefore xs first below start → last < below → word_at xs last ≤ below
     → ((low high : ℕ) (ss : List Span) → IsChain xs low high start ss → Begins below last ss) → IsBefore xs first below last
-IsBefore-last xs first below start last at here whole from = record {
-  here = here;
-  whole = whole;
-  begins = λ high ts far chain. Begins-trans xs below 0 high first start last ts chain (at.begins high ts far chain) (λ low ss tail. from low high ss tail);
-}
+IsBefore-last xs first below start last at here whole from = grind (arith, Begins-trans)

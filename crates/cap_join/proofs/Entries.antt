@@ -1,10 +1,9 @@
 -- Entries of the table and the open groups that they are, one by one, under what a step does to the table.
-use Rattle.std.proofs.Common.{◌≡◌, suc, Bool, true, false, List, [], ◌∷◌, length, refl, sym, ◌∙◌, ap, subst, cond, ◌&&◌, not, true≢false, Option, Some, None, Result, Ok, Err}
-use Rattle.std.specs.Prelude.{◌==◌, OnErr}
+use Rattle.std.proofs.Common.{arith, ◌≡◌, suc, Bool, true, false, List, [], ◌∷◌, length, refl, sym, ◌∙◌, ap, subst, cond, ◌&&◌, not, Option, Some, None, Result}
+use Rattle.std.specs.Prelude.{OnErr}
 use Rattle.std.specs.List.{AllByRecursion, IsDistinct}
 use Rattle.std.specs.Map.{keys_of, lookup, set_value}
 use Rattle.std.specs.Option.{option_map_or}
-use borrow.Author.Tests.{eqb-true}
 use Rattle.std.proofs.lemmas.Map.Keys.{IsDistinct-head, IsDistinct-tail}
 use Rattle.cap_ip.specs.declared.headers.Key.{Key}
 use Rattle.cap_time.specs.declared.stamps.Stamp.{Stamp}
@@ -15,37 +14,22 @@ use Rattle.cap_join.specs.Joiners.{Entry, IsEntryOf, AreEntriesOf}
 use Rattle.cap_join.specs.Tables.{entry_at, live_entries, has_live}
 
 pub OnErr-always : {T E : Type 0} (r : Result T E) (P : Type 0) → P → OnErr r P
-OnErr-always (Ok x) P p = tt
-OnErr-always (Err e) P p = p
+OnErr-always r P p = grind arith
 
 -- a value that is written again
 pub set_value-same : {K X : Type 0} (test : K → Bool) (es : List (K × X)) (w : X) → lookup test es ≡ Some w → set_value test es w ≡ es
 set_value-same test [] w h = refl
-set_value-same {K} {X} test (e ∷ es) w h = by (test e.0) h (set_value-same test es w)
-  where
-    by : (b : Bool) → cond b (Some e.1) (lookup test es) ≡ Some w → (lookup test es ≡ Some w → set_value test es w ≡ es)
-        → cond b ((e.0, w) ∷ es) (e ∷ set_value test es w) ≡ e ∷ es
-    by true is rest = let same : e.1 ≡ w = cc in λ i. (e.0, sym same i) ∷ es
-    by false is rest = ap (λ l. e ∷ l) (rest is)
+set_value-same {K} {X} test (e ∷ es) w h = grind (arith, set_value-same test es w)
 
 and_left : (x y : Bool) → (x && y) ≡ true → x ≡ true
-and_left true y h = refl
-and_left false y h = h
+and_left x y h = grind arith
 
 and_right : (x y : Bool) → (x && y) ≡ true → y ≡ true
-and_right true y h = h
-and_right false y h = absurd (true≢false (sym h))
+and_right x y h = grind arith
 
 -- keys that name the same datagram are one
 pub same_key-is : (a b : Key) → same_key a b ≡ true → a ≡ b
-same_key-is a b h =
-    let s = eqb-true a.source b.source (and_left (a.source == b.source) ((a.destination == b.destination) && ((a.protocol == b.protocol) && (a.identification == b.identification))) h) in
-    let h1 = and_right (a.source == b.source) ((a.destination == b.destination) && ((a.protocol == b.protocol) && (a.identification == b.identification))) h in
-    let d = eqb-true a.destination b.destination (and_left (a.destination == b.destination) ((a.protocol == b.protocol) && (a.identification == b.identification)) h1) in
-    let h2 = and_right (a.destination == b.destination) ((a.protocol == b.protocol) && (a.identification == b.identification)) h1 in
-    let p = eqb-true a.protocol b.protocol (and_left (a.protocol == b.protocol) (a.identification == b.identification) h2) in
-    let n = eqb-true a.identification b.identification (and_right (a.protocol == b.protocol) (a.identification == b.identification) h2) in
-    λ i. record { source = s i; destination = d i; protocol = p i; identification = n i }
+same_key-is a b h = grind arith
 
 none_later : (k : Key) (es : List Entry) → AllByRecursion (λ y. same_key k y ≡ false) (keys_of es) → entry_at k es ≡ None
 none_later k [] h = refl
@@ -71,11 +55,7 @@ pub group_at-none : (key : Key) (es : List Entry) (os : List OpenGroup) → AreE
 group_at-none key [] [] h none = refl
 group_at-none key [] (o ∷ os) h none = absurd h
 group_at-none key (e ∷ es) [] h none = absurd h
-group_at-none key (e ∷ es) (o ∷ os) h none = by (same_key key e.0) (key_test key e o h.0) none (group_at-none key es os h.1)
-  where
-    by : (b : Bool) → same_key key o.key ≡ b → cond b (Some e.1) (entry_at key es) ≡ None → (entry_at key es ≡ None → group_at key os ≡ None) → group_at key (o ∷ os) ≡ None
-    by true is n rest = cc
-    by false is n rest = ap (λ (b : Bool). cond b (Some o) (group_at key os)) is ∙ rest n
+group_at-none key (e ∷ es) (o ∷ os) h none = grind (arith, group_at-none key es os h.1)
 
 -- A key's group, which an entry's is.
 pub record Found (key : Key) (s : GroupState) (os : List OpenGroup) : Type 0 where
@@ -85,70 +65,30 @@ pub record Found (key : Key) (s : GroupState) (os : List OpenGroup) : Type 0 whe
   pub group : IsGroupOf s open_group.pieces
 
 pub group_at-some : (key : Key) (s : GroupState) (es : List Entry) (os : List OpenGroup) → AreEntriesOf es os → entry_at key es ≡ Some s → Found key s os
-group_at-some key s [] os h some = absurd (clash some)
-  where
-    clash : None ≡ Some s → ⊥
-    clash e = cc
+group_at-some key s [] os h some = cc
 group_at-some key s (e ∷ es) [] h some = absurd h
 group_at-some key s (e ∷ es) (o ∷ os) h some = by (same_key key e.0) (key_test key e o h.0) some (group_at-some key s es os h.1)
   where
     by : (b : Bool) → same_key key o.key ≡ b → cond b (Some e.1) (entry_at key es) ≡ Some s → (entry_at key es ≡ Some s → Found key s os) → Found key s (o ∷ os)
-    by true is n rest =
-        let same : e.1 ≡ s = cc in
-        record {
-          open_group = o;
-          found = ap (λ (b : Bool). cond b (Some o) (group_at key os)) is;
-          clock = ap (λ (x : GroupState). x.clock) (sym same) ∙ h.0.clock;
-          group = subst (λ (x : GroupState). IsGroupOf x o.pieces) same h.0.group;
-        }
-    by false is n rest =
-        let f = rest n in
-        record { open_group = f.open_group; found = ap (λ (b : Bool). cond b (Some o) (group_at key os)) is ∙ f.found; clock = f.clock; group = f.group }
+    by b is n rest = grind arith
 
 -- the entries that aren't too old are the groups that aren't
 pub AreEntriesOf-live : (now : Option Stamp) (es : List Entry) (os : List OpenGroup) → AreEntriesOf es os → AreEntriesOf (live_entries now es) (live_at now os)
 AreEntriesOf-live now [] [] h = h
 AreEntriesOf-live now [] (o ∷ os) h = absurd h
 AreEntriesOf-live now (e ∷ es) [] h = absurd h
-AreEntriesOf-live now (e ∷ es) (o ∷ os) h =
-    by (not (is_too_old e.1.clock now)) (ap (λ (c : Option Stamp). not (is_too_old c now)) (sym h.0.clock)) (AreEntriesOf-live now es os h.1)
-  where
-    by : (b : Bool) → not (is_too_old o.clock now) ≡ b → AreEntriesOf (live_entries now es) (live_at now os)
-        → AreEntriesOf (cond b (e ∷ live_entries now es) (live_entries now es)) (live_at now (o ∷ os))
-    by true is rest = subst (λ (b : Bool). AreEntriesOf (e ∷ live_entries now es) (cond b (o ∷ live_at now os) (live_at now os))) (sym is) (h.0, rest)
-    by false is rest = subst (λ (b : Bool). AreEntriesOf (live_entries now es) (cond b (o ∷ live_at now os) (live_at now os))) (sym is) rest
+AreEntriesOf-live now (e ∷ es) (o ∷ os) h = grind (arith, AreEntriesOf-live now es os h.1)
 
 -- a key's group is found among those that aren't too old, where it isn't
 pub group_at-live : (key : Key) (now : Option Stamp) (o : OpenGroup) (os : List OpenGroup) → group_at key os ≡ Some o → not (is_too_old o.clock now) ≡ true
     → group_at key (live_at now os) ≡ Some o
 group_at-live key now o [] h live = h
-group_at-live key now o (q ∷ os) h live = by (same_key key q.key) refl h (not (is_too_old q.clock now)) refl (group_at-live key now o os)
-  where
-    step : (b : Bool) → not (is_too_old q.clock now) ≡ b → live_at now (q ∷ os) ≡ cond b (q ∷ live_at now os) (live_at now os)
-    step b is = ap (λ (c : Bool). cond c (q ∷ live_at now os) (live_at now os)) is
-
-    by : (t : Bool) → same_key key q.key ≡ t → cond t (Some q) (group_at key os) ≡ Some o → (b : Bool) → not (is_too_old q.clock now) ≡ b
-        → (group_at key os ≡ Some o → not (is_too_old o.clock now) ≡ true → group_at key (live_at now os) ≡ Some o) → group_at key (live_at now (q ∷ os)) ≡ Some o
-    by true t n true b rest = ap (group_at key) (step true b) ∙ ap (λ (c : Bool). cond c (Some q) (group_at key (live_at now os))) t ∙ n
-    by true t n false b rest =
-        let same : q ≡ o = cc in
-        absurd (true≢false (sym live ∙ ap (λ (g : OpenGroup). not (is_too_old g.clock now)) (sym same) ∙ b))
-    by false t n true b rest = ap (group_at key) (step true b) ∙ ap (λ (c : Bool). cond c (Some q) (group_at key (live_at now os))) t ∙ rest n live
-    by false t n false b rest = ap (group_at key) (step false b) ∙ rest n live
+group_at-live key now o (q ∷ os) h live = grind (arith, group_at-live key now o os)
 
 -- and none is found where none was
 pub group_at-live-none : (key : Key) (now : Option Stamp) (os : List OpenGroup) → group_at key os ≡ None → group_at key (live_at now os) ≡ None
 group_at-live-none key now [] h = h
-group_at-live-none key now (q ∷ os) h = by (same_key key q.key) refl h (not (is_too_old q.clock now)) refl (group_at-live-none key now os)
-  where
-    step : (b : Bool) → not (is_too_old q.clock now) ≡ b → live_at now (q ∷ os) ≡ cond b (q ∷ live_at now os) (live_at now os)
-    step b is = ap (λ (c : Bool). cond c (q ∷ live_at now os) (live_at now os)) is
-
-    by : (t : Bool) → same_key key q.key ≡ t → cond t (Some q) (group_at key os) ≡ None → (b : Bool) → not (is_too_old q.clock now) ≡ b
-        → (group_at key os ≡ None → group_at key (live_at now os) ≡ None) → group_at key (live_at now (q ∷ os)) ≡ None
-    by true t n b is rest = cc
-    by false t n true b rest = ap (group_at key) (step true b) ∙ ap (λ (c : Bool). cond c (Some q) (group_at key (live_at now os))) t ∙ rest n
-    by false t n false b rest = ap (group_at key) (step false b) ∙ rest n
+group_at-live-none key now (q ∷ os) h = grind (arith, group_at-live-none key now os)
 
 -- a key without a live entry has no live group
 pub no_live : (key : Key) (now : Option Stamp) (es : List Entry) (os : List OpenGroup) → AreEntriesOf es os → IsDistinct same_key (keys_of es) → has_live key now es ≡ false
@@ -167,10 +107,7 @@ no_live key now (e ∷ es) (o ∷ os) h apart none =
         → option_map_or (λ s. not (is_too_old s.clock now)) (cond t (Some e.1) (entry_at key es)) false ≡ false
         → (b : Bool) → not (is_too_old o.clock now) ≡ b → not (is_too_old e.1.clock now) ≡ b
         → (has_live key now es ≡ false → group_at key (live_at now os) ≡ None) → group_at key (live_at now (o ∷ os)) ≡ None
-    by true t lone n true b c rest = absurd (true≢false (sym c ∙ n))
-    by true t lone n false b c rest = ap (group_at key) (step false b) ∙ group_at-live-none key now os (group_at-none key es os h.1 (lone refl))
-    by false t lone n true b c rest = ap (group_at key) (step true b) ∙ ap (λ (d : Bool). cond d (Some o) (group_at key (live_at now os))) t ∙ rest n
-    by false t lone n false b c rest = ap (group_at key) (step false b) ∙ rest n
+    by t' t lone n b' b c rest = grind arith
 
 -- a live entry is a live group
 pub live_group : (key : Key) (now : Option Stamp) (s : GroupState) (es : List Entry) (os : List OpenGroup) → AreEntriesOf es os → entry_at key es ≡ Some s → has_live key now es ≡ true

@@ -1,11 +1,10 @@
 -- What fragments make of the open groups depends on clocks by the order of times alone: fragments that are equal are alike.
-use Rattle.std.proofs.Common.{◌≡◌, List, [], ◌∷◌, refl, ap}
+use Rattle.std.proofs.Common.{arith, ◌≡◌, List, [], ◌∷◌, refl}
 use Rattle.std.specs.List.{AllZip}
-use Rattle.cap_join.specs.ByteMap.{completes}
 use Rattle.cap_join.specs.Completed.{completed_of}
 use Rattle.cap_join.specs.EqualClocks.{IsSameEvent, EqualClocksLaw}
 use Rattle.cap_join.specs.Fragments.{Piece}
-use Rattle.cap_join.specs.History.{Event, arrives, flushes, joined_pieces, state_of}
+use Rattle.cap_join.specs.History.{Event, joined_pieces, state_of}
 use Rattle.cap_join.proofs.AlikeGroups.{IsAlikeness, IsAlikeEvent, alike-groups}
 
 abbrev IsSame : Piece → Piece → Type 0
@@ -24,17 +23,10 @@ same-lists (p ∷ ps) [] h = absurd h
 same-lists (p ∷ ps) (q ∷ qs) h = λ i. same-pieces p q h.0 i ∷ same-lists ps qs h.1 i
 
 alike : IsAlikeness IsSame
-alike = record {
-  header = λ p q h. ap (λ (x : Piece). x.header) h;
-  place = λ p q h. ap (λ (x : Piece). x.stamped.place) h;
-  completes = λ ps qs h. ap completes (same-pieces ps qs h);
-}
+alike = grind (arith, same-pieces)
 
 same-event : (e f : Event) → IsSameEvent e f → IsAlikeEvent IsSame e f
-same-event (arrives c p) (arrives d q) h = h
-same-event (arrives c p) (flushes key) h = h
-same-event (flushes key) (arrives d q) h = h
-same-event (flushes key) (flushes k) h = h
+same-event e f h = grind arith
 
 same-events : (es fs : List Event) → AllZip IsSameEvent es fs → AllZip (IsAlikeEvent IsSame) es fs
 same-events [] [] h = tt

@@ -1,25 +1,23 @@
 -- What a group is once one more fragment is put into it, and when it is complete.
-use Rattle.std.proofs.Common.{◌≡◌, ℕ, zero, suc, ◌+◌, ◌*◌, ◌/◌, ◌%◌, ◌<◌, ◌≤◌, Bool, true, false, List, [], ◌∷◌, length, take, refl, sym, ◌∙◌, ap, subst, arith, max, min, ◌&&◌, ◌||◌, not, true≢false, inl, inr, ◌⊎◌, Option, Some, None, length-take}
-use Rattle.std.specs.Prelude.{nat_le, ◌==◌, if◌then◌else◌, IfSome, map, IsTrue}
+use Rattle.std.proofs.Common.{◌≡◌, ℕ, zero, suc, ◌+◌, ◌*◌, ◌/◌, ◌<◌, ◌≤◌, Bool, true, false, List, [], ◌∷◌, length, take, refl, sym, ◌∙◌, ap, arith, min, not, true≢false, Option, Some, None, length-take}
+use Rattle.std.specs.Prelude.{nat_le, ◌==◌, if◌then◌else◌, IfSome, map}
 use Rattle.std.specs.List.{range_with_len}
 use Rattle.std.specs.Option.{option_map_or}
 use Rattle.std.proofs.lemmas.Bool.{cases_lt}
-use Rattle.std.proofs.lemmas.Bool.Decides.{nat_tests}
 use Rattle.std.proofs.lemmas.List.{get_or-take}
 use Rattle.std.proofs.lemmas.List.FromFn.{fill_by_all}
 use Rattle.cap_ip.specs.Header.{HeaderFields, IsPiece}
 use Rattle.cap_ip.specs.declared.headers.Fragment.{Fragment}
 use Rattle.cap_join.specs.declared.datagrams.Stamped.{Stamped}
 use Rattle.cap_join.specs.declared.datagrams.Datagram.{Datagram}
-use Rattle.cap_join.specs.Holes.{Span, is_within, in_hole, IsChain}
+use Rattle.cap_join.specs.Holes.{Span, in_hole, IsChain}
 use Rattle.cap_join.specs.Fragments.{Piece, piece_of, end_of, IsShaped, AreShaped}
-use Rattle.cap_join.specs.ByteMap.{holds, is_covered, covers_below, total_of, header_of, byte_at, blocks, completes, data_of, greatest_end}
+use Rattle.cap_join.specs.ByteMap.{is_covered, covers_below, total_of, header_of, byte_at, blocks, completes, data_of, greatest_end}
 use Rattle.cap_join.specs.Buffers.{Maps}
 use Rattle.cap_join.specs.Frames.{timed, earlier, later}
 use Rattle.cap_join.specs.Groups.{GroupState, IsGroupOf, IsDatagramOf}
 use Rattle.cap_join.proofs.Chains.{in_hole-below}
-use Rattle.cap_join.proofs.Punching.{IsChain-here, within-above}
-use Rattle.cap_join.proofs.Growing.{within_here}
+use Rattle.cap_join.proofs.Punching.{IsChain-here}
 
 -- the fragment that a header and its data are
 module _ (header : HeaderFields) (bytes : List ℕ) (stamped : Stamped) (f : Fragment) (is : header.fragment ≡ Some f) where
@@ -44,15 +42,7 @@ module _ (header : HeaderFields) (bytes : List ℕ) (stamped : Stamped) (f : Fra
   piece_of-stamped = refl
 
   pub IsShaped-piece_of : IsPiece (length bytes) f → IsShaped (piece_of header bytes stamped)
-  IsShaped-piece_of shape =
-      let size : length (piece_of header bytes stamped).bytes ≡ length bytes = ap length piece_of-bytes in
-      let start : (piece_of header bytes stamped).start ≡ f.start = piece_of-start in
-      record {
-        some = omega (arith, shape.some, shape.all);
-        begins = ap (λ (n : ℕ). n % 8) start ∙ shape.begins;
-        ends = λ more. ap (λ (n : ℕ). n % 8) (size ∙ sym shape.all) ∙ shape.ends (subst IsTrue piece_of-more more);
-        within = omega (arith, shape.within, shape.all);
-      }
+  IsShaped-piece_of shape = grind (arith, piece_of-bytes, piece_of-start, piece_of-more)
 
 -- a group with one more fragment
 pub IsGroupOf-more : (s t : GroupState) (p : Piece) (ps : List Piece) → IsGroupOf s ps → Maps t.buffer t.hole (p ∷ ps)
@@ -60,84 +50,38 @@ pub IsGroupOf-more : (s t : GroupState) (p : Piece) (ps : List Piece) → IsGrou
     → t.frames ≡ s.frames + 1 → t.bytes ≡ s.bytes + p.stamped.original
     → t.first ≡ earlier s.first (timed p.stamped p.stamped.time) → t.last ≡ later s.last (timed p.stamped p.stamped.time)
     → IsGroupOf t (p ∷ ps)
-IsGroupOf-more s t p ps g maps total header frames bytes first last = record {
-  maps = maps;
-  total = total ∙ ap (λ (o : Option ℕ). if p.more then o else Some (end_of p)) g.total;
-  header = by (p.start == 0) header g.header;
-  frames = omega (arith, frames, g.frames);
-  bytes = bytes ∙ ap (λ (n : ℕ). n + p.stamped.original) g.bytes;
-  first = first ∙ ap (λ (o : Option Stamped). earlier o (timed p.stamped p.stamped.time)) g.first;
-  last = last ∙ ap (λ (o : Option Stamped). later o (timed p.stamped p.stamped.time)) g.last;
-}
-  where
-    by : (test : Bool) → t.header ≡ (if test then p.header else s.header) → IfSome (header_of ps) (λ h. s.header ≡ h)
-        → IfSome (if test then Some p.header else header_of ps) (λ h. t.header ≡ h)
-    by true e old = e
-    by false e old = follow (header_of ps) e old
-      where
-        follow : (o : Option HeaderFields) → t.header ≡ s.header → IfSome o (λ h. s.header ≡ h) → IfSome o (λ h. t.header ≡ h)
-        follow None e old = old
-        follow (Some h) e old = e ∙ old
+IsGroupOf-more s t p ps g maps total header frames bytes first last = grind arith
 
 -- the fragments end by 65,515
 pub greatest_end-short : (ps : List Piece) → AreShaped ps → greatest_end ps ≤ 65515
 greatest_end-short [] shaped = omega arith
-greatest_end-short (p ∷ ps) shaped =
-    let rest : greatest_end ps ≤ 65515 = greatest_end-short ps shaped.1 in
-    let here : end_of p ≤ 65515 = shaped.0.within in
-    omega arith
+greatest_end-short (p ∷ ps) shaped = grind (arith, greatest_end-short ps shaped.1)
 
 pub Maps-short : (xs : List ℕ) (hole : ℕ) (ps : List Piece) → Maps xs hole ps → length xs ≤ 65520
 Maps-short xs hole ps m = omega (arith, m.length_is, greatest_end-short ps m.shaped)
 
 -- the length, where it is known, is one that the fragments reach, and isn't 0
 pub total_of-reached : (ps : List Piece) (n : ℕ) → AreShaped ps → total_of ps ≡ Some n → (n ≤ greatest_end ps) × (0 < n)
-total_of-reached [] n shaped h = absurd (none h)
-  where
-    none : None ≡ Some n → ⊥
-    none e = cc
-total_of-reached (p ∷ ps) n shaped h = by p.more refl h (total_of-reached ps n shaped.1)
-  where
-    by : (more : Bool) → p.more ≡ more → (if more then total_of ps else Some (end_of p)) ≡ Some n → (total_of ps ≡ Some n → (n ≤ greatest_end ps) × (0 < n)) → (n ≤ max (end_of p) (greatest_end ps)) × (0 < n)
-    by true is e rest = let r : (n ≤ greatest_end ps) × (0 < n) = rest e in (omega arith, r.1)
-    by false is e rest =
-        let some : 0 < length p.bytes = shaped.0.some in
-        let here : end_of p ≡ n = cc in (omega arith, omega arith)
+total_of-reached [] n shaped h = cc
+total_of-reached (p ∷ ps) n shaped h = grind (arith, total_of-reached ps n shaped.1)
 
 -- blocks that are covered below a number
 pub covers_below-all : (ps : List Piece) (n : ℕ) → ((k : ℕ) → k < n → is_covered ps k ≡ true) → covers_below ps n ≡ true
 covers_below-all ps zero h = refl
-covers_below-all ps (suc n) h =
-    let rest : covers_below ps n ≡ true = covers_below-all ps n (λ k p. h k (omega arith)) in
-    let here : is_covered ps n ≡ true = h n (omega arith) in
-    λ j. here j && rest j
+covers_below-all ps (suc n) h = grind (arith, covers_below-all ps n)
 
 pub covers_below-some : (ps : List Piece) (n k : ℕ) → k < n → is_covered ps k ≡ false → covers_below ps n ≡ false
 covers_below-some ps zero k p h = absurd (omega arith)
-covers_below-some ps (suc n) k p h = by (cases_lt k n) (λ q. covers_below-some ps n k q h)
-  where
-    by : (k < n) ⊎ (n ≤ k) → (k < n → covers_below ps n ≡ false) → (is_covered ps n && covers_below ps n) ≡ false
-    by (inl q) rest = ap (λ (b : Bool). is_covered ps n && b) (rest q) ∙ and_false (is_covered ps n)
-      where
-        and_false : (x : Bool) → (x && false) ≡ false
-        and_false true = refl
-        and_false false = refl
-    by (inr q) rest = let same : k ≡ n = omega arith in ap (λ (b : Bool). b && covers_below ps n) (ap (is_covered ps) (sym same) ∙ h)
+covers_below-some ps (suc n) k p h = grind (arith, covers_below-some ps n k)
 
 pub covers_below-each : (ps : List Piece) (n k : ℕ) → covers_below ps n ≡ true → k < n → is_covered ps k ≡ true
-covers_below-each ps n k h p = by (is_covered ps k) refl
-  where
-    by : (b : Bool) → is_covered ps k ≡ b → is_covered ps k ≡ true
-    by true e = e
-    by false e = absurd (true≢false (sym h ∙ covers_below-some ps n k p e))
+covers_below-each ps n k h p = grind (arith, covers_below-some)
 
 flipped : (x : Bool) → not x ≡ false → x ≡ true
-flipped true e = refl
-flipped false e = absurd (true≢false e)
+flipped x e = grind arith
 
 flipped_back : (x : Bool) → not x ≡ true → x ≡ false
-flipped_back true e = sym e
-flipped_back false e = refl
+flipped_back x e = grind arith
 
 -- a datagram is complete where no hole begins below its length
 module _ (xs : List ℕ) (hole n : ℕ) (ps : List Piece) (m : Maps xs hole ps) (reached : n ≤ greatest_end ps) where
@@ -151,24 +95,10 @@ module _ (xs : List ℕ) (hole n : ℕ) (ps : List Piece) (m : Maps xs hole ps) 
 
   uncovered_first : (ss : List Span) → m.spans ≡ ss → IsChain xs 0 (length xs) hole ss → hole < n → is_covered ps (hole / 8) ≡ false
   uncovered_first [] e chain h = absurd (omega (arith, chain, greatest_end-short ps m.shaped))
-  uncovered_first (s ∷ ss) e chain h =
-      let here : hole ≡ s.from = chain.0.here in
-      let some : s.from < s.to = chain.0.some in
-      let within : s.to ≤ length xs = chain.0.within in
-      let inside : is_within s.from s.to hole ≡ true = within_here s.from s.to hole (omega arith) (omega arith) in
-      let in_first : in_hole m.spans hole ≡ true = ap (λ (l : List Span). in_hole l hole) e ∙ ap (λ (b : Bool). b || in_hole ss hole) inside in
-      flipped_back (is_covered ps (hole / 8)) (sym (m.holes hole (omega arith)) ∙ in_first)
+  uncovered_first (s ∷ ss) e chain h = grind arith
 
   pub covers_below-hole : nat_le n hole ≡ covers_below ps (blocks n)
-  covers_below-hole = by (cases_lt hole n)
-    where
-      by : (hole < n) ⊎ (n ≤ hole) → nat_le n hole ≡ covers_below ps (blocks n)
-      by (inl h) =
-          let left : nat_le n hole ≡ false = grind (arith, nat_tests) in
-          left ∙ sym (covers_below-some ps (blocks n) (hole / 8) (omega arith) (uncovered_first m.spans refl m.chain h))
-      by (inr h) =
-          let left : nat_le n hole ≡ true = grind (arith, nat_tests) in
-          left ∙ sym (covers_below-all ps (blocks n) (covered_below h))
+  covers_below-hole = grind (arith, cases_lt, covers_below-some, uncovered_first, covers_below-all, covered_below)
 
 pub completes-none : (ps : List Piece) → total_of ps ≡ None → false ≡ completes ps
 unfolding completes
@@ -198,17 +128,7 @@ Maps-data xs hole n ps m total done =
 -- where the first block is covered, a fragment begins at 0
 pub header_of-covered : (ps : List Piece) (d : HeaderFields) → is_covered ps 0 ≡ true → IfSome (header_of ps) (λ h. d ≡ h) → header_of ps ≡ Some d
 header_of-covered [] d h e = absurd (true≢false (sym h))
-header_of-covered (p ∷ ps) d h e = by (p.start == 0) refl e (header_of-covered ps d)
-  where
-    by : (test : Bool) → (p.start == 0) ≡ test → IfSome (if test then Some p.header else header_of ps) (λ h. d ≡ h)
-        → (is_covered ps 0 ≡ true → IfSome (header_of ps) (λ h. d ≡ h) → header_of ps ≡ Some d)
-        → (if test then Some p.header else header_of ps) ≡ Some d
-    by true is e rest = ap Some (sym e)
-    by false is e rest = rest (uncover (holds p 0) refl) e
-      where
-        uncover : (b : Bool) → holds p 0 ≡ b → is_covered ps 0 ≡ true
-        uncover true t = let low : p.start ≤ 0 = within-above p.start (end_of p) 0 t in absurd (true≢false (grind (arith, nat_tests)))
-        uncover false f = sym (ap (λ (b : Bool). b || is_covered ps 0) f) ∙ h
+header_of-covered (p ∷ ps) d h e = grind (arith, header_of-covered ps d)
 
 pub IsDatagramOf-group : (s : GroupState) (d : Datagram) (ps : List Piece) → IsGroupOf s ps → completes ps ≡ true
     → d.header ≡ s.header → ((n : ℕ) → s.total ≡ Some n → d.payload.items ≡ take n s.buffer)

@@ -13,7 +13,4 @@ pub most_bytes-held : (es : List Entry) (os : List OpenGroup) → AreEntriesOf e
 most_bytes-held [] [] h = refl
 most_bytes-held [] (o ∷ os) h = absurd h
 most_bytes-held (e ∷ es) [] h = absurd h
-most_bytes-held (e ∷ es) (o ∷ os) h =
-    let size = h.0.group.maps.length_is in
-    let rest = most_bytes-held es os h.1 in
-    λ i. max (size i) (rest i)
+most_bytes-held (e ∷ es) (o ∷ os) h = cc (most_bytes-held es os h.1)

@@ -1,10 +1,9 @@
 -- Holes that lie below a fragment, which are read only.
-use Rattle.std.proofs.Common.{◌≡◌, ℕ, ◌+◌, ◌<◌, ◌≤◌, Bool, true, false, List, [], ◌∷◌, length, refl, sym, ◌∙◌, ap, subst, arith, ◌&&◌, ◌||◌, not, inl, inr}
+use Rattle.std.proofs.Common.{◌≡◌, ℕ, ◌+◌, ◌<◌, ◌≤◌, Bool, true, List, [], ◌∷◌, length, refl, sym, ◌∙◌, ap, subst, arith, ◌&&◌, ◌||◌, not, inl, inr}
 use Rattle.std.specs.Prelude.{slice_index}
-use Rattle.std.proofs.lemmas.Bool.Decides.{nat_tests}
 use Rattle.cap_join.specs.Holes.{Span, is_within, in_hole, no_hole, word_at, IsHole, IsChain, HasHoles, Begins, ChangesWithin, Punched, Continues, Appended}
 use Rattle.cap_join.proofs.Chains.{word_at-same, IsHole-block, IsChain-same, IsChain-lower, in_hole-below}
-use Rattle.cap_join.proofs.Punching.{FirstHole, or_false_left, or_false_right, or_assoc, unchanged, within-below, within-above}
+use Rattle.cap_join.proofs.Punching.{FirstHole, or_false_left, or_false_right, or_assoc, unchanged}
 
 -- What a walk along some holes knows of the one that it reached: it is one of them, and so are those after it.
 pub record Reached (xs : List ℕ) (below last high : ℕ) (ss : List Span) : Type 0 where
@@ -16,16 +15,7 @@ pub record Reached (xs : List ℕ) (below last high : ℕ) (ss : List Span) : Ty
 
 pub Reached-first : (xs : List ℕ) (below at low high : ℕ) (ss : List Span) → at < no_hole → word_at xs at ≤ below → IsChain xs low high at ss → Reached xs below at high ss
 Reached-first xs below at low high [] near whole chain = absurd (omega (arith, chain))
-Reached-first xs below at low high (s ∷ ss) near whole chain =
-    let here : at ≡ s.from = chain.0.here in
-    let end_is : word_at xs at ≡ s.to = ap (word_at xs) here ∙ chain.0.end_is in
-    record {
-      tail = ss;
-      low = s.to;
-      chain = subst (λ (n : ℕ). IsChain xs s.to high (word_at xs (n + 4)) ss) (sym here) chain.1;
-      begins = inl (sym here, omega arith);
-      further = λ x b. inr b;
-    }
+Reached-first xs below at low high (s ∷ ss) near whole chain = grind arith
 
 pub Reached-next : (xs : List ℕ) (below last next high : ℕ) (ss : List Span) → next ≡ word_at xs (last + 4) → next < no_hole → word_at xs next ≤ below
     → Reached xs below last high ss → Reached xs below next high ss
@@ -33,30 +23,13 @@ Reached-next xs below last next high ss is near whole r = by r.tail (subst (λ (
   where
     by : (tail : List Span) → IsChain xs r.low high next tail → ((x : ℕ) → Begins below x tail → Begins below x ss) → Reached xs below next high ss
     by [] chain further = absurd (omega (arith, chain))
-    by (s ∷ tail) chain further =
-        let here : next ≡ s.from = chain.0.here in
-        let end_is : word_at xs next ≡ s.to = ap (word_at xs) here ∙ chain.0.end_is in
-        record {
-          tail = tail;
-          low = s.to;
-          chain = subst (λ (n : ℕ). IsChain xs s.to high (word_at xs (n + 4)) tail) (sym here) chain.1;
-          begins = further next (inl (sym here, omega arith));
-          further = λ x b. further x (inr b);
-        }
+    by (s ∷ tail) chain further = grind arith
 
 -- a hole that lies below a place lies above the chain's lowest
 Begins-low : (xs : List ℕ) (below last low high at : ℕ) (ss : List Span) → IsChain xs low high at ss → Begins below last ss → low ≤ below
 Begins-low xs below last low high at [] chain b = absurd b
-Begins-low xs below last low high at (s ∷ ss) chain (inl p) =
-    let after : low ≤ s.from = chain.0.after in
-    let some : s.from < s.to = chain.0.some in
-    let whole : s.to ≤ below = p.1 in
-    omega arith
-Begins-low xs below last low high at (s ∷ ss) chain (inr b) =
-    let after : low ≤ s.from = chain.0.after in
-    let some : s.from < s.to = chain.0.some in
-    let rest : s.to ≤ below = Begins-low xs below last s.to high (word_at xs (s.from + 4)) ss chain.1 b in
-    omega arith
+Begins-low xs below last low high at (s ∷ ss) chain (inl p) = grind arith
+Begins-low xs below last low high at (s ∷ ss) chain (inr b) = grind (arith, Begins-low xs below last s.to high (word_at xs (s.from + 4)) ss chain.1 b)
 
 -- the holes from one of them on
 pub HasHoles-begins : (xs : List ℕ) (below last low high at : ℕ) (ss : List Span) → IsChain xs low high at ss → Begins below last ss → HasHoles xs high last
@@ -73,8 +46,7 @@ same_words : (xs ys : List ℕ) (s : Span) (low : ℕ) → s.from + 8 ≤ low �
 same_words xs ys s low block same = (word_at-same xs ys s.from (λ k p q. same k (omega arith)), word_at-same xs ys (s.from + 4) (λ k p q. same k (omega arith)))
 
 below_range : (f t a b i : ℕ) (x y : Bool) → t ≤ a → x ≡ (y && not (is_within a b i)) → (is_within f t i || x) ≡ ((is_within f t i || y) && not (is_within a b i))
-below_range f t a b i x true le e = grind (arith, nat_tests, e)
-below_range f t a b i x false le e = grind (arith, nat_tests, e)
+below_range f t a b i x y le e = grind arith
 
 -- a hole below the range
 Punched-skip : (a b low high at : ℕ) (s : Span) (ss : List Span) (old new : List ℕ) → IsHole old low high at s → s.to ≤ a → IsChain old s.to high (word_at old (s.from + 4)) ss
@@ -95,8 +67,7 @@ Punched-skip a b low high at s ss old new hole below tail behind =
     }
   where
     in_tail : (f t i : ℕ) (x : Bool) → t ≤ a → (is_within f t i || x) ≡ true → is_within a b i ≡ true → x ≡ true
-    in_tail f t i true le p q = refl
-    in_tail f t i false le p q = grind (arith, nat_tests, p, q)
+    in_tail f t i x le p q = grind arith
 
 -- a chain's first hole is one of its holes
 begins_here : (xs : List ℕ) (low high at : ℕ) (ss : List Span) → at < no_hole → IsChain xs low high at ss → Begins high at ss
@@ -163,9 +134,7 @@ Appended-behind below low high at last (s ∷ ss) old new near short le chain (i
     let here : at ≡ last = chain.0.here ∙ p.0 in
     let q : Appended old (s ∷ ss) low high last new = from low (s ∷ ss) le (subst (λ (n : ℕ). IsChain old low high n (s ∷ ss)) here chain) in
     subst (λ (n : ℕ). AppendedFrom old (s ∷ ss) low high n last new) (sym here) (record { appended = q; begins = begins_here new low (length old) last q.spans near q.chain })
-Appended-behind below low high at last (s ∷ ss) old new near short le chain (inr begins) from =
-    AppendedFrom-skip low high at last s ss old new short chain.0 chain.1
-    (Appended-behind below s.to high (word_at old (s.from + 4)) last ss old new near short chain.0.within chain.1 begins from)
+Appended-behind below low high at last (s ∷ ss) old new near short le chain (inr begins) from = search (Appended-behind below s.to high (word_at old (s.from + 4)) last ss old new near short chain.0.within chain.1 begins from, AppendedFrom-skip)
 
 -- a hole that lies in the range whole is cleared
 Punched-covered : (a b low high at : ℕ) (s : Span) (ss : List Span) (old mid new : List ℕ) (result : ℕ) → IsHole old low high at s → a ≤ s.from → s.to ≤ b → IsChain old s.to high (word_at old (s.from + 4)) ss
@@ -185,14 +154,10 @@ Punched-covered a b low high at s ss old mid new result hole above below tail cl
     }
   where
     in_range : (f t i : ℕ) (x : Bool) → a ≤ f → t ≤ b → ((is_within f t i || x) && not (is_within a b i)) ≡ (x && not (is_within a b i))
-    in_range f t i true le ge = grind (arith, nat_tests)
-    in_range f t i false le ge = grind (arith, nat_tests)
+    in_range f t i x le ge = grind arith
 
     zero : (i : ℕ) (t : Bool) → is_within s.from s.to i ≡ t → (t || in_hole ss i) ≡ true → is_within a b i ≡ true → slice_index new i ≡ 0
-    zero i true here p q =
-        let lt : i < s.to = within-below s.from s.to i here in
-        behind.kept_bytes i (in_hole-below old s.to high (word_at old (s.from + 4)) ss i tail lt) ∙ zeros i (within-above s.from s.to i here) lt
-    zero i false here p q = behind.zeros i p q
+    zero i t here p q = grind arith
 
 pub Continues-itself : (a b at : ℕ) (old : List ℕ) → Continues a b old at old at
 Continues-itself a b at old = λ result new punched. punched

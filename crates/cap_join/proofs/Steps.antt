@@ -1,6 +1,6 @@
 -- The table of open groups under one more fragment or a flush.
-use Rattle.std.proofs.Common.{◌≡◌, ℕ, ◌+◌, ◌≤◌, ◌<◌, Bool, true, false, List, [], ◌∷◌, ◌++◌, refl, sym, ◌∙◌, ap, subst, arith, cond, ◌&&◌, not, Option, Some, None}
-use Rattle.std.specs.Prelude.{nat_le, if◌then◌else◌, filter, remove}
+use Rattle.std.proofs.Common.{◌≡◌, ℕ, ◌+◌, ◌≤◌, ◌<◌, Bool, true, List, [], ◌∷◌, ◌++◌, refl, sym, ◌∙◌, ap, subst, arith, cond, ◌&&◌, not, Option, Some, None}
+use Rattle.std.specs.Prelude.{nat_le, filter, remove}
 use Rattle.std.specs.List.{list_all, IsDistinct}
 use Rattle.std.specs.Map.{keys_of, lookup, set_value, remove_entry}
 use Rattle.std.proofs.lemmas.Bool.Decides.{nat_tests}
@@ -8,7 +8,6 @@ use Rattle.std.proofs.lemmas.Map.Keys.{IsDistinct-tail}
 use Rattle.cap_ip.specs.declared.headers.Key.{Key}
 use Rattle.cap_time.specs.declared.stamps.Stamp.{Stamp}
 use Rattle.cap_join.specs.Fragments.{Piece}
-use Rattle.cap_join.specs.Frames.{is_too_old}
 use Rattle.cap_join.specs.Groups.{GroupState, IsGroupOf}
 use Rattle.cap_join.specs.History.{OpenGroup, same_key, key_of, with_piece, live_at, group_at, without, extended, without_oldest}
 use Rattle.cap_join.specs.Joiners.{Entry, IsEntryOf, AreEntriesOf, Rises}
@@ -24,11 +23,7 @@ extended-none p (e ∷ es) (o ∷ os) h none = by (same_key (key_of p) e.0) (key
   where
     by : (b : Bool) → same_key (key_of p) o.key ≡ b → cond b (Some e.1) (entry_at (key_of p) es) ≡ None → (entry_at (key_of p) es ≡ None → AreEntriesOf es (extended p os))
         → AreEntriesOf (e ∷ es) (extended p (o ∷ os))
-    by true is n rest = absurd (clash n)
-      where
-        clash : Some e.1 ≡ None → ⊥
-        clash e = cc
-    by false is n rest = (subst (λ (b : Bool). IsEntryOf e (if b then with_piece p o else o)) (sym is) h.0, rest n)
+    by b is n rest = grind arith
 
 -- a fragment that is put into the group of its key
 pub AreEntriesOf-put : (p : Piece) (before after : GroupState) (es : List Entry) (os : List OpenGroup) → AreEntriesOf es os → IsDistinct same_key (keys_of es)
@@ -44,93 +39,29 @@ AreEntriesOf-put p before after (e ∷ es) (o ∷ os) h apart was group clock pl
     by : (b : Bool) → same_key (key_of p) o.key ≡ b → (b ≡ true → entry_at (key_of p) es ≡ None) → cond b (Some e.1) (entry_at (key_of p) es) ≡ Some before
         → (entry_at (key_of p) es ≡ Some before → AreEntriesOf (set_value (same_key (key_of p)) es after) (extended p os))
         → AreEntriesOf (cond b ((e.0, after) ∷ es) (e ∷ set_value (same_key (key_of p)) es after)) (extended p (o ∷ os))
-    by true is lone n rest =
-        let same : e.1 ≡ before = cc in
-        let entry : IsEntryOf (e.0, after) (with_piece p o) = record {
-          key = h.0.key;
-          clock = clock ∙ ap (λ (s : GroupState). s.clock) (sym same) ∙ h.0.clock;
-          place = place ∙ ap (λ (s : GroupState). s.place) (sym same) ∙ h.0.place;
-          group = group o.pieces (subst (λ (s : GroupState). IsGroupOf s o.pieces) same h.0.group);
-        } in
-        (subst (λ (b : Bool). IsEntryOf (e.0, after) (if b then with_piece p o else o)) (sym is) entry, extended-none p es os h.1 (lone refl))
-    by false is lone n rest = (subst (λ (b : Bool). IsEntryOf e (if b then with_piece p o else o)) (sym is) h.0, rest n)
+    by b is lone n rest = grind (arith, extended-none)
 
 -- a fragment changes no clock, so that the same groups are too old
 pub live_at-extended : (now : Option Stamp) (p : Piece) (os : List OpenGroup) → live_at now (extended p os) ≡ extended p (live_at now os)
 live_at-extended now p [] = refl
-live_at-extended now p (o ∷ os) = by (same_key (key_of p) o.key) refl (not (is_too_old o.clock now)) refl (live_at-extended now p os)
-  where
-    after : OpenGroup
-    after = if same_key (key_of p) o.key then with_piece p o else o
-
-    same : (b : Bool) → (if b then with_piece p o else o).clock ≡ o.clock
-    same true = refl
-    same false = refl
-
-    by : (t : Bool) → same_key (key_of p) o.key ≡ t → (b : Bool) → not (is_too_old o.clock now) ≡ b → live_at now (extended p os) ≡ extended p (live_at now os)
-        → live_at now (extended p (o ∷ os)) ≡ extended p (live_at now (o ∷ os))
-    by t it true b rest =
-        let left : live_at now (extended p (o ∷ os)) ≡ after ∷ live_at now (extended p os) =
-        ap (λ (c : Bool). cond c (after ∷ live_at now (extended p os)) (live_at now (extended p os))) (ap (λ (k : Option Stamp). not (is_too_old k now)) (same (same_key (key_of p) o.key)) ∙ b) in
-        let right : live_at now (o ∷ os) ≡ o ∷ live_at now os = ap (λ (c : Bool). cond c (o ∷ live_at now os) (live_at now os)) b in
-        left ∙ ap (λ (l : List OpenGroup). after ∷ l) rest ∙ sym (ap (extended p) right)
-    by t it false b rest =
-        let left : live_at now (extended p (o ∷ os)) ≡ live_at now (extended p os) =
-        ap (λ (c : Bool). cond c (after ∷ live_at now (extended p os)) (live_at now (extended p os))) (ap (λ (k : Option Stamp). not (is_too_old k now)) (same (same_key (key_of p) o.key)) ∙ b) in
-        let right : live_at now (o ∷ os) ≡ live_at now os = ap (λ (c : Bool). cond c (o ∷ live_at now os) (live_at now os)) b in
-        left ∙ rest ∙ sym (ap (extended p) right)
+live_at-extended now p (o ∷ os) = grind (arith, live_at-extended now p os)
 
 -- nor any key
 pub without-extended : (p : Piece) (os : List OpenGroup) → without (key_of p) (extended p os) ≡ without (key_of p) os
 without-extended p [] = refl
-without-extended p (o ∷ os) = by (same_key (key_of p) o.key) refl (without-extended p os)
-  where
-    by : (t : Bool) → same_key (key_of p) o.key ≡ t → without (key_of p) (extended p os) ≡ without (key_of p) os → without (key_of p) (extended p (o ∷ os)) ≡ without (key_of p) (o ∷ os)
-    by true t rest =
-        let here : (if same_key (key_of p) o.key then with_piece p o else o) ≡ with_piece p o = ap (λ (b : Bool). if b then with_piece p o else o) t in
-        ap (λ (q : OpenGroup). cond (not (same_key (key_of p) q.key)) (q ∷ without (key_of p) (extended p os)) (without (key_of p) (extended p os))) here
-        ∙ ap (λ (b : Bool). cond (not b) (with_piece p o ∷ without (key_of p) (extended p os)) (without (key_of p) (extended p os))) t
-        ∙ rest ∙ sym (ap (λ (b : Bool). cond (not b) (o ∷ without (key_of p) os) (without (key_of p) os)) t)
-    by false t rest =
-        let here : (if same_key (key_of p) o.key then with_piece p o else o) ≡ o = ap (λ (b : Bool). if b then with_piece p o else o) t in
-        ap (λ (q : OpenGroup). cond (not (same_key (key_of p) q.key)) (q ∷ without (key_of p) (extended p os)) (without (key_of p) (extended p os))) here
-        ∙ ap (λ (l : List OpenGroup). cond (not (same_key (key_of p) o.key)) (o ∷ l) l) rest
+without-extended p (o ∷ os) = grind (arith, without-extended p os)
 
 -- the group of its key has it
 pub group_at-extended : (p : Piece) (o : OpenGroup) (os : List OpenGroup) → group_at (key_of p) os ≡ Some o → group_at (key_of p) (extended p os) ≡ Some (with_piece p o)
-group_at-extended p o [] h = absurd (clash h)
-  where
-    clash : None ≡ Some o → ⊥
-    clash e = cc
-group_at-extended p o (q ∷ os) h = by (same_key (key_of p) q.key) refl h (group_at-extended p o os)
-  where
-    by : (t : Bool) → same_key (key_of p) q.key ≡ t → cond t (Some q) (group_at (key_of p) os) ≡ Some o → (group_at (key_of p) os ≡ Some o → group_at (key_of p) (extended p os) ≡ Some (with_piece p o))
-        → group_at (key_of p) (extended p (q ∷ os)) ≡ Some (with_piece p o)
-    by true t n rest =
-        let same : q ≡ o = cc in
-        let here : (if same_key (key_of p) q.key then with_piece p q else q) ≡ with_piece p q = ap (λ (b : Bool). if b then with_piece p q else q) t in
-        ap (λ (g : OpenGroup). cond (same_key (key_of p) g.key) (Some g) (group_at (key_of p) (extended p os))) here
-        ∙ ap (λ (b : Bool). cond b (Some (with_piece p q)) (group_at (key_of p) (extended p os))) t
-        ∙ ap (λ (g : OpenGroup). Some (with_piece p g)) same
-    by false t n rest =
-        let here : (if same_key (key_of p) q.key then with_piece p q else q) ≡ q = ap (λ (b : Bool). if b then with_piece p q else q) t in
-        ap (λ (g : OpenGroup). cond (same_key (key_of p) g.key) (Some g) (group_at (key_of p) (extended p os))) here
-        ∙ ap (λ (b : Bool). cond b (Some q) (group_at (key_of p) (extended p os))) t
-        ∙ rest n
+group_at-extended p o [] h = cc
+group_at-extended p o (q ∷ os) h = grind (arith, group_at-extended p o os)
 
 -- a key without an entry is taken from no group
 without-none : (key : Key) (es : List Entry) (os : List OpenGroup) → AreEntriesOf es os → entry_at key es ≡ None → AreEntriesOf es (without key os)
 without-none key [] [] h none = h
 without-none key [] (o ∷ os) h none = absurd h
 without-none key (e ∷ es) [] h none = absurd h
-without-none key (e ∷ es) (o ∷ os) h none = by (same_key key e.0) (key_test key e o h.0) none (without-none key es os h.1)
-  where
-    by : (b : Bool) → same_key key o.key ≡ b → cond b (Some e.1) (entry_at key es) ≡ None → (entry_at key es ≡ None → AreEntriesOf es (without key os)) → AreEntriesOf (e ∷ es) (without key (o ∷ os))
-    by true is n rest = absurd (clash n)
-      where
-        clash : Some e.1 ≡ None → ⊥
-        clash e = cc
-    by false is n rest = subst (λ (b : Bool). AreEntriesOf (e ∷ es) (cond (not b) (o ∷ without key os) (without key os))) (sym is) (h.0, rest n)
+without-none key (e ∷ es) (o ∷ os) h none = grind (arith, without-none key es os h.1)
 
 -- a key that is taken out
 pub AreEntriesOf-without : (key : Key) (es : List Entry) (os : List OpenGroup) → AreEntriesOf es os → IsDistinct same_key (keys_of es)
@@ -143,8 +74,7 @@ AreEntriesOf-without key (e ∷ es) (o ∷ os) h apart =
   where
     by : (b : Bool) → same_key key o.key ≡ b → (b ≡ true → entry_at key es ≡ None) → AreEntriesOf (remove_entry (same_key key) es) (without key os)
         → AreEntriesOf (cond b es (e ∷ remove_entry (same_key key) es)) (without key (o ∷ os))
-    by true is lone rest = subst (λ (b : Bool). AreEntriesOf es (cond (not b) (o ∷ without key os) (without key os))) (sym is) (without-none key es os h.1 (lone refl))
-    by false is lone rest = subst (λ (b : Bool). AreEntriesOf (e ∷ remove_entry (same_key key) es) (cond (not b) (o ∷ without key os) (without key os))) (sym is) (h.0, rest)
+    by b is lone rest = grind (arith, without-none)
 
 pub AreEntriesOf-push : (es : List Entry) (os : List OpenGroup) (e : Entry) (o : OpenGroup) → AreEntriesOf es os → IsEntryOf e o → AreEntriesOf (es ++ e ∷ []) (os ++ o ∷ [])
 AreEntriesOf-push [] [] e o h k = (k, tt)
@@ -155,19 +85,11 @@ AreEntriesOf-push (f ∷ es) (q ∷ os) e o h k = (h.0, AreEntriesOf-push es os 
 -- places that rise
 pub Rises-wider : (low high lower higher : ℕ) (es : List Entry) → lower ≤ low → high ≤ higher → Rises low high es → Rises lower higher es
 Rises-wider low high lower higher [] p q h = tt
-Rises-wider low high lower higher (e ∷ es) p q h =
-    let a : low ≤ e.1.place = h.0 in
-    let b : e.1.place < high = h.1 in
-    let c : e.1.frames ≤ high = h.2 in
-    (omega arith, omega arith, omega arith, Rises-wider (e.1.place + 1) high (e.1.place + 1) higher es (omega arith) q h.3)
+Rises-wider low high lower higher (e ∷ es) p q h = grind (arith, Rises-wider (e.1.place + 1) high (e.1.place + 1) higher es (omega arith) q h.3)
 
 pub Rises-filter : (test : Entry → Bool) (low high : ℕ) (es : List Entry) → Rises low high es → Rises low high (filter test es)
 Rises-filter test low high [] h = tt
-Rises-filter test low high (e ∷ es) h = by (test e) (Rises-filter test (e.1.place + 1) high es h.3)
-  where
-    by : (b : Bool) → Rises (e.1.place + 1) high (filter test es) → Rises low high (cond b (e ∷ filter test es) (filter test es))
-    by true rest = (h.0, h.1, h.2, rest)
-    by false rest = let a : low ≤ e.1.place = h.0 in Rises-wider (e.1.place + 1) high low high (filter test es) (omega arith) (omega arith) rest
+Rises-filter test low high (e ∷ es) h = grind (arith, Rises-filter test (e.1.place + 1) high es h.3, Rises-wider)
 
 pub Rises-set_value : (test : Key → Bool) (before after : GroupState) (low high higher : ℕ) (es : List Entry) → lookup test es ≡ Some before → after.place ≡ before.place
     → after.frames ≡ before.frames + 1 → high < higher → Rises low high es → Rises low higher (set_value test es after)
@@ -177,63 +99,32 @@ Rises-set_value test before after low high higher (e ∷ es) was place frames up
   where
     by : (b : Bool) → cond b (Some e.1) (lookup test es) ≡ Some before → (lookup test es ≡ Some before → Rises (e.1.place + 1) higher (set_value test es after))
         → Rises low higher (cond b ((e.0, after) ∷ es) (e ∷ set_value test es after))
-    by true n rest =
-        let same : e.1 ≡ before = cc in
-        let at : after.place ≡ e.1.place = place ∙ ap (λ (s : GroupState). s.place) (sym same) in
-        let more : after.frames ≡ e.1.frames + 1 = frames ∙ ap (λ (s : GroupState). s.frames + 1) (sym same) in
-        let a : low ≤ e.1.place = h.0 in
-        let b : e.1.place < high = h.1 in
-        let c : e.1.frames ≤ high = h.2 in
-        (omega arith, omega arith, omega arith, Rises-wider (e.1.place + 1) high (after.place + 1) higher es (omega arith) (omega arith) h.3)
-    by false n rest =
-        let b : e.1.place < high = h.1 in
-        let c : e.1.frames ≤ high = h.2 in
-        (h.0, omega arith, omega arith, rest n)
+    by b n rest = grind (arith, Rises-wider)
 
 pub Rises-remove_entry : (test : Key → Bool) (low high : ℕ) (es : List Entry) → Rises low high es → Rises low high (remove_entry test es)
 Rises-remove_entry test low high [] h = tt
-Rises-remove_entry test low high (e ∷ es) h = by (test e.0) (Rises-remove_entry test (e.1.place + 1) high es h.3)
-  where
-    by : (b : Bool) → Rises (e.1.place + 1) high (remove_entry test es) → Rises low high (cond b es (e ∷ remove_entry test es))
-    by true rest = let a : low ≤ e.1.place = h.0 in Rises-wider (e.1.place + 1) high low high es (omega arith) (omega arith) h.3
-    by false rest = (h.0, h.1, h.2, rest)
+Rises-remove_entry test low high (e ∷ es) h = grind (arith, Rises-remove_entry test (e.1.place + 1) high es h.3, Rises-wider)
 
 pub Rises-push : (low high higher : ℕ) (es : List Entry) (e : Entry) → low ≤ high → e.1.place ≡ high → e.1.frames ≤ higher → high < higher → Rises low high es → Rises low higher (es ++ e ∷ [])
 Rises-push low high higher [] e le at few up h = (omega arith, omega arith, few, tt)
-Rises-push low high higher (f ∷ es) e le at few up h =
-    let b : f.1.place < high = h.1 in
-    let c : f.1.frames ≤ high = h.2 in
-    (h.0, omega arith, omega arith, Rises-push (f.1.place + 1) high higher es e (omega arith) at few up h.3)
+Rises-push low high higher (f ∷ es) e le at few up h = grind (arith, Rises-push (f.1.place + 1) high higher es e (omega arith) at few up h.3)
 
 pub Rises-first : (low high : ℕ) (es : List Entry) → Rises low high es → Rises low high (remove es 0)
-Rises-first low high [] h = tt
-Rises-first low high (e ∷ es) h = let a : low ≤ e.1.place = h.0 in Rises-wider (e.1.place + 1) high low high es (omega arith) (omega arith) h.3
+Rises-first low high es h = grind (arith, Rises-wider)
 
 -- where places rise, the oldest group is the first
 all_above : (place low high : ℕ) (es : List Entry) (os : List OpenGroup) → place ≤ low → AreEntriesOf es os → Rises low high es → list_all (λ q. nat_le place q.place) os ≡ true
 all_above place low high [] [] le h r = refl
 all_above place low high [] (o ∷ os) le h r = absurd h
 all_above place low high (e ∷ es) [] le h r = absurd h
-all_above place low high (e ∷ es) (o ∷ os) le h r =
-    let a : low ≤ e.1.place = r.0 in
-    let at : e.1.place ≡ o.place = h.0.place in
-    let here : nat_le place o.place ≡ true = grind (arith, nat_tests) in
-    let rest : list_all (λ q. nat_le place q.place) os ≡ true = all_above place (e.1.place + 1) high es os (omega arith) h.1 r.3 in
-    λ i. here i && rest i
+all_above place low high (e ∷ es) (o ∷ os) le h r = grind (arith, all_above place (e.1.place + 1) high es os (omega arith) h.1 r.3)
 
 others_stay : (first : OpenGroup) (all : List OpenGroup) (low high : ℕ) (es : List Entry) (os : List OpenGroup) → first.place < low → AreEntriesOf es os → Rises low high es
     → filter (λ o. not (nat_le o.place first.place && list_all (λ q. nat_le o.place q.place) all)) os ≡ os
 others_stay first all low high [] [] lt h r = refl
 others_stay first all low high [] (o ∷ os) lt h r = absurd h
 others_stay first all low high (e ∷ es) [] lt h r = absurd h
-others_stay first all low high (e ∷ es) (o ∷ os) lt h r =
-    let a : low ≤ e.1.place = r.0 in
-    let at : e.1.place ≡ o.place = h.0.place in
-    let here : nat_le o.place first.place ≡ false = grind (arith, nat_tests) in
-    let rest = others_stay first all (e.1.place + 1) high es os (omega arith) h.1 r.3 in
-    ap (λ (b : Bool). cond (not (b && list_all (λ q. nat_le o.place q.place) all)) (o ∷ filter (λ o. not (nat_le o.place first.place && list_all (λ q. nat_le o.place q.place) all)) os)
-    (filter (λ o. not (nat_le o.place first.place && list_all (λ q. nat_le o.place q.place) all)) os)) here
-    ∙ ap (λ (l : List OpenGroup). o ∷ l) rest
+others_stay first all low high (e ∷ es) (o ∷ os) lt h r = grind (arith, others_stay first all (e.1.place + 1) high es os (omega arith) h.1 r.3)
 
 pub AreEntriesOf-oldest : (low high : ℕ) (es : List Entry) (os : List OpenGroup) → AreEntriesOf es os → Rises low high es → AreEntriesOf (remove es 0) (without_oldest os)
 AreEntriesOf-oldest low high [] [] h r = tt

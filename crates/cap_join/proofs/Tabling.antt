@@ -1,5 +1,5 @@
 -- The table of open groups: keys that stay apart, and one group taken out, added or given up.
-use Rattle.std.proofs.Common.{◌≡◌, ℕ, suc, ◌+◌, ◌-◌, ◌<◌, Bool, true, false, List, [], ◌∷◌, ◌++◌, length, take, refl, sym, ◌∙◌, ap, subst, arith, cond, not, true≢false, Option, Some, None, Result, Ok, Err, length-append}
+use Rattle.std.proofs.Common.{◌≡◌, ℕ, ◌<◌, Bool, true, false, List, [], ◌∷◌, ◌++◌, length, refl, sym, ◌∙◌, ap, subst, arith, cond, not, Option, Some, None, Result, length-append}
 use Rattle.std.specs.Prelude.{nat_lt, if◌then◌else◌, remove, drop, IfOk, OnErr, IsSomeAnd}
 use Rattle.std.specs.List.{AllByRecursion, IsDistinct}
 use Rattle.std.specs.Option.{option_map_or}
@@ -23,26 +23,17 @@ use Rattle.cap_join.proofs.Aging.{Looked}
 -- a value that is written changes no key
 pub keys_of-set_value : (test : Key → Bool) (es : List Entry) (s : GroupState) → keys_of (set_value test es s) ≡ keys_of es
 keys_of-set_value test [] s = refl
-keys_of-set_value test (e ∷ es) s = by (test e.0) (keys_of-set_value test es s)
-  where
-    by : (b : Bool) → keys_of (set_value test es s) ≡ keys_of es → keys_of (cond b ((e.0, s) ∷ es) (e ∷ set_value test es s)) ≡ e.0 ∷ keys_of es
-    by true h = refl
-    by false h = ap (λ (l : List Key). e.0 ∷ l) h
+keys_of-set_value test (e ∷ es) s = grind (arith, keys_of-set_value test es s)
 
 -- what holds of a table holds of it after a put, which wrote one group or nothing
 pub put_cases : {E : Type 0} (P : List Entry → Type 0) (key : Key) (p : Piece) (old new : List Entry) (r : Result Bool E) → IfOk r (λ complete. PutsAt key p old complete new) → OnErr r (new ≡ old)
     → ((complete : Bool) → PutsAt key p old complete new → P new) → P old → P new
-put_cases P key p old new (Ok complete) ok err f h = f complete ok
-put_cases P key p old new (Err e) ok err f h = subst P (sym err) h
+put_cases P key p old new r ok err f h = grind arith
 
 -- a group is taken out
 AllByRecursion-remove_entry : (P : Key → Type 0) (test : Key → Bool) (es : List Entry) → AllByRecursion P (keys_of es) → AllByRecursion P (keys_of (remove_entry test es))
 AllByRecursion-remove_entry P test [] h = h
-AllByRecursion-remove_entry P test (e ∷ es) h = by (test e.0) (AllByRecursion-remove_entry P test es h.1)
-  where
-    by : (b : Bool) → AllByRecursion P (keys_of (remove_entry test es)) → AllByRecursion P (keys_of (cond b es (e ∷ remove_entry test es)))
-    by true rest = h.1
-    by false rest = (h.0, rest)
+AllByRecursion-remove_entry P test (e ∷ es) h = grind (arith, AllByRecursion-remove_entry P test es h.1)
 
 pub IsDistinct-remove_entry : (test : Key → Bool) (es : List Entry) → IsDistinct same_key (keys_of es) → IsDistinct same_key (keys_of (remove_entry test es))
 IsDistinct-remove_entry test [] h = h
@@ -54,13 +45,7 @@ IsDistinct-remove_entry test (e ∷ es) h = by (test e.0) (IsDistinct-remove_ent
 
 -- and another is added with its key
 turned : (a b : Key) → same_key a b ≡ false → same_key b a ≡ false
-turned a b h = by (same_key b a) refl
-  where
-    by : (t : Bool) → same_key b a ≡ t → same_key b a ≡ false
-    by true is =
-        let same : b ≡ a = same_key-is b a is in
-        absurd (true≢false (sym is ∙ ap (λ (k : Key). same_key k a) same ∙ ap (λ (k : Key). same_key a k) (sym same) ∙ h))
-    by false is = is
+turned a b h = grind arith
 
 NotOf : Key → List Entry → Type 0
 NotOf key es = AllByRecursion (λ y. same_key y key ≡ false) (keys_of es)
@@ -90,45 +75,27 @@ IsDistinct-last key s (e ∷ es) h apart =
     more (x ∷ xs) k = (k.0, more xs k.1)
 
 pub IsDistinct-added : (key : Key) (s : GroupState) (es new : List Entry) → new ≡ remove_entry (same_key key) es ++ (key, s) ∷ [] → IsDistinct same_key (keys_of es) → IsDistinct same_key (keys_of new)
-IsDistinct-added key s es new is apart =
-    subst (λ (l : List Entry). IsDistinct same_key (keys_of l)) (sym is)
-    (IsDistinct-last key s (remove_entry (same_key key) es) (none_left key es apart) (IsDistinct-remove_entry (same_key key) es apart))
+IsDistinct-added key s es new is apart = grind (arith, IsDistinct-last, none_left, IsDistinct-remove_entry)
 
 pub IsDistinct-first : (es : List Entry) → IsDistinct same_key (keys_of es) → IsDistinct same_key (keys_of (remove es 0))
 IsDistinct-first [] h = h
 IsDistinct-first (e ∷ es) h = IsDistinct-tail same_key e.0 (keys_of es) h
 
 pub drop-first : (es : List Entry) → drop 1 es ≡ remove es 0
-drop-first [] = refl
-drop-first (e ∷ es) = refl
+drop-first es = cc
 
 -- a group that is too old is taken out, or none
 pub live-removed : (test : Key → Bool) (now : Option Stamp) (es : List Entry) → option_map_or (λ s. not (is_too_old s.clock now)) (lookup test es) false ≡ false
     → live_entries now (remove_entry test es) ≡ live_entries now es
 live-removed test now [] h = refl
-live-removed test now (e ∷ es) h = by (test e.0) h (live-removed test now es)
-  where
-    by : (b : Bool) → option_map_or (λ s. not (is_too_old s.clock now)) (cond b (Some e.1) (lookup test es)) false ≡ false
-        → (option_map_or (λ s. not (is_too_old s.clock now)) (lookup test es) false ≡ false → live_entries now (remove_entry test es) ≡ live_entries now es)
-        → live_entries now (cond b es (e ∷ remove_entry test es)) ≡ live_entries now (e ∷ es)
-    by true h rest = sym (ap (λ (b : Bool). cond b (e ∷ live_entries now es) (live_entries now es)) h)
-    by false h rest = ap (λ (l : List Entry). cond (not (is_too_old e.1.clock now)) (e ∷ l) l) (rest h)
+live-removed test now (e ∷ es) h = grind (arith, live-removed test now es)
 
 pub live-expired : (test : Key → Bool) (now : Option Stamp) (es : List Entry) → IsSomeAnd (lookup test es) (λ s. is_too_old s.clock now ≡ true) → live_entries now (remove_entry test es) ≡ live_entries now es
-live-expired test now es h = live-removed test now es (by (lookup test es) h)
-  where
-    by : (o : Option GroupState) → IsSomeAnd o (λ s. is_too_old s.clock now ≡ true) → option_map_or (λ s. not (is_too_old s.clock now)) o false ≡ false
-    by None k = absurd k
-    by (Some s) k = ap not k
+live-expired test now es h = grind (arith, live-removed)
 
 pub length-removed : (test : Key → Bool) (P : GroupState → Type 0) (es : List Entry) → IsSomeAnd (lookup test es) P → length (remove_entry test es) < length es
 length-removed test P [] h = absurd h
-length-removed test P (e ∷ es) h = by (test e.0) h (length-removed test P es)
-  where
-    by : (b : Bool) → IsSomeAnd (cond b (Some e.1) (lookup test es)) P → (IsSomeAnd (lookup test es) P → length (remove_entry test es) < length es)
-        → length (cond b es (e ∷ remove_entry test es)) < suc (length es)
-    by true k rest = omega arith
-    by false k rest = let r : length (remove_entry test es) < length es = rest k in omega arith
+length-removed test P (e ∷ es) h = grind (arith, length-removed test P es)
 
 -- the group that a look reached is the one of its key
 pub Looked-found : (now : Option Stamp) (es : List Entry) (e : Entry) (left : List Entry) → IsDistinct same_key (keys_of es) → Looked now es (e ∷ left) → entry_at e.0 es ≡ Some e.1
@@ -155,42 +122,17 @@ itself k = grind (arith, nat_tests)
 
 unlisted : (test : Key → Bool) (es : List Entry) → lookup_entry test es ≡ None → remove_entry test es ≡ es
 unlisted test [] h = refl
-unlisted test (e ∷ es) h = by (test e.0) h (unlisted test es)
-  where
-    by : (b : Bool) → cond b (Some e) (lookup_entry test es) ≡ None → (lookup_entry test es ≡ None → remove_entry test es ≡ es) → cond b es (e ∷ remove_entry test es) ≡ e ∷ es
-    by true k rest = absurd (clash (sym k))
-      where
-        clash : None ≡ Some e → ⊥
-        clash q = cc
-    by false k rest = ap (λ (l : List Entry). e ∷ l) (rest k)
+unlisted test (e ∷ es) h = grind (arith, unlisted test es)
 
 listed : (test : Key → Bool) (es : List Entry) (x : Entry) → lookup_entry test es ≡ Some x → test x.0 ≡ true
-listed test [] x h = absurd (clash h)
-  where
-    clash : None ≡ Some x → ⊥
-    clash q = cc
-listed test (e ∷ es) x h = by (test e.0) refl h (listed test es x)
-  where
-    by : (b : Bool) → test e.0 ≡ b → cond b (Some e) (lookup_entry test es) ≡ Some x → (lookup_entry test es ≡ Some x → test x.0 ≡ true) → test x.0 ≡ true
-    by true is k rest = let same : e ≡ x = cc in ap (λ (y : Entry). test y.0) (sym same) ∙ is
-    by false is k rest = rest k
+listed test [] x h = cc
+listed test (e ∷ es) x h = grind (arith, listed test es x)
 
 moved : (test : Key → Bool) (k : Key) (s : GroupState) (rest : List Entry) → test k ≡ true → demoted test ((k, s) ∷ rest) ≡ rest ++ (k, s) ∷ []
-moved test k s rest is =
-    ap (λ (b : Bool). option_map_or (λ (e : Entry). cond b rest ((k, s) ∷ remove_entry test rest) ++ e ∷ []) (cond b (Some (k, s)) (lookup_entry test rest)) ((k, s) ∷ rest)) is
+moved test k s rest is = cc
 
 pub added : (key : Key) (s : GroupState) (es : List Entry) (cap : ℕ) → length es < cap → demoted (same_key key) (put_entries same_key (lru_cache es cap) key s) ≡ remove_entry (same_key key) es ++ (key, s) ∷ []
-added key s es cap room = by (lookup_entry (same_key key) es) refl
-  where
-    by : (o : Option Entry) → lookup_entry (same_key key) es ≡ o
-        → demoted (same_key key) (option_map_or (λ e. (e.0, s) ∷ remove_entry (same_key key) es) o ((key, s) ∷ take (cap - 1) es)) ≡ remove_entry (same_key key) es ++ (key, s) ∷ []
-    by None is =
-        moved (same_key key) key s (take (cap - 1) es) (itself key)
-        ∙ ap (λ (l : List Entry). l ++ (key, s) ∷ []) (take_all (cap - 1) es (omega arith) ∙ sym (unlisted (same_key key) es is))
-    by (Some e) is =
-        let same : key ≡ e.0 = same_key-is key e.0 (listed (same_key key) es e is) in
-        moved (same_key key) e.0 s (remove_entry (same_key key) es) (listed (same_key key) es e is)
-        ∙ ap (λ (k : Key). remove_entry (same_key key) es ++ (k, s) ∷ []) (sym same)
+added key s es cap room = grind (arith, moved, itself, take_all, unlisted, same_key-is, listed)
 
 -- What adding a group first, dropping those that are too old and giving one up comes to.
 pub record Opened (mid new : List Entry) (key : Key) (s : GroupState) (gave_up : Bool) : Type 0 where
@@ -200,22 +142,4 @@ pub record Opened (mid new : List Entry) (key : Key) (s : GroupState) (gave_up :
 pub Opened-added : (key : Key) (s : GroupState) (now : Option Stamp) (es more live new : List Entry) (gave_up : Bool) → has_live key now es ≡ false → is_too_old s.clock now ≡ false
     → more ≡ remove_entry (same_key key) es ++ (key, s) ∷ [] → live ≡ live_entries now more → gave_up ≡ nat_lt open_limit (length live) → new ≡ (if gave_up then remove live 0 else live)
     → Opened (live_entries now es) new key s gave_up
-Opened-added key s now es more live new gave_up is fresh more_is live_is gave new_is =
-    let last : live_entries now ((key, s) ∷ []) ≡ (key, s) ∷ [] = ap (λ (b : Bool). cond (not b) ((key, s) ∷ []) []) fresh in
-    let whole : live ≡ live_entries now es ++ (key, s) ∷ [] =
-    live_is ∙ ap (live_entries now) more_is ∙ filter-append (λ (e : Entry). not (is_too_old e.1.clock now)) (remove_entry (same_key key) es) ((key, s) ∷ [])
-    ∙ (λ i. live-removed (same_key key) now es is i ++ last i) in
-    let size : length live ≡ length (live_entries now es) + 1 = ap length whole ∙ length-append (live_entries now es) ((key, s) ∷ []) in
-    let test : gave_up ≡ not (nat_lt (length (live_entries now es)) open_limit) = gave ∙ ap (nat_lt open_limit) size ∙ above (length (live_entries now es)) in
-    record {
-      gave = test;
-      entries = new_is ∙ ap (λ (l : List Entry). if gave_up then remove l 0 else l) whole ∙ by (live_entries now es) gave_up test;
-    }
-  where
-    above : (n : ℕ) → nat_lt open_limit (n + 1) ≡ not (nat_lt n open_limit)
-    above n = grind (arith, nat_tests)
-
-    by : (mid : List Entry) (b : Bool) → b ≡ not (nat_lt (length mid) open_limit) → (if b then remove (mid ++ (key, s) ∷ []) 0 else mid ++ (key, s) ∷ []) ≡ (if b then remove mid 0 else mid) ++ (key, s) ∷ []
-    by mid false h = refl
-    by [] true h = absurd (true≢false h)
-    by (e ∷ mid) true h = refl
+Opened-added key s now es more live new gave_up is fresh more_is live_is gave new_is = grind (arith, filter-append, live-removed, length-append)
