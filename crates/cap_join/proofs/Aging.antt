@@ -1,5 +1,5 @@
 -- Deadlines of open groups, and groups in the order of their clocks, under what a step does to the table.
-use Rattle.std.proofs.Common.{arith, ◌≡◌, Bool, true, false, List, [], ◌∷◌, ◌++◌, refl, sym, ◌∙◌, ap, subst, cond, not, Option, Some, None, append_assoc, lit<}
+use Rattle.std.proofs.Common.{arith, ◌≡◌, Bool, true, false, List, [], ◌∷◌, ◌++◌, refl, sym, ◌∙◌, ap, cond, not, Option, Some, None, append_assoc, lit<}
 use Rattle.std.specs.Prelude.{IsSome, remove, if◌then◌else◌}
 use Rattle.std.specs.Ordering.{is_lt, is_gt, ordering_reverse}
 use Rattle.std.specs.declared.cmp.Ordering.{Ordering}
@@ -195,9 +195,6 @@ Looked-more now es e left fresh l = record {
   split = l.split ∙ sym (append_assoc l.seen (e ∷ []) left);
   none = NoneOld-push now l.seen e l.none fresh;
 }
-
-pub Looked-end : (now : Option Stamp) (es : List Entry) → Looked now es [] → NoneOld now es
-Looked-end now es l = subst (NoneOld now) (sym l.split) (NoneOld-append now l.seen [] l.none tt)
 
 turn_behind : (seen left : List Entry) → AreInTurn (seen ++ left) → AreInTurn left
 turn_behind [] left h = h

@@ -203,9 +203,6 @@ module _ (s : State) (ms : List Mark) (c : Option Stamp) (n : ℕ) (h : Holds s 
 
   -- a fragment at a clock that isn't below the latest
   module _ (clock : Option Stamp) (p : Piece) (later : is_before clock c ≡ false) (place : n ≤ p.stamped.place) where
-    os0 : List OpenGroup
-    os0 = live_at clock s.opens
-
     after : (now : Option Stamp) → is_before now clock ≡ false → is_before now c ≡ false
     after now late = not_before c clock now later late
 
@@ -266,9 +263,6 @@ module _ (s : State) (ms : List Mark) (c : Option Stamp) (n : ℕ) (h : Holds s 
             (λ a b. ap (but_gone gave) (filter-push (λ o. not (same_key (key_of p) o.key)) a b) ∙ but_push gave (without (key_of p) a) (without (key_of p) b))
             (fragment p.stamped.place (opened clock p) gave ∷ ms) ms n
             (λ own key lt. one_opened clock p gave ms alone own key (omega arith)) ms h.below
-
-        own_key : same_key (key_of p) (key_of p) ≡ true
-        own_key = grind arith
 
         newest : (if p.stamped.place == p.stamped.place then first_at p.stamped.place (goes_on (key_of p) (fragment p.stamped.place (opened clock p) gave ∷ ms)) else []) ≡ opened clock p ∷ []
         newest = grind arith

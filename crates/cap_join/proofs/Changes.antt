@@ -1,15 +1,8 @@
 -- Bytes that change within a range.
-use Rattle.std.proofs.Common.{◌≡◌, ℕ, ◌+◌, ◌<◌, ◌≤◌, List, set, refl, arith, length-set}
-use Rattle.std.proofs.lemmas.List.{get_or-set_other}
+use Rattle.std.proofs.Common.{◌≡◌, ℕ, ◌<◌, ◌≤◌, List, arith}
 use Rattle.cap_join.specs.Holes.{ChangesWithin}
 
-pub ChangesWithin-none : (from to : ℕ) (xs : List ℕ) → ChangesWithin from to xs xs
-ChangesWithin-none from to xs = record { length_is = refl; below = λ i h. refl; above = λ i h. refl }
-
--- one more byte
-pub ChangesWithin-set : (from i : ℕ) (old xs : List ℕ) (v : ℕ) → from ≤ i → ChangesWithin from i old xs → ChangesWithin from (i + 1) old (set xs i v)
-ChangesWithin-set from i old xs v h c = grind (arith, length-set, get_or-set_other)
-
+-- one change after another, and a wider range
 pub ChangesWithin-trans : (from to : ℕ) (a b c : List ℕ) → ChangesWithin from to a b → ChangesWithin from to b c → ChangesWithin from to a c
 ChangesWithin-trans from to a b c p q = grind arith
 

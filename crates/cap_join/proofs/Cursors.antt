@@ -41,9 +41,6 @@ Begins-trans xs below low high at start last (s ∷ ss) chain (inr begins) from 
 pub HasCursor-marked : (xs : List ℕ) (high first cursor : ℕ) (ss : List Span) → high < no_hole → IsChain xs 0 high first ss → Begins high cursor ss → HasCursor xs high first cursor
 HasCursor-marked xs high first cursor ss near chain begins = grind (arith, IsChain-unique)
 
-pub HasCursor-none : (xs : List ℕ) (high first : ℕ) → HasCursor xs high first no_hole
-HasCursor-none xs high first = λ ts other lt. absurd (omega arith)
-
 pub HasCursor-higher : (xs : List ℕ) (high higher first cursor : ℕ) → high ≤ higher → higher < no_hole → HasHoles xs high first → HasCursor xs high first cursor → HasCursor xs higher first cursor
 HasCursor-higher xs high higher first cursor le near h is = grind (arith, IsChain-unique, Begins-wider)
 

@@ -50,13 +50,6 @@ lengths [] (o ∷ os) h = absurd h
 lengths (e ∷ es) [] h = absurd h
 lengths (e ∷ es) (o ∷ os) h = ap suc (lengths es os h.1)
 
--- no entry of a key: no group either
-pub group_at-none : (key : Key) (es : List Entry) (os : List OpenGroup) → AreEntriesOf es os → entry_at key es ≡ None → group_at key os ≡ None
-group_at-none key [] [] h none = refl
-group_at-none key [] (o ∷ os) h none = absurd h
-group_at-none key (e ∷ es) [] h none = absurd h
-group_at-none key (e ∷ es) (o ∷ os) h none = grind (arith, group_at-none key es os h.1)
-
 -- A key's group, which an entry's is.
 pub record Found (key : Key) (s : GroupState) (os : List OpenGroup) : Type 0 where
   pub open_group : OpenGroup
@@ -84,11 +77,6 @@ pub group_at-live : (key : Key) (now : Option Stamp) (o : OpenGroup) (os : List 
     → group_at key (live_at now os) ≡ Some o
 group_at-live key now o [] h live = h
 group_at-live key now o (q ∷ os) h live = grind (arith, group_at-live key now o os)
-
--- and none is found where none was
-pub group_at-live-none : (key : Key) (now : Option Stamp) (os : List OpenGroup) → group_at key os ≡ None → group_at key (live_at now os) ≡ None
-group_at-live-none key now [] h = h
-group_at-live-none key now (q ∷ os) h = grind (arith, group_at-live-none key now os)
 
 -- a key without a live entry has no live group
 pub no_live : (key : Key) (now : Option Stamp) (es : List Entry) (os : List OpenGroup) → AreEntriesOf es os → IsDistinct same_key (keys_of es) → has_live key now es ≡ false

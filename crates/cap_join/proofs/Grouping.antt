@@ -80,9 +80,6 @@ covers_below-each ps n k h p = grind (arith, covers_below-some)
 flipped : (x : Bool) → not x ≡ false → x ≡ true
 flipped x e = grind arith
 
-flipped_back : (x : Bool) → not x ≡ true → x ≡ false
-flipped_back x e = grind arith
-
 -- a datagram is complete where no hole begins below its length
 module _ (xs : List ℕ) (hole n : ℕ) (ps : List Piece) (m : Maps xs hole ps) (reached : n ≤ greatest_end ps) where
   covered_below : n ≤ hole → (k : ℕ) → k < blocks n → is_covered ps k ≡ true

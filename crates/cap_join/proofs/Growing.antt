@@ -37,10 +37,6 @@ longer_front xs ys n h is k p = grind (arith, take_all, get_or_append_left)
 pub longer_length : (xs ys : List ℕ) (n : ℕ) → length xs ≤ n → ys ≡ take n xs ++ replicate (n - length xs) 0 → length ys ≡ n
 longer_length xs ys n h is = grind (arith, take_all, length-append, length-replicate)
 
--- a buffer that is long enough
-pub Grown-none : (size at : ℕ) (xs : List ℕ) (ss : List Span) → size ≤ length xs → IsChain xs 0 (length xs) at ss → Grown size xs ss at xs
-Grown-none size at xs ss h chain = grind arith
-
 -- one that was made longer, with the added part as its last hole
 pub Grown-appended : (size hole at : ℕ) (xs ys zs : List ℕ) (ss : List Span) → length xs ≤ size → ys ≡ take size xs ++ replicate (size - length xs) 0
     → IsChain xs 0 (length xs) hole ss

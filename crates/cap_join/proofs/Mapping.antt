@@ -26,10 +26,6 @@ pub uncovered_beyond : (ps : List Piece) (k : ℕ) → greatest_end ps ≤ 8 * k
 uncovered_beyond [] k h = refl
 uncovered_beyond (p ∷ ps) k h = grind (arith, uncovered_beyond ps k (omega arith))
 
--- a place that a fragment holds lies in a block that it covers
-holds_here : (p : Piece) (i : ℕ) → p.start % 8 ≡ 0 → holds p i ≡ true → holds p (8 * (i / 8)) ≡ true
-holds_here p i h t = grind arith
-
 -- a byte of a block that none covers is 0
 pub byte_at-uncovered : (ps : List Piece) (i : ℕ) → AreShaped ps → is_covered ps (i / 8) ≡ false → byte_at ps i ≡ 0
 byte_at-uncovered [] i shaped h = refl
@@ -37,12 +33,6 @@ byte_at-uncovered (p ∷ ps) i shaped h = grind (arith, byte_at-uncovered ps i s
 
 not_or : (x y : Bool) → (not y && not x) ≡ not (x || y)
 not_or x y = grind arith
-
-not_true : (x y : Bool) → x ≡ not y → y ≡ true → x ≡ false
-not_true x y is h = is ∙ ap not h
-
-not_false : (x y : Bool) → x ≡ not y → y ≡ false → x ≡ true
-not_false x y is h = is ∙ ap not h
 
 and_right : (x y : Bool) → (x && not y) ≡ true → y ≡ false
 and_right x y h = grind arith
@@ -52,9 +42,6 @@ or_first x y h k = grind arith
 
 outside_below : (a b i : ℕ) → i < a → is_within a b i ≡ false
 outside_below a b i h = grind (arith, nat_tests)
-
-outside_shorter : (a e b i : ℕ) → e ≤ b → is_within a b i ≡ false → is_within a e i ≡ false
-outside_shorter a e b i h p = grind (arith, nat_tests)
 
 sized : (n g e end l : ℕ) → n ≡ rounded g → end ≡ rounded e → l ≡ max n end → l ≡ rounded (max e g)
 sized n g e end l p q r = grind arith

@@ -41,9 +41,6 @@ older (Some k) b c h p = before_later (Some (stamp_plus k wait)) b c h p
 
 -- ---- keys
 
-pub same_key_self : (a b : Key) → same_key a b ≡ true → same_key b a ≡ true
-same_key_self a b h = grind arith
-
 pub same_key-sym : (a b : Key) → same_key a b ≡ same_key b a
 same_key-sym a b = grind arith
 
@@ -76,10 +73,6 @@ live_at-later b c h (o ∷ os) = by (is_too_old o.clock b) refl (live_at-later b
 
 pub found_step : (key : Key) (o : OpenGroup) (os : List OpenGroup) (b : Bool) → same_key key o.key ≡ b → group_at key (o ∷ os) ≡ cond b (Some o) (group_at key os)
 found_step key o os b h = ap (λ (b : Bool). cond b (Some o) (group_at key os)) h
-
-pub group_at-key : (key : Key) (o : OpenGroup) (os : List OpenGroup) → group_at key os ≡ Some o → same_key key o.key ≡ true
-group_at-key key o [] h = cc
-group_at-key key o (q ∷ os) h = grind (arith, group_at-key key o os)
 
 pub group_at-filter-none : (key : Key) (t : OpenGroup → Bool) (os : List OpenGroup) → group_at key os ≡ None → group_at key (filter t os) ≡ None
 group_at-filter-none key t [] h = h

@@ -1,5 +1,5 @@
 -- What is left of a chain of holes once a range is filled, and once a hole is added after them.
-use Rattle.std.proofs.Common.{◌≡◌, ℕ, ◌+◌, ◌%◌, ◌<◌, ◌≤◌, Bool, true, false, List, [], ◌∷◌, length, refl, sym, ◌∙◌, ap, subst, arith, max, min, ◌&&◌, ◌||◌, not, true≢false, inl, inr, ◌⊎◌}
+use Rattle.std.proofs.Common.{◌≡◌, ℕ, ◌+◌, ◌%◌, ◌<◌, ◌≤◌, Bool, true, false, List, [], ◌∷◌, length, refl, sym, ◌∙◌, ap, subst, arith, max, min, ◌&&◌, ◌||◌, not, ◌⊎◌}
 use Rattle.std.specs.Prelude.{slice_index}
 use Rattle.std.proofs.lemmas.Bool.{cases_lt}
 use Rattle.std.proofs.lemmas.Bool.Decides.{nat_tests}
@@ -18,14 +18,11 @@ pub record FirstHole (xs : List ℕ) (high at : ℕ) : Type 0 where
 
 next_above : (xs : List ℕ) (low high at from : ℕ) (ss : List Span) → from < low → from < no_hole → IsChain xs low high at ss → from < at
 next_above xs low high at from [] h k chain = omega (arith, chain)
-next_above xs low high at from (s ∷ ss) h k chain =
-    let after : low ≤ s.from = chain.0.after in
-    let here : at ≡ s.from = chain.0.here in
-    omega arith
+next_above xs low high at from (s ∷ ss) h k chain = grind arith
 
-first_of : (xs : List ℕ) (low high at : ℕ) (ss : List Span) → IsChain xs low high at ss → at < no_hole → FirstHole xs high at
-first_of xs low high at [] chain h = absurd (omega (arith, chain))
-first_of xs low high at (s ∷ ss) chain h =
+first_hole : (xs : List ℕ) (low high at : ℕ) (ss : List Span) → IsChain xs low high at ss → at < no_hole → FirstHole xs high at
+first_hole xs low high at [] chain h = absurd (omega (arith, chain))
+first_hole xs low high at (s ∷ ss) chain h =
     let hole = chain.0 in
     let here : at ≡ s.from = hole.here in
     let end_is : word_at xs at ≡ s.to = ap (word_at xs) here ∙ hole.end_is in
@@ -45,7 +42,7 @@ first_of xs low high at (s ∷ ss) chain h =
     }
 
 pub HasHoles-first : (xs : List ℕ) (high at : ℕ) → HasHoles xs high at → at < no_hole → FirstHole xs high at
-HasHoles-first xs high at h = first_of xs 0 high at h.spans h.chain
+HasHoles-first xs high at h = first_hole xs 0 high at h.spans h.chain
 
 -- a chain begins at its first hole
 pub IsChain-here : (xs : List ℕ) (low high at : ℕ) (ss : List Span) → IsChain xs low high at ss → IsChain xs at high at ss
@@ -62,65 +59,33 @@ pub within-above : (a b i : ℕ) → is_within a b i ≡ true → a ≤ i
 within-above a b i h = grind (arith, nat_tests)
 
 outside : (x : Bool) → x ≡ (x && not false)
-outside true = refl
-outside false = refl
+outside x = grind arith
 
 -- nothing is filled where the holes begin after the range
 pub Punched-none : (a b low high at : ℕ) (xs : List ℕ) (ss : List Span) → b ≤ at → IsChain xs low high at ss → Punched a b xs ss low high at xs
-Punched-none a b low high at xs ss h chain = record {
-  length_is = refl;
-  spans = ss;
-  chain = chain;
-  holes = λ i. holes i (is_within a b i) refl;
-  kept_bytes = λ i p. refl;
-  zeros = λ i p q. absurd (true≢false (sym p ∙ below i q));
-}
-  where
-    below : (i : ℕ) → is_within a b i ≡ true → in_hole ss i ≡ false
-    below i q = let near : i < b = within-below a b i q in in_hole-below xs at high at ss i (IsChain-here xs low high at ss chain) (omega arith)
-
-    holes : (i : ℕ) (t : Bool) → is_within a b i ≡ t → in_hole ss i ≡ (in_hole ss i && not (is_within a b i))
-    holes i true is = below i is ∙ sym (ap (λ (x : Bool). x && not (is_within a b i)) (below i is))
-    holes i false is = outside (in_hole ss i) ∙ sym (ap (λ (x : Bool). in_hole ss i && not x) is)
+Punched-none a b low high at xs ss h chain = grind (arith, within-below, in_hole-below, IsChain-here, outside)
 
 -- a place of a hole that was cut, or of the holes after it
 cut_place : (a b f t left i : ℕ) (x : Bool) → f < t → a < b → f < b → left ≡ min t a → (x ≡ true → t ≤ i)
     → (is_within f left i || (is_within b t i || (x && not (is_within a b i)))) ≡ ((is_within f t i || x) && not (is_within a b i))
-cut_place a b f t left i true some range near is behind =
-    let past : t ≤ i = behind refl in
-    grind (arith, nat_tests)
-cut_place a b f t left i false some range near is behind = grind (arith, nat_tests)
+cut_place a b f t left i x some range near is behind = grind arith
 
 pub or_false_left : (x y : Bool) → (x || y) ≡ false → x ≡ false
-or_false_left true y h = h
-or_false_left false y h = refl
+or_false_left x y h = grind arith
 
 pub or_false_right : (x y : Bool) → (x || y) ≡ false → y ≡ false
-or_false_right true y h = absurd (true≢false h)
-or_false_right false y h = h
+or_false_right x y h = grind arith
 
 -- a place outside a range is below it or after it
 outside_range : (f t i : ℕ) → is_within f t i ≡ false → (i < f) ⊎ (t ≤ i)
-outside_range f t i h = by (cases_lt i f)
-  where
-    by : (i < f) ⊎ (f ≤ i) → (i < f) ⊎ (t ≤ i)
-    by (inl p) = inl p
-    by (inr p) = inr (grind (arith, nat_tests))
+outside_range f t i h = grind arith
 
 pub unchanged : (f t : ℕ) (old new : List ℕ) → ChangesWithin f t old new → (i : ℕ) → is_within f t i ≡ false → slice_index new i ≡ slice_index old i
-unchanged f t old new c i h = by (outside_range f t i h)
-  where
-    by : (i < f) ⊎ (t ≤ i) → slice_index new i ≡ slice_index old i
-    by (inl p) = c.below i p
-    by (inr p) = c.above i p
+unchanged f t old new c i h = grind arith
 
 -- a hole's places are not below the chain
 above_low : (xs : List ℕ) (low high at : ℕ) (ss : List Span) (i : ℕ) → IsChain xs low high at ss → in_hole ss i ≡ true → low ≤ i
-above_low xs low high at ss i chain p = by (cases_lt i low)
-  where
-    by : (i < low) ⊎ (low ≤ i) → low ≤ i
-    by (inl q) = absurd (true≢false (sym p ∙ in_hole-below xs low high at ss i chain q))
-    by (inr q) = q
+above_low xs low high at ss i chain p = grind (arith, cases_lt, in_hole-below)
 
 -- a place that was filled is 0
 zero_place : (a b at end from to left i : ℕ) (x : Bool) (mid1 mid2 mid3 new : List ℕ) (t : Bool) → is_within at end i ≡ t
@@ -129,15 +94,7 @@ zero_place : (a b at end from to left i : ℕ) (x : Bool) (mid1 mid2 mid3 new : 
     → ChangesWithin b end mid2 mid3 → ChangesWithin at left mid3 new
     → (x ≡ true → end ≤ i) → (x ≡ true → slice_index mid1 i ≡ 0)
     → (t || x) ≡ true → is_within a b i ≡ true → slice_index new i ≡ 0
-zero_place a b at end from to left i x mid1 mid2 mid3 new true here from_is to_is left_is some near cleared zeros right_within left_within behind was p q =
-    let i0 : at ≤ i = within-above at end i here in
-    let i1 : i < end = within-below at end i here in
-    let i2 : a ≤ i = within-above a b i q in
-    let i3 : i < b = within-below a b i q in
-    left_within.above i (omega arith) ∙ (right_within.below i i3 ∙ zeros i (omega arith) (omega arith))
-zero_place a b at end from to left i x mid1 mid2 mid3 new false here from_is to_is left_is some near cleared zeros right_within left_within behind was p q =
-    let past : end ≤ i = behind p in
-    left_within.above i (omega arith) ∙ (right_within.above i past ∙ (cleared.above i (omega arith) ∙ was p))
+zero_place a b at end from to left i x mid1 mid2 mid3 new t here from_is to_is left_is some near cleared zeros right_within left_within behind was p q = grind arith
 
 -- What one hole and the holes after it are once a range is filled: the holes after it first, then the filled part is
 -- cleared, then what is left on the right and on the left is described.
@@ -180,19 +137,13 @@ module _ (a b low high at end next rest right result : ℕ) (s : Span) (ss : Lis
 
 -- the lesser of two whole blocks' ends is one
 pub min_block : (x y m : ℕ) → m ≡ min x y → x % 8 ≡ 0 → y % 8 ≡ 0 → m % 8 ≡ 0
-min_block x y m is p q = by (cases_lt x y)
-  where
-    by : (x < y) ⊎ (y ≤ x) → m % 8 ≡ 0
-    by (inl h) = let e : m ≡ x = omega arith in ap (λ (n : ℕ). n % 8) e ∙ p
-    by (inr h) = let e : m ≡ y = omega arith in ap (λ (n : ℕ). n % 8) e ∙ q
+min_block x y m is p q = grind arith
 
 pub or_false : (x : Bool) → (x || false) ≡ x
-or_false true = refl
-or_false false = refl
+or_false x = grind arith
 
 pub or_assoc : (x y z : Bool) → (x || (y || z)) ≡ ((x || y) || z)
-or_assoc true y z = refl
-or_assoc false y z = refl
+or_assoc x y z = grind arith
 
 -- the last hole
 pub Appended-last : (low high at result : ℕ) (old new : List ℕ) (ss : List Span) → low ≤ high → high ≤ at → high < length old → length old < no_hole
@@ -207,12 +158,7 @@ Appended-last low high at result old new [] le past some short chain within desc
   holes = λ i. in_hole-kept high (length old) [] i ∙ or_false (is_within high (length old) i);
   kept_bytes = λ i p q. within.below i p;
 }
-Appended-last low high at result old new (s ∷ ss) le past some short chain within described =
-    let hole = chain.0 in
-    let here : at ≡ s.from = hole.here in
-    let one : s.from < s.to = hole.some in
-    let inside : s.to ≤ high = hole.within in
-    absurd (omega arith)
+Appended-last low high at result old new (s ∷ ss) le past some short chain within described = grind arith
 
 -- one hole, and those after it with one more
 pub Appended-hole : (low high at end next rest result : ℕ) (s : Span) (ss : List Span) (old mid new : List ℕ)

@@ -1,9 +1,8 @@
 -- What a fragment makes of the table: what `Puts` says, case by case, and that it stays a table.
-use Rattle.std.proofs.Common.{◌≡◌, ℕ, ◌+◌, ◌≤◌, ◌<◌, ◌^◌, Bool, true, false, List, [], ◌∷◌, ◌++◌, length, refl, sym, ◌∙◌, ap, subst, arith, cond, ◌&&◌, not, true≢false, Option, Some, None, length-append}
+use Rattle.std.proofs.Common.{◌≡◌, ℕ, ◌+◌, ◌≤◌, ◌<◌, ◌^◌, Bool, true, false, List, [], ◌∷◌, ◌++◌, length, refl, sym, ◌∙◌, ap, subst, arith, ◌&&◌, not, true≢false, Option, Some, None, length-append}
 use Rattle.std.specs.Prelude.{nat_lt, if◌then◌else◌, filter, remove, IsSomeAnd}
 use Rattle.std.specs.List.{IsDistinct}
 use Rattle.std.specs.Map.{keys_of, lookup, set_value, remove_entry}
-use Rattle.std.specs.Option.{option_map_or}
 use borrow.Author.Tests.{ltb-true}
 use Rattle.cap_ip.specs.declared.headers.Key.{Key}
 use Rattle.cap_time.specs.declared.stamps.Stamp.{Stamp}
@@ -16,9 +15,8 @@ use Rattle.cap_join.specs.Groups.{GroupState, IsGroupOf, IsDatagramOf}
 use Rattle.cap_join.specs.History.{OpenGroup, same_key, key_of, opened, live_at, group_at, without, extended, without_oldest, trimmed, pieces_with, opens_with, gives_up_with}
 use Rattle.cap_join.specs.Joiners.{Entry, IsEntryOf, AreEntriesOf, Rises, IsTable, open_limit}
 use Rattle.cap_join.specs.Tables.{entry_at, live_entries, has_live, PutsAt, Puts}
-use Rattle.cap_join.proofs.Entries.{lengths, live_group, no_live, AreEntriesOf-live, Found, alone}
+use Rattle.cap_join.proofs.Entries.{lengths, live_group, no_live, AreEntriesOf-live, Found}
 use Rattle.cap_join.proofs.Steps.{AreEntriesOf-put, live_at-extended, without-extended, AreEntriesOf-without, AreEntriesOf-push, AreEntriesOf-oldest, Rises-wider, Rises-filter, Rises-set_value, Rises-remove_entry, Rises-push, Rises-first}
-use Rattle.std.proofs.lemmas.Map.Keys.{IsDistinct-tail}
 
 -- lengths
 filter_short : {X : Type 0} (test : X → Bool) (xs : List X) → length (filter test xs) ≤ length xs
@@ -53,29 +51,8 @@ entry_at-live : (key : Key) (now : Option Stamp) (s : GroupState) (es : List Ent
 entry_at-live key now s [] h live = h
 entry_at-live key now s (e ∷ es) h live = grind (arith, entry_at-live key now s es)
 
-entry_at-live-none : (key : Key) (now : Option Stamp) (es : List Entry) → entry_at key es ≡ None → entry_at key (live_entries now es) ≡ None
-entry_at-live-none key now [] h = h
-entry_at-live-none key now (e ∷ es) h = grind (arith, entry_at-live-none key now es)
-
-none_live : (key : Key) (now : Option Stamp) (es : List Entry) → IsDistinct same_key (keys_of es) → has_live key now es ≡ false → entry_at key (live_entries now es) ≡ None
-none_live key now [] apart h = refl
-none_live key now (e ∷ es) apart h =
-    by (same_key key e.0) refl (alone key e es apart) h (not (is_too_old e.1.clock now)) refl (none_live key now es (IsDistinct-tail same_key e.0 (keys_of es) apart))
-  where
-    step : (b : Bool) → not (is_too_old e.1.clock now) ≡ b → live_entries now (e ∷ es) ≡ cond b (e ∷ live_entries now es) (live_entries now es)
-    step b is = ap (λ (c : Bool). cond c (e ∷ live_entries now es) (live_entries now es)) is
-
-    by : (t : Bool) → same_key key e.0 ≡ t → (t ≡ true → entry_at key es ≡ None) → option_map_or (λ s. not (is_too_old s.clock now)) (cond t (Some e.1) (entry_at key es)) false ≡ false
-        → (b : Bool) → not (is_too_old e.1.clock now) ≡ b → (has_live key now es ≡ false → entry_at key (live_entries now es) ≡ None) → entry_at key (live_entries now (e ∷ es)) ≡ None
-    by t' t lone n b' b rest = grind arith
-
 first_none : (key : Key) (es : List Entry) → entry_at key es ≡ None → entry_at key (remove es 0) ≡ None
 first_none key es h = grind arith
-
--- the key of a new group isn't there
-pub new_key : (key : Key) (now : Option Stamp) (es mid new : List Entry) (gave_up : Bool) → IsDistinct same_key (keys_of es) → has_live key now es ≡ false
-    → mid ≡ live_entries now es → new ≡ (if gave_up then remove mid 0 else mid) → entry_at key new ≡ None
-new_key key now es mid new gave_up apart live mid_is new_is = grind (arith, none_live, first_none)
 
 -- the group with the fragment is the one that is found afterwards
 pub found_after : (key : Key) (p : Piece) (now : Option Stamp) (es mid : List Entry) (complete : Bool) (a : PutsAt key p es complete mid) → has_live key now es ≡ true

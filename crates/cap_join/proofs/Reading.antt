@@ -159,9 +159,6 @@ Punched-covered a b low high at s ss old mid new result hole above below tail cl
     zero : (i : ℕ) (t : Bool) → is_within s.from s.to i ≡ t → (t || in_hole ss i) ≡ true → is_within a b i ≡ true → slice_index new i ≡ 0
     zero i t here p q = grind arith
 
-pub Continues-itself : (a b at : ℕ) (old : List ℕ) → Continues a b old at old at
-Continues-itself a b at old = λ result new punched. punched
-
 -- one more hole was cleared
 pub Continues-more : (a b at first end next : ℕ) (old cur mid : List ℕ) → Continues a b old at cur first → first < no_hole → end ≡ word_at cur first → a ≤ first → end ≤ b
     → next ≡ word_at cur (first + 4) → ChangesWithin first end cur mid → ((i : ℕ) → first ≤ i → i < end → slice_index mid i ≡ 0) → Continues a b old at mid next
