@@ -73,21 +73,15 @@ NoneOld-append : (now : Option Stamp) (es rest : List Entry) → NoneOld now es 
 NoneOld-append now [] rest h k = k
 NoneOld-append now (e ∷ es) rest h k = (h.0, NoneOld-append now es rest h.1 k)
 
-Precedes-more : (clock : Option Stamp) (es new : List Entry) → ((now : Option Stamp) → NoneOld now es → NoneOld now new) → Precedes clock es → Precedes clock new
-Precedes-more clock es new f h = grind arith
-
 -- what holds of a table under one more fragment of a group
 module _ (test : Key → Bool) (before after : GroupState) (same : after.clock ≡ before.clock) where
-  same_clock : (e : Entry) (es : List Entry) → Some e.1 ≡ Some before → e.1.clock ≡ after.clock
-  same_clock e es f = let is : e.1 ≡ before = cc in ap (λ (s : GroupState). s.clock) is ∙ sym same
-
   pub AreInTurn-set_value : (es : List Entry) → lookup test es ≡ Some before → AreInTurn es → AreInTurn (set_value test es after)
   AreInTurn-set_value [] found h = h
   AreInTurn-set_value (e ∷ es) found h = by (test e.0) found (λ f. AreInTurn-set_value es f h.1)
     where
       by : (b : Bool) → cond b (Some e.1) (lookup test es) ≡ Some before → (lookup test es ≡ Some before → AreInTurn (set_value test es after))
           → AreInTurn (cond b ((e.0, after) ∷ es) (e ∷ set_value test es after))
-      by b f rest = grind (arith, same_clock, Precedes-more, NoneOld-set_value)
+      by b f rest = grind (arith, NoneOld-set_value)
 
   pub AreUpTo-set_value : (latest : Option Stamp) (es : List Entry) → lookup test es ≡ Some before → AreUpTo latest es → AreUpTo latest (set_value test es after)
   AreUpTo-set_value latest [] found h = h
@@ -100,7 +94,7 @@ module _ (test : Key → Bool) (before after : GroupState) (same : after.clock �
 module _ (test : Key → Bool) where
   pub AreInTurn-remove_entry : (es : List Entry) → AreInTurn es → AreInTurn (remove_entry test es)
   AreInTurn-remove_entry [] h = h
-  AreInTurn-remove_entry (e ∷ es) h = grind (arith, AreInTurn-remove_entry es h.1, Precedes-more, NoneOld-remove_entry)
+  AreInTurn-remove_entry (e ∷ es) h = grind (arith, AreInTurn-remove_entry es h.1, NoneOld-remove_entry)
 
   pub AreUpTo-remove_entry : (latest : Option Stamp) (es : List Entry) → AreUpTo latest es → AreUpTo latest (remove_entry test es)
   AreUpTo-remove_entry latest [] h = h
@@ -132,7 +126,7 @@ AreInTurn-live now (e ∷ es) h = by (is_too_old e.1.clock now) (AreInTurn-live 
     stays at (x ∷ xs) h = grind (arith, stays at xs h.1)
 
     by : (b : Bool) → AreInTurn (live_entries now es) → AreInTurn (cond (not b) (e ∷ live_entries now es) (live_entries now es))
-    by b rest = grind (arith, Precedes-more, stays)
+    by b rest = grind (arith, stays)
 
 pub AreUpTo-live : (latest now : Option Stamp) (es : List Entry) → AreUpTo latest es → AreUpTo latest (live_entries now es)
 AreUpTo-live latest now [] h = h
@@ -175,7 +169,7 @@ AreUpTo-push latest [] e turn h = (IsUpTo-itself latest (deadline_of e.1.clock),
 AreUpTo-push latest (x ∷ es) e turn h = (IsUpTo-later latest (deadline_of e.1.clock) (deadline_of x.1.clock) turn h.0, AreUpTo-push latest es e turn h.1)
 
 pub IsDeadline-push : (deadline : Option Stamp) (es : List Entry) (e : Entry) → IsDeadline deadline es → IsDeadline (sooner deadline (deadline_of e.1.clock)) (es ++ e ∷ [])
-IsDeadline-push deadline es e h = grind (arith, NoneOld-push, sooner-first, is_past-deadline, sooner-second)
+IsDeadline-push deadline es e h = grind (arith, NoneOld-push, sooner-first, sooner-second)
 
 -- a group isn't too old at the clock at which it is opened
 pub new-fresh : (clock : Option Stamp) → is_too_old clock clock ≡ false
@@ -200,12 +194,9 @@ turn_behind : (seen left : List Entry) → AreInTurn (seen ++ left) → AreInTur
 turn_behind [] left h = h
 turn_behind (e ∷ seen) left h = turn_behind seen left h.1
 
-pub none_behind : (clock now : Option Stamp) (es : List Entry) → IsSome clock → is_too_old clock now ≡ false → Precedes clock es → NoneOld now es
-none_behind clock now es some fresh h = grind arith
-
 -- where the groups are in order, none after one that isn't too old is
 pub Looked-turn : (now : Option Stamp) (es : List Entry) (e : Entry) (left : List Entry) → AreInTurn es → IsSome e.1.clock → is_too_old e.1.clock now ≡ false → Looked now es (e ∷ left) → NoneOld now es
-Looked-turn now es e left turn some fresh l = grind (arith, turn_behind, NoneOld-append, none_behind)
+Looked-turn now es e left turn some fresh l = grind (arith, turn_behind, NoneOld-append)
 
 -- Where a deadline isn't past and no group of some is too old, none of the table is.
 abbrev pub Leaves : Option Stamp → List Entry → List Entry → Type 0
@@ -213,8 +204,8 @@ Leaves deadline left es = (now : Option Stamp) → is_past deadline now ≡ fals
 
 -- one more group was looked at
 pub Leaves-more : (deadline : Option Stamp) (e : Entry) (left es : List Entry) → Leaves deadline (e ∷ left) es → Leaves (sooner deadline (deadline_of e.1.clock)) left es
-Leaves-more deadline e left es h = grind (arith, sooner-first, is_past-deadline, sooner-second)
+Leaves-more deadline e left es h = grind (arith, sooner-first, sooner-second)
 
 -- where the groups are in order, no more need be
 pub Leaves-turn : (deadline : Option Stamp) (e : Entry) (left es : List Entry) → IsSome e.1.clock → AreInTurn (e ∷ left) → Leaves deadline (e ∷ left) es → IsDeadline (sooner deadline (deadline_of e.1.clock)) es
-Leaves-turn deadline e left es some turn h = grind (arith, is_past-deadline, sooner-second, sooner-first, none_behind)
+Leaves-turn deadline e left es some turn h = grind (arith, is_past-deadline, sooner-second, sooner-first)

@@ -8,7 +8,7 @@ use Rattle.std.specs.Ordering.{is_lt, is_gt}
 use Rattle.std.specs.Cmp.{alike_right}
 use Rattle.cap_time.specs.declared.stamps.Stamp.{Stamp}
 use Rattle.cap_time.specs.Stamp.{stamp_cmp, stamp_plus}
-use Rattle.cap_time.specs.StampLaws.{stamp_cmp-parts, same_parts}
+use Rattle.cap_time.specs.StampLaws.{stamp_cmp-parts}
 use Rattle.cap_ip.specs.declared.headers.Key.{Key}
 use Rattle.cap_join.specs.ByteMap.{completes}
 use Rattle.cap_join.specs.Completed.{if_complete, completed_of}
@@ -23,7 +23,7 @@ use Rattle.cap_join.proofs.OpenGroups.{total}
 -- two times that are equal are so 30 seconds later
 plus_same : (a b : Stamp) (n : ℕ) → stamp_cmp a b ≡ Equal → stamp_cmp (stamp_plus a n) (stamp_plus b n) ≡ Equal
 unfolding stamp_plus
-plus_same a b n e = grind (arith, same_parts, stamp_cmp-parts)
+plus_same a b n e = grind (arith, stamp_cmp-parts)
 
 pub cmp_same : (a b c d : Option Stamp) → IsSameTime a b → IsSameTime c d → option_cmp stamp_cmp a c ≡ option_cmp stamp_cmp b d
 cmp_same a b c d e f = total.congr a b c e ∙ alike_right total c d b f

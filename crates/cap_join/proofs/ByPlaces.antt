@@ -1,5 +1,5 @@
 -- The groups by steps are the groups by places.
-use Rattle.std.proofs.Common.{◌≡◌, ℕ, ◌+◌, ◌≤◌, ◌<◌, Bool, true, false, List, [], ◌∷◌, ◌++◌, length, refl, sym, ◌∙◌, ap, subst, arith, cond, ◌&&◌, not, true≢false, Option, Some, None}
+use Rattle.std.proofs.Common.{◌≡◌, ℕ, ◌+◌, ◌≤◌, ◌<◌, Bool, true, false, List, [], ◌∷◌, ◌++◌, length, refl, sym, ◌∙◌, ap, subst, arith, ◌&&◌, not, Option, Some, None}
 use Rattle.std.specs.Prelude.{nat_lt, ◌==◌, if◌then◌else◌}
 use Rattle.std.proofs.lemmas.Bool.Decides.{nat_tests}
 use Rattle.cap_time.specs.declared.stamps.Stamp.{Stamp}
@@ -11,7 +11,7 @@ use Rattle.cap_join.specs.History.{Event, arrives, flushes, OpenGroup, State, sa
 use Rattle.cap_join.specs.Places.{Mark, fragment, whole, unless_given, goes_on, group_by, first_at, going_on, lowest, given_up_at, mark_of, marks, one_if, times_given_up, latest_clock, next_place, AreInOrder, Agree}
 use Rattle.cap_join.proofs.Entries.{same_key-is, group_at-live}
 use Rattle.cap_join.proofs.Steps.{live_at-extended, group_at-extended}
-use Rattle.cap_join.proofs.OpenGroups.{before_later, same_key-sym, filter-push, filter-commute, live_at-later, found_step, group_at-filter-none, group_at-without-same, group_at-without-other, group_at-extended-other, group_at-extended-none, group_at-push-none, group_at-push-other, IsApart, Up, apart-filter, Up-wider, up-filter, apart-extended, up-extended, apart-push, up-push, up-found, group_at-live-old, gone, but_gone, but_none, trimmed-but, given_some}
+use Rattle.cap_join.proofs.OpenGroups.{before_later, same_key-sym, filter-push, filter-commute, live_at-later, group_at-filter-none, group_at-without-same, group_at-without-other, group_at-extended-other, group_at-extended-none, group_at-push-none, group_at-push-other, IsApart, Up, apart-filter, Up-wider, up-filter, apart-extended, up-extended, apart-push, up-push, up-found, group_at-live-old, gone, but_gone, but_none, trimmed-but, given_some}
 
 -- ---- what goes on
 
@@ -47,16 +47,6 @@ module _ (change : List OpenGroup → List OpenGroup) (none : change [] ≡ []) 
 one_flush : (own : ℕ) (key k : Key) (o : Option OpenGroup) → ((g : OpenGroup) → o ≡ Some g → key ≡ g.key) → first_at own (if same_key key k then None else o) ≡ without k (first_at own o)
 one_flush own key k o keyed = grind arith
 
--- a key's group is without the groups of another key, and is none without its own
-first_without : (own : ℕ) (k : Key) (g : OpenGroup) (b : Bool) → same_key k g.key ≡ b → without k (first_at own (Some g)) ≡ (if b then [] else first_at own (Some g))
-first_without own k g b e = grind arith
-
-first_extended : (own : ℕ) (p : Piece) (g : OpenGroup) (b : Bool) → same_key (key_of p) g.key ≡ b → extended p (first_at own (Some g)) ≡ first_at own (Some (if b then with_piece p g else g))
-first_extended own p g b e = grind arith
-
-other_key : (key k : Key) (b : Bool) (g : OpenGroup) → key ≡ g.key → same_key key k ≡ b → same_key k g.key ≡ b
-other_key key k b g e h = same_key-sym k g.key ∙ ap (λ (x : Key). same_key x k) (sym e) ∙ h
-
 -- a fragment that joins the group o
 module _ (p : Piece) (o : OpenGroup) (ms : List Mark) (mine : o.key ≡ key_of p) (on : goes_on (key_of p) ms ≡ Some o) (n : ℕ) where
   here : (key : Key) → same_key key o.key ≡ true → goes_on key ms ≡ Some o
@@ -66,82 +56,39 @@ module _ (p : Piece) (o : OpenGroup) (ms : List Mark) (mine : o.key ≡ key_of p
   self = grind arith
 
   one_more : completes (p ∷ o.pieces) ≡ false → (own : ℕ) (key : Key) → own < n → first_at own (goes_on key (fragment n (with_piece p o) None ∷ ms)) ≡ extended p (first_at own (goes_on key ms))
-  one_more done own key lt = by (same_key key o.key) refl
+  one_more done own key lt = joined (goes_on key ms) (goes_on-key key ms) (here key)
     where
-      by : (b : Bool) → same_key key o.key ≡ b → first_at own (goes_on key (fragment n (with_piece p o) None ∷ ms)) ≡ extended p (first_at own (goes_on key ms))
-      by true e =
-          ap (λ (b : Bool). first_at own (if b then (if completes (p ∷ o.pieces) then None else Some (with_piece p o)) else unless_given None (goes_on key ms))) e
-          ∙ ap (λ (b : Bool). first_at own (if b then None else Some (with_piece p o))) done
-          ∙ sym (ap (λ (x : Option OpenGroup). extended p (first_at own x)) (here key e) ∙ first_extended own p o true self)
-      by false e =
-          ap (λ (b : Bool). first_at own (if b then (if completes (p ∷ o.pieces) then None else Some (with_piece p o)) else unless_given None (goes_on key ms))) e
-          ∙ other (goes_on key ms) refl
-        where
-          other : (x : Option OpenGroup) → goes_on key ms ≡ x → first_at own x ≡ extended p (first_at own x)
-          other None is = refl
-          other (Some g) is = sym (first_extended own p g false (other_key key (key_of p) false g (goes_on-key key ms g is) (ap (same_key key) (sym mine) ∙ e)))
+      joined : (x : Option OpenGroup) → ((g : OpenGroup) → x ≡ Some g → key ≡ g.key) → (same_key key o.key ≡ true → x ≡ Some o)
+          → first_at own (if same_key key o.key then (if completes (p ∷ o.pieces) then None else Some (with_piece p o)) else unless_given None x) ≡ extended p (first_at own x)
+      joined None keyed found = grind arith
+      joined (Some g) keyed found = grind arith
 
   one_done : completes (p ∷ o.pieces) ≡ true → (own : ℕ) (key : Key) → own < n → first_at own (goes_on key (fragment n (with_piece p o) None ∷ ms)) ≡ without (key_of p) (first_at own (goes_on key ms))
-  one_done done own key lt = by (same_key key o.key) refl
+  one_done done own key lt = joined (goes_on key ms) (goes_on-key key ms) (here key)
     where
-      by : (b : Bool) → same_key key o.key ≡ b → first_at own (goes_on key (fragment n (with_piece p o) None ∷ ms)) ≡ without (key_of p) (first_at own (goes_on key ms))
-      by true e =
-          ap (λ (b : Bool). first_at own (if b then (if completes (p ∷ o.pieces) then None else Some (with_piece p o)) else unless_given None (goes_on key ms))) e
-          ∙ ap (λ (b : Bool). first_at own (if b then None else Some (with_piece p o))) done
-          ∙ sym (ap (λ (x : Option OpenGroup). without (key_of p) (first_at own x)) (here key e) ∙ first_without own (key_of p) o true self)
-      by false e =
-          ap (λ (b : Bool). first_at own (if b then (if completes (p ∷ o.pieces) then None else Some (with_piece p o)) else unless_given None (goes_on key ms))) e
-          ∙ other (goes_on key ms) refl
-        where
-          other : (x : Option OpenGroup) → goes_on key ms ≡ x → first_at own x ≡ without (key_of p) (first_at own x)
-          other None is = refl
-          other (Some g) is = sym (first_without own (key_of p) g false (other_key key (key_of p) false g (goes_on-key key ms g is) (ap (same_key key) (sym mine) ∙ e)))
+      joined : (x : Option OpenGroup) → ((g : OpenGroup) → x ≡ Some g → key ≡ g.key) → (same_key key o.key ≡ true → x ≡ Some o)
+          → first_at own (if same_key key o.key then (if completes (p ∷ o.pieces) then None else Some (with_piece p o)) else unless_given None x) ≡ without (key_of p) (first_at own x)
+      joined None keyed found = grind arith
+      joined (Some g) keyed found = grind arith
 
 but_push : (gave : Option ℕ) (xs ys : List OpenGroup) → but_gone gave (xs ++ ys) ≡ but_gone gave xs ++ but_gone gave ys
 but_push gave xs ys = filter-push (λ o. not (gone gave o.place)) xs ys
 
-first_but : (own : ℕ) (gave : Option ℕ) (g : OpenGroup) → first_at own (unless_given gave (Some g)) ≡ but_gone gave (first_at own (Some g))
-first_but own gave g = grind arith
-
 -- a fragment that opens a group
 one_opened : (clock : Option Stamp) (p : Piece) (gave : Option ℕ) (ms : List Mark) → completes (p ∷ []) ≡ false → (own : ℕ) (key : Key) → own < p.stamped.place
     → first_at own (goes_on key (fragment p.stamped.place (opened clock p) gave ∷ ms)) ≡ but_gone gave (without (key_of p) (first_at own (goes_on key ms)))
-one_opened clock p gave ms done own key lt = by (same_key key (key_of p)) refl
+one_opened clock p gave ms done own key lt = new (goes_on key ms) (goes_on-key key ms)
   where
-    by : (b : Bool) → same_key key (key_of p) ≡ b → first_at own (goes_on key (fragment p.stamped.place (opened clock p) gave ∷ ms)) ≡ but_gone gave (without (key_of p) (first_at own (goes_on key ms)))
-    by true e =
-        ap (λ (b : Bool). first_at own (if b then (if completes (p ∷ []) then None else Some (opened clock p)) else unless_given gave (goes_on key ms))) e
-        ∙ ap (λ (b : Bool). first_at own (if b then None else Some (opened clock p))) done
-        ∙ nowhere ∙ sym (rest (goes_on key ms) refl)
-      where
-        apart : (p.stamped.place == own) ≡ false
-        apart = grind (arith, nat_tests)
-
-        nowhere : first_at own (Some (opened clock p)) ≡ []
-        nowhere = ap (λ (b : Bool). if b then opened clock p ∷ [] else []) apart
-
-        rest : (x : Option OpenGroup) → goes_on key ms ≡ x → but_gone gave (without (key_of p) (first_at own x)) ≡ []
-        rest None is = refl
-        rest (Some g) is = ap (but_gone gave) (first_without own (key_of p) g true (other_key key (key_of p) true g (goes_on-key key ms g is) e))
-    by false e =
-        ap (λ (b : Bool). first_at own (if b then (if completes (p ∷ []) then None else Some (opened clock p)) else unless_given gave (goes_on key ms))) e
-        ∙ rest (goes_on key ms) refl
-      where
-        empty : (gave : Option ℕ) → first_at own (unless_given gave None) ≡ []
-        empty gave' = grind arith
-
-        rest : (x : Option OpenGroup) → goes_on key ms ≡ x → first_at own (unless_given gave x) ≡ but_gone gave (without (key_of p) (first_at own x))
-        rest None is = empty gave
-        rest (Some g) is = first_but own gave g ∙ sym (ap (but_gone gave) (first_without own (key_of p) g false (other_key key (key_of p) false g (goes_on-key key ms g is) e)))
+    new : (x : Option OpenGroup) → ((g : OpenGroup) → x ≡ Some g → key ≡ g.key)
+        → first_at own (if same_key key (key_of p) then (if completes (p ∷ []) then None else Some (opened clock p)) else unless_given gave x) ≡ but_gone gave (without (key_of p) (first_at own x))
+    new None keyed = grind arith
+    new (Some g) keyed = grind (arith, nat_tests, same_key-sym)
 
 -- a group that was given up isn't found
 but_found : (key : Key) (gave : Option ℕ) (os : List OpenGroup) → IsApart os → group_at key (but_gone gave os) ≡ unless_given gave (group_at key os)
 but_found key None os a = ap (group_at key) (but_none os)
 but_found key (Some place) [] a = refl
 but_found key (Some place) (o ∷ os) a = grind (arith, but_found key (Some place) os a.1)
-
-unless_live : (gave : Option ℕ) (now : Option Stamp) (x : Option OpenGroup) → unless_given gave (live_option now x) ≡ live_option now (unless_given gave x)
-unless_live gave now x = grind arith
 
 without_absent : (key : Key) (os : List OpenGroup) → group_at key os ≡ None → without key os ≡ os
 without_absent key [] h = refl
@@ -171,11 +118,7 @@ pub record Holds (s : State) (ms : List Mark) (c : Option Stamp) (n : ℕ) : Typ
   pub given_up : s.given_up ≡ times_given_up ms
 
 not_before : (c b a : Option Stamp) → is_before b c ≡ false → is_before a b ≡ false → is_before a c ≡ false
-not_before c b a h k = by (is_before a c) refl
-  where
-    by : (x : Bool) → is_before a c ≡ x → is_before a c ≡ false
-    by true e = absurd (true≢false (sym (before_later a c b e h) ∙ k))
-    by false e = e
+not_before c b a h k = grind (arith, before_later a c b)
 
 pub Holds-none : Holds (record { opens = []; given_up = 0 }) [] None 0
 Holds-none = record { apart = tt; up = tt; below = tt; goes = λ key now h. refl; among = λ now h. refl; given_up = refl }
@@ -199,7 +142,7 @@ module _ (s : State) (ms : List Mark) (c : Option Stamp) (n : ℕ) (h : Holds s 
 
       found : (key : Key) (now : Option Stamp) → is_before now c ≡ false → (b : Bool) → same_key key k ≡ b
           → group_at key (without k (live_at now s.opens)) ≡ live_option now (if same_key key k then None else goes_on key ms)
-      found key now late b e = grind (arith, group_at-without-same, goes_on, group_at-without-other)
+      found key now late b e = grind (arith, group_at-without-same, group_at-without-other)
 
   -- a fragment at a clock that isn't below the latest
   module _ (clock : Option Stamp) (p : Piece) (later : is_before clock c ≡ false) (place : n ≤ p.stamped.place) where
@@ -246,16 +189,8 @@ module _ (s : State) (ms : List Mark) (c : Option Stamp) (n : ℕ) (h : Holds s 
 
         found : (key : Key) (now : Option Stamp) → is_before now clock ≡ false → (b : Bool) → same_key key (key_of p) ≡ b → (t : Bool) → is_too_old clock now ≡ t
             → group_at key (but_gone gave (live_at now s.opens) ++ live_at now (opened clock p ∷ [])) ≡ live_option now (goes_on key (fragment p.stamped.place (opened clock p) gave ∷ ms))
-        found key now late true e t old = grind (arith, but_gone, goes_on, same_key-is, absent_now, append_none, group_at-push-none, found_step)
-        found key now late false e t old =
-            ap (λ (l : List OpenGroup). group_at key (but_gone gave (live_at now s.opens) ++ l)) (ap (λ (b : Bool). cond (not b) (opened clock p ∷ []) []) old)
-            ∙ both t
-            ∙ but_found key gave (live_at now s.opens) (apart-filter (λ o. not (is_too_old o.clock now)) s.opens h.apart)
-            ∙ ap (unless_given gave) (h.goes key now (after now late)) ∙ unless_live gave now (goes_on key ms)
-            ∙ sym (ap (λ (b : Bool). live_option now (if b then (if completes (p ∷ []) then None else Some (opened clock p)) else unless_given gave (goes_on key ms))) e)
-          where
-            both : (t : Bool) → group_at key (but_gone gave (live_at now s.opens) ++ cond (not t) (opened clock p ∷ []) []) ≡ group_at key (but_gone gave (live_at now s.opens))
-            both t' = grind (arith, append_none, but_gone, group_at-push-other)
+        found key now late true e t old = grind (arith, but_gone, goes_on, same_key-is, absent_now, append_none, group_at-push-none)
+        found key now late false e t old = grind (arith, append_none, group_at-push-other, but_found, apart-filter (λ o. not (is_too_old o.clock now)) s.opens h.apart, h.goes key now (after now late))
 
         -- by places: the groups before, and this one
         changed : going_on (fragment p.stamped.place (opened clock p) gave ∷ ms) ms ≡ but_gone gave (without (key_of p) (going_on ms ms))
@@ -313,10 +248,8 @@ module _ (s : State) (ms : List Mark) (c : Option Stamp) (n : ℕ) (h : Holds s 
 
           by : (key : Key) (now : Option Stamp) → is_before now clock ≡ false → (b : Bool) → same_key key o.key ≡ b
               → group_at key (without (key_of p) (live_at now s.opens)) ≡ live_option now (goes_on key (fragment p.stamped.place (with_piece p o) None ∷ ms))
-          by key now late true e = grind (arith, group_at-without-same, mine, goes_on)
-          by key now late false e =
-              group_at-without-other key (key_of p) (live_at now s.opens) (ap (same_key key) (sym mine) ∙ e) ∙ h.goes key now (after now late)
-              ∙ sym (ap (λ (b : Bool). live_option now (if b then (if completes (p ∷ o.pieces) then None else Some (with_piece p o)) else unless_given None (goes_on key ms))) e)
+          by key now late true e = grind (arith, group_at-without-same, mine)
+          by key now late false e = grind (arith, mine, h.goes key now (after now late), group_at-without-other)
 
       -- and doesn't complete it
       Holds-more : completes (p ∷ o.pieces) ≡ false → Holds (record { opens = extended p (live_at clock s.opens); given_up = s.given_up + 0 }) (fragment p.stamped.place (with_piece p o) None ∷ ms) clock (p.stamped.place + 1)
@@ -349,13 +282,10 @@ module _ (s : State) (ms : List Mark) (c : Option Stamp) (n : ℕ) (h : Holds s 
               old false t =
                   group_at-extended p o (live_at now (live_at clock s.opens)) (group_at-live (key_of p) now o (live_at clock s.opens) found (ap not t))
                   ∙ sym (ap (λ (b : Bool). if b then None else Some (with_piece p o)) t)
-          by key now late false e =
-              group_at-extended-other key p (live_at now (live_at clock s.opens)) (ap (same_key key) (sym mine) ∙ e)
-              ∙ ap (group_at key) (live_now now late) ∙ h.goes key now (after now late)
-              ∙ sym (ap (λ (b : Bool). live_option now (if b then (if completes (p ∷ o.pieces) then None else Some (with_piece p o)) else unless_given None (goes_on key ms))) e)
+          by key now late false e = grind (arith, mine, h.goes key now (after now late), live_now now late, group_at-extended-other)
 
     itself : (p.stamped.place == p.stamped.place) ≡ true
-    itself = grind (arith, nat_tests)
+    itself = grind arith
 
     -- what a fragment makes of the state and of what is known by places: it opens a group
     arrives_new : (limit : ℕ) → 0 < limit → completes (p ∷ []) ≡ false → group_at (key_of p) (live_at clock s.opens) ≡ None → group_by clock p (goes_on (key_of p) ms) ≡ opened clock p
@@ -399,22 +329,7 @@ module _ (s : State) (ms : List Mark) (c : Option Stamp) (n : ℕ) (h : Holds s 
           opens = opens_with limit clock p (group_at (key_of p) (live_at clock s.opens)) (live_at clock s.opens);
           given_up = s.given_up + (if gives_up_with limit p (group_at (key_of p) (live_at clock s.opens)) (live_at clock s.opens) then 1 else 0);
         }) (mark_of limit clock p ms ∷ ms) clock (p.stamped.place + 1)
-    Holds-arrives limit some alone = by (goes_on (key_of p) ms) refl
-      where
-        by : (x : Option OpenGroup) → goes_on (key_of p) ms ≡ x
-            → Holds (record {
-              opens = opens_with limit clock p (group_at (key_of p) (live_at clock s.opens)) (live_at clock s.opens);
-              given_up = s.given_up + (if gives_up_with limit p (group_at (key_of p) (live_at clock s.opens)) (live_at clock s.opens) then 1 else 0);
-            }) (mark_of limit clock p ms ∷ ms) clock (p.stamped.place + 1)
-        by None on = arrives_new limit some alone (h.goes (key_of p) clock later ∙ ap (live_option clock) on) (ap (group_by clock p) on)
-        by (Some o) on = aged (is_too_old o.clock clock) refl
-          where
-            aged : (t : Bool) → is_too_old o.clock clock ≡ t
-                → Holds (record {
-                  opens = opens_with limit clock p (group_at (key_of p) (live_at clock s.opens)) (live_at clock s.opens);
-                  given_up = s.given_up + (if gives_up_with limit p (group_at (key_of p) (live_at clock s.opens)) (live_at clock s.opens) then 1 else 0);
-                }) (mark_of limit clock p ms ∷ ms) clock (p.stamped.place + 1)
-            aged t' t = grind (arith, arrives_new, arrives_more)
+    Holds-arrives limit some alone = grind (arith, arrives_new, arrives_more)
 
 -- after any events in order
 pub holds : (limit : ℕ) (es : List Event) → 0 < limit → AreInOrder es → Holds (state_of limit es) (marks limit es) (latest_clock es) (next_place es)

@@ -15,7 +15,7 @@ IsHole-block bytes low high at s h = omega (arith, h.some, h.begins, h.ends)
 -- a chain stays where the bytes from its lowest place on do
 pub IsChain-same : (xs ys : List ℕ) (low high at : ℕ) (ss : List Span) → ((k : ℕ) → low ≤ k → slice_index ys k ≡ slice_index xs k) → IsChain xs low high at ss → IsChain ys low high at ss
 IsChain-same xs ys low high at [] same h = h
-IsChain-same xs ys low high at (s ∷ ss) same h = grind (arith, IsChain-same xs ys s.to high (word_at xs (s.from + 4)) ss, IsHole-block, word_at-same)
+IsChain-same xs ys low high at (s ∷ ss) same h = grind (arith, IsChain-same xs ys s.to high (word_at xs (s.from + 4)) ss, word_at-same)
 
 pub IsChain-lower : (xs : List ℕ) (low lower high at : ℕ) (ss : List Span) → lower ≤ low → IsChain xs low high at ss → IsChain xs lower high at ss
 IsChain-lower xs low lower high at [] le h = h

@@ -1,30 +1,22 @@
 -- Buffers that grow, and chains of holes whose own bytes stay.
 use Rattle.std.proofs.Common.{◌≡◌, ℕ, ◌+◌, ◌-◌, ◌<◌, ◌≤◌, Bool, true, List, [], ◌∷◌, ◌++◌, length, take, replicate, sym, ◌∙◌, ap, subst, arith, ◌||◌, length-append}
 use Rattle.std.specs.Prelude.{slice_index}
-use Rattle.std.proofs.lemmas.Bool.{cases_lt}
-use Rattle.std.proofs.lemmas.Bool.Decides.{nat_tests}
 use Rattle.std.proofs.lemmas.List.{get_or_append_left, take_all, length-replicate}
 use Rattle.cap_join.specs.Holes.{Span, is_within, in_hole, word_at, IsChain, Appended}
 use Rattle.cap_join.specs.Buffers.{Grown}
 use Rattle.cap_join.proofs.Chains.{word_at-same, IsHole-block, in_hole-above}
 
-or_right : (x y : Bool) → y ≡ true → (x || y) ≡ true
-or_right x y h = grind arith
-
 or_left : (x y : Bool) → x ≡ true → (x || y) ≡ true
 or_left x y h = cc
-
-pub within_here : (from to i : ℕ) → from ≤ i → i < to → is_within from to i ≡ true
-within_here from to i p q = grind (arith, nat_tests)
 
 -- a chain stays where the bytes of its holes do
 pub IsChain-apart : (xs ys : List ℕ) (low high at : ℕ) (ss : List Span) → ((k : ℕ) → in_hole ss k ≡ true → slice_index ys k ≡ slice_index xs k) → IsChain xs low high at ss → IsChain ys low high at ss
 IsChain-apart xs ys low high at [] same h = h
-IsChain-apart xs ys low high at (s ∷ ss) same h = grind (arith, IsChain-apart xs ys s.to high (word_at xs (s.from + 4)) ss, IsHole-block, or_left, within_here, word_at-same, or_right)
+IsChain-apart xs ys low high at (s ∷ ss) same h = grind (arith, IsChain-apart xs ys s.to high (word_at xs (s.from + 4)) ss, IsHole-block, or_left, word_at-same)
 
 -- a place of a hole lies below the chain's end
 pub below_high : (xs : List ℕ) (low high at : ℕ) (ss : List Span) (i : ℕ) → IsChain xs low high at ss → in_hole ss i ≡ true → i < high
-below_high xs low high at ss i chain p = grind (arith, cases_lt, in_hole-above)
+below_high xs low high at ss i chain p = grind (arith, in_hole-above)
 
 -- a chain stays where bytes are added after it
 pub IsChain-front : (xs ys : List ℕ) (low high at : ℕ) (ss : List Span) → ((k : ℕ) → k < high → slice_index ys k ≡ slice_index xs k) → IsChain xs low high at ss → IsChain ys low high at ss

@@ -2,14 +2,12 @@
 use Rattle.std.proofs.Common.{◌≡◌, ℕ, ◌-◌, ◌*◌, ◌/◌, ◌%◌, ◌<◌, ◌≤◌, Bool, true, false, List, [], ◌∷◌, length, refl, sym, ◌∙◌, ap, arith, max, ◌&&◌, ◌||◌, not}
 use Rattle.std.specs.Prelude.{slice_index, nat_lt, nat_le}
 use Rattle.std.proofs.lemmas.Bool.{cases_lt}
-use Rattle.std.proofs.lemmas.Bool.Decides.{nat_tests}
 use Rattle.cap_join.specs.Holes.{Span, is_within, in_hole, ChangesWithin, Punched}
 use Rattle.cap_join.specs.Fragments.{Piece, end_of, IsShaped, AreShaped}
 use Rattle.cap_join.specs.ByteMap.{holds, is_covered, byte_at, greatest_end, rounded}
 use Rattle.cap_join.specs.Buffers.{Maps, Grown}
-use Rattle.cap_join.proofs.Punching.{unchanged, or_false_right, or_false, within-below, within-above}
-use Rattle.cap_join.proofs.Chains.{in_hole-above}
-use Rattle.cap_join.proofs.Growing.{IsChain-apart, within_here}
+use Rattle.cap_join.proofs.Punching.{unchanged, or_false_right, or_false, within-below}
+use Rattle.cap_join.proofs.Growing.{IsChain-apart}
 
 le_block : (a i : ℕ) → a % 8 ≡ 0 → nat_le a (8 * (i / 8)) ≡ nat_le a i
 le_block a i h = grind arith
@@ -31,9 +29,6 @@ pub byte_at-uncovered : (ps : List Piece) (i : ℕ) → AreShaped ps → is_cove
 byte_at-uncovered [] i shaped h = refl
 byte_at-uncovered (p ∷ ps) i shaped h = grind (arith, byte_at-uncovered ps i shaped.1 (or_false_right (holds p (8 * (i / 8))) (is_covered ps (i / 8)) h))
 
-not_or : (x y : Bool) → (not y && not x) ≡ not (x || y)
-not_or x y = grind arith
-
 and_right : (x y : Bool) → (x && not y) ≡ true → y ≡ false
 and_right x y h = grind arith
 
@@ -41,7 +36,7 @@ or_first : (x y : Bool) → (x || y) ≡ true → y ≡ false → x ≡ true
 or_first x y h k = grind arith
 
 outside_below : (a b i : ℕ) → i < a → is_within a b i ≡ false
-outside_below a b i h = grind (arith, nat_tests)
+outside_below a b i h = grind arith
 
 sized : (n g e end l : ℕ) → n ≡ rounded g → end ≡ rounded e → l ≡ max n end → l ≡ rounded (max e g)
 sized n g e end l p q r = grind arith
@@ -62,7 +57,7 @@ module _ (p : Piece) (ps : List Piece) (end hole0 hole1 hole2 : ℕ) (xs0 xs1 xs
 
   -- the holes after growing are the blocks that were not covered
   grown_holes : (i : ℕ) → i < length xs1 → in_hole g.spans i ≡ not (is_covered ps (i / 8))
-  grown_holes i h = grind (arith, cases_lt, outside_below, or_false, in_hole-above, within_here, beyond)
+  grown_holes i h = grind (arith, cases_lt, outside_below, or_false, beyond)
 
   covered : (i : ℕ) → holds p (8 * (i / 8)) ≡ is_within p.start end i
   covered i = holds_block p i shaped.begins ∙ ap (λ (n : ℕ). is_within p.start n i) (sym end_is)
@@ -75,11 +70,11 @@ module _ (p : Piece) (ps : List Piece) (end hole0 hole1 hole2 : ℕ) (xs0 xs1 xs
 
   -- a byte that the fragment doesn't hold, in a block that is covered now
   other_byte : (i : ℕ) → i < length xs1 → (in_gap : Bool) → in_hole g.spans i ≡ in_gap → is_covered (p ∷ ps) (i / 8) ≡ true → slice_index xs2 i ≡ byte_at ps i
-  other_byte i h in_gap is cov = grind (arith, grown_holes, covered, or_first, byte_at-uncovered, cases_lt, beyond)
+  other_byte i h in_gap is cov = grind (arith, grown_holes, covered, or_first, byte_at-uncovered, beyond)
 
   byte_now : (i : ℕ) → i < length xs1 → (here : Bool) → holds p i ≡ here → is_covered (p ∷ ps) (i / 8) ≡ true → slice_index xs3 i ≡ byte_at (p ∷ ps) i
-  byte_now i h true is cov = grind (arith, within-above, within-below)
+  byte_now i h true is cov = grind (arith, within-below)
   byte_now i h false is cov = grind (arith, unchanged, other_byte)
 
   pub Maps-put : Maps xs3 hole2 (p ∷ ps)
-  Maps-put = grind (arith, IsChain-apart, outside_hole, sized, grown_holes, covered, not_or, byte_now)
+  Maps-put = grind (arith, IsChain-apart, outside_hole, sized, grown_holes, covered, byte_now)

@@ -6,10 +6,9 @@ use Rattle.cap_ip.specs.declared.headers.Key.{Key}
 use Rattle.cap_join.specs.Fragments.{Piece}
 use Rattle.cap_join.specs.Frames.{is_too_old}
 use Rattle.cap_join.specs.History.{Event, arrives, flushes, OpenGroup, same_key, key_of, with_piece, live_at, group_at, without, extended, trimmed, pieces_with, opens_with, state_of, step, joined_pieces}
-use Rattle.cap_join.specs.Places.{goes_on}
 use Rattle.cap_join.proofs.ByPlaces.{agree}
 use Rattle.cap_join.proofs.Entries.{same_key-is}
-use Rattle.cap_join.proofs.OpenGroups.{IsApart, apart-filter, apart-extended, apart-push, group_at-filter-none, filter-true, filter-false}
+use Rattle.cap_join.proofs.OpenGroups.{IsApart, apart-filter, apart-extended, apart-push, group_at-filter-none}
 use Rattle.cap_join.specs.Completed.{if_complete, completed_of, CompletedLaw, one_at, occurs, occurs_open, occurs_in, OnceLaw}
 
 -- ---- keys
@@ -17,12 +16,9 @@ use Rattle.cap_join.specs.Completed.{if_complete, completed_of, CompletedLaw, on
 none_trimmed : (limit : ℕ) (key : Key) (os : List OpenGroup) → group_at key os ≡ None → group_at key (trimmed limit os) ≡ None
 none_trimmed limit key os none = grind (arith, group_at-filter-none)
 
-apart_trimmed : (limit : ℕ) (os : List OpenGroup) → IsApart os → IsApart (trimmed limit os)
-apart_trimmed limit os h = grind (arith, apart-filter)
-
 apart_with : (limit : ℕ) (clock : Option Stamp) (p : Piece) (os : List OpenGroup) → IsApart os → (g : Option OpenGroup) → group_at (key_of p) os ≡ g
     → IsApart (opens_with limit clock p g os)
-apart_with limit clock p os h g is = grind (arith, apart-push, none_trimmed, apart_trimmed, apart-filter, apart-extended)
+apart_with limit clock p os h g is = grind (arith, apart-push, none_trimmed, apart-filter, apart-extended)
 
 -- the open groups have different keys
 pub apart : (limit : ℕ) (es : List Event) → IsApart (state_of limit es).opens
@@ -47,7 +43,7 @@ fewer_trimmed n limit os = grind (arith, fewer)
 -- a key's group goes with those of the key
 taken_out : (n : ℕ) (key : Key) (o : OpenGroup) (os : List OpenGroup) → group_at key os ≡ Some o → occurs n o.pieces + occurs_open n (without key os) ≤ occurs_open n os
 taken_out n key o [] is = cc
-taken_out n key o (q ∷ os) is = grind (arith, taken_out n key o os, fewer, filter-false, filter-true)
+taken_out n key o (q ∷ os) is = grind (arith, taken_out n key o os, fewer)
 
 untouched : (n : ℕ) (p : Piece) (os : List OpenGroup) → group_at (key_of p) os ≡ None → occurs_open n (extended p os) ≡ occurs_open n os
 untouched n p [] is = refl
@@ -95,5 +91,5 @@ once limit n (flushes key ∷ es) = omega (arith, once limit n es, fewer n (λ o
 pub completed : CompletedLaw
 unfolding completed_of
 completed limit [] some order = refl
-completed limit (arrives clock p ∷ es) some order = grind (arith, completed limit es some order.3, agree, goes_on)
+completed limit (arrives clock p ∷ es) some order = grind (arith, completed limit es some order.3, agree)
 completed limit (flushes key ∷ es) some order = completed limit es some order

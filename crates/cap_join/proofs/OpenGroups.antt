@@ -121,7 +121,7 @@ Up low high (o ∷ os) = (low ≤ o.place) × (o.place < high) × Up (o.place + 
 
 pub apart-filter : (t : OpenGroup → Bool) (os : List OpenGroup) → IsApart os → IsApart (filter t os)
 apart-filter t [] h = h
-apart-filter t (o ∷ os) h = grind (arith, apart-filter t os h.1, filter-true, group_at-filter-none, filter-false)
+apart-filter t (o ∷ os) h = grind (arith, apart-filter t os h.1, group_at-filter-none)
 
 pub Up-wider : (low high lower higher : ℕ) (os : List OpenGroup) → lower ≤ low → high ≤ higher → Up low high os → Up lower higher os
 Up-wider low high lower higher [] p q h = tt
@@ -129,7 +129,7 @@ Up-wider low high lower higher (o ∷ os) p q h = grind (arith, Up-wider (o.plac
 
 pub up-filter : (t : OpenGroup → Bool) (low high : ℕ) (os : List OpenGroup) → Up low high os → Up low high (filter t os)
 up-filter t low high [] h = h
-up-filter t low high (o ∷ os) h = grind (arith, up-filter t (o.place + 1) high os h.2, filter-true, filter-false, Up-wider)
+up-filter t low high (o ∷ os) h = grind (arith, up-filter t (o.place + 1) high os h.2, Up-wider)
 
 pub apart-extended : (p : Piece) (os : List OpenGroup) → IsApart os → IsApart (extended p os)
 apart-extended p [] h = h
@@ -141,7 +141,7 @@ up-extended p low high (o ∷ os) h = grind (arith, up-extended p (o.place + 1) 
 
 pub apart-push : (o : OpenGroup) (os : List OpenGroup) → group_at o.key os ≡ None → IsApart os → IsApart (os ++ o ∷ [])
 apart-push o [] none h = (refl, tt)
-apart-push o (q ∷ os) none h = grind (arith, apart-push o os, group_at-push-other, same_key-sym)
+apart-push o (q ∷ os) none h = grind (arith, apart-push o os, group_at-push-other)
 
 pub up-push : (low high : ℕ) (o : OpenGroup) (os : List OpenGroup) → low ≤ high → high ≤ o.place → Up low high os → Up low (o.place + 1) (os ++ o ∷ [])
 up-push low high o [] le at h = (omega arith, omega arith, tt)
@@ -156,7 +156,7 @@ up-found key low high o (q ∷ os) u h = by (same_key key q.key) h (up-found key
 
 pub group_at-live-old : (key : Key) (now : Option Stamp) (o : OpenGroup) (os : List OpenGroup) → IsApart os → group_at key os ≡ Some o → is_too_old o.clock now ≡ true → group_at key (live_at now os) ≡ None
 group_at-live-old key now o [] a h old = cc
-group_at-live-old key now o (q ∷ os) a h old = grind (arith, group_at-live-old key now o os a.1, same_key-is, filter-false, group_at-filter-none, filter-true, found_step)
+group_at-live-old key now o (q ∷ os) a h old = grind (arith, group_at-live-old key now o os a.1, same_key-is, filter-false, group_at-filter-none)
 
 -- ---- the oldest group
 
@@ -200,7 +200,7 @@ but_lower place low high [] lt u = refl
 but_lower place low high (o ∷ os) lt u = grind (arith, but_lower place (o.place + 1) high os (omega arith) u.2)
 
 pub but_first : (low high : ℕ) (o : OpenGroup) (os : List OpenGroup) → Up low high (o ∷ os) → but_gone (Some o.place) (o ∷ os) ≡ os
-but_first low high o os u = grind (arith, filter-false, but_lower)
+but_first low high o os u = grind (arith, but_lower)
 
 -- the groups that stay where one may be given up
 pub trimmed-but : (limit low high : ℕ) (os : List OpenGroup) → 0 < limit → Up low high os

@@ -1,8 +1,6 @@
 -- What is left of a chain of holes once a range is filled, and once a hole is added after them.
-use Rattle.std.proofs.Common.{◌≡◌, ℕ, ◌+◌, ◌%◌, ◌<◌, ◌≤◌, Bool, true, false, List, [], ◌∷◌, length, refl, sym, ◌∙◌, ap, subst, arith, max, min, ◌&&◌, ◌||◌, not, ◌⊎◌}
+use Rattle.std.proofs.Common.{◌≡◌, ℕ, ◌+◌, ◌%◌, ◌<◌, ◌≤◌, Bool, true, false, List, [], ◌∷◌, length, refl, sym, ◌∙◌, ap, subst, arith, max, min, ◌&&◌, ◌||◌, not}
 use Rattle.std.specs.Prelude.{slice_index}
-use Rattle.std.proofs.lemmas.Bool.{cases_lt}
-use Rattle.std.proofs.lemmas.Bool.Decides.{nat_tests}
 use Rattle.cap_join.specs.Holes.{Span, is_within, in_hole, no_hole, word_at, IsHole, IsChain, HasHoles, ChangesWithin, kept, Punched, Appended}
 use Rattle.cap_join.proofs.Changes.{ChangesWithin-trans, ChangesWithin-wider}
 use Rattle.cap_join.proofs.Chains.{IsHole-block, IsChain-same, IsChain-lower, in_hole-below, in_hole-kept}
@@ -53,17 +51,14 @@ IsChain-here xs low high at (s ∷ ss) h =
     (record { here = hole.here; after = omega arith; some = hole.some; within = hole.within; begins = hole.begins; ends = hole.ends; end_is = hole.end_is }, h.1)
 
 pub within-below : (a b i : ℕ) → is_within a b i ≡ true → i < b
-within-below a b i h = grind (arith, nat_tests)
-
-pub within-above : (a b i : ℕ) → is_within a b i ≡ true → a ≤ i
-within-above a b i h = grind (arith, nat_tests)
+within-below a b i h = grind arith
 
 outside : (x : Bool) → x ≡ (x && not false)
 outside x = grind arith
 
 -- nothing is filled where the holes begin after the range
 pub Punched-none : (a b low high at : ℕ) (xs : List ℕ) (ss : List Span) → b ≤ at → IsChain xs low high at ss → Punched a b xs ss low high at xs
-Punched-none a b low high at xs ss h chain = grind (arith, within-below, in_hole-below, IsChain-here, outside)
+Punched-none a b low high at xs ss h chain = grind (arith, within-below, in_hole-below, IsChain-here)
 
 -- a place of a hole that was cut, or of the holes after it
 cut_place : (a b f t left i : ℕ) (x : Bool) → f < t → a < b → f < b → left ≡ min t a → (x ≡ true → t ≤ i)
@@ -76,16 +71,13 @@ or_false_left x y h = grind arith
 pub or_false_right : (x y : Bool) → (x || y) ≡ false → y ≡ false
 or_false_right x y h = grind arith
 
--- a place outside a range is below it or after it
-outside_range : (f t i : ℕ) → is_within f t i ≡ false → (i < f) ⊎ (t ≤ i)
-outside_range f t i h = grind arith
-
+-- bytes outside the range that changes stay
 pub unchanged : (f t : ℕ) (old new : List ℕ) → ChangesWithin f t old new → (i : ℕ) → is_within f t i ≡ false → slice_index new i ≡ slice_index old i
 unchanged f t old new c i h = grind arith
 
 -- a hole's places are not below the chain
 above_low : (xs : List ℕ) (low high at : ℕ) (ss : List Span) (i : ℕ) → IsChain xs low high at ss → in_hole ss i ≡ true → low ≤ i
-above_low xs low high at ss i chain p = grind (arith, cases_lt, in_hole-below)
+above_low xs low high at ss i chain p = grind (arith, in_hole-below)
 
 -- a place that was filled is 0
 zero_place : (a b at end from to left i : ℕ) (x : Bool) (mid1 mid2 mid3 new : List ℕ) (t : Bool) → is_within at end i ≡ t

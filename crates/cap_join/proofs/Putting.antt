@@ -3,7 +3,6 @@ use Rattle.std.proofs.Common.{◌≡◌, ℕ, ◌+◌, ◌≤◌, ◌<◌, ◌^�
 use Rattle.std.specs.Prelude.{nat_lt, if◌then◌else◌, filter, remove, IsSomeAnd}
 use Rattle.std.specs.List.{IsDistinct}
 use Rattle.std.specs.Map.{keys_of, lookup, set_value, remove_entry}
-use borrow.Author.Tests.{ltb-true}
 use Rattle.cap_ip.specs.declared.headers.Key.{Key}
 use Rattle.cap_time.specs.declared.stamps.Stamp.{Stamp}
 use Rattle.cap_join.specs.declared.datagrams.Put.TheVariants.{Kept, Joined}
@@ -31,16 +30,13 @@ remove_entry_short : (test : Key → Bool) (es : List Entry) → length (remove_
 remove_entry_short test [] = omega arith
 remove_entry_short test (e ∷ es) = grind (arith, remove_entry_short test es)
 
--- the group of a key that has a live one
-has_live-some : (key : Key) (now : Option Stamp) (es : List Entry) → has_live key now es ≡ true → (s : GroupState) × (entry_at key es ≡ Some s)
-has_live-some key now es h = grind arith
-
+-- a group has no more frames than there are places below the bound
 frames_below : (key : Key) (low high : ℕ) (es : List Entry) (s : GroupState) → Rises low high es → entry_at key es ≡ Some s → s.frames ≤ high
 frames_below key low high [] s r h = cc
 frames_below key low high (e ∷ es) s r h = grind (arith, frames_below key (e.1.place + 1) high es s r.3)
 
 pub there : (key : Key) (now : Option Stamp) (high : ℕ) (es : List Entry) → IsTable high es → high < 2 ^ 63 → has_live key now es ≡ true → IsSomeAnd (entry_at key es) (λ s. s.frames < 2 ^ 63)
-there key now high es t few h = grind (arith, has_live-some, frames_below)
+there key now high es t few h = grind (arith, frames_below)
 
 -- the group stays found
 lookup-set_value : (test : Key → Bool) (es : List Entry) (before after : GroupState) → lookup test es ≡ Some before → lookup test (set_value test es after) ≡ Some after
@@ -162,7 +158,7 @@ IsTable-live now high es new t new_is unique = grind (arith, filter_short, Rises
 pub IsTable-opened : (now : Option Stamp) (key : Key) (high : ℕ) (s : GroupState) (es mid late new : List Entry) (gave_up : Bool) → IsTable high es → mid ≡ live_entries now es
     → gave_up ≡ not (nat_lt (length mid) open_limit) → late ≡ (if gave_up then remove mid 0 else mid) → new ≡ late ++ (key, s) ∷ []
     → s.place ≡ high → s.frames ≤ high + 1 → IsDistinct same_key (keys_of new) → IsTable (high + 1) new
-IsTable-opened now key high s es mid late new gave_up t mid_is gave_up_is late_is new_is place frames unique = grind (arith, filter_short, Rises-filter, length-append, Rises-push, Rises-first, ltb-true)
+IsTable-opened now key high s es mid late new gave_up t mid_is gave_up_is late_is new_is place frames unique = grind (arith, filter_short, Rises-filter, length-append, Rises-push, Rises-first)
 
 pub IsTable-wider : (high higher : ℕ) (es : List Entry) → high ≤ higher → IsTable high es → IsTable higher es
 IsTable-wider high higher es h t = record { unique = t.unique; few = t.few; rises = Rises-wider 0 high 0 higher es (omega arith) h t.rises }

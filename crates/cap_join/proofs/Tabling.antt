@@ -4,7 +4,6 @@ use Rattle.std.specs.Prelude.{nat_lt, if◌then◌else◌, remove, drop, IfOk, O
 use Rattle.std.specs.List.{AllByRecursion, IsDistinct}
 use Rattle.std.specs.Option.{option_map_or}
 use Rattle.std.specs.Map.{keys_of, lookup, lookup_entry, set_value, remove_entry}
-use Rattle.std.proofs.lemmas.Bool.Decides.{nat_tests}
 use Rattle.std.proofs.lemmas.List.{take_all}
 use Rattle.std.proofs.lemmas.List.Elements.{filter-append}
 use Rattle.std.proofs.lemmas.Map.Keys.{IsDistinct-head, IsDistinct-tail, IsDistinct-cons}
@@ -103,7 +102,7 @@ Looked-found now es e left apart l =
     ap (entry_at e.0) l.split ∙ found l.seen (subst (λ (x : List Entry). IsDistinct same_key (keys_of x)) l.split apart)
   where
     itself : (k : Key) → same_key k k ≡ true
-    itself k = grind (arith, nat_tests)
+    itself k = grind arith
 
     found : (seen : List Entry) → IsDistinct same_key (keys_of (seen ++ e ∷ left)) → entry_at e.0 (seen ++ e ∷ left) ≡ Some e.1
     found [] h = ap (λ (b : Bool). cond b (Some e.1) (entry_at e.0 left)) (itself e.0)
@@ -118,7 +117,7 @@ Looked-found now es e left apart l =
 
 -- a group that is put and goes last
 pub itself : (k : Key) → same_key k k ≡ true
-itself k = grind (arith, nat_tests)
+itself k = grind arith
 
 unlisted : (test : Key → Bool) (es : List Entry) → lookup_entry test es ≡ None → remove_entry test es ≡ es
 unlisted test [] h = refl
@@ -132,7 +131,7 @@ moved : (test : Key → Bool) (k : Key) (s : GroupState) (rest : List Entry) →
 moved test k s rest is = cc
 
 pub added : (key : Key) (s : GroupState) (es : List Entry) (cap : ℕ) → length es < cap → demoted (same_key key) (put_entries same_key (lru_cache es cap) key s) ≡ remove_entry (same_key key) es ++ (key, s) ∷ []
-added key s es cap room = grind (arith, moved, itself, take_all, unlisted, same_key-is, listed)
+added key s es cap room = grind (arith, moved, itself, take_all, unlisted, listed)
 
 -- What adding a group first, dropping those that are too old and giving one up comes to.
 pub record Opened (mid new : List Entry) (key : Key) (s : GroupState) (gave_up : Bool) : Type 0 where
