@@ -1,10 +1,8 @@
 -- Runs whose packets have clocks of the same times, and the same interfaces, units, lengths and bytes, have the same report, but for the
 -- lines of the files: what is told of files and of places in them may differ.
-use Rattle.std.proofs.Common.{◌≡◌, ℕ, ◌+◌, List, [], ◌∷◌, ◌++◌, length, refl, sym, ◌∙◌, ap, subst, Option}
+use Rattle.std.proofs.Common.{arith, ◌≡◌, ℕ, ◌+◌, List, [], ◌∷◌, ◌++◌, length, refl, ◌∙◌, ap, Option}
 use Rattle.std.proofs.lemmas.List.Elements.{length_all_zip}
 use Rattle.std.specs.List.{AllZip}
-use Rattle.std.specs.Option.{option_map}
-use Rattle.std.specs.Cmp.{tied_itself}
 use Rattle.std.specs.Prelude.{nat_lt, if◌then◌else◌}
 use Rattle.cap_join.proofs.EqualClocks.{same-groups}
 use Rattle.cap_join.specs.Completed.{if_complete}
@@ -13,19 +11,14 @@ use Rattle.cap_join.specs.Fragments.{Piece}
 use Rattle.cap_join.specs.History.{Event}
 use Rattle.cap_join.specs.Joiners.{open_limit}
 use Rattle.cap_join.specs.declared.datagrams.Stamped.{Stamped}
-use Rattle.cap_link.specs.Links.{network_of, is_whole}
-use Rattle.cap_merge.specs.Clock.{clock_cmp}
 use Rattle.cap_merge.specs.Clocks.{clock_total}
-use Rattle.cap_source.specs.Times.{meta_time}
 use Rattle.cap_merge.specs.Run.{Clocked}
 use Rattle.cap_source.specs.Feed.{Item, packet, refused}
-use Rattle.cap_talks.specs.Classes.{class_by, classes, classes_in, groups_of}
+use Rattle.cap_talks.specs.Classes.{classes, classes_in, groups_of}
 use Rattle.cap_talks.specs.CountedUnits.{first_unit, unit_by, unit_at, listed, units_of}
 use Rattle.cap_talks.specs.ReportText.{body_text, bytes_of, truncated_of, with_item, taken_after}
-use Rattle.cap_talks.specs.Taken.{Taken, Look, plain, datagram, fragment, look_at, look, stamped_of, events_with, events_of}
-use Rattle.cap_time.specs.Stamp.{stamp_in}
+use Rattle.cap_talks.specs.Taken.{Taken, Look, plain, datagram, fragment, look, stamped_of, events_with, events_of}
 use Rattle.cap_time.specs.declared.stamps.Stamp.{Stamp}
-use Rattle.cap_time.specs.declared.resolutions.Interface.{Interface}
 use Rattle.cap_laws.proofs.LikeReports.{LikeItems, RunsLike, refusals-like}
 use Rattle.cap_laws.specs.Reports.{SameReport}
 
@@ -57,30 +50,23 @@ alike-length : (xs ys : List Taken) → AreAlike xs ys → length xs ≡ length 
 alike-length = length_all_zip IsAlike
 
 alike-stamped : (n m : ℕ) (x y : Taken) → n ≡ m → IsAlike x y → stamped_of n x.meta ≡ stamped_of m y.meta
-alike-stamped n m x y e h =
-    λ i. record { time = option_map (λ units. stamp_in units (h.interface i)) (h.units i); place = e i; original = h.original i }
+alike-stamped n m x y e h = grind arith
 
 alike-look : (n m : ℕ) (x y : Taken) → n ≡ m → IsAlike x y → look n x ≡ look m y
 unfolding look
-alike-look n m x y e h =
-    λ i. look_at (network_of (h.interface i).link (h.frame i) (h.original i)) (is_whole (h.frame i) (h.original i)) (alike-stamped n m x y e h i)
+alike-look n m x y e h = grind arith
 
 -- ---- the groups of fragments
 
 events-with : (l : Look) (c d : Option Stamp) (es fs : List Event) → IsSameTime c d → AllZip IsSameEvent es fs → AllZip IsSameEvent (events_with l c es) (events_with l d fs)
-events-with (plain k) c d es fs e h = h
-events-with (datagram header captured) c d es fs e h = (refl, h)
-events-with (fragment p) c d es fs e h = ((e, refl), h)
+events-with l c d es fs e h = grind arith
 
 alike-events : (xs ys : List Taken) → AreAlike xs ys → AllZip IsSameEvent (events_of xs) (events_of ys)
 unfolding events_of
 alike-events [] [] h = tt
 alike-events [] (y ∷ ys) h = absurd h
 alike-events (x ∷ xs) [] h = absurd h
-alike-events (x ∷ xs) (y ∷ ys) h =
-    subst (λ (l : Look). AllZip IsSameEvent (events_with (look (length xs) x) x.clock (events_of xs)) (events_with l y.clock (events_of ys)))
-    (alike-look (length xs) (length ys) x y (alike-length xs ys h.1) h.0)
-    (events-with (look (length xs) x) x.clock y.clock (events_of xs) (events_of ys) h.0.clock (alike-events xs ys h.1))
+alike-events (x ∷ xs) (y ∷ ys) h = grind (arith, alike-events xs ys h.1, alike-look, alike-length, events-with)
 
 alike-groups : (xs ys : List Taken) → AreAlike xs ys → groups_of xs ≡ groups_of ys
 alike-groups xs ys h = (same-groups open_limit (events_of xs) (events_of ys) (alike-events xs ys h)).completed
@@ -91,8 +77,7 @@ alike-classes_in : (groups : List (List Piece)) (xs ys : List Taken) → AreAlik
 alike-classes_in groups [] [] h = refl
 alike-classes_in groups [] (y ∷ ys) h = absurd h
 alike-classes_in groups (x ∷ xs) [] h = absurd h
-alike-classes_in groups (x ∷ xs) (y ∷ ys) h =
-    λ i. class_by groups (alike-look (length xs) (length ys) x y (alike-length xs ys h.1) h.0 i) ∷ alike-classes_in groups xs ys h.1 i
+alike-classes_in groups (x ∷ xs) (y ∷ ys) h = grind (arith, alike-classes_in groups xs ys h.1, alike-look, alike-length)
 
 alike-classes : (xs ys : List Taken) → AreAlike xs ys → classes xs ≡ classes ys
 unfolding classes
@@ -105,10 +90,7 @@ unit-by (fragment p) s c d es fs e h = ap (λ (ps : List Piece). first_unit (if_
 
 alike-unit : (xs ys : List Taken) (x y : Taken) → AreAlike xs ys → IsAlike x y → unit_at xs x ≡ unit_at ys y
 unfolding unit_at
-alike-unit xs ys x y h k =
-    let n = alike-length xs ys h in
-    unit-by (look (length xs) x) (stamped_of (length xs) x.meta) x.clock y.clock (events_of xs) (events_of ys) k.clock (alike-events xs ys h)
-    ∙ (λ i. unit_by (alike-look (length xs) (length ys) x y n k i) (alike-stamped (length xs) (length ys) x y n k i) y.clock (events_of ys))
+alike-unit xs ys x y h k = grind (arith, alike-length, unit-by, alike-events, alike-look, alike-stamped)
 
 alike-units : (xs ys : List Taken) → AreAlike xs ys → units_of xs ≡ units_of ys
 unfolding units_of
@@ -146,33 +128,18 @@ alike-body xs ys h =
 -- ---- runs
 
 with_alike : (c d : Option Stamp) (a b : Item) (xs ys : List Taken) → AlikeItems c d a b → AreAlike xs ys → AreAlike (with_item c a xs) (with_item d b ys)
-with_alike c d (packet m f) (packet n g) xs ys h k = (h, k)
-with_alike c d (packet m f) (refused r) xs ys h k = absurd h
-with_alike c d (refused q) (packet n g) xs ys h k = absurd h
-with_alike c d (refused q) (refused r) xs ys h k = absurd h
+with_alike c d a b xs ys h k = grind arith
 
 taken-alike : (as_ bs : List (Clocked Item)) (xs ys : List Taken) → RunsAlike as_ bs → AreAlike xs ys → AreAlike (taken_after xs as_) (taken_after ys bs)
 unfolding taken_after
 taken-alike [] [] xs ys h k = k
 taken-alike [] (b ∷ bs) xs ys h k = absurd h
 taken-alike (a ∷ as_) [] xs ys h k = absurd h
-taken-alike (a ∷ as_) (b ∷ bs) xs ys h k =
-    taken-alike as_ bs (with_item a.clock a.item xs) (with_item b.clock b.item ys) h.1 (with_alike a.clock b.clock a.item b.item xs ys h.0 k)
+taken-alike (a ∷ as_) (b ∷ bs) xs ys h k = grind (arith, taken-alike as_ bs (with_item a.clock a.item xs) (with_item b.clock b.item ys) h.1 (with_alike a.clock b.clock a.item b.item xs ys h.0 k))
 
 -- such packets are like each other also where times may take other forms, on which refusals do not depend
 like-items : (c d : Option Stamp) (a b : Item) → AlikeItems c d a b → LikeItems c d a b
-like-items c d (packet m f) (packet n g) h =
-    let same : meta_time m ≡ meta_time n = λ i. option_map (λ units. stamp_in units (h.interface i)) (h.units i) in
-    record {
-      clock = h.clock;
-      link = ap (λ (interface : Interface). interface.link) h.interface;
-      time = sym (ap (clock_cmp (meta_time m)) same) ∙ tied_itself clock_total (meta_time m);
-      original = h.original;
-      frame = h.frame;
-    }
-like-items c d (packet m f) (refused r) h = absurd h
-like-items c d (refused q) (packet n g) h = absurd h
-like-items c d (refused q) (refused r) h = absurd h
+like-items c d a b h = grind (arith, clock_total)
 
 runs-like : (as_ bs : List (Clocked Item)) → RunsAlike as_ bs → RunsLike as_ bs
 runs-like [] [] h = tt
@@ -181,7 +148,4 @@ runs-like (a ∷ as_) [] h = absurd h
 runs-like (a ∷ as_) (b ∷ bs) h = (like-items a.clock b.clock a.item b.item h.0, runs-like as_ bs h.1)
 
 pub same-report : (run again : List (Clocked Item)) → RunsAlike again run → SameReport run again
-same-report run again h = record {
-  lines = alike-body (taken_after [] again) (taken_after [] run) (taken-alike again run [] [] h tt);
-  refused = refusals-like again run [] [] (runs-like again run h) tt;
-}
+same-report run again h = search (alike-body, taken-alike, refusals-like, runs-like)

@@ -1,14 +1,11 @@
 -- The items of a file under another number are the same but for that number.
-use Rattle.std.proofs.Common.{◌≡◌, ℕ, zero, suc, ◌+◌, Bool, true, false, cond, List, [], ◌∷◌, length, drop, refl, ap, ◌∙◌, Option, Some, None, Result, Ok, Err}
-use Rattle.std.specs.Prelude.{map, option_map, is_some, ◌==◌, ◌&&◌}
+use Rattle.std.proofs.Common.{arith, ◌≡◌, ℕ, zero, suc, Bool, cond, List, [], ◌∷◌, drop, refl, ap, ◌∙◌, Option, Some, None, Result}
+use Rattle.std.specs.Prelude.{map, option_map}
 use Rattle.cap_bytes.specs.Items as pieces
 use Rattle.cap_bytes.specs.declared.faults.Rule.{Rule}
-use Rattle.cap_bytes.specs.declared.faults.Rule.TheVariants as rules
 use Rattle.cap_bytes.specs.declared.faults.Tail.{Tail}
-use Rattle.cap_bytes.specs.declared.faults.Tail.TheVariants.{Accept}
 use Rattle.cap_bytes.specs.declared.numbers.Order.{Order}
 use Rattle.cap_time.specs.declared.resolutions.Interface.{Interface}
-use Rattle.cap_time.specs.declared.stamps.Unit.{Unit as Fraction}
 use Rattle.cap_pcap.specs.Split as records
 use Rattle.cap_bytes.specs.declared.stops.Stop.{Stop}
 use Rattle.cap_bytes.specs.declared.stops.Stop.TheVariants as stops
@@ -16,10 +13,9 @@ use Rattle.cap_blocks.specs.Split as blocks
 use Rattle.cap_blocks.specs.declared.blocks.Block.{Block}
 use Rattle.cap_pcap.specs.declared.records.Record.{Record}
 use Rattle.cap_source.specs.Contents.{content_in}
-use Rattle.cap_source.specs.Feed.{Item, packet}
+use Rattle.cap_source.specs.Feed.{Item}
 use Rattle.cap_source.specs.Items.{Progress, fresh, behind, items_at, items_of_stop, items_in, pcap_items, interface_of, is_pcapng, items_from, file_items}
 use Rattle.cap_source.specs.declared.contents.Content.{Content}
-use Rattle.cap_source.specs.declared.contents.Content.TheVariants as contents
 use Rattle.cap_write.specs.Rounds.{in_file}
 
 -- ---- pieces, of either format
@@ -36,37 +32,27 @@ item_in n (pieces.stopped s) = pieces.stopped (stop_in n s)
 stop_by-in : (inside : Bool) (tail : Tail) (n m offset : ℕ) (rule : Rule)
     → pieces.stop_by inside tail n offset rule ≡ stop_in n (pieces.stop_by inside tail m offset rule)
 unfolding stop_in
-stop_by-in true Accept n m offset rules.Cut = refl
-stop_by-in inside tail n m offset rule = refl
+stop_by-in inside tail n m offset rule = grind arith
 
 mapped_stop : (inside : Bool) (tail : Tail) (n m offset : ℕ) (fault : Option Rule)
     → option_map (pieces.stop_by inside tail n offset) fault ≡ option_map (stop_in n) (option_map (pieces.stop_by inside tail m offset) fault)
-mapped_stop inside tail n m offset None = refl
-mapped_stop inside tail n m offset (Some rule) = ap Some (stop_by-in inside tail n m offset rule)
+mapped_stop inside tail n m offset fault = grind (arith, stop_by-in)
 
 chosen_stop : (b : Bool) (n : ℕ) (o p : Option Stop) → o ≡ option_map (stop_in n) p
     → cond b (Some stops.End) o ≡ option_map (stop_in n) (cond b (Some stops.End) p)
 unfolding stop_in
-chosen_stop true n o p e = refl
-chosen_stop false n o p e = e
+chosen_stop b n o p e = grind arith
 
 stop_where-in : (inside : Bool) (tail : Tail) (n m offset : ℕ) (bytes : List ℕ) (fault : Option Rule)
     → pieces.stop_where inside tail n offset bytes fault ≡ option_map (stop_in n) (pieces.stop_where inside tail m offset bytes fault)
 unfolding pieces.stop_where
-stop_where-in inside tail n m offset bytes fault =
-    chosen_stop (inside && (length bytes == 0)) n (option_map (pieces.stop_by inside tail n offset) fault)
-    (option_map (pieces.stop_by inside tail m offset) fault) (mapped_stop inside tail n m offset fault)
+stop_where-in inside tail n m offset bytes fault = search (chosen_stop, mapped_stop)
 
 item_or-in : {P : Type 0} (n : ℕ) (o p : Option Stop) (x : P) (f : List ℕ) (xs ys : List (pieces.Item P))
     → o ≡ option_map (stop_in n) p → xs ≡ map (item_in n) ys
     → pieces.item_or o (pieces.given x f) xs ≡ map (item_in n) (pieces.item_or p (pieces.given x f) ys)
 unfolding item_in
-item_or-in n None None x f xs ys e h = ap (λ zs. pieces.given x f ∷ zs) h
-item_or-in n None (Some p) x f xs ys e h = absurd (cc)
-item_or-in n (Some o) None x f xs ys e h = absurd (cc)
-item_or-in n (Some o) (Some p) x f xs ys e h =
-    let same : o ≡ stop_in n p = cc in
-    ap (λ s. pieces.stopped s ∷ []) same
+item_or-in n o p x f xs ys e h = grind arith
 
 items_by-in : {K P : Type 0} (format : pieces.Format K P)
     → ((known : K) (tail : Tail) (n m offset : ℕ) (bytes : List ℕ)
@@ -75,43 +61,29 @@ items_by-in : {K P : Type 0} (format : pieces.Format K P)
     → pieces.items_by format fuel known tail n offset bytes ≡ map (item_in n) (pieces.items_by format fuel known tail m offset bytes)
 unfolding pieces.items_by
 items_by-in format stopped zero known tail n m offset bytes = refl
-items_by-in format stopped (suc fuel) known tail n m offset bytes =
-    let size = format.size known bytes in
-    let next = format.next known bytes in
-    item_or-in n (format.stop known tail n offset bytes) (format.stop known tail m offset bytes) (format.piece known offset bytes) (format.lent known bytes)
-    (pieces.items_by format fuel next tail n (offset + size) (drop size bytes)) (pieces.items_by format fuel next tail m (offset + size) (drop size bytes))
-    (stopped known tail n m offset bytes) (items_by-in format stopped fuel next tail n m (offset + size) (drop size bytes))
+items_by-in format stopped (suc fuel) known tail n m offset bytes = search (items_by-in format stopped fuel, item_or-in, drop)
 
 stop_items : (n : ℕ) (s : Stop) → items_of_stop (stop_in n s) ≡ map (in_file n) (items_of_stop s)
 unfolding stop_in
-stop_items n stops.End = refl
-stop_items n stops.Cut = refl
-stop_items n (stops.Refused r) = refl
+stop_items n s = grind arith
 
 -- ---- records
 
 refused_or : (o : Option Rule) (n m offset : ℕ) (xs ys : List (pieces.Item Record)) → xs ≡ map (item_in n) ys
     → records.refused_or o n offset xs ≡ map (item_in n) (records.refused_or o m offset ys)
 unfolding item_in stop_in
-refused_or (Some rule) n m offset xs ys e = refl
-refused_or None n m offset xs ys e = e
+refused_or o n m offset xs ys e = grind arith
 
 record_items : (tail : Tail) (n m offset : ℕ) (bytes : List ℕ)
     → records.file_items tail n offset bytes ≡ map (item_in n) (records.file_items tail m offset bytes)
 unfolding records.file_items pieces.items_in
-record_items tail n m offset bytes =
-    let header = records.header_at bytes in
-    refused_or (records.header_fault offset bytes) n m offset
-    (records.items_from header tail n (offset + 24) (drop 24 bytes)) (records.items_from header tail m (offset + 24) (drop 24 bytes))
-    (items_by-in records.records (λ known tail n m offset bytes. stop_where-in true tail n m offset bytes (records.record_fault known.order offset bytes))
-    (suc (length (drop 24 bytes))) header tail n m (offset + 24) (drop 24 bytes))
+record_items tail n m offset bytes = search (refused_or, drop, items_by-in, stop_where-in)
 
 pcap_numbered : (n m : ℕ) (interface : Interface) (xs : List (pieces.Item Record))
     → pcap_items n interface (map (item_in n) xs) ≡ map (in_file n) (pcap_items m interface xs)
 unfolding pcap_items item_in
 pcap_numbered n m interface [] = refl
-pcap_numbered n m interface (pieces.given r f ∷ xs) =
-    ap (λ zs. packet (Rattle.cap_source.specs.Items.meta_of n interface r) f ∷ zs) (pcap_numbered n m interface xs)
+pcap_numbered n m interface (pieces.given r f ∷ xs) = cc (pcap_numbered n m interface xs)
 pcap_numbered n m interface (pieces.stopped s ∷ xs) = stop_items n s
 
 -- ---- blocks
@@ -119,18 +91,11 @@ pcap_numbered n m interface (pieces.stopped s ∷ xs) = stop_items n s
 block_items : (section : Option Order) (tail : Tail) (n m offset : ℕ) (bytes : List ℕ)
     → blocks.items_from section tail n offset bytes ≡ map (item_in n) (blocks.items_from section tail m offset bytes)
 unfolding pieces.items_in
-block_items section tail n m offset bytes =
-    items_by-in blocks.blocks (λ known tail n m offset bytes. stop_where-in (is_some known) tail n m offset bytes (blocks.block_fault known offset bytes))
-    (suc (length bytes)) section tail n m offset bytes
+block_items section tail n m offset bytes = search (items_by-in, stop_where-in)
 
 content_items : (n m : ℕ) (progress : Progress) (block : Block) (body : List ℕ) (content : Result Content Rule) (xs ys : List Item)
     → xs ≡ map (in_file n) ys → items_at n progress block body content xs ≡ map (in_file n) (items_at m progress block body content ys)
-content_items n m progress block body (Ok contents.Section) xs ys e = e
-content_items n m progress block body (Ok (contents.Interface interface)) xs ys e = e
-content_items n m progress block body (Ok (contents.Packet p)) xs ys e =
-    ap (λ zs. packet (Rattle.cap_source.specs.Items.meta_in n progress block p) (Rattle.cap_source.specs.Items.frame_in p body) ∷ zs) e
-content_items n m progress block body (Ok contents.Other) xs ys e = e
-content_items n m progress block body (Err rule) xs ys e = refl
+content_items n m progress block body content xs ys e = grind arith
 
 pcapng_numbered : (n m : ℕ) (progress : Progress) (xs : List (pieces.Item Block))
     → items_in n progress (map (item_in n) xs) ≡ map (in_file n) (items_in m progress xs)
@@ -145,8 +110,7 @@ pcapng_numbered n m progress (pieces.given block body ∷ xs) =
 -- ---- files
 
 chosen : (b : Bool) (n : ℕ) (xs ys us vs : List Item) → xs ≡ map (in_file n) ys → us ≡ map (in_file n) vs → cond b xs us ≡ map (in_file n) (cond b ys vs)
-chosen true n xs ys us vs e h = e
-chosen false n xs ys us vs e h = h
+chosen b n xs ys us vs e h = grind arith
 
 -- The items of a file are the same under every number, but for the number.
 pub file-numbered : (tail : Tail) (n m : ℕ) (bytes : List ℕ) → file_items tail n bytes ≡ map (in_file n) (file_items tail m bytes)

@@ -1,13 +1,13 @@
 -- What is made of fragments whose frames have the same times, maybe in other forms.
-use Rattle.std.proofs.Common.{◌≡◌, ℕ, zero, suc, ◌+◌, ◌-◌, ◌*◌, Bool, true, false, List, [], ◌∷◌, length, refl, sym, true≢false, Option, Some, None, ◌||◌, ◌&&◌}
+use Rattle.std.proofs.Common.{arith, ◌≡◌, ℕ, zero, suc, ◌+◌, ◌*◌, Bool, false, List, [], ◌∷◌, length, refl, Option, Some, None, ◌||◌, ◌&&◌}
 use Rattle.std.specs.List.{AllZip, range_with_len}
 use Rattle.std.specs.Option.{option_map_or}
-use Rattle.std.specs.Prelude.{◌==◌, map, slice_index, if◌then◌else◌}
-use Rattle.cap_join.proofs.AlikeGroups.{AlikeGroups, IsAlikeEvent, IsAlikeness, alike-groups, before_same, none_some, some_none}
+use Rattle.std.specs.Prelude.{◌==◌, map, if◌then◌else◌}
+use Rattle.cap_join.proofs.AlikeGroups.{AlikeGroups, IsAlikeEvent, IsAlikeness, alike-groups, before_same}
 use Rattle.cap_join.specs.ByteMap.{is_covered, covers_below, total_of, header_of, byte_at, blocks, completes, data_of}
 use Rattle.cap_join.specs.EqualClocks.{IsSameTime}
 use Rattle.cap_join.specs.Fragments.{Piece}
-use Rattle.cap_join.specs.Frames.{is_before, original_bytes, timed, earlier, later, first_frame, last_frame}
+use Rattle.cap_join.specs.Frames.{original_bytes, timed, earlier, later, first_frame, last_frame}
 use Rattle.cap_join.specs.History.{Event}
 use Rattle.cap_join.specs.Holes.{is_within}
 use Rattle.cap_join.specs.declared.datagrams.Stamped.{Stamped}
@@ -29,38 +29,16 @@ LikeFrames (Some s) None = ⊥
 LikeFrames (Some s) (Some t) = IsLikeFrame s t
 
 one-of : (s t x y : Stamped) → IsLikeFrame s t → IsLikeFrame x y → (b c : Bool) → b ≡ c → LikeFrames (if b then Some s else Some x) (if c then Some t else Some y)
-one-of s t x y h k true true e = h
-one-of s t x y h k true false e = absurd (true≢false e)
-one-of s t x y h k false true e = absurd (true≢false (sym e))
-one-of s t x y h k false false e = k
+one-of s t x y h k b c e = grind arith
 
 earlier-like : (a b c d : Option Stamped) → LikeFrames a b → LikeFrames c d → LikeFrames (earlier a c) (earlier b d)
-earlier-like None None None None h k = tt
-earlier-like (Some x) (Some y) None None h k = h
-earlier-like None (Some y) c d h k = absurd h
-earlier-like (Some x) None c d h k = absurd h
-earlier-like a b None (Some t) h k = absurd k
-earlier-like a b (Some s) None h k = absurd k
-earlier-like None None (Some s) (Some t) h k = k
-earlier-like (Some x) (Some y) (Some s) (Some t) h k =
-    one-of s t x y k h (is_before s.time x.time) (is_before t.time y.time) (before_same s.time t.time x.time y.time k.time h.time)
+earlier-like a b c d h k = grind (arith, one-of, before_same)
 
 later-like : (a b c d : Option Stamped) → LikeFrames a b → LikeFrames c d → LikeFrames (later a c) (later b d)
-later-like None None None None h k = tt
-later-like (Some x) (Some y) None None h k = h
-later-like None (Some y) c d h k = absurd h
-later-like (Some x) None c d h k = absurd h
-later-like a b None (Some t) h k = absurd k
-later-like a b (Some s) None h k = absurd k
-later-like None None (Some s) (Some t) h k = k
-later-like (Some x) (Some y) (Some s) (Some t) h k =
-    one-of s t x y k h (is_before x.time s.time) (is_before y.time t.time) (before_same x.time y.time s.time t.time h.time k.time)
+later-like a b c d h k = grind (arith, one-of, before_same)
 
 timed-like : (s t : Stamped) → IsLikeFrame s t → (a b : Option Stamp) → IsSameTime a b → LikeFrames (timed s a) (timed t b)
-timed-like s t h None None e = tt
-timed-like s t h None (Some b) e = absurd (none_some b e)
-timed-like s t h (Some a) None e = absurd (some_none a e)
-timed-like s t h (Some a) (Some b) e = h
+timed-like s t h a b e = grind arith
 
 -- ---- fragments
 
@@ -79,17 +57,13 @@ first-like : (ps qs : List Piece) → Like ps qs → LikeFrames (first_frame ps)
 first-like [] [] h = tt
 first-like [] (q ∷ qs) h = absurd h
 first-like (p ∷ ps) [] h = absurd h
-first-like (p ∷ ps) (q ∷ qs) h =
-    earlier-like (first_frame ps) (first_frame qs) (timed p.stamped p.stamped.time) (timed q.stamped q.stamped.time) (first-like ps qs h.1)
-    (timed-like p.stamped q.stamped h.0.stamped p.stamped.time q.stamped.time h.0.stamped.time)
+first-like (p ∷ ps) (q ∷ qs) h = search (first-like ps qs h.1, earlier-like, timed, timed-like)
 
 last-like : (ps qs : List Piece) → Like ps qs → LikeFrames (last_frame ps) (last_frame qs)
 last-like [] [] h = tt
 last-like [] (q ∷ qs) h = absurd h
 last-like (p ∷ ps) [] h = absurd h
-last-like (p ∷ ps) (q ∷ qs) h =
-    later-like (last_frame ps) (last_frame qs) (timed p.stamped p.stamped.time) (timed q.stamped q.stamped.time) (last-like ps qs h.1)
-    (timed-like p.stamped q.stamped h.0.stamped p.stamped.time q.stamped.time h.0.stamped.time)
+last-like (p ∷ ps) (q ∷ qs) h = search (last-like ps qs h.1, later-like, timed, timed-like)
 
 covered-like : (ps qs : List Piece) → Like ps qs → (k : ℕ) → is_covered ps k ≡ is_covered qs k
 covered-like [] [] h k = refl
@@ -117,8 +91,7 @@ byte-like : (ps qs : List Piece) → Like ps qs → (k : ℕ) → byte_at ps k �
 byte-like [] [] h k = refl
 byte-like [] (q ∷ qs) h k = absurd h
 byte-like (p ∷ ps) [] h k = absurd h
-byte-like (p ∷ ps) (q ∷ qs) h k =
-    λ i. if is_within (h.0.start i) (h.0.start i + length (h.0.bytes i)) k then slice_index (h.0.bytes i) (k - h.0.start i) else byte-like ps qs h.1 k i
+byte-like (p ∷ ps) (q ∷ qs) h k = cc (byte-like ps qs h.1 k)
 
 pub completes-like : (ps qs : List Piece) → Like ps qs → completes ps ≡ completes qs
 unfolding completes

@@ -1,14 +1,12 @@
 -- Runs whose packets have the same links, lengths, bytes and times, maybe in other forms, have the same report, but for the forms of times.
-use Rattle.std.proofs.Common.{◌≡◌, ℕ, ◌+◌, Bool, true, false, List, [], ◌∷◌, length, refl, sym, ap, subst, true≢false, cond, Option, Some, None}
+use Rattle.std.proofs.Common.{arith, ◌≡◌, ℕ, ◌+◌, Bool, false, List, [], ◌∷◌, length, refl, sym, Option}
 use Rattle.std.proofs.lemmas.List.Elements.{length_all_zip}
-use Rattle.std.specs.List.{AllZip, find}
+use Rattle.std.specs.List.{AllZip}
 use Rattle.std.specs.Option.{option_map_or}
 use Rattle.std.specs.Prelude.{nat_lt, if◌then◌else◌}
 use Rattle.cap_ip.specs.Header.{HeaderFields}
 use Rattle.cap_ip.specs.Read.{Reading, found, bad, cut, read_of}
-use Rattle.cap_ip.specs.Transport.{transport_of}
 use Rattle.cap_ip.specs.declared.headers.Fragment.{Fragment}
-use Rattle.cap_ip.specs.declared.transports.Transport.TheVariants as transport
 use Rattle.cap_join.specs.Completed.{if_complete}
 use Rattle.cap_join.proofs.AlikeGroups.{if_complete-alike, zip-both}
 use Rattle.cap_join.specs.EqualClocks.{IsSameTime}
@@ -16,14 +14,13 @@ use Rattle.cap_join.specs.Fragments.{Piece, piece_of}
 use Rattle.cap_join.specs.History.{Event, joined_pieces, state_of}
 use Rattle.cap_join.specs.Joiners.{open_limit}
 use Rattle.cap_join.specs.declared.datagrams.Stamped.{Stamped}
-use Rattle.cap_link.specs.Links.{network_of, is_whole}
 use Rattle.cap_link.specs.Seen.{Carried, ipv4, other_link, not_ipv4, short, cut as ends}
 use Rattle.cap_source.specs.Times.{meta_time}
 use Rattle.cap_merge.specs.Run.{Clocked}
 use Rattle.cap_source.specs.Feed.{Item, packet, refused}
 use Rattle.cap_talks.specs.Classes.{class_by, class_in, class_of, classes, classes_in, counts_of, group_class, groups_of, has_place}
-use Rattle.cap_talks.specs.CountedUnits.{unit_by, unit_at, listed, units_of, is_limit_at, counted_in, joined_in, given_up_in}
-use Rattle.cap_talks.specs.ReportText.{body_text, bytes_of, truncated_of, with_item, taken_after, refusal_at, refusal_here}
+use Rattle.cap_talks.specs.CountedUnits.{unit_by, unit_at, listed, units_of, is_limit_at, counted_in}
+use Rattle.cap_talks.specs.ReportText.{body_text, bytes_of, truncated_of, with_item, taken_after, refusal_here}
 use Rattle.cap_talks.specs.Rows.{is_refused, talk_limit}
 use Rattle.cap_talks.specs.Taken.{Taken, Look, plain, datagram, fragment, look_at, look_in, look_by, look, stamped_of, events_with, events_of}
 use Rattle.cap_talks.specs.Talks.{key_of, rows_of}
@@ -31,7 +28,7 @@ use Rattle.cap_talks.specs.declared.classes.Class.TheVariants as class
 use Rattle.cap_talks.specs.declared.units.CountedUnit.{CountedUnit}
 use Rattle.cap_time.specs.declared.stamps.Stamp.{Stamp}
 use Rattle.cap_laws.proofs.LikePieces.{IsLike, IsLikeFrame, Like, LikeEvent, data-like, events-groups, header-like, pieces-alike, place-like}
-use Rattle.cap_laws.proofs.LikeUnits.{LikeUnit, LikeUnits, first_unit-like, key-like, refused-like, rows-like, whole-like}
+use Rattle.cap_laws.proofs.LikeUnits.{LikeUnit, LikeUnits, first_unit-like, key-like, refused-like, rows-like}
 use Rattle.cap_laws.specs.Forms.{BodyParts, IsSameTalk, SameButForms, counts_text}
 use Rattle.cap_laws.specs.Reports.{Place, place_or, refused_after}
 
@@ -74,8 +71,7 @@ unfolding piece_of
 piece-like header captured s t h = record { header = refl; start = refl; more = refl; bytes = refl; stamped = h }
 
 by-like : (f : Option Fragment) (header : HeaderFields) (captured : List ℕ) (s t : Stamped) → IsLikeFrame s t → LikeLook (look_by f header captured s) (look_by f header captured t)
-by-like None header captured s t h = (refl, refl)
-by-like (Some f) header captured s t h = piece-like header captured s t h
+by-like f header captured s t h = grind (arith, piece-like)
 
 in-like : (r : Reading) (s t : Stamped) → IsLikeFrame s t → LikeLook (look_in r s) (look_in r t)
 in-like (found header captured) s t h = by-like header.fragment header captured s t h
@@ -94,11 +90,7 @@ stamped-like n m x y e h = record { time = h.time; place = e; original = h.origi
 
 look-like : (n m : ℕ) (x y : Taken) → n ≡ m → IsLikeTaken x y → LikeLook (look n x) (look m y)
 unfolding look
-look-like n m x y e h =
-    subst (λ (l : Look). LikeLook (look_at (network_of x.meta.interface.link x.frame x.meta.original) (is_whole x.frame x.meta.original) (stamped_of n x.meta)) l)
-    (λ i. look_at (network_of (h.link i) (h.frame i) (h.original i)) (is_whole (h.frame i) (h.original i)) (stamped_of m y.meta))
-    (at-like (network_of x.meta.interface.link x.frame x.meta.original) (is_whole x.frame x.meta.original) (stamped_of n x.meta) (stamped_of m y.meta)
-    (stamped-like n m x y e h))
+look-like n m x y e h = grind (arith, at-like, stamped-like)
 
 taken-length : (xs ys : List Taken) → LikeTaken xs ys → length xs ≡ length ys
 taken-length = length_all_zip IsLikeTaken
@@ -107,24 +99,14 @@ taken-length = length_all_zip IsLikeTaken
 
 events-with : (l k : Look) (c d : Option Stamp) (es fs : List Event) → LikeLook l k → IsSameTime c d → AllZip LikeEvent es fs
     → AllZip LikeEvent (events_with l c es) (events_with k d fs)
-events-with (plain k) (plain l) c d es fs e t h = h
-events-with (datagram i b) (datagram j a) c d es fs e t h = (ap (λ header. header.key) e.0, h)
-events-with (fragment p) (fragment q) c d es fs e t h = ((t, e), h)
-events-with (plain k) (datagram j a) c d es fs e t h = absurd e
-events-with (plain k) (fragment q) c d es fs e t h = absurd e
-events-with (datagram i b) (plain l) c d es fs e t h = absurd e
-events-with (datagram i b) (fragment q) c d es fs e t h = absurd e
-events-with (fragment p) (plain l) c d es fs e t h = absurd e
-events-with (fragment p) (datagram j a) c d es fs e t h = absurd e
+events-with l k c d es fs e t h = grind arith
 
 events-like : (xs ys : List Taken) → LikeTaken xs ys → AllZip LikeEvent (events_of xs) (events_of ys)
 unfolding events_of
 events-like [] [] h = tt
 events-like [] (y ∷ ys) h = absurd h
 events-like (x ∷ xs) [] h = absurd h
-events-like (x ∷ xs) (y ∷ ys) h =
-    events-with (look (length xs) x) (look (length ys) y) x.clock y.clock (events_of xs) (events_of ys)
-    (look-like (length xs) (length ys) x y (taken-length xs ys h.1) h.0) h.0.clock (events-like xs ys h.1)
+events-like (x ∷ xs) (y ∷ ys) h = search (events-like xs ys h.1, events-with, look-like, taken-length)
 
 groups-like : (xs ys : List Taken) → LikeTaken xs ys → AllZip Like (groups_of xs) (groups_of ys)
 groups-like xs ys h = (events-groups open_limit (events_of xs) (events_of ys) (events-like xs ys h)).completed
@@ -133,40 +115,22 @@ groups-like xs ys h = (events-groups open_limit (events_of xs) (events_of ys) (e
 
 group-class : (ps qs : List Piece) → Like ps qs → group_class ps ≡ group_class qs
 unfolding group_class
-group-class ps qs h =
-    λ i. class_of (option_map_or (λ header. transport_of header.key.protocol (data-like ps qs h i) (length (data-like ps qs h i))) (header-like ps qs h i) transport.Bad)
+group-class ps qs h = grind (arith, data-like, header-like)
 
 class-in : (gs ks : List (List Piece)) (n m : ℕ) → AllZip Like gs ks → n ≡ m → class_in gs n ≡ class_in ks m
 class-in [] [] n m h e = refl
 class-in [] (k ∷ ks) n m h e = absurd h
 class-in (g ∷ gs) [] n m h e = absurd h
-class-in (g ∷ gs) (k ∷ ks) n m h e = by (has_place n g) (has_place m k) (place-like n m g k e h.0) (class-in gs ks n m h.1 e)
-  where
-    by : (b c : Bool) → b ≡ c → class_in gs n ≡ class_in ks m
-        → option_map_or group_class (cond b (Some g) (find (has_place n) gs)) class.Unjoined ≡ option_map_or group_class (cond c (Some k) (find (has_place m) ks)) class.Unjoined
-    by true true x rest = group-class g k h.0
-    by true false x rest = absurd (true≢false x)
-    by false true x rest = absurd (true≢false (sym x))
-    by false false x rest = rest
+class-in (g ∷ gs) (k ∷ ks) n m h e = grind (arith, class-in gs ks n m h.1 e, place-like, group-class)
 
 class-by : (gs ks : List (List Piece)) (l k : Look) → AllZip Like gs ks → LikeLook l k → class_by gs l ≡ class_by ks k
-class-by gs ks (plain k) (plain l) h e = e
-class-by gs ks (datagram i b) (datagram j a) h e = λ t. class_of (transport_of (e.0 t).key.protocol (e.1 t) (e.0 t).data_length)
-class-by gs ks (fragment p) (fragment q) h e = class-in gs ks p.stamped.place q.stamped.place h e.stamped.place
-class-by gs ks (plain k) (datagram j a) h e = absurd e
-class-by gs ks (plain k) (fragment q) h e = absurd e
-class-by gs ks (datagram i b) (plain l) h e = absurd e
-class-by gs ks (datagram i b) (fragment q) h e = absurd e
-class-by gs ks (fragment p) (plain l) h e = absurd e
-class-by gs ks (fragment p) (datagram j a) h e = absurd e
+class-by gs ks l k h e = grind (arith, class-in)
 
 classes-in : (gs ks : List (List Piece)) (xs ys : List Taken) → AllZip Like gs ks → LikeTaken xs ys → classes_in gs xs ≡ classes_in ks ys
 classes-in gs ks [] [] g h = refl
 classes-in gs ks [] (y ∷ ys) g h = absurd h
 classes-in gs ks (x ∷ xs) [] g h = absurd h
-classes-in gs ks (x ∷ xs) (y ∷ ys) g h =
-    λ i. class-by gs ks (look (length xs) x) (look (length ys) y) g (look-like (length xs) (length ys) x y (taken-length xs ys h.1) h.0) i
-    ∷ classes-in gs ks xs ys g h.1 i
+classes-in gs ks (x ∷ xs) (y ∷ ys) g h = search (classes-in gs ks xs ys g h.1, class-by, look-like, taken-length)
 
 classes-like : (xs ys : List Taken) → LikeTaken xs ys → classes xs ≡ classes ys
 unfolding classes
@@ -183,8 +147,7 @@ counted-like (g ∷ gs) (k ∷ ks) h = λ i. (if Rattle.cap_talks.specs.Classes.
 unit-by : (l k : Look) (s t : Stamped) (c d : Option Stamp) (es fs : List Event) → LikeLook l k → IsLikeFrame s t → IsSameTime c d → AllZip LikeEvent es fs
     → LikeUnit (unit_by l s c es) (unit_by k t d fs)
 unit-by (plain k) (plain l) s t c d es fs e f u h = tt
-unit-by (datagram i b) (datagram j a) s t c d es fs e f u h =
-    subst (λ (x : Option CountedUnit). LikeUnit (unit_by (datagram i b) s c es) x) (λ n. unit_by (datagram (e.0 n) (e.1 n)) t d fs) (whole-like i b s t f)
+unit-by (datagram i b) (datagram j a) s t c d es fs e f u h = grind arith
 unit-by (fragment p) (fragment q) s t c d es fs e f u h =
     let ps = joined_pieces c p (state_of open_limit es) in
     let qs = joined_pieces d q (state_of open_limit fs) in
@@ -198,25 +161,17 @@ unit-by (fragment p) (datagram j a) s t c d es fs e f u h = absurd e
 
 unit-at : (xs ys : List Taken) (x y : Taken) → LikeTaken xs ys → IsLikeTaken x y → LikeUnit (unit_at xs x) (unit_at ys y)
 unfolding unit_at
-unit-at xs ys x y h k =
-    let n = taken-length xs ys h in
-    unit-by (look (length xs) x) (look (length ys) y) (stamped_of (length xs) x.meta) (stamped_of (length ys) y.meta) x.clock y.clock (events_of xs) (events_of ys)
-    (look-like (length xs) (length ys) x y n k) (stamped-like (length xs) (length ys) x y n k) k.clock (events-like xs ys h)
+unit-at xs ys x y h k = search (taken-length, unit-by, look-like, stamped-like, events-like)
 
 listed-like : (u v : Option CountedUnit) → LikeUnit u v → LikeUnits (listed u) (listed v)
-listed-like None None h = tt
-listed-like None (Some v) h = absurd h
-listed-like (Some u) None h = absurd h
-listed-like (Some u) (Some v) h = (h, tt)
+listed-like u v h = grind arith
 
 units-like : (xs ys : List Taken) → LikeTaken xs ys → LikeUnits (units_of xs) (units_of ys)
 unfolding units_of
 units-like [] [] h = tt
 units-like [] (y ∷ ys) h = absurd h
 units-like (x ∷ xs) [] h = absurd h
-units-like (x ∷ xs) (y ∷ ys) h =
-    zip-both _ (units_of xs) (units_of ys) (listed (unit_at xs x)) (listed (unit_at ys y)) (units-like xs ys h.1)
-    (listed-like (unit_at xs x) (unit_at ys y) (unit-at xs ys x y h.1 h.0))
+units-like (x ∷ xs) (y ∷ ys) h = search (units-like xs ys h.1, zip-both, listed, listed-like, unit-at)
 
 talks-like : (xs ys : List Taken) → LikeTaken xs ys → AllZip IsSameTalk (rows_of (units_of xs)) (rows_of (units_of ys))
 talks-like xs ys h = rows-like (units_of xs) (units_of ys) (units-like xs ys h)
@@ -236,16 +191,7 @@ truncated-like (x ∷ xs) [] h = absurd h
 truncated-like (x ∷ xs) (y ∷ ys) h = λ i. truncated-like xs ys h.1 i + (if nat_lt (length (h.0.frame i)) (h.0.original i) then 1 else 0)
 
 lines-like : (xs ys : List Taken) → LikeTaken xs ys → counts_text xs ≡ counts_text ys
-lines-like xs ys h =
-    let n = taken-length xs ys h in
-    let b = bytes-like xs ys h in
-    let t = truncated-like xs ys h in
-    let k = classes-like xs ys h in
-    let j : joined_in xs ≡ joined_in ys = counted-like (groups_of xs) (groups_of ys) (groups-like xs ys h) in
-    let up : given_up_in xs ≡ given_up_in ys = (events-groups open_limit (events_of xs) (events_of ys) (events-like xs ys h)).given_up in
-    let talks : length (rows_of (units_of xs)) ≡ length (rows_of (units_of ys)) =
-    length_all_zip IsSameTalk (rows_of (units_of xs)) (rows_of (units_of ys)) (talks-like xs ys h) in
-    cc
+lines-like xs ys h = grind (arith, taken-length, bytes-like, truncated-like, classes-like, counted-like, groups-like, events-groups, events-like, length_all_zip, talks-like)
 
 pub body-parts : BodyParts
 unfolding body_text
@@ -256,28 +202,14 @@ body-parts xs = refl
 limit-by : (xs ys : List Taken) (u v : Option CountedUnit) → LikeTaken xs ys → LikeUnit u v
     → option_map_or (λ unit. is_refused talk_limit (rows_of (units_of xs)) (key_of unit)) u false
     ≡ option_map_or (λ unit. is_refused talk_limit (rows_of (units_of ys)) (key_of unit)) v false
-limit-by xs ys None None h k = refl
-limit-by xs ys None (Some v) h k = absurd k
-limit-by xs ys (Some u) None h k = absurd k
-limit-by xs ys (Some u) (Some v) h k =
-    refused-like talk_limit (key_of u) (key_of v) (rows_of (units_of xs)) (rows_of (units_of ys)) (key-like u v k) (talks-like xs ys h)
+limit-by xs ys u v h k = grind (arith, refused-like, key-like, talks-like)
 
 limit-like : (xs ys : List Taken) (x y : Taken) → LikeTaken xs ys → IsLikeTaken x y → is_limit_at xs x ≡ is_limit_at ys y
 limit-like xs ys x y h k = limit-by xs ys (unit_at xs x) (unit_at ys y) h (unit-at xs ys x y h k)
 
 refused-here : (c d : Option Stamp) (a b : Item) (xs ys : List Taken) (p q : Option Place) → LikeItems c d a b → LikeTaken xs ys → p ≡ q
     → place_or (length xs) (refusal_here xs c a) p ≡ place_or (length ys) (refusal_here ys d b) q
-refused-here c d (packet m f) (packet n g) xs ys p q h k e =
-    by (is_limit_at xs (record { clock = c; meta = m; frame = f })) (is_limit_at ys (record { clock = d; meta = n; frame = g }))
-    (limit-like xs ys (record { clock = c; meta = m; frame = f }) (record { clock = d; meta = n; frame = g }) k h)
-    (length xs) (length ys) (taken-length xs ys k)
-  where
-    by : (b v : Bool) → b ≡ v → (i j : ℕ) → i ≡ j
-        → place_or i (if b then Some (refusal_at m) else None) p ≡ place_or j (if v then Some (refusal_at n) else None) q
-    by true true o i j w = ap (λ l. Some (record { taken = l; rule = (refusal_at m).rule })) w
-    by true false o i j w = absurd (true≢false o)
-    by false true o i j w = absurd (true≢false (sym o))
-    by false false o i j w = e
+refused-here c d (packet m f) (packet n g) xs ys p q h k e = grind (arith, limit-like, taken-length)
 refused-here c d (packet m f) (refused r) xs ys p q h k e = absurd h
 refused-here c d (refused o) (packet n g) xs ys p q h k e = absurd h
 refused-here c d (refused o) (refused r) xs ys p q h k e = absurd h
@@ -285,28 +217,21 @@ refused-here c d (refused o) (refused r) xs ys p q h k e = absurd h
 -- ---- runs
 
 with-like : (c d : Option Stamp) (a b : Item) (xs ys : List Taken) → LikeItems c d a b → LikeTaken xs ys → LikeTaken (with_item c a xs) (with_item d b ys)
-with-like c d (packet m f) (packet n g) xs ys h k = (h, k)
-with-like c d (packet m f) (refused r) xs ys h k = absurd h
-with-like c d (refused q) (packet n g) xs ys h k = absurd h
-with-like c d (refused q) (refused r) xs ys h k = absurd h
+with-like c d a b xs ys h k = grind arith
 
 taken-like : (as_ bs : List (Clocked Item)) (xs ys : List Taken) → RunsLike as_ bs → LikeTaken xs ys → LikeTaken (taken_after xs as_) (taken_after ys bs)
 unfolding taken_after
 taken-like [] [] xs ys h k = k
 taken-like [] (b ∷ bs) xs ys h k = absurd h
 taken-like (a ∷ as_) [] xs ys h k = absurd h
-taken-like (a ∷ as_) (b ∷ bs) xs ys h k =
-    taken-like as_ bs (with_item a.clock a.item xs) (with_item b.clock b.item ys) h.1 (with-like a.clock b.clock a.item b.item xs ys h.0 k)
+taken-like (a ∷ as_) (b ∷ bs) xs ys h k = grind (arith, taken-like as_ bs (with_item a.clock a.item xs) (with_item b.clock b.item ys) h.1 (with-like a.clock b.clock a.item b.item xs ys h.0 k))
 
 pub refusals-like : (as_ bs : List (Clocked Item)) (xs ys : List Taken) → RunsLike as_ bs → LikeTaken xs ys → refused_after xs as_ ≡ refused_after ys bs
 unfolding refused_after
 refusals-like [] [] xs ys h k = refl
 refusals-like [] (b ∷ bs) xs ys h k = absurd h
 refusals-like (a ∷ as_) [] xs ys h k = absurd h
-refusals-like (a ∷ as_) (b ∷ bs) xs ys h k =
-    refused-here a.clock b.clock a.item b.item xs ys
-    (refused_after (with_item a.clock a.item xs) as_) (refused_after (with_item b.clock b.item ys) bs) h.0 k
-    (refusals-like as_ bs (with_item a.clock a.item xs) (with_item b.clock b.item ys) h.1 (with-like a.clock b.clock a.item b.item xs ys h.0 k))
+refusals-like (a ∷ as_) (b ∷ bs) xs ys h k = search (refusals-like as_ bs (with_item a.clock a.item xs) (with_item b.clock b.item ys) h.1 (with-like a.clock b.clock a.item b.item xs ys h.0 k), refused-here, with-like)
 
 pub same-but-forms : (run again : List (Clocked Item)) → RunsLike run again → SameButForms run again
 same-but-forms run again h =

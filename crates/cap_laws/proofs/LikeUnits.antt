@@ -1,31 +1,28 @@
 -- Units and conversations of packets that have the same times, maybe in other forms.
-use Rattle.std.proofs.Common.{◌≡◌, ℕ, ◌+◌, Bool, true, false, List, [], ◌∷◌, length, refl, sym, ◌∙◌, ap, subst, true≢false, cond, not, Option, Some, None, Equal}
+use Rattle.std.proofs.Common.{arith, ◌≡◌, ℕ, ◌+◌, Bool, List, [], ◌∷◌, length, refl, ap, subst, not, Option, Some, None, Equal}
 use Rattle.std.proofs.lemmas.List.Elements.{length_all_zip}
 use Rattle.std.specs.List.{AllZip}
 use Rattle.std.specs.Map.{lookup}
 use Rattle.std.specs.Option.{option_map}
 use Rattle.std.specs.Ordering.{is_gt, is_lt, nat_cmp, ordering_then}
-use Rattle.std.specs.Prelude.{◌&&◌, filter, is_some, map, nat_lt, option_and_then, if◌then◌else◌}
+use Rattle.std.specs.Prelude.{filter, is_some, map, option_and_then, if◌then◌else◌}
 use Rattle.cap_ip.specs.Header.{HeaderFields}
 use Rattle.cap_ip.specs.Transport.{transport_of}
-use Rattle.cap_join.proofs.OpenGroups.{filter-true, filter-false}
 use Rattle.cap_join.specs.ByteMap.{header_of, data_of}
-use Rattle.cap_join.proofs.AlikeGroups.{cmp_same, none_some, some_none}
-use Rattle.cap_join.specs.EqualClocks.{IsSameTime}
+use Rattle.cap_join.proofs.AlikeGroups.{cmp_same}
 use Rattle.cap_join.specs.Fragments.{Piece}
 use Rattle.cap_join.specs.Frames.{original_bytes, first_frame, last_frame}
 use Rattle.cap_join.specs.declared.datagrams.Stamped.{Stamped}
 use Rattle.cap_merge.specs.Clock.{clock_cmp}
-use Rattle.cap_talks.specs.CountedUnits.{first_unit, group_unit, unit_of, whole_unit}
+use Rattle.cap_talks.specs.CountedUnits.{first_unit, group_unit, unit_of}
 use Rattle.cap_talks.specs.Rows.{is_refused}
-use Rattle.cap_talks.specs.Talks.{Talk, backward, bytes_of, by_time, by_time_down, earlier_frame, forward, frame_time, frames_of, greatest_frame, is_forward, key_of, keys_of, later_frame, least_frame, place_or, row_of, rows_of, same_talk, units_of}
+use Rattle.cap_talks.specs.Talks.{Talk, bytes_of, by_time, by_time_down, earlier_frame, frame_time, frames_of, greatest_frame, is_forward, key_of, keys_of, later_frame, least_frame, place_or, row_of, rows_of, same_talk, units_of}
 use Rattle.cap_talks.specs.Units.{end_cmp, ends_of, timed_frame}
 use Rattle.cap_talks.specs.declared.rows.TalkKey.{TalkKey}
 use Rattle.cap_talks.specs.declared.units.CountedUnit.{CountedUnit}
 use Rattle.cap_talks.specs.declared.units.End.{End}
 use Rattle.cap_talks.specs.declared.units.TimedFrame.{TimedFrame}
-use Rattle.cap_time.specs.declared.stamps.Stamp.{Stamp}
-use Rattle.cap_laws.proofs.LikePieces.{IsLikeFrame, Like, LikeFrames, data-like, frames-like, header-like, original-like}
+use Rattle.cap_laws.proofs.LikePieces.{Like, LikeFrames, data-like, frames-like, header-like, original-like}
 use Rattle.cap_laws.specs.Forms.{IsSameTalk}
 
 -- ---- frames
@@ -36,18 +33,8 @@ LikeTimed None (Some b) = ⊥
 LikeTimed (Some a) None = ⊥
 LikeTimed (Some a) (Some b) = (clock_cmp (Some a.time) (Some b.time) ≡ Equal) × (a.place ≡ b.place)
 
-timed_at : (n m : ℕ) (a b : Option Stamp) → n ≡ m → IsSameTime a b
-    → LikeTimed (option_map (λ time. record { time = time; place = n }) a) (option_map (λ time. record { time = time; place = m }) b)
-timed_at n m None None e h = tt
-timed_at n m None (Some b) e h = absurd (none_some b h)
-timed_at n m (Some a) None e h = absurd (some_none a h)
-timed_at n m (Some a) (Some b) e h = (h, e)
-
 timed_frame-like : (a b : Option Stamped) → LikeFrames a b → LikeTimed (timed_frame a) (timed_frame b)
-timed_frame-like None None h = tt
-timed_frame-like None (Some t) h = absurd h
-timed_frame-like (Some s) None h = absurd h
-timed_frame-like (Some s) (Some t) h = timed_at s.place t.place s.time t.time h.place h.time
+timed_frame-like a b h = grind arith
 
 -- ---- units
 
@@ -70,15 +57,7 @@ LikeUnit (Some u) (Some v) = IsLikeUnit u v
 between : (ends : Option (End × End)) (protocol frames frames_again bytes bytes_again : ℕ) (first first_again last last_again : Option TimedFrame)
     → frames ≡ frames_again → bytes ≡ bytes_again → LikeTimed first first_again → LikeTimed last last_again
     → LikeUnit (option_map (unit_of protocol frames bytes first last) ends) (option_map (unit_of protocol frames_again bytes_again first_again last_again) ends)
-between None protocol frames frames_again bytes bytes_again first first_again last last_again e f g h = tt
-between (Some ends) protocol frames frames_again bytes bytes_again first first_again last last_again e f g h =
-    record { protocol = refl; source = refl; destination = refl; frames = e; bytes = f; first = g; last = h }
-
-pub whole-like : (header : HeaderFields) (captured : List ℕ) (s t : Stamped) → IsLikeFrame s t → LikeUnit (whole_unit header captured s) (whole_unit header captured t)
-whole-like header captured s t h =
-    between (ends_of header.key.source header.key.destination (transport_of header.key.protocol captured header.data_length)) header.key.protocol 1 1 s.original t.original
-    (timed_frame (Some s)) (timed_frame (Some t)) (timed_frame (Some s)) (timed_frame (Some t)) refl h.original
-    (timed_frame-like (Some s) (Some t) h) (timed_frame-like (Some s) (Some t) h)
+between ends protocol frames frames_again bytes bytes_again first first_again last last_again e f g h = grind arith
 
 -- the unit of a group of fragments, of which the data and the header are known
 abbrev unit_with : List Piece → List ℕ → Option HeaderFields → Option CountedUnit
@@ -87,12 +66,7 @@ unit_with pieces bytes header =
     (ends_of h.key.source h.key.destination (transport_of h.key.protocol bytes (length bytes)))) header
 
 with-like : (ps qs : List Piece) (bytes : List ℕ) (header : Option HeaderFields) → Like ps qs → LikeUnit (unit_with ps bytes header) (unit_with qs bytes header)
-with-like ps qs bytes None h = tt
-with-like ps qs bytes (Some header) h =
-    between (ends_of header.key.source header.key.destination (transport_of header.key.protocol bytes (length bytes))) header.key.protocol
-    (length ps) (length qs) (original_bytes ps) (original_bytes qs) (timed_frame (first_frame ps)) (timed_frame (first_frame qs))
-    (timed_frame (last_frame ps)) (timed_frame (last_frame qs)) (length_all_zip _ ps qs h) (original-like ps qs h)
-    (timed_frame-like (first_frame ps) (first_frame qs) (frames-like ps qs h).0) (timed_frame-like (last_frame ps) (last_frame qs) (frames-like ps qs h).1)
+with-like ps qs bytes header h = grind (arith, between, length_all_zip, original-like, timed_frame-like, frames-like)
 
 pub group-like : (ps qs : List Piece) → Like ps qs → LikeUnit (group_unit ps) (group_unit qs)
 unfolding group_unit
@@ -101,10 +75,7 @@ group-like ps qs h =
     (λ i. unit_with qs (data-like ps qs h i) (header-like ps qs h i)) (with-like ps qs (data_of ps) (header_of ps) h)
 
 pub first_unit-like : (gs ks : List (List Piece)) → AllZip Like gs ks → LikeUnit (first_unit gs) (first_unit ks)
-first_unit-like [] [] h = tt
-first_unit-like [] (k ∷ ks) h = absurd h
-first_unit-like (g ∷ gs) [] h = absurd h
-first_unit-like (g ∷ gs) (k ∷ ks) h = group-like g k h.0
+first_unit-like gs ks h = grind (arith, group-like)
 
 -- ---- conversations
 
@@ -115,19 +86,13 @@ forward-like : (u v : CountedUnit) → IsLikeUnit u v → is_forward u ≡ is_fo
 forward-like u v h = λ i. not (is_gt (end_cmp (h.source i) (h.destination i)))
 
 pub key-like : (u v : CountedUnit) → IsLikeUnit u v → key_of u ≡ key_of v
-key-like u v h =
-    λ i. if not (is_gt (end_cmp (h.source i) (h.destination i))) then record { protocol = h.protocol i; lesser = h.source i; greater = h.destination i }
-    else record { protocol = h.protocol i; lesser = h.destination i; greater = h.source i }
+key-like u v h = cc
 
 filtered : (s : CountedUnit → Bool) → ((u v : CountedUnit) → IsLikeUnit u v → s u ≡ s v) → (us vs : List CountedUnit) → LikeUnits us vs → LikeUnits (filter s us) (filter s vs)
 filtered s same [] [] h = tt
 filtered s same [] (v ∷ vs) h = absurd h
 filtered s same (u ∷ us) [] h = absurd h
-filtered s same (u ∷ us) (v ∷ vs) h = by (s v) (same u v h.0) refl (filtered s same us vs h.1)
-  where
-    by : (b : Bool) → s u ≡ s v → s v ≡ b → LikeUnits (filter s us) (filter s vs) → LikeUnits (filter s (u ∷ us)) (filter s (v ∷ vs))
-    by true e f rest = rw (filter-true s u us (e ∙ f), filter-true s v vs f) ((h.0, rest))
-    by false e f rest = rw (filter-false s u us (e ∙ f), filter-false s v vs f) rest
+filtered s same (u ∷ us) (v ∷ vs) h = grind (arith, filtered s same us vs h.1)
 
 keys-like : (us vs : List CountedUnit) → LikeUnits us vs → keys_of us ≡ keys_of vs
 keys-like [] [] h = refl
@@ -149,10 +114,7 @@ counts-like (u ∷ us) (v ∷ vs) h = λ i. h.0.frames i + counts-like us vs h.1
 
 one-of : (s t x y : TimedFrame) → LikeTimed (Some s) (Some t) → LikeTimed (Some x) (Some y) → (b c : Bool) → b ≡ c
     → LikeTimed (if b then Some s else Some x) (if c then Some t else Some y)
-one-of s t x y h k true true e = h
-one-of s t x y h k true false e = absurd (true≢false e)
-one-of s t x y h k false true e = absurd (true≢false (sym e))
-one-of s t x y h k false false e = k
+one-of s t x y h k b c e = grind arith
 
 earlier-like : (a b c d : Option TimedFrame) → LikeTimed a b → LikeTimed c d → LikeTimed (earlier_frame a c) (earlier_frame b d)
 earlier-like None None c d h k = k
@@ -189,34 +151,13 @@ greatest-like (u ∷ us) [] h = absurd h
 greatest-like (u ∷ us) (v ∷ vs) h = later-like u.last v.last (greatest_frame us) (greatest_frame vs) h.0.last (greatest-like us vs h.1)
 
 time-like : (a b : Option TimedFrame) → LikeTimed a b → clock_cmp (frame_time a) (frame_time b) ≡ Equal
-time-like None None h = refl
-time-like None (Some b) h = absurd h
-time-like (Some a) None h = absurd h
-time-like (Some a) (Some b) h = h.0
+time-like a b h = grind arith
 
 place-like : (a b : Option TimedFrame) → LikeTimed a b → place_or a 0 ≡ place_or b 0
-place-like None None h = refl
-place-like None (Some b) h = absurd h
-place-like (Some a) None h = absurd h
-place-like (Some a) (Some b) h = h.1
+place-like a b h = grind arith
 
 row-like : (key : TalkKey) (us vs : List CountedUnit) → LikeUnits us vs → IsSameTalk (key, row_of us) (key, row_of vs)
-row-like key us vs h =
-    let onward = filtered is_forward forward-like us vs h in
-    let back = filtered (λ u. not (is_forward u)) (λ u v k. ap not (forward-like u v k)) us vs h in
-    let least = least-like us vs h in
-    let greatest = greatest-like us vs h in
-    record {
-      key = refl;
-      forward_frames = counts-like (forward us) (forward vs) onward;
-      forward_bytes = bytes-like (forward us) (forward vs) onward;
-      backward_frames = counts-like (backward us) (backward vs) back;
-      backward_bytes = bytes-like (backward us) (backward vs) back;
-      first = time-like (least_frame us) (least_frame vs) least;
-      first_place = place-like (least_frame us) (least_frame vs) least;
-      last = time-like (greatest_frame us) (greatest_frame vs) greatest;
-      last_place = place-like (greatest_frame us) (greatest_frame vs) greatest;
-    }
+row-like key us vs h = grind (arith, filtered, forward-like, least-like, greatest-like, counts-like, bytes-like, time-like, place-like)
 
 rows-at : (keys : List TalkKey) (us vs : List CountedUnit) → LikeUnits us vs
     → AllZip IsSameTalk (map (λ key. (key, row_of (units_of key us))) keys) (map (λ key. (key, row_of (units_of key vs))) keys)
@@ -229,23 +170,13 @@ rows-at (key ∷ keys) us vs h = (
 
 pub rows-like : (us vs : List CountedUnit) → LikeUnits us vs → AllZip IsSameTalk (rows_of us) (rows_of vs)
 unfolding rows_of
-rows-like us vs h =
-    subst (λ (keys : List TalkKey). AllZip IsSameTalk (map (λ key. (key, row_of (units_of key us))) (keys_of us)) (map (λ key. (key, row_of (units_of key vs))) keys))
-    (keys-like us vs h) (rows-at (keys_of us) us vs h)
+rows-like us vs h = grind (arith, keys-like, rows-at)
 
 found-like : (key : TalkKey) (xs ys : List Talk) → AllZip IsSameTalk xs ys → is_some (lookup (same_talk key) xs) ≡ is_some (lookup (same_talk key) ys)
 found-like key [] [] h = refl
 found-like key [] (y ∷ ys) h = absurd h
 found-like key (x ∷ xs) [] h = absurd h
-found-like key (x ∷ xs) (y ∷ ys) h = by (same_talk key x.0) (same_talk key y.0) (ap (same_talk key) h.0.key) (found-like key xs ys h.1)
-  where
-    by : (b c : Bool) → b ≡ c → is_some (lookup (same_talk key) xs) ≡ is_some (lookup (same_talk key) ys)
-        → is_some (cond b (Some x.1) (lookup (same_talk key) xs)) ≡ is_some (cond c (Some y.1) (lookup (same_talk key) ys))
-    by true true e rest = refl
-    by true false e rest = absurd (true≢false e)
-    by false true e rest = absurd (true≢false (sym e))
-    by false false e rest = rest
+found-like key (x ∷ xs) (y ∷ ys) h = grind (arith, found-like key xs ys h.1)
 
 pub refused-like : (limit : ℕ) (key other : TalkKey) (xs ys : List Talk) → key ≡ other → AllZip IsSameTalk xs ys → is_refused limit xs key ≡ is_refused limit ys other
-refused-like limit key other xs ys e h =
-    (λ i. not (found-like key xs ys h i) && not (nat_lt (length_all_zip IsSameTalk xs ys h i) limit)) ∙ ap (is_refused limit ys) e
+refused-like limit key other xs ys e h = grind (arith, found-like, length_all_zip)

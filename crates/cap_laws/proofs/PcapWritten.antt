@@ -1,5 +1,5 @@
 -- The report over a file that is written as pcap.
-use Rattle.std.proofs.Common.{◌≡◌, Bool, true, false, List, [], ◌∷◌, refl, sym, ap, subst, true≢false, Option, None, Equal}
+use Rattle.std.proofs.Common.{arith, ◌≡◌, Bool, List, [], ◌∷◌, refl, sym, ap, subst, Option, None, Equal}
 use Rattle.std.specs.List.{AllZip}
 use Rattle.std.specs.Ordering.{is_lt}
 use Rattle.std.specs.Prelude.{map, if◌then◌else◌}
@@ -42,35 +42,23 @@ never-again (refused q ∷ as_) (b ∷ bs) h = absurd h.0
 
 later_by : (t u x y : Option Stamp) (b c : Bool) → b ≡ c → clock_cmp t u ≡ Equal → clock_cmp x y ≡ Equal
     → clock_cmp (if b then x else t) (if c then y else u) ≡ Equal
-later_by t u x y true true e h k = k
-later_by t u x y true false e h k = absurd (true≢false e)
-later_by t u x y false true e h k = absurd (true≢false (sym e))
-later_by t u x y false false e h k = h
+later_by t u x y b c e h k = grind arith
 
 later-same : (t u x y : Option Stamp) → clock_cmp t u ≡ Equal → clock_cmp x y ≡ Equal → clock_cmp (later t x) (later u y) ≡ Equal
 later-same t u x y h k = later_by t u x y (is_lt (clock_cmp t x)) (is_lt (clock_cmp u y)) (ap is_lt (cmp_same t u x y h k)) h k
 
 times : (a b : Item) → SamePackets a b → clock_cmp (item_time a) (item_time b) ≡ Equal
-times (packet m f) (packet n g) h = h.time
-times (packet m f) (refused r) h = absurd h
-times (refused q) b h = absurd h
+times a b h = grind arith
 
 items-like : (c d : Option Stamp) (a b : Item) → clock_cmp c d ≡ Equal → SamePackets a b → LikeItems c d a b
-items-like c d (packet m f) (packet n g) e h = record { clock = e; link = h.link; time = h.time; original = h.original; frame = h.frame }
-items-like c d (packet m f) (refused r) e h = absurd h
-items-like c d (refused q) b e h = absurd h
+items-like c d a b e h = grind arith
 
 runs-like : (t u : Option Stamp) (as_ bs : List (Clocked Item)) → clock_cmp t u ≡ Equal → ClocksAreTold item_time t as_ → ClocksAreTold item_time u bs
     → AllZip SamePackets (map (λ x. x.item) as_) (map (λ x. x.item) bs) → RunsLike as_ bs
 runs-like t u [] [] e h k w = tt
 runs-like t u [] (b ∷ bs) e h k w = absurd w
 runs-like t u (a ∷ as_) [] e h k w = absurd w
-runs-like t u (a ∷ as_) (b ∷ bs) e h k w =
-    let now = later-same t u (item_time a.item) (item_time b.item) e (times a.item b.item w.0) in
-    let clocks = told_twice (later t (item_time a.item)) (later u (item_time b.item)) a.clock b.clock now h.0 k.0 in (
-      items-like a.clock b.clock a.item b.item clocks w.0,
-      runs-like (later t (item_time a.item)) (later u (item_time b.item)) as_ bs now h.1 k.1 w.1,
-    )
+runs-like t u (a ∷ as_) (b ∷ bs) e h k w = search (runs-like (later t (item_time a.item)) (later u (item_time b.item)) as_ bs, later-same, times, told_twice, items-like)
 
 pub pcap-report : PcapAgain → PcapReport
 pcap-report again-law order tail tail_again bytes are none short =

@@ -1,5 +1,5 @@
 -- Merging the files that merges of groups wrote gives the bytes of one merge.
-use Rattle.std.proofs.Common.{◌≡◌, ℕ, suc, ◌+◌, List, [], ◌∷◌, ◌++◌, refl, sym, ◌∙◌, ap, subst, arith, Option, Some, None, false}
+use Rattle.std.proofs.Common.{◌≡◌, ℕ, suc, ◌+◌, List, [], ◌∷◌, ◌++◌, refl, sym, ◌∙◌, ap, arith, Option, Some, None, false}
 use Rattle.std.specs.List.{AllZip, AllByRecursion, flat_map}
 use Rattle.std.specs.Prelude.{map, is_none, unwrap_or}
 use Rattle.std.proofs.lemmas.List.{map-append}
@@ -10,7 +10,7 @@ use Rattle.cap_merge.specs.Files.{items_of_files, run_of_lists, run_of_files}
 use Rattle.cap_source.specs.Feed.{Item, packet, refused}
 use Rattle.cap_source.specs.Items.{file_items}
 use Rattle.cap_write.specs.Laws.{MergeLaw, instances, numbers}
-use Rattle.cap_write.specs.Numbering.{Name, Numbered, numbered, numbered_of, refusal_in, with_name}
+use Rattle.cap_write.specs.Numbering.{Name, numbered, refusal_in, with_name}
 use Rattle.cap_write.specs.Rounds.{FileRoundsLaw, IsItemOf, IsMergeOf, numbered_files, run_of}
 use Rattle.cap_write.specs.Texts.{packets_bytes}
 use Rattle.cap_laws.proofs.FileNumbers.{file-numbered}
@@ -26,10 +26,7 @@ next_number file = omega arith
 
 numbered-each : (tail : Tail) (file : ℕ) (files : List (List ℕ)) → numbered_files file (items_each tail files) ≡ items_of_files tail file files
 numbered-each tail file [] = refl
-numbered-each tail file (bytes ∷ files) =
-    ap (λ l. l ∷ numbered_files (suc file) (items_each tail files)) (sym (file-numbered tail file 1 bytes))
-    ∙ ap (λ l. file_items tail file bytes ∷ l)
-    (ap (λ n. numbered_files n (items_each tail files)) (next_number file) ∙ numbered-each tail (file + 1) files)
+numbered-each tail file (bytes ∷ files) = grind (arith, numbered-each tail (file + 1) files, file-numbered, next_number)
 
 run-each : (tail : Tail) (files : List (List ℕ)) → run_of (items_each tail files) ≡ run_of_files tail files
 unfolding run_of run_of_files
@@ -38,8 +35,7 @@ run-each tail files = ap run_of_lists (numbered-each tail 1 files)
 -- ---- a written file
 
 timed : (units : Option ℕ) → is_none units ≡ false → units ≡ Some (unwrap_or units 0)
-timed None e = absurd (cc)
-timed (Some units) e = refl
+timed units e = grind arith
 
 some-none : (r : Refusal) → Some r ≡ None → ⊥
 some-none r e = cc
@@ -53,28 +49,13 @@ items-are : (names : List Name) (items : List Item) → refusal_in names items �
 unfolding numbered instances
 items-are names [] none same = tt
 items-are names (refused r ∷ items) none same = absurd (some-none r (sym (refuses names r items) ∙ none))
-items-are names (packet meta frame ∷ items) none same =
-    let one = goes names meta frame items none in
-    let n = numbered_of names meta frame in
-    let later = numbered (with_name names meta) items in
-    let both = tails meta.instance n.number (instances items) (numbers later) (same ∙ ap numbers one.packets) in
-    subst (λ (ns : List Numbered). AllZip IsItemOf ns (packet meta frame ∷ items)) (sym one.packets) (
-      record { instance = both.0; interface = refl; units = timed meta.units one.timed; captured = refl; original = refl; frame = refl },
-      items-are (with_name names meta) items one.rest both.1,
-    )
+items-are names (packet meta frame ∷ items) none same = grind (arith, items-are (with_name names meta) items, goes, tails, instances, numbers)
 
 -- ---- groups
 
 merge-of : MergeLaw → (tail tail_again : Tail) (group : Group) → IsMerged tail group
     → IsMergeOf (items_each tail group.files) (file_items tail_again 1 (group_bytes tail group))
-merge-of law tail tail_again group is =
-    let again = file_items tail_again 1 (group_bytes tail group) in
-    let written = law group.order tail tail_again 1 group.files is.bytes is.size in
-    let run = run-each tail group.files in
-    record {
-      accepted = ap (refusal_in []) run ∙ is.accepted;
-      packets = subst (λ (ns : List Numbered). AllZip IsItemOf ns again) (written.0 ∙ sym (ap (numbered []) run)) (items-are [] again written.1 written.3);
-    }
+merge-of law tail tail_again group is = grind (arith, run-each, items-are)
 
 merges-of : MergeLaw → (tail tail_again : Tail) (groups : List Group) → AllByRecursion (IsMerged tail) groups
     → AllZip IsMergeOf (map (λ group. items_each tail group.files) groups) (items_each tail_again (map (group_bytes tail) groups))
@@ -84,9 +65,7 @@ merges-of law tail tail_again (group ∷ groups) are = (merge-of law tail tail_a
 all-files : (tail : Tail) (groups : List Group)
     → flat_map (λ files. files) (map (λ group. items_each tail group.files) groups) ≡ items_each tail (flat_map (λ group. group.files) groups)
 all-files tail [] = refl
-all-files tail (group ∷ groups) =
-    ap (λ l. items_each tail group.files ++ l) (all-files tail groups)
-    ∙ sym (map-append (file_items tail 1) group.files (flat_map (λ group. group.files) groups))
+all-files tail (group ∷ groups) = search (all-files tail groups, map-append)
 
 -- ---- the law
 

@@ -1,18 +1,15 @@
 -- Runs of which the same packets are written have the same report: a packet's clock is told by the greatest time so far.
-use Rattle.std.proofs.Common.{◌≡◌, Bool, true, false, List, [], ◌∷◌, refl, sym, ◌∙◌, ap, subst, true≢false, Option, None, Equal}
+use Rattle.std.proofs.Common.{arith, ◌≡◌, Bool, List, [], ◌∷◌, refl, sym, ap, subst, Option, None, Equal}
 use Rattle.std.specs.List.{AllZip}
-use Rattle.std.specs.Option.{option_map}
 use Rattle.std.specs.Ordering.{is_lt}
 use Rattle.std.specs.Prelude.{map, if◌then◌else◌}
-use Rattle.std.specs.Cmp.{tied_itself, tied_back}
 use Rattle.cap_merge.proofs.RunLaws.{ClocksAreTold, run-clocks}
 use Rattle.cap_merge.specs.Clock.{clock_cmp, later}
 use Rattle.cap_merge.specs.Clocks.{clock_total}
 use Rattle.cap_merge.specs.Files.{run_of_lists}
 use Rattle.cap_merge.specs.Parts.{item_time, is_refusal}
 use Rattle.cap_merge.specs.Run.{Clocked, opened, run}
-use Rattle.cap_source.specs.Feed.{Item, packet, refused}
-use Rattle.cap_time.specs.Stamp.{stamp_in}
+use Rattle.cap_source.specs.Feed.{Item}
 use Rattle.cap_time.specs.declared.stamps.Stamp.{Stamp}
 use Rattle.cap_write.specs.Numbering.{Name, numbered, refusal_in}
 use Rattle.cap_laws.proofs.Alike.{AlikeItems, RunsAlike, same-report}
@@ -21,15 +18,10 @@ use Rattle.cap_laws.specs.Reports.{SameReport}
 
 -- two clocks that are told by equal times
 pub told_twice : (t u a b : Option Stamp) → clock_cmp t u ≡ Equal → clock_cmp t a ≡ Equal → clock_cmp u b ≡ Equal → clock_cmp a b ≡ Equal
-told_twice t u a b e f g =
-    let back = tied_back clock_total t a f in
-    clock_total.congr a t b back ∙ clock_total.congr t u b e ∙ g
+told_twice t u a b e f g = grind (arith, clock_total)
 
 later_by : (t u x : Option Stamp) (b c : Bool) → b ≡ c → clock_cmp t u ≡ Equal → clock_cmp (if b then x else t) (if c then x else u) ≡ Equal
-later_by t u x true true e h = tied_itself clock_total x
-later_by t u x true false e h = absurd (true≢false e)
-later_by t u x false true e h = absurd (true≢false (sym e))
-later_by t u x false false e h = h
+later_by t u x b c e h = grind (arith, clock_total)
 
 later_equal : (t u x y : Option Stamp) → x ≡ y → clock_cmp t u ≡ Equal → clock_cmp (later t x) (later u y) ≡ Equal
 later_equal t u x y same h =
@@ -37,29 +29,17 @@ later_equal t u x y same h =
     (later_by t u x (is_lt (clock_cmp t x)) (is_lt (clock_cmp u x)) (ap is_lt (clock_total.congr t u x h)) h)
 
 twin_times : (i j : Item) → TwinItems i j → item_time i ≡ item_time j
-twin_times (packet m f) (packet n g) h = λ i. option_map (λ units. stamp_in units (h.interface i)) (h.units i)
-twin_times (packet m f) (refused r) h = absurd h
-twin_times (refused q) (packet n g) h = absurd h
-twin_times (refused q) (refused r) h = absurd h
+twin_times i j h = grind arith
 
 alike-twins : (c d : Option Stamp) (i j : Item) → clock_cmp c d ≡ Equal → TwinItems i j → AlikeItems c d i j
-alike-twins c d (packet m f) (packet n g) e h =
-    record { clock = e; interface = h.interface; units = h.units; captured = h.captured; original = h.original; frame = h.frame }
-alike-twins c d (packet m f) (refused r) e h = absurd h
-alike-twins c d (refused q) (packet n g) e h = absurd h
-alike-twins c d (refused q) (refused r) e h = absurd h
+alike-twins c d i j e h = grind arith
 
 runs-alike : (t u : Option Stamp) (as_ bs : List (Clocked Item)) → clock_cmp t u ≡ Equal → ClocksAreTold item_time t as_ → ClocksAreTold item_time u bs
     → AllZip TwinItems (map (λ x. x.item) as_) (map (λ x. x.item) bs) → RunsAlike as_ bs
 runs-alike t u [] [] e h k w = tt
 runs-alike t u [] (b ∷ bs) e h k w = absurd w
 runs-alike t u (a ∷ as_) [] e h k w = absurd w
-runs-alike t u (a ∷ as_) (b ∷ bs) e h k w =
-    let now = later_equal t u (item_time a.item) (item_time b.item) (twin_times a.item b.item w.0) e in
-    let clocks = told_twice (later t (item_time a.item)) (later u (item_time b.item)) a.clock b.clock now h.0 k.0 in (
-      alike-twins a.clock b.clock a.item b.item clocks w.0,
-      runs-alike (later t (item_time a.item)) (later u (item_time b.item)) as_ bs now h.1 k.1 w.1,
-    )
+runs-alike t u (a ∷ as_) (b ∷ bs) e h k w = search (runs-alike (later t (item_time a.item)) (later u (item_time b.item)) as_ bs, later_equal, twin_times, told_twice, alike-twins)
 
 -- Of the runs of two lists of files the same packets are written, after those interfaces, and none is refused.
 pub record IsRewritten (names others : List Name) (files again : List (List Item)) : Type 0 where
@@ -82,6 +62,4 @@ rewritten-alike names others files again is =
 -- and have the same report.
 pub same-run : (names others : List Name) (files again : List (List Item)) → IsRewritten names others files again
     → SameReport (run item_time is_refusal (map opened files)) (run item_time is_refusal (map opened again))
-same-run names others files again is =
-    same-report (run item_time is_refusal (map opened files)) (run item_time is_refusal (map opened again))
-    (rewritten-alike others names again files (back_again names others files again is))
+same-run names others files again is = search (same-report, rewritten-alike, back_again)

@@ -1,13 +1,12 @@
 -- Lists of packets that are written alike, where nothing is refused, have the same packets but for what is told of files.
-use Rattle.std.proofs.Common.{◌≡◌, ℕ, Bool, true, false, List, [], ◌∷◌, refl, sym, ◌∙◌, ap, Option, Some, None}
+use Rattle.std.proofs.Common.{arith, ◌≡◌, ℕ, Bool, false, List, [], ◌∷◌, refl, sym, ◌∙◌, Option, Some, None}
 use Rattle.std.specs.List.{AllZip}
 use Rattle.std.specs.Prelude.{is_none, unwrap_or, if◌then◌else◌}
 use Rattle.cap_bytes.specs.declared.faults.Refusal.{Refusal}
-use Rattle.cap_bytes.specs.declared.faults.Rule.{Rule}
 use Rattle.cap_bytes.specs.declared.faults.Rule.TheVariants.{NoTime, InterfaceLimit}
 use Rattle.cap_source.specs.Feed.{Item, packet, refused}
 use Rattle.cap_source.specs.declared.packets.Meta.{Meta}
-use Rattle.cap_write.specs.Numbering.{Name, Numbered, with_name, is_full, write_fault, numbered, numbered_of, numbered_or, refusal_in, refusal_or, refusal_at}
+use Rattle.cap_write.specs.Numbering.{Name, with_name, is_full, write_fault, numbered, numbered_of, refusal_in}
 
 -- Two packets have the same interface, units, lengths and bytes.
 pub record IsTwin (m n : Meta) (f g : List ℕ) : Type 0 where
@@ -29,9 +28,6 @@ none-some r e = cc
 some-none : {A : Type 0} (a : A) → Some a ≡ None → ⊥
 some-none a e = cc
 
-true-false : true ≡ false → ⊥
-true-false e = cc
-
 -- a packet that isn't refused: it has a time, and is the next of those that are written
 pub record Goes (names : List Name) (meta : Meta) (frame : List ℕ) (items : List Item) : Type 0 where
   pub timed : is_none meta.units ≡ false
@@ -39,8 +35,7 @@ pub record Goes (names : List Name) (meta : Meta) (frame : List ℕ) (items : Li
   pub rest : refusal_in (with_name names meta) items ≡ None
 
 timed_by : (b full : Bool) → (if b then Some NoTime else (if full then Some InterfaceLimit else None)) ≡ None → b ≡ false
-timed_by true full e = absurd (some-none NoTime e)
-timed_by false full e = refl
+timed_by b full e = grind arith
 
 time_of : (names : List Name) (meta : Meta) → write_fault names meta ≡ None → is_none meta.units ≡ false
 unfolding write_fault
@@ -48,20 +43,10 @@ time_of names meta e = timed_by (is_none meta.units) (is_full names meta) e
 
 pub goes : (names : List Name) (meta : Meta) (frame : List ℕ) (items : List Item) → refusal_in names (packet meta frame ∷ items) ≡ None → Goes names meta frame items
 unfolding numbered refusal_in
-goes names meta frame items none = by (write_fault names meta) refl none
-  where
-    by : (fault : Option Rule) → write_fault names meta ≡ fault → refusal_or fault meta (refusal_in (with_name names meta) items) ≡ None → Goes names meta frame items
-    by (Some rule) is none = absurd (some-none (refusal_at meta rule) none)
-    by None is none = record {
-      timed = time_of names meta is;
-      packets = ap (λ (r : Option Rule). numbered_or r (numbered_of names meta frame) (numbered (with_name names meta) items)) is;
-      rest = none;
-    }
+goes names meta frame items none = grind (arith, some-none, time_of)
 
 same_units : (a b : Option ℕ) → is_none a ≡ false → is_none b ≡ false → unwrap_or a 0 ≡ unwrap_or b 0 → a ≡ b
-same_units None b h k e = absurd (true-false h)
-same_units (Some a) None h k e = absurd (true-false k)
-same_units (Some a) (Some b) h k e = ap Some e
+same_units a b h k e = grind arith
 
 empty-more : {A : Type 0} (x : A) (xs : List A) → [] ≡ x ∷ xs → ⊥
 empty-more x xs e = cc
@@ -80,25 +65,9 @@ refuses names r items = refl
 -- Lists of which the same packets are written, and none is refused, are such packets one by one.
 pub twins : (names others : List Name) (xs ys : List Item) → refusal_in names xs ≡ None → refusal_in others ys ≡ None → numbered names xs ≡ numbered others ys → AllZip TwinItems xs ys
 twins names others [] [] h k e = tt
-twins names others [] (packet n g ∷ ys) h k e =
-    let one = goes others n g ys k in
-    absurd (empty-more (numbered_of others n g) (numbered (with_name others n) ys) (sym (nothing names) ∙ e ∙ one.packets))
+twins names others [] (packet n g ∷ ys) h k e = grind (arith, goes, empty-more, nothing)
 twins names others [] (refused r ∷ ys) h k e = absurd (none-some r (sym k ∙ refuses others r ys))
-twins names others (packet m f ∷ xs) [] h k e =
-    let one = goes names m f xs h in
-    absurd (empty-more (numbered_of names m f) (numbered (with_name names m) xs) (sym (nothing others) ∙ sym e ∙ one.packets))
+twins names others (packet m f ∷ xs) [] h k e = grind (arith, goes, empty-more, nothing)
 twins names others (refused q ∷ xs) ys h k e = absurd (none-some q (sym h ∙ refuses names q xs))
 twins names others (packet m f ∷ xs) (refused r ∷ ys) h k e = absurd (none-some r (sym k ∙ refuses others r ys))
-twins names others (packet m f ∷ xs) (packet n g ∷ ys) h k e =
-    let one = goes names m f xs h in
-    let two = goes others n g ys k in
-    let both = heads (numbered_of names m f) (numbered_of others n g) (numbered (with_name names m) xs) (numbered (with_name others n) ys) (sym one.packets ∙ e ∙ two.packets) in (
-      record {
-        interface = ap (λ (x : Numbered). x.interface) both.0;
-        units = same_units m.units n.units one.timed two.timed (ap (λ (x : Numbered). x.units) both.0);
-        captured = ap (λ (x : Numbered). x.captured) both.0;
-        original = ap (λ (x : Numbered). x.original) both.0;
-        frame = ap (λ (x : Numbered). x.frame) both.0;
-      },
-      twins (with_name names m) (with_name others n) xs ys one.rest two.rest both.1,
-    )
+twins names others (packet m f ∷ xs) (packet n g ∷ ys) h k e = grind (arith, twins (with_name names m) (with_name others n) xs ys, goes, heads, same_units)

@@ -1,18 +1,17 @@
 -- The report and the run of the file that a merge writes, and of a file that is written as pcapng.
-use Rattle.std.proofs.Common.{◌≡◌, ℕ, ◌≤◌, ◌^◌, List, [], ◌∷◌, length, refl, sym, ◌∙◌, ap, Option, Some, None}
+use Rattle.std.proofs.Common.{arith, ◌≡◌, ℕ, ◌≤◌, ◌^◌, List, [], ◌∷◌, length, refl, Option, Some, None}
 use Rattle.std.specs.List.{AllByRecursion}
 use Rattle.cap_blocks.specs.Split.{AreBytes}
 use Rattle.cap_bytes.specs.declared.faults.Refusal.{Refusal}
-use Rattle.cap_bytes.specs.declared.faults.Rule.{Rule}
 use Rattle.cap_bytes.specs.declared.faults.Tail.{Tail}
 use Rattle.cap_bytes.specs.declared.numbers.Order.{Order}
-use Rattle.cap_merge.specs.Files.{clocked_run, items_of_files, run_of_lists, run_of_files}
+use Rattle.cap_merge.specs.Files.{clocked_run, items_of_files, run_of_files}
 use Rattle.cap_merge.specs.Run.{Clocked}
 use Rattle.cap_source.specs.Feed.{Item, packet, refused, refusal_of}
 use Rattle.cap_source.specs.Items.{file_first, file_items}
 use Rattle.cap_time.specs.declared.stamps.Stamp.{Stamp}
 use Rattle.cap_write.specs.Laws.{MergeLaw, PcapngAgain}
-use Rattle.cap_write.specs.Numbering.{Name, numbered, refusal_at, refusal_in, refusal_or, with_name, write_fault}
+use Rattle.cap_write.specs.Numbering.{Name, refusal_in, with_name}
 use Rattle.cap_write.specs.Texts.{first_names, merged_refusal, merged_bytes, pcapng_refusal, pcapng_bytes}
 use Rattle.cap_laws.proofs.OneFile.{run-one}
 use Rattle.cap_laws.proofs.Alike.{AlikeItems, RunsAlike}
@@ -30,11 +29,7 @@ merged-rewritten : MergeLaw → (order : Order) (tail tail_again : Tail) (files 
     → merged_refusal (run_of_files tail files) ≡ None → length (merged_bytes order (run_of_files tail files)) ≤ 2 ^ 40
     → IsRewritten [] [] (items_of_files tail 1 files) (merged_items order tail tail_again files ∷ [])
 unfolding run_of_files merged_items
-merged-rewritten merge-law order tail tail_again files bytes none short =
-    let again = file_items tail_again 1 (merged_bytes order (run_of_files tail files)) in
-    let law = merge-law order tail tail_again 1 files bytes short in
-    let same : run_of_lists (again ∷ []) ≡ again = run-one again law.2 in
-    record { accepted = none; accepted_again = ap (refusal_in []) same ∙ law.1; packets = ap (numbered []) same ∙ law.0 }
+merged-rewritten merge-law order tail tail_again files bytes none short = grind (arith, run-one)
 
 pub merged-report : MergeLaw → MergedReport
 unfolding merged_items
@@ -52,12 +47,7 @@ unrefused : (names : List Name) (items : List Item) → refusal_in names items �
 unfolding refusal_in refusal_of
 unrefused names [] none = refl
 unrefused names (refused r ∷ items) none = none
-unrefused names (packet meta frame ∷ items) none = by (write_fault names meta) none (λ later. unrefused (with_name names meta) items later)
-  where
-    by : (fault : Option Rule) → refusal_or fault meta (refusal_in (with_name names meta) items) ≡ None
-        → (refusal_in (with_name names meta) items ≡ None → refusal_of items ≡ None) → refusal_of items ≡ None
-    by (Some rule) none later = absurd (some-none (refusal_at meta rule) none)
-    by None none later = later none
+unrefused names (packet meta frame ∷ items) none = grind (arith, unrefused (with_name names meta) items)
 
 pcapng_items : (order : Order) (tail tail_again : Tail) (bytes : List ℕ) → List Item
 pcapng_items order tail tail_again bytes = file_items tail_again 1 (pcapng_bytes order 1 (file_first tail 1 bytes) (file_items tail 1 bytes))
@@ -68,19 +58,7 @@ pcapng-rewritten : PcapngAgain → (order : Order) (tail tail_again : Tail) (byt
     → IsRewritten (first_names 1 (file_first tail 1 bytes)) (first_names 1 (file_first tail 1 bytes)) (file_items tail 1 bytes ∷ [])
     (pcapng_items order tail tail_again bytes ∷ [])
 unfolding pcapng_items
-pcapng-rewritten again-law order tail tail_again bytes are none short =
-    let items = file_items tail 1 bytes in
-    let first = file_first tail 1 bytes in
-    let names = first_names 1 first in
-    let again = file_items tail_again 1 (pcapng_bytes order 1 first items) in
-    let law = again-law order tail tail_again 1 1 bytes are short in
-    let same : run_of_lists (again ∷ []) ≡ again = run-one again law.2 in
-    let whole : run_of_lists (items ∷ []) ≡ items = run-one items (unrefused names items none) in
-    record {
-      accepted = ap (refusal_in names) whole ∙ none;
-      accepted_again = ap (refusal_in names) same ∙ law.1;
-      packets = ap (numbered names) same ∙ (law.0 ∙ sym (ap (numbered names) whole));
-    }
+pcapng-rewritten again-law order tail tail_again bytes are none short = grind (arith, run-one, unrefused)
 
 pub pcapng-report : PcapngAgain → PcapngReport
 unfolding pcapng_items
@@ -92,11 +70,7 @@ pcapng-report again-law order tail tail_again bytes are none short =
 -- ---- runs
 
 same-items : (c d : Option Stamp) (x y : Item) → AlikeItems c d x y → SameItems c d x y
-same-items c d (packet m f) (packet n g) h =
-    record { clocks = h.clock; interface = h.interface; units = h.units; captured = h.captured; original = h.original; frame = h.frame }
-same-items c d (packet m f) (refused r) h = absurd h
-same-items c d (refused q) (packet n g) h = absurd h
-same-items c d (refused q) (refused r) h = absurd h
+same-items c d x y h = grind arith
 
 same-runs : (xs ys : List (Clocked Item)) → RunsAlike xs ys → SameRun xs ys
 same-runs [] [] h = tt
@@ -108,9 +82,7 @@ same-runs (x ∷ xs) (y ∷ ys) h = (same-items x.clock y.clock x.item y.item h.
 run-again : (tail tail_again : Tail) (names others : List Name) (files : List (List ℕ)) (text : List ℕ)
     → IsRewritten names others (items_of_files tail 1 files) (file_items tail_again 1 text ∷ [])
     → SameRun (clocked_run tail files) (clocked_run tail_again (text ∷ []))
-run-again tail tail_again names others files text is =
-    same-runs (clocked_run tail files) (clocked_run tail_again (text ∷ []))
-    (rewritten-alike names others (items_of_files tail 1 files) (file_items tail_again 1 text ∷ []) is)
+run-again tail tail_again names others files text is = search (same-runs, rewritten-alike)
 
 pub merged-run : MergeLaw → MergedRun
 unfolding merged_items
