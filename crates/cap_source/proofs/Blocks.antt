@@ -1,5 +1,5 @@
 -- What a block adds to what was read of a pcapng file.
-use Rattle.std.proofs.Common.{◌≡◌, ◌≤◌, ◌<◌, ◌+◌, ◌%◌, ℕ, Bool, true, false, List, [], ◌∷◌, length, take, drop, slice_get, Option, Some, None, is_some, IsSome, IfSome, IsTrue, not, ◌↔◌, unwrap_or, Result, Ok, Err, refl, sym, ap, ◌∙◌, subst, arith, nat_le, nat_lt, ◌==◌, cond, length-append}
+use Rattle.std.proofs.Common.{◌≡◌, ◌≤◌, ◌<◌, ◌+◌, ◌%◌, ℕ, Bool, false, List, [], ◌∷◌, length, slice_get, Option, Some, None, is_some, IsSome, IfSome, IsTrue, ◌↔◌, unwrap_or, Result, Ok, Err, refl, sym, ap, ◌∙◌, subst, arith, nat_lt, ◌==◌, cond, length-append}
 use Rattle.std.proofs.lemmas.Bool.Decides.{nat_tests}
 use Rattle.cap_bytes.specs.declared.faults.Refusal.{Refusal}
 use Rattle.cap_bytes.specs.declared.faults.Rule.{Rule}
@@ -16,11 +16,10 @@ use Rattle.cap_bytes.specs.declared.stops.Stop.TheVariants as stops
 use Rattle.cap_source.proofs.Pcaps.{if_none, cut_is}
 use Rattle.cap_bytes.specs.Number.{number}
 use Rattle.cap_bytes.specs.declared.faults.Rule.TheVariants as rules
-use Rattle.cap_blocks.specs.OptionList.{options_of}
-use Rattle.cap_source.specs.Clocks.{options_fault, interface_at, interface_or, interface_in}
+use Rattle.cap_source.specs.Clocks.{interface_in}
 use Rattle.cap_source.specs.Contents.{fitting, of_interface, timed_in, simple_in, of_body, content_in}
 use Rattle.cap_source.specs.Feed as feeds
-use Rattle.cap_source.specs.Items.{Progress, after, behind, meta_in, frame_in, items_at, items_in, ending_with, ending_in, unless_faulty, first_in, unless_item, is_cut}
+use Rattle.cap_source.specs.Items.{Progress, behind, frame_in, items_at, items_in, ending_with, ending_in, unless_faulty, first_in, unless_item, is_cut}
 use Rattle.cap_source.specs.FileState.{pcapng_state, size_of, part_of, Learns, FileKeeps, GoesOn, StepsTo, next_at}
 use Rattle.cap_source.specs.Reached.{counted}
 use Rattle.cap_source.specs.declared.contents.Content.{Content}
@@ -44,26 +43,15 @@ IsFit few body (Ok contents.Other) = Unit {0}
 IsFit few body (Err rule) = Unit {0}
 
 if_fit : (few : ℕ) (body : List ℕ) (b : Bool) (x y : Result Content Rule) → IsFit few body x → IsFit few body y → IsFit few body (cond b x y)
-if_fit few body true x y p q = p
-if_fit few body false x y p q = q
-
-interface_fit_by : (few : ℕ) (body : List ℕ) (b : Bool) (fault : Option Rule) (interface : Interface) → nat_le 1024 few ≡ b
-    → IsFit few body (of_body contents.Interface (cond b (Err rules.InterfaceLimit) (interface_or fault interface)))
-interface_fit_by few body true fault interface is = tt
-interface_fit_by few body false None interface is = grind (arith, nat_tests)
-interface_fit_by few body false (Some rule) interface is = tt
+if_fit few body b x y p q = grind arith
 
 interface_fit : (few : ℕ) (order : Order) (body : List ℕ) → IsFit few body (of_body contents.Interface (interface_in few order body))
 unfolding interface_in
-interface_fit few order body =
-    interface_fit_by few body (nat_le 1024 few) (options_fault order false false (options_of order (drop 8 body)))
-    (interface_at order body (options_of order (drop 8 body))) refl
+interface_fit few order body = grind arith
 
 fitting_by : (few : ℕ) (p : Packet) (body : List ℕ) (a b : Bool) → nat_lt 262144 p.captured ≡ a → nat_lt (length body) (p.place + p.captured) ≡ b
     → IsFit few body (of_body contents.Packet (cond a (Err rules.PacketLong) (cond b (Err rules.Captured) (Ok p))))
-fitting_by few p body true b is_a is_b = tt
-fitting_by few p body false true is_a is_b = tt
-fitting_by few p body false false is_a is_b = (grind (arith, nat_tests), grind (arith, nat_tests))
+fitting_by few p body a b is_a is_b = grind arith
 
 packet_fit : (few : ℕ) (p : Packet) (body : List ℕ) → IsFit few body (of_body contents.Packet (fitting p (length body)))
 unfolding fitting
@@ -104,22 +92,17 @@ padded_body kind total size allowed is = grind (arith, nat_tests)
 -- What a block says doesn't depend on a body that isn't lent.
 content_same : (interfaces : List Interface) (kind : ℕ) (order : Order) (lent : Option (List ℕ)) (body : List ℕ) → is_some lent ≡ is_known kind
     → IfSome lent (λ b. b ≡ body) → content_in interfaces kind order body ≡ content_in interfaces kind order (unwrap_or lent [])
-content_same interfaces kind order (Some b) body known is = ap (content_in interfaces kind order) (sym is)
-content_same interfaces kind order None body known is =
-    other interfaces kind order body (sym known) ∙ sym (other interfaces kind order [] (sym known))
+content_same interfaces kind order lent body known is = grind (arith, other)
 
 packet_lent : (interfaces : List Interface) (kind : ℕ) (order : Order) (lent : Option (List ℕ)) (p : Packet) → is_some lent ≡ is_known kind
     → Ok (contents.Packet p) ≡ content_in interfaces kind order (unwrap_or lent []) → IsSome lent
-packet_lent interfaces kind order (Some b) p known is = refl
-packet_lent interfaces kind order None p known is = let e = is ∙ other interfaces kind order [] (sym known) in absurd (cc)
+packet_lent interfaces kind order lent p known is = grind (arith, other)
 
 frame_same : (lent : Option (List ℕ)) (body : List ℕ) (p : Packet) → IsSome lent → IfSome lent (λ b. b ≡ body) → part_of lent p.place p.captured ≡ frame_in p body
-frame_same None body p there is = absurd (let e : false ≡ true = there in cc)
-frame_same (Some b) body p there is = ap (λ l. take p.captured (drop p.place l)) is
+frame_same lent body p there is = grind arith
 
 lent_size : (few : ℕ) (lent : Option (List ℕ)) (p : Packet) → IsSome lent → IsFit few (unwrap_or lent []) (Ok (contents.Packet p)) → p.place + p.captured + 1 ≤ size_of lent
-lent_size few None p there fit = absurd (let e : false ≡ true = there in cc)
-lent_size few (Some b) p there fit = omega (arith, fit.0)
+lent_size few lent p there fit = grind arith
 
 items_behind : (f g : ℕ) (p : Progress) (block : Block) (body : List ℕ) (content : Result Content Rule) (old new : List (Item Block)) → f ≡ g → old ≡ given block body ∷ new
     → content_in p.interfaces block.kind block.order body ≡ content
@@ -162,15 +145,7 @@ block_steps file old new p block content named g k taken is =
         → (IsTrue old.told → ending_in q (items_of new) ≡ ending_in p (items_of old))
         → (IsTrue old.told → first_in q (items_of new) ≡ first_in p (items_of old))
         → GoesOn (pcapng_state old p) (pcapng_state new q)
-    goes q items ending first = record {
-      waits = record {
-        stops = none_stops new.stop g.gives.stop;
-        broken = g.gives.goes.after ∙ sym g.gives.goes.before;
-        failed = g.gives.goes.failed;
-        rest = λ t. record { items = items t; ending = ending t; first = first t };
-      };
-      further = omega (arith, g.gives.next, g.least);
-    }
+    goes q items ending first = grind arith
 
     by : (c : Result Content Rule) → c ≡ content_in p.interfaces block.kind block.order (unwrap_or new.lent [])
         → IsFit (length p.interfaces) (unwrap_or new.lent []) c
@@ -178,81 +153,20 @@ block_steps file old new p block content named g k taken is =
         → (IsTrue old.told → unless_faulty c (ending_with p false) (ending_in (behind p c) (items_of new)) ≡ ending_in p (items_of old))
         → (IsTrue old.told → unless_item c p.first (first_in (behind p c) (items_of new)) ≡ first_in p (items_of old))
         → StepsTo (pcapng_state old p) (next_at file p block c) (pcapng_state new (behind p c))
-    by (Ok contents.Section) same fit items ending first = goes (after p contents.Section) items ending first
-    by (Ok (contents.Interface interface)) same fit items ending first = goes (after p (contents.Interface interface)) items ending first
-    by (Ok contents.Other) same fit items ending first = goes (after p contents.Other) items ending first
-    by (Ok (contents.Packet pk)) same fit items ending first =
-        let there = packet_lent p.interfaces block.kind block.order new.lent pk g.known same in
-        record {
-          is = record {
-            file = named ∙ sym k.file;
-            lent = lent_size (length p.interfaces) new.lent pk there fit;
-            captured = fit.1;
-            behind = omega (arith, g.offset, g.gives.next, g.least);
-          };
-          place = omega (arith, g.offset);
-          free = ap not (none_stops new.stop g.gives.stop);
-          goes = record { before = g.gives.goes.before; after = g.gives.goes.after; failed = g.gives.goes.failed };
-          items = λ t. packet_same file new.file pk (part_of new.lent pk.place pk.captured) (frame_in pk (body_in block.total old.coming)) (items_in new.file p (items_of new))
-              (named ∙ sym k.file) (frame_same new.lent (body_in block.total old.coming) pk there (g.body_is t)) ∙ items t;
-          ending = ending;
-          first = first;
-        }
-      where
-        packet_same : (m f : ℕ) (pk : Packet) (a b : List ℕ) (rest : List feeds.Item) → m ≡ f → a ≡ b
-            → feeds.packet (meta_in m p block pk) a ∷ rest ≡ feeds.packet (meta_in f p block pk) b ∷ rest
-        packet_same m f pk a b rest mf ab = λ i. feeds.packet (meta_in (mf i) p block pk) (ab i) ∷ rest
-    by (Err rule) same fit items ending first = record {
-      is = record { file = named ∙ sym k.file; lent = omega arith; captured = omega arith; behind = omega arith };
-      place = k.offset;
-      free = refl;
-      goes = record { before = g.gives.goes.before; after = g.gives.goes.after; failed = g.gives.goes.failed };
-      items = λ t. refusal_same file new.file (named ∙ sym k.file) ∙ items t;
-      ending = ending;
-      first = first;
-    }
-      where
-        refusal_same : (m f : ℕ) → m ≡ f
-            → feeds.refused (record { file = m; offset = block.offset; rule = rule }) ∷ [] ≡ feeds.refused (record { file = f; offset = block.offset; rule = rule }) ∷ []
-        refusal_same m f mf = λ i. feeds.refused (record { file = mf i; offset = block.offset; rule = rule }) ∷ []
+    by c same fit items ending first = grind (arith, packet_lent, lent_size, none_stops, items_in, frame_same)
 
 -- What a block leaves of the counts.
 pub block_keeps : (old new : State Order) (p : Progress) (block : Block) (content : Result Content Rule) → GivesBlock old block new → Keeps old new
     → content ≡ content_in p.interfaces block.kind block.order (unwrap_or new.lent [])
     → FileKeeps (pcapng_state old p) (pcapng_state new (behind p content))
-block_keeps old new p block content g k is = record {
-  file = k.file;
-  told = k.told;
-  can_fail = k.can_fail;
-  offset = k.offset;
-  limit = λ h. k.limit;
-  held = λ h. k.held;
-  interfaces = few content (subst (IsFit (length p.interfaces) (unwrap_or new.lent [])) (sym is) (content_fit p.interfaces block.kind block.order (unwrap_or new.lent [])));
-  counted = λ h. omega (arith, h, more content, g.gives.next, g.least);
-}
-  where
-    few : (c : Result Content Rule) → IsFit (length p.interfaces) (unwrap_or new.lent []) c → length p.interfaces ≤ 1024 → length (behind p c).interfaces ≤ 1024
-    few (Ok contents.Section) fit h = omega arith
-    few (Ok (contents.Interface interface)) fit h = omega (arith, fit, length-append p.interfaces (interface ∷ []))
-    few (Ok (contents.Packet pk)) fit h = h
-    few (Ok contents.Other) fit h = h
-    few (Err rule) fit h = h
-
-    more : (c : Result Content Rule) → counted (behind p c) ≤ counted p + 1
-    more (Ok contents.Section) = omega arith
-    more (Ok (contents.Interface interface)) = omega (arith, length-append p.interfaces (interface ∷ []))
-    more (Ok (contents.Packet pk)) = omega arith
-    more (Ok contents.Other) = omega arith
-    more (Err rule) = omega arith
+block_keeps old new p block content g k is = grind (arith, unwrap_or, content_fit, counted, length-append)
 
 stopped_again : (new : State Order) (stop : Stop) → new.stop ≡ Some stop → items_of new ≡ stopped stop ∷ []
 stopped_again new stop is = rw is refl
 
 no_items : (stop : Stop) (file : ℕ) (p : Progress) (items : List (Item Block)) → IsEnd stop → items ≡ stopped stop ∷ [] → [] ≡ items_in file p items
 unfolding items_in
-no_items stops.End file p items h is = rw is refl
-no_items stops.Cut file p items h is = rw is refl
-no_items (stops.Refused refusal) file p items h is = absurd h
+no_items stop file p items h is = grind arith
 
 ending_stopped : (stop : Stop) (p : Progress) (items : List (Item Block)) → items ≡ stopped stop ∷ [] → ending_with p (is_cut stop) ≡ ending_in p items
 unfolding ending_in
@@ -308,16 +222,12 @@ pub block_stepped : (file : ℕ) (old new : State Order) (p q : Progress) (block
     → (IsTrue old.told → items_of old ≡ given block (body_in block.total old.coming) ∷ items_of new)
     → content ≡ content_in p.interfaces block.kind block.order (unwrap_or new.lent [])
     → StepsTo (pcapng_state old p) next (pcapng_state new q)
-block_stepped file old new p q block content next is_next is_q named g k taken is =
-    subst (λ (n : Option Next). StepsTo (pcapng_state old p) n (pcapng_state new q)) (sym is_next)
-    (subst (λ (r : Progress). StepsTo (pcapng_state old p) (next_at file p block content) (pcapng_state new r)) (sym is_q)
-    (block_steps file old new p block content named g k taken is))
+block_stepped file old new p q block content next is_next is_q named g k taken is = grind (arith, block_steps)
 
 pub block_kept : (old new : State Order) (p q : Progress) (block : Block) (content : Result Content Rule) → q ≡ behind p content → GivesBlock old block new → Keeps old new
     → content ≡ content_in p.interfaces block.kind block.order (unwrap_or new.lent [])
     → FileKeeps (pcapng_state old p) (pcapng_state new q)
-block_kept old new p q block content is_q g k is =
-    subst (λ (r : Progress). FileKeeps (pcapng_state old p) (pcapng_state new r)) (sym is_q) (block_keeps old new p block content g k is)
+block_kept old new p q block content is_q g k is = grind (arith, block_keeps)
 
 pub refusal_kept : (refusal : Refusal) (ending : Ending) (old new : State Order) (p : Progress) → ending ≡ ending_with p false → old.stop ≡ None
     → GivesStop (is_some old.known) (block_fault old.known old.offset old.coming) (stops.Refused refusal) old new → Keeps old new

@@ -1,8 +1,10 @@
 -- The fields of every file's packets fit in their widths, and as many bytes were captured of each as are told.
-use Rattle.std.proofs.Common.{◌≡◌, ◌==◌, ◌*◌, ℕ, zero, suc, ◌+◌, ◌-◌, ◌^◌, ◌≤◌, ◌<◌, nat_le, List, [], ◌∷◌, ◌++◌, length, take, drop, get_or, slice_get, mod-lt, Bool, true, false, Option, Some, None, Result, Ok, Err, IfOk, IfSome, unwrap_or, refl, ◌∙◌, subst, sym, arith, if◌then◌else◌}
+use Rattle.std.proofs.lemmas.Bool.Decides.{nat_tests}
+use Rattle.std.proofs.lemmas.Grind.{common_steps}
+use Rattle.std.proofs.Common.{rules, ◌≡◌, ◌*◌, ℕ, zero, suc, ◌+◌, ◌^◌, ◌≤◌, ◌<◌, nat_le, List, [], ◌∷◌, ◌++◌, length, take, drop, get_or, slice_get, mod-lt, Bool, true, false, Option, Some, None, Result, Err, IfOk, IfSome, unwrap_or, refl, ◌∙◌, subst, sym, arith, if◌then◌else◌}
 use Rattle.std.proofs.lemmas.Int.{ints}
 use Rattle.std.proofs.lemmas.List.{get_or-drop}
-use Rattle.std.specs.Int.{w64, cast_signed}
+use Rattle.std.specs.Int.{w64}
 use Rattle.std.specs.List.{AllByRecursion}
 use Rattle.std.specs.Prelude.{FitsSigned, pos}
 use Rattle.cap_blocks.specs.OptionList.{options_of}
@@ -15,7 +17,7 @@ use Rattle.cap_bytes.specs.declared.stops.Stop.TheVariants as stops
 use Rattle.cap_bytes.proofs.Spelling.{number-lt}
 use Rattle.cap_bytes.specs.Number.{number}
 use Rattle.cap_bytes.specs.declared.faults.Rule.{Rule}
-use Rattle.cap_bytes.specs.declared.faults.Rule.TheVariants.{InterfaceLimit, OptionLength}
+use Rattle.cap_bytes.specs.declared.faults.Rule.TheVariants.{InterfaceLimit}
 use Rattle.cap_bytes.specs.declared.faults.Tail.{Tail}
 use Rattle.cap_bytes.specs.declared.numbers.Order.{Order}
 use Rattle.cap_pcap.proofs.Splitting.{every_split-law, split_items-law}
@@ -25,18 +27,16 @@ use Rattle.cap_pcap.specs.Split.{Splits}
 use Rattle.cap_source.proofs.Blocks.{IsFit, content_fit}
 use Rattle.cap_source.proofs.Frames.{block-frame, read_header}
 use Rattle.cap_source.proofs.Saying.{OfContent, content-holds}
-use Rattle.cap_source.specs.Clocks.{interface_in, interface_or, interface_at, options_fault, offset_in, given_or, read_or, value_of}
+use Rattle.cap_source.specs.Clocks.{interface_in, interface_or, interface_at, options_fault, offset_in, given_or}
 use Rattle.cap_source.specs.Contents.{content_in}
 use Rattle.cap_source.specs.Feed.{Item}
 use Rattle.cap_source.specs.Fields.{FitsInterface, ItemFits, FieldsFit}
 use Rattle.cap_source.specs.Items.{Progress, fresh, behind, items_at, items_in, items_of_stop, items_from, is_pcapng, pcap_items, interface_of}
 use Rattle.cap_source.specs.declared.contents.Content.{Content}
-use Rattle.cap_source.specs.declared.contents.Content.TheVariants as contents
 use Rattle.cap_source.specs.declared.contents.Packet.{Packet}
 use Rattle.cap_time.specs.declared.resolutions.Interface.{Interface}
 use Rattle.cap_time.specs.Unit.{in_second}
 use Rattle.cap_time.specs.declared.stamps.Unit.{Unit as Fraction}
-use Rattle.cap_time.specs.declared.stamps.Unit.TheVariants.{Micro, Nano}
 
 -- ---- bytes
 
@@ -61,12 +61,7 @@ of_bytes order n body are = omega (arith, number-lt order 4 (drop n body) (AreBy
 -- an offset is a number of eight bytes with a sign
 offset-fits : (order : Order) (value : Option (List ℕ)) → FitsSigned w64 (given_or (pos 0) (offset_in order) value)
 unfolding offset_in
-offset-fits order None = grind (arith, ints)
-offset-fits order (Some value) = by (length value == 8)
-  where
-    by : (eight : Bool) → FitsSigned w64 (read_or (pos 0) (if eight then Ok (cast_signed w64 (number order 8 value)) else Err OptionLength))
-    by true = grind (arith, ints)
-    by false = grind (arith, ints)
+offset-fits order value = grind arith
 
 -- and so do those of an interface block
 interface-fits : (before : ℕ) (order : Order) (body : List ℕ) → AreBytes body → IfOk (interface_in before order body) FitsInterface
@@ -78,11 +73,7 @@ interface-fits before order body are =
         → IfOk (if many then Err InterfaceLimit else interface_or fault (interface_at order body (options_of order (drop 8 body)))) FitsInterface
     by true fault = tt
     by false (Some rule) = tt
-    by false None = record {
-      link = omega (arith, number-lt order 2 body are);
-      snaplen = of_bytes order 4 body are;
-      offset = offset-fits order (value_of 14 (options_of order (drop 8 body)));
-    }
+    by false None = search (rules, number-lt, of_bytes, offset-fits)
 
 -- so do those of each interface of a section
 interface_of-number : (interfaces : List Interface) (k : ℕ) (i : Interface) → AllByRecursion FitsInterface interfaces → slice_get interfaces k ≡ Some i
@@ -136,43 +127,22 @@ IsOfBytes (pieces.stopped stop) = Unit {0}
 
 of_item : (stop : Option Stop) (block : Block) (body : List ℕ) (rest : List (pieces.Item Block)) → AreBytes body → AllByRecursion IsOfBytes rest
     → AllByRecursion IsOfBytes (pieces.item_or stop (pieces.given block body) rest)
-of_item (Some stop) block body rest are later = (tt, tt)
-of_item None block body rest are later = (are, later)
+of_item stop block body rest are later = grind arith
 
 pub blocks-bytes : (fuel : ℕ) (section : Option Order) (tail : Tail) (file offset : ℕ) (bytes : List ℕ) → AreBytes bytes
     → AllByRecursion IsOfBytes (pieces.items_by blocks.blocks fuel section tail file offset bytes)
 unfolding pieces.items_by
 blocks-bytes zero section tail file offset bytes are = tt
-blocks-bytes (suc fuel) section tail file offset bytes are =
-    let order = blocks.order_at section bytes in
-    let total = blocks.total_at order bytes in
-    of_item (blocks.stop_at section tail file offset bytes) (blocks.block_at section offset bytes) (blocks.body_at section bytes)
-    (pieces.items_by blocks.blocks fuel (Some order) tail file (offset + total) (drop total bytes))
-    (AreBytes-take (total - 12) (drop 8 bytes) (AreBytes-drop 8 bytes are))
-    (blocks-bytes fuel (Some order) tail file (offset + total) (drop total bytes) (AreBytes-drop total bytes are))
+blocks-bytes (suc fuel) section tail file offset bytes are = search (blocks-bytes fuel, of_item, drop, AreBytes-take, AreBytes-drop)
 
 block-fits : (file few : ℕ) (progress : Progress) (block : Block) (body : List ℕ) (content : Result Content Rule) (items : List Item)
     → IfOk content (OfContent FitsInterface FitsPacket) → IsFit few body content → AllByRecursion FitsInterface progress.interfaces
     → (AllByRecursion FitsInterface (behind progress content).interfaces → AllByRecursion ItemFits items)
     → AllByRecursion ItemFits (items_at file progress block body content items)
-block-fits file few progress block body (Ok contents.Section) items fits within all rest = rest tt
-block-fits file few progress block body (Ok (contents.Interface i)) items fits within all rest = rest (one_more progress.interfaces i all fits)
-block-fits file few progress block body (Ok (contents.Packet p)) items fits within all rest = (
-  record {
-    interface = fits.interface;
-    units = fits.units;
-    original = fits.original;
-    frame = block-frame file progress block p body within;
-  },
-  rest all,
-)
-block-fits file few progress block body (Ok contents.Other) items fits within all rest = rest all
-block-fits file few progress block body (Err rule) items fits within all rest = (tt, tt)
+block-fits file few progress block body content items fits within all rest = grind (arith, common_steps, nat_tests, one_more, block-frame)
 
 stop-fits : (stop : Stop) → AllByRecursion ItemFits (items_of_stop stop)
-stop-fits stops.End = tt
-stop-fits stops.Cut = tt
-stop-fits (stops.Refused refusal) = (tt, tt)
+stop-fits stop = grind arith
 
 blocks-fit : (file : ℕ) (progress : Progress) (items : List (pieces.Item Block)) → AllByRecursion FitsInterface progress.interfaces
     → AllByRecursion IsOfBytes items → AllByRecursion ItemFits (items_in file progress items)
@@ -193,8 +163,7 @@ AllHeld [] = Unit {0}
 AllHeld (p ∷ ps) = (p.units < 2 ^ 64) × (p.original < 2 ^ 32) × (length p.frame ≤ 262144) × AllHeld ps
 
 units_below : (unit : Fraction) (a b : ℕ) → a < 256 ^ 4 → b < 256 ^ 4 → a * in_second unit + b < 2 ^ 64
-units_below Micro a b h k = omega arith
-units_below Nano a b h k = omega arith
+units_below unit a b h k = grind arith
 
 -- those that bytes spell
 pub held-spelled : (order : Order) (unit : Fraction) (p : Record) (xs : List ℕ) → AreBytes xs → SpellsRecord order unit p xs
@@ -227,10 +196,7 @@ unfolding pcap_items
 records-fit file i offset [] stops.End fits held = tt
 records-fit file i offset [] stops.Cut fits held = tt
 records-fit file i offset [] (stops.Refused refusal) fits held = (tt, tt)
-records-fit file i offset (p ∷ ps) stop fits held = (
-  record { interface = fits; units = held.0; original = held.1; frame = record { captured = refl; limit = held.2 } },
-  records-fit file i (offset + packet_size p) ps stop fits held.3,
-)
+records-fit file i offset (p ∷ ps) stop fits held = grind (arith, records-fit file i (offset + packet_size p) ps stop fits held.3)
 
 pub header-fits : (bytes : List ℕ) → AreBytes bytes → FitsInterface (interface_of (records.header_at bytes))
 header-fits bytes are = record { link = (below_header bytes are).1; snaplen = (below_header bytes are).0; offset = grind (arith, ints) }

@@ -1,5 +1,7 @@
 -- Each packet of a file has as many captured bytes as are told.
-use Rattle.std.proofs.Common.{◌≡◌, ℕ, ◌+◌, ◌≤◌, List, [], ◌∷◌, length, length-drop, drop, Bool, true, false, Option, Some, None, Result, Ok, Err, refl, sym, ◌∙◌, subst, arith, if◌then◌else◌}
+use Rattle.std.proofs.lemmas.Bool.Decides.{nat_tests}
+use Rattle.std.proofs.lemmas.Grind.{common_steps}
+use Rattle.std.proofs.Common.{◌≡◌, ℕ, ◌+◌, ◌≤◌, List, [], ◌∷◌, length, length-drop, drop, Bool, true, false, Option, Some, None, Result, refl, sym, ◌∙◌, subst, arith, if◌then◌else◌}
 use Rattle.std.proofs.lemmas.List.{length-take-le}
 use Rattle.std.specs.List.{AllByRecursion}
 use Rattle.cap_blocks.specs.Split as blocks
@@ -20,7 +22,6 @@ use Rattle.cap_source.specs.Feed.{Item}
 use Rattle.cap_source.specs.Fields.{HasFrame, IsFrame, FramesFit}
 use Rattle.cap_source.specs.Items.{Progress, fresh, behind, frame_in, meta_in, items_at, items_in, items_of_stop, items_from, is_pcapng, pcap_items, interface_of}
 use Rattle.cap_source.specs.declared.contents.Content.{Content}
-use Rattle.cap_source.specs.declared.contents.Content.TheVariants as contents
 use Rattle.cap_source.specs.declared.contents.Packet.{Packet}
 use Rattle.cap_time.specs.declared.resolutions.Interface.{Interface}
 use Rattle.cap_time.specs.declared.stamps.Unit.{Unit as Fraction}
@@ -30,23 +31,14 @@ use Rattle.cap_time.specs.declared.stamps.Unit.{Unit as Fraction}
 -- the captured bytes of a packet that is within its body
 pub block-frame : (file : ℕ) (progress : Progress) (block : Block) (p : Packet) (body : List ℕ) → (p.place + p.captured ≤ length body) × (p.captured ≤ 262144)
     → IsFrame (meta_in file progress block p) (frame_in p body)
-block-frame file progress block p body within = record {
-  captured = length-take-le p.captured (drop p.place body) (omega (arith, within.0, length-drop p.place body));
-  limit = within.1;
-}
+block-frame file progress block p body within = grind (arith, length-take-le, drop, length-drop)
 
 block-frames : (file few : ℕ) (progress : Progress) (block : Block) (body : List ℕ) (content : Result Content Rule) (items : List Item)
     → IsFit few body content → AllByRecursion HasFrame items → AllByRecursion HasFrame (items_at file progress block body content items)
-block-frames file few progress block body (Ok contents.Section) items within rest = rest
-block-frames file few progress block body (Ok (contents.Interface i)) items within rest = rest
-block-frames file few progress block body (Ok (contents.Packet p)) items within rest = (block-frame file progress block p body within, rest)
-block-frames file few progress block body (Ok contents.Other) items within rest = rest
-block-frames file few progress block body (Err rule) items within rest = (tt, tt)
+block-frames file few progress block body content items within rest = grind (arith, common_steps, nat_tests, block-frame)
 
 stop-frames : (stop : Stop) → AllByRecursion HasFrame (items_of_stop stop)
-stop-frames stops.End = tt
-stop-frames stops.Cut = tt
-stop-frames (stops.Refused refusal) = (tt, tt)
+stop-frames stop = grind arith
 
 blocks-frames : (file : ℕ) (progress : Progress) (items : List (pieces.Item Block)) → AllByRecursion HasFrame (items_in file progress items)
 unfolding items_in
@@ -65,10 +57,7 @@ unfolding pcap_items
 records-frames file i order unit offset bytes [] rest stops.End s = tt
 records-frames file i order unit offset bytes [] rest stops.Cut s = tt
 records-frames file i order unit offset bytes [] rest (stops.Refused refusal) s = (tt, tt)
-records-frames file i order unit offset bytes (p ∷ ps) rest stop s = (
-  record { captured = refl; limit = s.0.limit },
-  records-frames file i order unit (offset + packet_size p) (drop (packet_size p) bytes) ps rest stop s.2,
-)
+records-frames file i order unit offset bytes (p ∷ ps) rest stop s = grind (arith, records-frames file i order unit (offset + packet_size p) (drop (packet_size p) bytes) ps rest stop s.2)
 
 pub read_header : (tail : Tail) (file : ℕ) (bytes : List ℕ) → records.header_fault 0 bytes ≡ None
     → records.file_items tail file 0 bytes ≡ records.items_from (records.header_at bytes) tail file 24 (drop 24 bytes)

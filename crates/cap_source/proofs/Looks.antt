@@ -1,10 +1,9 @@
 -- What the first four bytes tell, and the reader that is made by that.
-use Rattle.std.proofs.Common.{◌≡◌, ◌≤◌, ℕ, true, false, List, ◌++◌, length, None, IsTrue, Ok, refl, sym, ap, ◌∙◌, subst, arith, nat_le, length-append}
+use Rattle.std.proofs.Common.{◌≡◌, ◌≤◌, ℕ, true, false, List, ◌++◌, length, None, IsTrue, Ok, refl, sym, ap, ◌∙◌, arith, nat_le, length-append}
 use Rattle.std.proofs.lemmas.Bool.Decides.{nat_tests}
 use Rattle.cap_bytes.proofs.Spelling.{number-append}
 use Rattle.cap_bytes.specs.Window.{State as WindowState, Shows, Keeps, coming}
 use Rattle.cap_bytes.specs.declared.faults.Tail.{Tail}
-use Rattle.cap_bytes.specs.declared.numbers.Order.TheVariants.{Big}
 use Rattle.cap_pcap.specs.Split as records
 use Rattle.cap_blocks.specs.Split as splits
 use Rattle.cap_blocks.specs.Split.{is_section}
@@ -12,7 +11,6 @@ use Rattle.cap_source.specs.Items.{Progress, interface_of, is_pcapng, items_in, 
 use Rattle.cap_source.specs.FileState.{unread_state, Waits}
 use Rattle.cap_source.specs.Readers.{state_of, reader_by, has_format, LooksAtWindow}
 use Rattle.cap_source.specs.declared.packets.Format.{Format}
-use Rattle.cap_source.specs.declared.packets.Format.TheVariants.{Pcap, Pcapng}
 use Rattle.cap_source.specs.declared.readers.Reader.{Reader}
 use Rattle.cap_source.specs.declared.readers.Reader.TheVariants as readers
 
@@ -20,8 +18,7 @@ le_true : (m n : ℕ) → m ≤ n → nat_le m n ≡ true
 le_true m n h = grind (arith, nat_tests)
 
 pcapng_shown : (xs ys : List ℕ) → 4 ≤ length xs → is_pcapng (xs ++ ys) ≡ is_section xs
-pcapng_shown xs ys few =
-    rw (le_true 4 (length (xs ++ ys)) (omega (arith, few, length-append xs ys)), number-append Big 4 xs ys few) refl
+pcapng_shown xs ys few = grind (arith, le_true, length-append, number-append)
 
 -- the first four bytes that are shown tell the format
 pub looks_at : (old new : WindowState) → Shows old new → 4 ≤ length new.shown → IsTrue old.told → is_pcapng (coming old) ≡ is_section new.shown
@@ -60,32 +57,10 @@ pcapng_first_from tail f g p o q old new fg oq is there = rw (fg, oq, is, there)
 -- The reader that is made gives what the window did.
 pub opened_waits : (R : Type 0) (w v : WindowState) (tail : Tail) (format : Format) (p : Progress) → Shows w v → Keeps w v
     → (IsTrue w.told → has_format format (coming w)) → Waits (unread_state w tail p) (state_of {R = R} (reader_by (readers.Unread v tail) format) p)
-opened_waits R w v tail Pcap p s k is = record {
-  stops = refl;
-  broken = s.goes.after ∙ sym s.goes.before;
-  failed = s.goes.failed;
-  rest = λ t. record {
-    items = pcap_items_from tail v.file w.file p v.offset w.offset (coming w) (coming v) k.file s.offset (s.coming_same t) (is t);
-    ending = pcap_ending_from tail v.file w.file p v.offset w.offset (coming w) (coming v) k.file s.offset (s.coming_same t) (is t);
-    first = pcap_first_from tail w.file p v.offset w.offset (coming w) (coming v) s.offset (s.coming_same t) (is t);
-  };
-}
-opened_waits R w v tail Pcapng p s k is = record {
-  stops = refl;
-  broken = s.goes.after ∙ sym s.goes.before;
-  failed = s.goes.failed;
-  rest = λ t. record {
-    items = pcapng_items_from tail v.file w.file p v.offset w.offset (coming w) (coming v) k.file s.offset (s.coming_same t) (is t);
-    ending = pcapng_ending_from tail v.file w.file p v.offset w.offset (coming w) (coming v) k.file s.offset (s.coming_same t) (is t);
-    first = pcapng_first_from tail v.file w.file p v.offset w.offset (coming w) (coming v) k.file s.offset (s.coming_same t) (is t);
-  };
-}
+opened_waits R w v tail format p s k is = grind (arith, pcap_items_from, pcap_ending_from, pcap_first_from, pcapng_items_from, pcapng_ending_from, pcapng_first_from)
 
 -- the same of what calls answered
 pub opened_by : {R : Type 0} (old unread new : Reader R) (w v : WindowState) (tail : Tail) (format : Format) (p : Progress)
     → old ≡ readers.Unread w tail → unread ≡ readers.Unread v tail → new ≡ reader_by unread format
     → LooksAtWindow w (Ok format) v → Keeps w v → Waits (state_of old p) (state_of new p)
-opened_by {R} old unread new w v tail format p is_old is_unread is_new s k =
-    let made : new ≡ reader_by (readers.Unread v tail) format = is_new ∙ ap (λ (r : Reader R). reader_by r format) is_unread in
-    subst (λ (r : Reader R). Waits (state_of r p) (state_of new p)) (sym is_old)
-    (subst (λ (r : Reader R). Waits (unread_state w tail p) (state_of r p)) (sym made) (opened_waits R w v tail format p s.0 k s.1))
+opened_by {R} old unread new w v tail format p is_old is_unread is_new s k = grind (arith, opened_waits)

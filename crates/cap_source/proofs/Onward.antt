@@ -1,9 +1,8 @@
 -- Going through a feed: what it was at first, on the way, and where the call ends.
-use Rattle.std.proofs.Common.{◌≡◌, ℕ, Some, None, IfSome, Result, Ok, Err, refl, sym, ap, ◌∙◌, subst, arith}
+use Rattle.std.proofs.Common.{ℕ, Some, None, Result, Ok, Err, refl, sym, ◌∙◌, arith}
 use Rattle.cap_bytes.specs.Printing.{IsRead}
 use Rattle.cap_bytes.specs.declared.faults.Fault.{Fault}
-use Rattle.cap_bytes.specs.declared.faults.Fault.TheVariants.{Refused, Read, Write, Memory}
-use Rattle.cap_source.specs.Feed.{Feed, Keeps, Goes, Breaks, GivesHead, Passes, HasFile}
+use Rattle.cap_source.specs.Feed.{Feed, Keeps, Goes, GivesHead, Passes}
 use Rattle.cap_source.specs.Walk.{GivesPacket, Lasts, Fails, Walks}
 use Rattle.cap_source.specs.declared.packets.Meta.{Meta}
 
@@ -16,14 +15,7 @@ pub Keeps-refl : (a : Feed) → Keeps a a
 Keeps-refl a = record { files = refl; told = λ t. t; can_fail = λ c. c; places = λ file. omega arith; left = omega arith }
 
 pub Keeps-trans : (a b c : Feed) → Keeps a b → Keeps b c → Keeps a c
-Keeps-trans a b c k l =
-    record {
-      files = l.files ∙ k.files;
-      told = λ t. l.told (k.told t);
-      can_fail = λ t. k.can_fail (l.can_fail t);
-      places = λ file. omega (arith, k.places file, l.places file);
-      left = omega (arith, k.left, l.left);
-    }
+Keeps-trans a b c k l = grind arith
 
 pub Lasts-refl : (a : Feed) → Lasts a a
 Lasts-refl a = record { broken = refl; failed = refl }
@@ -43,60 +35,22 @@ Went-none a = record { keeps = Keeps-refl a; lasts = Lasts-refl a }
 -- one more packet
 pub Went-more : (old mid shown new : Feed) (meta : Meta) → Went old mid → GivesPacket mid (Ok (Some meta)) shown → Keeps mid shown
     → Passes shown new → Keeps shown new → Went old new
-Went-more old mid shown new meta p gives asked passes passed =
-    record {
-      keeps = Keeps-trans old mid new p.keeps (Keeps-trans mid shown new asked passed);
-      lasts = Lasts-trans old mid new p.lasts (record {
-        broken = passes.broken ∙ sym gives.goes.before;
-        failed = ap (λ h. h.failed) passes.held ∙ gives.goes.failed;
-      });
-    }
+Went-more old mid shown new meta p gives asked passes passed = grind arith
 
 Fails-behind : (old mid new : Feed) (file offset : ℕ) → Keeps old mid → Lasts old mid → Fails mid file offset new → Fails old file offset new
-Fails-behind old mid new file offset k l p =
-    record {
-      of = subst (λ files. HasFile files file) k.files p.of;
-      again = subst (λ broken. IfSome broken (λ first. Read file offset ≡ first)) l.broken p.again;
-      after = p.after;
-      broken = p.broken;
-      place = p.place;
-      failed = p.failed;
-      can_fail = k.can_fail p.can_fail;
-    }
-
-Fails-breaks : (old new : Feed) (file offset : ℕ) → Breaks old file offset new → Fails old file offset new
-Fails-breaks old new file offset p =
-    record {
-      of = p.of;
-      again = p.again;
-      after = p.after;
-      broken = p.broken;
-      place = p.place;
-      failed = p.failed;
-      can_fail = p.can_fail;
-    }
+Fails-behind old mid new file offset k l p = grind arith
 
 -- The rest of a walk is done after its first part.
 pub Walks-behind : {A : Type 0} (old mid new : Feed) (result : Result A Fault) → Keeps old mid → Lasts old mid → Walks mid result new → Walks old result new
-Walks-behind old mid new (Ok x) k l p = (p.0, Goes-behind old mid new l p.1)
-Walks-behind old mid new (Err (Refused r)) k l p = Goes-behind old mid new l p
-Walks-behind old mid new (Err (Read file offset)) k l p = Fails-behind old mid new file offset k l p
-Walks-behind old mid new (Err Write) k l p = Lasts-trans old mid new l p
-Walks-behind old mid new (Err Memory) k l p = Lasts-trans old mid new l p
+Walks-behind old mid new result k l p = grind arith
 
 -- what comes next of a feed can't be told
 pub Walks-head : (old new : Feed) (fault : Fault) → GivesHead old (Err fault) new → Walks {A = Unit {0}} old (Err fault) new
-Walks-head old new (Refused r) p = absurd p
-Walks-head old new (Read file offset) p = Fails-breaks old new file offset p
-Walks-head old new Write p = absurd p
-Walks-head old new Memory p = Lasts-goes old new p.goes
+Walks-head old new fault p = grind arith
 
 -- the call for the next packet answers a fault
 pub Walks-fault : (old mid new : Feed) (fault : Fault) → Went old mid → GivesPacket mid (Err fault) new → Walks {A = Unit {0}} old (Err fault) new
-Walks-fault old mid new (Refused r) w p = Goes-behind old mid new w.lasts p.goes
-Walks-fault old mid new (Read file offset) w p = Fails-behind old mid new file offset w.keeps w.lasts (Fails-breaks mid new file offset p)
-Walks-fault old mid new Write w p = absurd p
-Walks-fault old mid new Memory w p = Lasts-trans old mid new w.lasts (Lasts-goes mid new p.goes)
+Walks-fault old mid new fault w p = grind arith
 
 -- it answers that there is none
 pub Walks-end : (old mid new : Feed) → Went old mid → GivesPacket mid (Ok None) new → Walks {A = Unit {0}} old (Ok tt) new
@@ -105,7 +59,4 @@ Walks-end old mid new w p = (p.known, Goes-behind old mid new w.lasts p.goes)
 -- A packet that came isn't written.
 pub Walks-stop : (old mid new : Feed) (meta : Meta) (fault : Fault) → Went old mid → GivesPacket mid (Ok (Some meta)) new
     → (IsRead {A = Unit {0}} (Err fault) → ⊥) → Walks {A = Unit {0}} old (Err fault) new
-Walks-stop old mid new meta (Refused r) w p other = Goes-behind old mid new w.lasts p.goes
-Walks-stop old mid new meta (Read file offset) w p other = absurd (other tt)
-Walks-stop old mid new meta Write w p other = Lasts-trans old mid new w.lasts (Lasts-goes mid new p.goes)
-Walks-stop old mid new meta Memory w p other = Lasts-trans old mid new w.lasts (Lasts-goes mid new p.goes)
+Walks-stop old mid new meta fault w p other = grind arith

@@ -1,14 +1,13 @@
 -- What options say of a clock, one after the other.
 use Rattle.cap_blocks.specs.Split.{or_else}
 use Rattle.cap_time.specs.declared.resolutions.Resolution.{Resolution}
-use Rattle.std.proofs.Common.{Bool, true, false, ◌||◌, ◌&&◌, not, ◌==◌, Option, Some, None, is_some, unwrap_or, ℤ, pos, arith, ◌≡◌, ℕ, List, [], ◌∷◌, Result, Ok, Err, refl, sym, ap, ◌∙◌, subst, if◌then◌else◌, ◌≤◌, ◌<◌, nat_le, drop}
-use Rattle.cap_bytes.specs.Number.{number}
+use Rattle.std.proofs.Common.{Bool, true, false, ◌||◌, ◌&&◌, not, ◌==◌, Option, Some, None, is_some, unwrap_or, ℤ, pos, arith, ◌≡◌, ℕ, List, [], ◌∷◌, Result, Ok, Err, refl, if◌then◌else◌, ◌≤◌, ◌<◌, nat_le, drop}
 use Rattle.cap_bytes.specs.declared.faults.Rule.TheVariants as rules
 use Rattle.std.proofs.lemmas.Bool.Decides.{nat_tests}
 use Rattle.cap_bytes.specs.declared.faults.Rule.{Rule}
 use Rattle.cap_bytes.specs.declared.numbers.Order.{Order}
 use Rattle.cap_blocks.specs.OptionList.{OptionItem, options_of}
-use Rattle.cap_source.specs.Clocks.{microseconds, resolution_in, offset_in, value_of, given_or, options_fault, fault_of, read_or, with_resolution, with_offset, interface_at, interface_or, interface_by, interface_in, no_clock, option_read, options_read, then_read}
+use Rattle.cap_source.specs.Clocks.{microseconds, resolution_in, offset_in, value_of, given_or, options_fault, fault_of, with_resolution, with_offset, interface_at, interface_or, interface_by, interface_in, no_clock, option_read, options_read, then_read}
 use Rattle.cap_source.specs.declared.interfaces.Clock.{Clock}
 
 pub read_none : (order : Order) (clock : Clock) (items : List OptionItem) → items ≡ [] → options_read order clock items ≡ Ok clock
@@ -27,8 +26,7 @@ unfolding options_read
 read_option order clock option items rest result is e = rw (is, e) refl
 
 or_false : (x : Bool) → (x || false) ≡ x
-or_false true = refl
-or_false false = refl
+or_false x = grind arith
 
 -- What the options after some others say is what the conditions of all tell.
 abbrev pub Agrees : Order → Option Resolution → Option ℤ → List OptionItem → Result Clock Rule → Type 0
@@ -43,8 +41,7 @@ carry : (order : Order) (res res' : Option Resolution) (off off' : Option ℤ) (
     → unwrap_or res' (given_or microseconds resolution_in (value_of 9 rest)) ≡ unwrap_or res (given_or microseconds resolution_in (value_of 9 items))
     → unwrap_or off' (given_or (pos 0) (offset_in order) (value_of 14 rest)) ≡ unwrap_or off (given_or (pos 0) (offset_in order) (value_of 14 items))
     → Agrees order res' off' rest result → Agrees order res off items result
-carry order res res' off off' items rest (Ok end) f r o h = (f ∙ h.0, h.1 ∙ r, h.2 ∙ o)
-carry order res res' off off' items rest (Err rule) f r o h = f ∙ h
+carry order res res' off off' items rest result f r o h = grind arith
 
 abbrev clock_with : Option Resolution → Option ℤ → Clock
 clock_with res off = record { resolution = res; offset = off }
@@ -55,9 +52,7 @@ same : (order : Order) (res : Option Resolution) (off : Option ℤ) (rest items 
     → unwrap_or off (given_or (pos 0) (offset_in order) (value_of 14 rest)) ≡ unwrap_or off (given_or (pos 0) (offset_in order) (value_of 14 items))
     → Agrees order res off rest (options_read order (clock_with res off) rest)
     → Agrees order res off items (then_read read (λ next. options_read order next rest))
-same order res off rest items read is f r o ih =
-    subst (λ (x : Result Clock Rule). Agrees order res off items (then_read x (λ next. options_read order next rest))) (sym is)
-    (carry order res res off off items rest (options_read order (clock_with res off) rest) f r o ih)
+same order res off rest items read is f r o ih = grind arith
 
 set_resolution : (order : Order) (off : Option ℤ) (value : List ℕ) (rest items : List OptionItem) (read : Result Clock Rule) (x : Result Resolution Rule)
     → resolution_in value ≡ x → read ≡ with_resolution (clock_with None off) x
@@ -65,13 +60,7 @@ set_resolution : (order : Order) (off : Option ℤ) (value : List ℕ) (rest ite
     → value_of 9 items ≡ Some value → value_of 14 items ≡ value_of 14 rest
     → ((res : Option Resolution) → Agrees order res off rest (options_read order (clock_with res off) rest))
     → Agrees order None off items (then_read read (λ next. options_read order next rest))
-set_resolution order off value rest items read (Ok r) x is f v w ih =
-    subst (λ (y : Result Clock Rule). Agrees order None off items (then_read y (λ next. options_read order next rest))) (sym is)
-    (carry order None (Some r) off off items rest (options_read order (clock_with (Some r) off) rest) f
-    (sym (ap (given_or microseconds resolution_in) v ∙ ap (read_or microseconds) x))
-    (ap (λ l. unwrap_or off (given_or (pos 0) (offset_in order) l)) (sym w)) (ih (Some r)))
-set_resolution order off value rest items read (Err rule) x is f v w ih =
-    subst (λ (y : Result Clock Rule). Agrees order None off items (then_read y (λ next. options_read order next rest))) (sym is) f
+set_resolution order off value rest items read x' x is f v w ih = grind arith
 
 set_offset : (order : Order) (res : Option Resolution) (value : List ℕ) (rest items : List OptionItem) (read : Result Clock Rule) (x : Result ℤ Rule)
     → offset_in order value ≡ x → read ≡ with_offset (clock_with res None) x
@@ -79,13 +68,7 @@ set_offset : (order : Order) (res : Option Resolution) (value : List ℕ) (rest 
     → value_of 9 items ≡ value_of 9 rest → value_of 14 items ≡ Some value
     → ((off : Option ℤ) → Agrees order res off rest (options_read order (clock_with res off) rest))
     → Agrees order res None items (then_read read (λ next. options_read order next rest))
-set_offset order res value rest items read (Ok o) x is f v w ih =
-    subst (λ (y : Result Clock Rule). Agrees order res None items (then_read y (λ next. options_read order next rest))) (sym is)
-    (carry order res res None (Some o) items rest (options_read order (clock_with res (Some o)) rest) f
-    (ap (λ l. unwrap_or res (given_or microseconds resolution_in l)) (sym v))
-    (sym (ap (given_or (pos 0) (offset_in order)) w ∙ ap (read_or (pos 0)) x)) (ih (Some o)))
-set_offset order res value rest items read (Err rule) x is f v w ih =
-    subst (λ (y : Result Clock Rule). Agrees order res None items (then_read y (λ next. options_read order next rest))) (sym is) f
+set_offset order res value rest items read x' x is f v w ih = grind arith
 
 one : (order : Order) (res : Option Resolution) (off : Option ℤ) (value : List ℕ) (rest items : List OptionItem) (a b : Bool) (read : Result Clock Rule)
     → (a ≡ true → b ≡ true → ⊥)
@@ -96,22 +79,7 @@ one : (order : Order) (res : Option Resolution) (off : Option ℤ) (value : List
     → read ≡ (if a && not (is_some res) then with_resolution (clock_with res off) (resolution_in value) else if b && not (is_some off) then with_offset (clock_with res off) (offset_in order value) else Ok (clock_with res off))
     → ((r : Option Resolution) (o : Option ℤ) → Agrees order r o rest (options_read order (clock_with r o) rest))
     → Agrees order res off items (then_read read (λ next. options_read order next rest))
-one order res off value rest items true true read apart f v w is ih = absurd (apart refl refl)
-one order (Some r) off value rest items true false read apart f v w is ih =
-    same order (Some r) off rest items read is (f ∙ ap (λ t. options_fault order true t rest) (or_false (is_some off))) refl
-    (ap (λ l. unwrap_or off (given_or (pos 0) (offset_in order) l)) (sym w)) (ih (Some r) off)
-one order None off value rest items true false read apart f v w is ih =
-    set_resolution order off value rest items read (resolution_in value) refl is
-    (f ∙ ap (λ t. or_else (fault_of (resolution_in value)) (options_fault order true t rest)) (or_false (is_some off))) v w (λ r. ih r off)
-one order res (Some o) value rest items false true read apart f v w is ih =
-    same order res (Some o) rest items read is (f ∙ ap (λ t. options_fault order t true rest) (or_false (is_some res)))
-    (ap (λ l. unwrap_or res (given_or microseconds resolution_in l)) (sym v)) refl (ih res (Some o))
-one order res None value rest items false true read apart f v w is ih =
-    set_offset order res value rest items read (offset_in order value) refl is
-    (f ∙ ap (λ t. or_else (fault_of (offset_in order value)) (options_fault order t true rest)) (or_false (is_some res))) v w (λ o. ih res o)
-one order res off value rest items false false read apart f v w is ih =
-    same order res off rest items read is (f ∙ (λ i. options_fault order (or_false (is_some res) i) (or_false (is_some off) i) rest))
-    (ap (λ l. unwrap_or res (given_or microseconds resolution_in l)) (sym v)) (ap (λ l. unwrap_or off (given_or (pos 0) (offset_in order) l)) (sym w)) (ih res off)
+one order res off value rest items a b read apart f v w is ih = grind (arith, or_false, is_some, unwrap_or, pos, set_resolution, set_offset)
 
 apart : (code : ℕ) → (code == 9) ≡ true → (code == 14) ≡ true → ⊥
 apart code p q = grind (arith, nat_tests)
@@ -129,9 +97,7 @@ agrees order (Ok option ∷ rest) res off =
 -- The interface of a body is the one that its conditions tell.
 by_agrees : (order : Order) (body : List ℕ) (items : List OptionItem) (result : Result Clock Rule) → Agrees order None None items result
     → interface_by order body result ≡ interface_or (options_fault order false false items) (interface_at order body items)
-by_agrees order body items (Ok end) h =
-    rw h.0 (λ i. Ok (record { link = number order 2 body; snaplen = number order 4 (drop 4 body); resolution = h.1 i; offset = h.2 i }))
-by_agrees order body items (Err rule) h = rw h refl
+by_agrees order body items result h = grind arith
 
 no_more : (before : ℕ) → 1024 ≤ before → nat_le 1024 before ≡ true
 no_more before h = grind (arith, nat_tests)
@@ -147,7 +113,4 @@ interface_refused before order body h = rw (no_more before h) refl
 pub interface_read : (before : ℕ) (order : Order) (body : List ℕ) → before < 1024
     → interface_by order body (options_read order no_clock (options_of order (drop 8 body))) ≡ interface_in before order body
 unfolding interface_in
-interface_read before order body h =
-    rw (one_more before h)
-    (by_agrees order body (options_of order (drop 8 body)) (options_read order no_clock (options_of order (drop 8 body)))
-    (agrees order (options_of order (drop 8 body)) None None))
+interface_read before order body h = search (one_more, by_agrees, agrees)

@@ -1,5 +1,5 @@
 -- Resolutions by their codes.
-use Rattle.std.proofs.Common.{◌≡◌, ℕ, Bool, true, false, Option, Some, None, IsSome, IfSome, IsTrue, ◌↔◌, refl, ap, subst}
+use Rattle.std.proofs.Common.{arith, ◌≡◌, ℕ, Bool, true, false, Option, Some, None, IsSome, IfSome, IsTrue, ◌↔◌, refl, ap, subst}
 use Rattle.std.proofs.Math.Bool.{Bool-set}
 use Rattle.cap_time.specs.Code.{is_allowed}
 use Rattle.cap_time.specs.Resolution.{code_of}
@@ -32,12 +32,10 @@ pub ruleset same_of_unit = (same_microseconds, same_nanoseconds)
 
 some_if : (code : ℕ) (allowed : Bool) (is : is_allowed code ≡ allowed) (r : Resolution) → r.code ≡ code → Some r ≡ resolution_if code allowed is
 some_if code true is r e = ap Some (same_resolution r (resolution_from code is) e)
-some_if code false is r e =
-    let a : is_allowed code ≡ true = subst (λ (y : ℕ). is_allowed y ≡ true) e r.allowed in absurd (cc)
+some_if code false is r e = cc
 
 none_if : (code : ℕ) (allowed : Bool) (is : is_allowed code ≡ allowed) → (IsTrue (is_allowed code) → ⊥) → None ≡ resolution_if code allowed is
-none_if code true is h = absurd (h is)
-none_if code false is h = refl
+none_if code allowed is h = grind arith
 
 -- what is made of a code
 pub from_code_is : (code : ℕ) (o : Option Resolution) → IsSome o ↔ IsTrue (is_allowed code) → IfSome o (λ r. code_of r ≡ code) → o ≡ resolution_of code

@@ -114,13 +114,7 @@ pub Prints-whole : (fault : Fault) (text line : List ℕ) (refusal : Option Refu
     → Putting from mid text line → IsTrue from.told → refusal ≡ Some r
     → Prints {A = Unit {0}} line (Some r) mid.held (Err fault) held
     → Prints {A = Unit {0}} text refusal from.held (Err fault) held
-Prints-whole (Refused s) text line refusal r from mid held p t is prints = (
-  is ∙ prints.0,
-  prints.1
-      ∙ (ap (λ l. l ++ line) (p.written t)
-      ∙ (append_assoc from.held (take p.at text) line
-      ∙ ap (λ l. from.held ++ l) (ap (λ l. take p.at text ++ l) p.left ∙ take-append-drop p.at text))),
-)
+Prints-whole (Refused s) text line refusal r from mid held p t is prints = grind (arith, append_assoc, take, take-append-drop)
 Prints-whole (Read file offset) text line refusal r from mid held p t is prints =
     Putting-front from mid held text line [] prints.0 (subst (Putting from mid text) (sym (append-nil line)) p) t prints.1
 Prints-whole Write text line refusal r from mid held p t is prints =
@@ -134,7 +128,6 @@ pub Prints-front : (fault : Fault) (text line behind : List ℕ) (refusal : Opti
     → Prints {A = Unit {0}} line None mid.held (Err fault) held
     → Prints {A = Unit {0}} text refusal from.held (Err fault) held
 Prints-front (Refused r) text line behind refusal from mid held p t prints = absurd (false≢true (subst IsSome (sym prints.0) refl))
-Prints-front (Read file offset) text line behind refusal from mid held p t prints =
-    Putting-front from mid held text line behind prints.0 p t prints.1
+Prints-front (Read file offset) text line behind refusal from mid held p t prints = search (Putting-front)
 Prints-front Write text line behind refusal from mid held p t prints = Putting-front from mid held text line behind prints.0 p t prints.1
 Prints-front Memory text line behind refusal from mid held p t prints = Putting-front from mid held text line behind prints.0 p t prints.1
