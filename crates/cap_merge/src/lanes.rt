@@ -71,6 +71,18 @@ fn reach(lane: &mut Lane)
     }
 }
 
+// Keeps what comes next in the lane. By cases, so that a packet is copied once, from where its feed keeps it.
+#[inline(always)]
+fn keep(lane: &mut Lane, head: Head)
+    ensures { lane.new ≡ record { clock = lane.old.clock; head = Some head } }
+{
+    match head {
+        Head::Packet(meta) => lane.head = Some(Head::Packet(meta)),
+        Head::Refused(refusal) => lane.head = Some(Head::Refused(refusal)),
+        Head::End => lane.head = Some(Head::End),
+    }
+}
+
 // Asks a feed what comes next, unless that is known.
 fn ask<F: PacketFeed>(lane: &mut Lane, feed: &mut F) -> Result<(), Fault>
     ensures { Asks (record { lane = lane.old; feed = F.feed feed.old }) result
@@ -79,7 +91,7 @@ fn ask<F: PacketFeed>(lane: &mut Lane, feed: &mut F) -> Result<(), Fault>
     match lane.head {
         Some(_) => Ok(()),
         None => {
-            lane.head = Some(feed.head()?);
+            keep(lane, feed.head()?);
             reach(lane);
             Ok(())
         }

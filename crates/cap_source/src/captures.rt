@@ -10,7 +10,7 @@ ghost use Rattle.cap_source.specs.Readers.{state_of, is_there, reader_room};
 use crate::feeds::{Ending, FeedHeld, Head, PacketFeed};
 use crate::learning::learn;
 use crate::reached::{Reached, nothing_reached};
-use crate::readers::{Next, Reader, ending_of, failed_of, head_of, held_of, number_of, part_of};
+use crate::readers::{Next, Reader, ending_of, failed_of, held_of, number_of, part_of};
 use cap_bytes::{Fault, Source, Tail, Window};
 use cap_time::Interface;
 use std::alloc::Global;
@@ -86,7 +86,12 @@ impl<R: Source> PacketFeed for Capture<R> {
 
     fn head(&mut self) -> Result<Head, Fault> {
         learn(&mut self.reader, &mut self.reached, &mut self.next)?;
-        Ok(head_of(&self.next))
+        match &self.next {
+            Some(Next::Packet(meta, _)) => Ok(Head::Packet(*meta)),
+            Some(Next::Refused(refusal, _)) => Ok(Head::Refused(*refusal)),
+            Some(Next::End(_)) => Ok(Head::End),
+            None => unreachable!(),
+        }
     }
 
     fn frame(&self) -> &[u8] {

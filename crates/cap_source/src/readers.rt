@@ -35,19 +35,6 @@ pub enum Reader<R: Source> {
     Moved,
 }
 
-/// What is told of it as a head, once it is known.
-pub fn head_of(next: &Option<Next>) -> Head
-    requires { IsSome next.now }
-    ensures { head_by next.now ≡ Some result }
-{
-    match next {
-        Some(Next::Packet(meta, _)) => Head::Packet(*meta),
-        Some(Next::Refused(refusal, _)) => Head::Refused(*refusal),
-        Some(Next::End(_)) => Head::End,
-        None => unreachable!(),
-    }
-}
-
 // What the reader lends of the record or block that was given last.
 fn lent_of<R: Source>(reader: &Reader<R>) -> &[u8]
     requires { IsSome (lent_of reader.now) }
