@@ -1,5 +1,7 @@
 -- Feeds that are asked in turn.
-use Rattle.std.proofs.Common.{◌≡◌, ℕ, zero, suc, ◌<◌, ◌≤◌, List, [], ◌∷◌, length, get_or, take, drop, ◌++◌, refl, sym, ap, ◌∙◌, subst, arith}
+use Rattle.std.proofs.lemmas.Bool.Decides.{nat_tests}
+use Rattle.std.proofs.lemmas.Grind.{common_steps}
+use Rattle.std.proofs.Common.{rules, ◌≡◌, ℕ, zero, suc, ◌<◌, ◌≤◌, List, [], ◌∷◌, length, get_or, take, drop, ◌++◌, refl, sym, ap, ◌∙◌, subst, arith}
 use Rattle.std.specs.Prelude.{map, ⊤}
 use Rattle.std.proofs.Common.{inl, inr}
 use Rattle.std.proofs.Math.ListN.{set}
@@ -121,6 +123,4 @@ pub kept-written : {F : Type 0} (f : F → Feed) (Holds : List Part → List Par
     → ks ≡ ls → gs ≡ fs → length ms ≡ length ks → length ys ≡ length gs → n ≡ length fs
     → Holds (parts ks (map f gs)) (parts ms (map f ys))
     → Holds (parts ls (map f fs)) (parts (refill (length ls) ls ms) (map f (take n (ys ++ drop (length ys) fs))))
-kept-written f Holds ls ks ms fs gs ys n a b d e m h =
-    subst (λ (w : List Part). Holds (parts ls (map f fs)) w) (sym (written f ls ms fs ys n (d ∙ ap length a) (e ∙ ap length b ∙ sym m)))
-    (subst (λ (w : List Part). Holds w (parts ms (map f ys))) (λ i. parts (a i) (map f (b i))) h)
+kept-written f Holds ls ks ms fs gs ys n a b d e m h = grind (arith, parts, written)

@@ -1,5 +1,7 @@
 -- The clocks that the feeds of a merge have reached have seconds below 2^65.
-use Rattle.std.proofs.Common.{◌≡◌, ℕ, zero, suc, Bool, true, List, [], ◌∷◌, length, arith, refl, sym, ap, ◌∙◌, subst, inl, inr, Option, Some, None, IfSome, Result, Ok, Err, pos, ◌^◌}
+use Rattle.std.proofs.lemmas.Bool.Decides.{nat_tests}
+use Rattle.std.proofs.lemmas.Grind.{common_steps}
+use Rattle.std.proofs.Common.{rules, ◌≡◌, ℕ, zero, suc, Bool, true, List, [], ◌∷◌, length, arith, refl, sym, ap, ◌∙◌, subst, inl, inr, Option, Some, None, IfSome, Result, Ok, Err, pos, ◌^◌}
 use Rattle.std.specs.Prelude.{◌&&◌, ◌<ℤ◌, replicate}
 use Rattle.std.specs.List.{list_all, AllByRecursion}
 use Rattle.std.proofs.lemmas.Float.{T_from_true}
@@ -25,42 +27,30 @@ rest-first : (p : Part) (ps : List Part) → is_bounded p.lane.clock ≡ true �
 rest-first p ps e h = both_true (is_bounded p.lane.clock) (list_all (λ x. is_bounded x.lane.clock) ps) e h
 
 learns_bounded : (h : Option Head) (p q : Part) → LearnsBy h p q → is_bounded p.lane.clock ≡ true → is_bounded q.lane.clock ≡ true
-learns_bounded None p q l e = l.1.bounded e
-learns_bounded (Some head) p q l e = ap (λ x. is_bounded x.lane.clock) l ∙ e
+learns_bounded x0 p q l e = grind arith
 
 all_learned : (ps qs : List Part) → LearnsAll ps qs → AreBounded ps → AreBounded qs
 all_learned [] [] l h = refl
 all_learned [] (q ∷ qs) l h = absurd l
 all_learned (p ∷ ps) [] l h = absurd l
-all_learned (p ∷ ps) (q ∷ qs) l h =
-    let both = first-rest p ps h in
-    rest-first q qs (learns_bounded p.lane.head p q l.0 both.0) (all_learned ps qs l.1 both.1)
+all_learned (p ∷ ps) (q ∷ qs) l h = grind (arith, all_learned ps qs l.1)
 
 some_learned : (fault : Fault) (ps qs : List Part) → StopsAt fault ps qs → AreBounded ps → AreBounded qs
 some_learned fault [] qs l h = absurd l
 some_learned fault (p ∷ ps) [] l h = absurd l
-some_learned fault (p ∷ ps) (q ∷ qs) (inl l) h =
-    let both = first-rest p ps h in
-    rest-first q qs (ap (λ x. is_bounded x.clock) l.0.lane ∙ both.0) (ap (λ xs. list_all (λ x. is_bounded x.lane.clock) xs) l.1 ∙ both.1)
-some_learned fault (p ∷ ps) (q ∷ qs) (inr l) h =
-    let both = first-rest p ps h in
-    rest-first q qs (learns_bounded p.lane.head p q l.0 both.0) (some_learned fault ps qs l.1 both.1)
+some_learned fault (p ∷ ps) (q ∷ qs) (inl l) h = cc
+some_learned fault (p ∷ ps) (q ∷ qs) (inr l) h = grind (arith, some_learned fault ps qs l.1)
 
 -- asking keeps them so
 pub asked-bounded : {T : Type 0} (ps qs : List Part) (r : Result T Fault) → AsksAll ps r qs → AreBounded ps → AreBounded qs
-asked-bounded ps qs (Ok x) l h = all_learned ps qs l h
-asked-bounded ps qs (Err fault) l h = some_learned fault ps qs l h
+asked-bounded ps qs x2 l h = grind (arith, all_learned, some_learned)
 
 -- and so does a pass
 pub passed-bounded : (ps qs : List Part) (place : ℕ) → PassesAt ps place qs → AreBounded ps → AreBounded qs
 passed-bounded [] qs place l h = absurd l
 passed-bounded (p ∷ ps) [] place l h = absurd l
-passed-bounded (p ∷ ps) (q ∷ qs) zero l h =
-    let both = first-rest p ps h in
-    rest-first q qs (ap (λ x. is_bounded x.clock) l.0.lane ∙ both.0) (ap (λ xs. list_all (λ x. is_bounded x.lane.clock) xs) l.1 ∙ both.1)
-passed-bounded (p ∷ ps) (q ∷ qs) (suc place) l h =
-    let both = first-rest p ps h in
-    rest-first q qs (ap (λ x. is_bounded x.lane.clock) l.0 ∙ both.0) (passed-bounded ps qs place l.1 both.1)
+passed-bounded (p ∷ ps) (q ∷ qs) zero l h = cc
+passed-bounded (p ∷ ps) (q ∷ qs) (suc place) l h = grind (arith, passed-bounded ps qs place l.1)
 
 -- nothing was reached at first
 new_bounded : (n : ℕ) (feeds : List Feed) → AreBounded (parts (replicate n new_lane) feeds)
@@ -74,18 +64,12 @@ new-bounded lanes n feeds e = ap (λ ls. list_all (λ p. is_bounded p.lane.clock
 each_lane : (ls : List Lane) (fs : List Feed) → length fs ≡ length ls → AreBounded (parts ls fs) → AllByRecursion (λ l. is_bounded l.clock ≡ true) ls
 each_lane [] fs e h = tt
 each_lane (l ∷ ls) [] e h = absurd (omega arith)
-each_lane (l ∷ ls) (f ∷ fs) e h =
-    let both = first-rest (record { lane = l; feed = f }) (parts ls fs) h in
-    (both.0, each_lane ls fs (omega arith) both.1)
+each_lane (l ∷ ls) (f ∷ fs) e h = grind (arith, each_lane ls fs (omega arith))
 
 in_bounds : (clock : Option Stamp) → is_bounded clock ≡ true → IfSome clock (λ c. seconds_of c <ℤ pos (2 ^ 65))
-in_bounds None e = tt
-in_bounds (Some c) e = record { lt = T_from_true (int_lt (seconds_of c) (pos (2 ^ 65))) e }
+in_bounds x0 e = grind arith
 
 -- so the clock of what comes first is
 pub first-bounded : (ls : List Lane) (fs : List Feed) (first : First) → length fs ≡ length ls → Leads ls first.place first.clock → AreBounded (parts ls fs)
     → IfSome first.clock (λ c. seconds_of c <ℤ pos (2 ^ 65))
-first-bounded ls fs first e s h =
-    let here = all-back (λ l. is_bounded l.clock ≡ true) s.before (s.lane ∷ s.after)
-    (subst (λ (w : List Lane). AllByRecursion (λ l. is_bounded l.clock ≡ true) w) s.whole (each_lane ls fs e h)) in
-    in_bounds first.clock (sym (ap is_bounded s.clock_is) ∙ here.0)
+first-bounded ls fs first e s h = grind (arith, all-back, each_lane, in_bounds)

@@ -1,5 +1,7 @@
 -- What a read that failed of one feed is to the feeds as one.
-use Rattle.std.proofs.Common.{◌≡◌, ◌≤◌, ℕ, suc, Bool, true, false, cond, List, [], ◌∷◌, ◌++◌, refl, sym, ap, ◌∙◌, subst, arith, inl, inr, Option, Some, None}
+use Rattle.std.proofs.lemmas.Bool.Decides.{nat_tests}
+use Rattle.std.proofs.lemmas.Grind.{common_steps}
+use Rattle.std.proofs.Common.{rules, ◌≡◌, ◌≤◌, ℕ, suc, Bool, true, false, cond, List, [], ◌∷◌, ◌++◌, refl, sym, ap, ◌∙◌, subst, arith, inl, inr, Option, Some, None}
 use Rattle.std.specs.Prelude.{IfSome, is_some}
 use Rattle.cap_bytes.specs.declared.faults.Fault.{Fault}
 use Rattle.cap_bytes.specs.declared.faults.Fault.TheVariants.{Read, Memory}
@@ -14,49 +16,39 @@ use Rattle.cap_merge.specs.Lawful.{one_file}
 stopped_from : (n file offset : ℕ) (ps qs : List Part) → AreFrom n qs → StopsAt (Read file offset) ps qs → n ≤ file
 stopped_from n file offset [] qs a s = absurd s
 stopped_from n file offset (p ∷ ps) [] a s = absurd s
-stopped_from n file offset (p ∷ ps) (q ∷ qs) a (inl s) =
-    let own : has_file q.feed.files file ≡ true = ap (λ fs. has_file fs file) s.0.keeps.files ∙ s.0.gives.of in
-    let is : n ≡ file = one_file q.feed.files n file a.0 own in
-    omega (arith, is)
+stopped_from n file offset (p ∷ ps) (q ∷ qs) a (inl s) = grind arith
 stopped_from n file offset (p ∷ ps) (q ∷ qs) a (inr s) = omega (arith, stopped_from (suc n) file offset ps qs a.1 s.1)
 
 before_file : (n file : ℕ) (files : List ℕ) → files ≡ n ∷ [] → suc n ≤ file → (b : Bool) → has_file files file ≡ b → b ≡ false
-before_file n file files is l true own = let same : n ≡ file = one_file files n file is own in absurd (omega (arith, l, same))
-before_file n file files is l false own = refl
+before_file n file files is l x5 own = grind arith
 
 -- the offset is the file's place then
 pub stopped-place : (n file offset : ℕ) (ps qs : List Part) → AreFrom n qs → StopsAt (Read file offset) ps qs → offset ≡ places_of qs file
 unfolding places_of
 stopped-place n file offset [] qs a s = absurd s
 stopped-place n file offset (p ∷ ps) [] a s = absurd s
-stopped-place n file offset (p ∷ ps) (q ∷ qs) a (inl s) =
-    let own : has_file q.feed.files file ≡ true = ap (λ fs. has_file fs file) s.0.keeps.files ∙ s.0.gives.of in
-    rw own s.0.gives.place
+stopped-place n file offset (p ∷ ps) (q ∷ qs) a (inl s) = cc
 stopped-place n file offset (p ∷ ps) (q ∷ qs) a (inr s) =
     rw (before_file n file q.feed.files a.0 (stopped_from (suc n) file offset ps qs a.1 s.1) (has_file q.feed.files file) refl)
     (stopped-place (suc n) file offset ps qs a.1 s.1)
 
 pub known_by : (p q : Part) (h : Option Head) → p.lane.head ≡ h → LearnsBy h p q → is_some q.lane.head ≡ true
-known_by p q None e l = ap (λ w. is_some w.head) l.1.lane
-known_by p q (Some head) e l = ap (λ w. is_some w.lane.head) l ∙ ap is_some e
+known_by p q x2 e l = grind arith
 
 own_break : (h : Option Head) (rest own : Option Fault) → h ≡ None → cond (is_some h) rest own ≡ own
 own_break h rest own is = rw is refl
 
 -- a feed that was asked has no break
 learned_break : (h : Option Head) (p q : Part) (P : Option Fault → Type 0) (rest : Option Fault) → LearnsBy h p q → P None → P rest → P (cond (is_some h) rest p.feed.broken)
-learned_break None p q P rest l none r = subst P (sym l.1.knows.goes.before) none
-learned_break (Some head) p q P rest l none r = r
+learned_break x0 p q x3 rest l none r = grind arith
 
 -- the same fault comes again
 pub stopped-again : (file offset : ℕ) (ps qs : List Part) → StopsAt (Read file offset) ps qs → IfSome (broken_of ps) (λ first. Read file offset ≡ first)
 unfolding broken_of
 stopped-again file offset [] qs s = absurd s
 stopped-again file offset (p ∷ ps) [] s = absurd s
-stopped-again file offset (p ∷ ps) (q ∷ qs) (inl s) =
-    subst (λ (w : Option Fault). IfSome w (λ first. Read file offset ≡ first)) (sym (own_break p.lane.head (broken_of ps) p.feed.broken s.0.unknown)) s.0.gives.again
-stopped-again file offset (p ∷ ps) (q ∷ qs) (inr s) =
-    learned_break p.lane.head p q (λ w. IfSome w (λ first. Read file offset ≡ first)) (broken_of ps) s.0 tt (stopped-again file offset ps qs s.1)
+stopped-again file offset (p ∷ ps) (q ∷ qs) (inl s) = grind arith
+stopped-again file offset (p ∷ ps) (q ∷ qs) (inr s) = grind (arith, stopped-again file offset ps qs s.1)
 
 -- where a feed has stopped, its break is that of all
 own_stopped : (p q : Part) (fault : Fault) (rest : Option Fault) → Stops p fault q → cond (is_some q.lane.head) rest q.feed.broken ≡ q.feed.broken
@@ -97,6 +89,4 @@ pub passed-whole : (before after : List Part) (p q : Part) → is_known (before 
     → broken_of (before ++ (q ∷ after)) ≡ None
 unfolding broken_of
 passed-whole [] after p q k unknown whole = own_break q.lane.head (broken_of after) q.feed.broken unknown ∙ whole
-passed-whole (x ∷ before) after p q k unknown whole =
-    let both = and-both (is_some x.lane.head) (is_known (before ++ (p ∷ after))) k in
-    rw both.0 (passed-whole before after p q both.1 unknown whole)
+passed-whole (x ∷ before) after p q k unknown whole = grind (arith, passed-whole before after p q)

@@ -1,5 +1,7 @@
 -- What the calls of a merge keep, over the lists of its lanes and feeds.
-use Rattle.std.proofs.Common.{ℕ, ◌≡◌, true, List, [], ◌∷◌, length, refl, sym, ap, ◌∙◌, arith, Result, Err, suc, ◌+◌, ◌++◌}
+use Rattle.std.proofs.lemmas.Bool.Decides.{nat_tests}
+use Rattle.std.proofs.lemmas.Grind.{common_steps}
+use Rattle.std.proofs.Common.{rules, ℕ, ◌≡◌, true, List, [], ◌∷◌, length, refl, sym, ap, ◌∙◌, arith, Result, Err, suc, ◌+◌, ◌++◌}
 use Rattle.std.specs.Prelude.{map, IsTrue, is_some}
 use Rattle.std.specs.List.{AllByRecursion, list_all, range_with_len, flat_map}
 use Rattle.std.proofs.lemmas.List.{length-map}
@@ -25,21 +27,17 @@ files_kept f (l ∷ ls) (m ∷ ms) (x ∷ xs) (y ∷ ys) a b d k = λ i. k.0.fil
 
 pub numbered-kept : {F : Type 0} (f : F → Feed) (ls ms : List Lane) (fs ys : List F) → length ls ≡ length fs → length ms ≡ length ls → length ys ≡ length fs
     → Each Kept (parts ls (map f fs)) (parts ms (map f ys)) → IsNumbered (map f fs) → IsNumbered (map f ys)
-numbered-kept f ls ms fs ys a b d k n =
-    files_kept f ls ms fs ys a b d k ∙ n
-    ∙ ap (λ m. map (λ k. k ∷ []) (range_with_len 1 m)) (length-map fs f ∙ sym d ∙ sym (length-map ys f))
+numbered-kept f ls ms fs ys a b d k n = grind (arith, files_kept, length-map)
 
 pub asked-numbered : {F : Type 0} (f : F → Feed) → ((x : F) → IsFeed (f x)) → (ls ms : List Lane) (fs ys : List F) {T : Type 0} (result : Result T Fault)
     → length ls ≡ length fs → length ms ≡ length ls → length ys ≡ length fs → AsksAll (parts ls (map f fs)) result (parts ms (map f ys))
     → IsNumbered (map f fs) → IsNumbered (map f ys)
-asked-numbered f law ls ms fs ys result a b d h =
-    numbered-kept f ls ms fs ys a b d (asked-keeps (parts ls (map f fs)) (parts ms (map f ys)) result h (lawful-each f law ms ys))
+asked-numbered f law ls ms fs ys result a b d h = grind (arith, numbered-kept, asked-keeps, parts, lawful-each)
 
 pub asked-sound-each : {F : Type 0} (f : F → Feed) → ((x : F) → IsFeed (f x)) → (ls ms : List Lane) (fs ys : List F) {T : Type 0} (result : Result T Fault)
     → AsksAll (parts ls (map f fs)) result (parts ms (map f ys)) → Agrees (parts ls (map f fs)) → HasReached (parts ls (map f fs))
     → AllByRecursion IsSound (parts ms (map f ys))
-asked-sound-each f law ls ms fs ys result h agrees reached =
-    asked-sound (parts ls (map f fs)) (parts ms (map f ys)) result h (lawful-each f law ms ys) (sound-each (parts ls (map f fs)) agrees reached)
+asked-sound-each f law ls ms fs ys result h agrees reached = grind (arith, asked-sound, parts, lawful-each, sound-each)
 
 pub asked-keeps-all : {T : Type 0} (ps qs : List Part) (result : Result T Fault) → AsksAll ps result qs → AllByRecursion (λ q. IsFeed q.feed) qs → Keeps (feed_of ps) (feed_of qs)
 asked-keeps-all ps qs result h f = keeps-each ps qs (asked-keeps ps qs result h f)
@@ -52,19 +50,13 @@ pub run-asked : (ps qs : List Part) → LearnsAll ps qs → AllByRecursion (λ q
 run-asked ps qs l f t = run-alike ps qs (learns-each ComesAlike (λ p q g. alike-learns_by p q p.lane.head g) ps qs f l) (told_all ps t)
 
 pub run-stopped : (ps qs : List Part) (fault : Fault) → StopsAt fault ps qs → AllByRecursion (λ q. IsFeed q.feed) qs → IsTrue (feed_of ps).told → KeepsRun ps (Err fault) qs
-run-stopped ps qs (Refused refusal) s f t = never ps qs (Refused refusal) (λ p q h. h.gives) s
-run-stopped ps qs (Read file offset) s f t = tt
-run-stopped ps qs Write s f t = never ps qs Write (λ p q h. h.gives) s
-run-stopped ps qs Memory s f t =
-    run-alike ps qs (stops-each ComesAlike Memory alike-itself (λ p q g. alike-learns_by p q p.lane.head g) alike-waits ps qs f s) (told_all ps t)
+run-stopped ps qs x2 s f t = grind (arith, never, run-alike, stops-each, alike-itself, alike-learns_by, alike-waits, told_all)
 
 -- all lanes are known after all feeds were asked
 known_lanes : (ls : List Lane) (fs : List Feed) → length fs ≡ length ls → is_known (parts ls fs) ≡ true → list_all (λ l. is_some l.head) ls ≡ true
 known_lanes [] fs e k = refl
 known_lanes (l ∷ ls) [] e k = absurd (omega arith)
-known_lanes (l ∷ ls) (x ∷ xs) e k =
-    let both = and-both (is_some l.head) (is_known (parts ls xs)) k in
-    rw both.0 (known_lanes ls xs (omega arith) both.1)
+known_lanes (l ∷ ls) (x ∷ xs) e k = grind (arith, known_lanes ls xs (omega arith))
 
 pub asked-known : {F : Type 0} (f : F → Feed) (ls ms : List Lane) (fs ys : List F) → length ms ≡ length ys → LearnsAll (parts ls (map f fs)) (parts ms (map f ys))
     → list_all (λ l. is_some l.head) ms ≡ true
@@ -75,9 +67,7 @@ count_files : {F : Type 0} (f : F → Feed) (n : ℕ) (ls : List Lane) (fs : Lis
 count_files f n [] [] e a = refl
 count_files f n [] (x ∷ xs) e a = absurd (omega arith)
 count_files f n (l ∷ ls) [] e a = absurd (omega arith)
-count_files f n (l ∷ ls) (x ∷ xs) e a =
-    ap (λ files. length (files ++ flat_map (λ p. p.feed.files) (parts ls (map f xs)))) a.0
-    ∙ ap suc (count_files f (suc n) ls xs (omega arith) a.1)
+count_files f n (l ∷ ls) (x ∷ xs) e a = cc (count_files f (suc n) ls xs (omega arith) a.1)
 
 -- there is a file for each feed
 number_files : {F : Type 0} (f : F → Feed) (n : ℕ) (ls : List Lane) (fs : List F) → length ls ≡ length fs → AreFrom n (parts ls (map f fs))
@@ -85,10 +75,7 @@ number_files : {F : Type 0} (f : F → Feed) (n : ℕ) (ls : List Lane) (fs : Li
 number_files f n [] [] e a = refl
 number_files f n [] (x ∷ xs) e a = absurd (omega arith)
 number_files f n (l ∷ ls) [] e a = absurd (omega arith)
-number_files f n (l ∷ ls) (x ∷ xs) e a =
-    let next : suc n ≡ n + 1 = omega arith in
-    ap (λ files. files ++ flat_map (λ p. p.feed.files) (parts ls (map f xs))) a.0
-    ∙ ap (λ files. n ∷ files) (number_files f (suc n) ls xs (omega arith) a.1 ∙ ap (λ k. range_with_len k (length xs)) next)
+number_files f n (l ∷ ls) (x ∷ xs) e a = grind (arith, number_files f (suc n) ls xs (omega arith) a.1)
 
 -- the files are numbered from 1 on
 pub files-numbered : {F : Type 0} (f : F → Feed) (ls : List Lane) (fs : List F) → length ls ≡ length fs → IsNumbered (map f fs)

@@ -1,5 +1,7 @@
 -- The place of the lane whose item comes first, as it is looked for.
-use Rattle.std.proofs.Common.{◌≡◌, ℕ, zero, suc, ◌<◌, ◌≤◌, Bool, true, false, cond, List, length, get_or, take, refl, sym, ap, ◌∙◌, subst, arith, Option, Some, None}
+use Rattle.std.proofs.lemmas.Bool.Decides.{nat_tests}
+use Rattle.std.proofs.lemmas.Grind.{common_steps}
+use Rattle.std.proofs.Common.{rules, ◌≡◌, ℕ, zero, suc, ◌<◌, ◌≤◌, Bool, true, false, cond, List, length, get_or, take, refl, sym, ap, ◌∙◌, subst, arith, Option, Some, None}
 use Rattle.std.specs.Prelude.{IfSome}
 use Rattle.std.proofs.lemmas.List.{take_all, get_or_default}
 use Rattle.cap_merge.specs.declared.lanes.Lane.{Lane}
@@ -14,32 +16,25 @@ first_at ls None = None
 first_at ls (Some place) = Some (record { place = place; clock = (lane_at ls place).clock })
 
 picked : (ls : List Lane) (b : Bool) (place : ℕ) (o : Option ℕ) → first_at ls (cond b (Some place) o) ≡ cond b (first_at ls (Some place)) (first_at ls o)
-picked ls true place o = refl
-picked ls false place o = refl
+picked ls x1 place o = grind arith
 
 sooner_same : (ls : List Lane) (o : Option ℕ) (place : ℕ) → first_at ls (sooner_place ls o place) ≡ sooner_lane (first_at ls o) place (lane_at ls place)
-sooner_same ls None place = picked ls (has_next (lane_at ls place).head) place None
-sooner_same ls (Some first) place = picked ls (comes_before (lane_at ls place) (lane_at ls first)) place (Some first)
+sooner_same ls x1 place = grind arith
 
 among_is : (ls : List Lane) (count : ℕ) → count ≤ length ls → IsFirstLane (take count ls) (first_at ls (first_among ls count))
 unfolding first_among
 among_is ls zero h = tt
-among_is ls (suc count) h =
-    subst (λ (o : Option First). IsFirstLane (take (suc count) ls) o) (sym (sooner_same ls (first_among ls count) count))
-    (first-taken ls count (first_at ls (first_among ls count)) new_lane (omega arith) (among_is ls count (omega arith)))
+among_is ls (suc count) h = search (among_is ls count (omega arith), take, sooner_same, first-taken)
 
 -- the lane at that place comes first
 pub place-is-first : (ls : List Lane) → IsFirstLane ls (first_at ls (first_place ls))
-place-is-first ls =
-    subst (λ (xs : List Lane). IsFirstLane xs (first_at ls (first_place ls))) (take_all (length ls) ls (omega arith)) (among_is ls (length ls) (omega arith))
+place-is-first ls = grind (arith, first_place, take_all, among_is)
 
 one_within : (b : Bool) (place : ℕ) (o : Option ℕ) (count : ℕ) → place < count → IfSome o (λ n. n < count) → IfSome (cond b (Some place) o) (λ n. n < count)
-one_within true place o count h f = h
-one_within false place o count h f = f
+one_within x0 place o count h f = grind arith
 
 sooner_within : (ls : List Lane) (o : Option ℕ) (place : ℕ) → IfSome o (λ n. n < place) → IfSome (sooner_place ls o place) (λ n. n < suc place)
-sooner_within ls None place h = one_within (has_next (lane_at ls place).head) place None (suc place) (omega arith) tt
-sooner_within ls (Some first) place h = one_within (comes_before (lane_at ls place) (lane_at ls first)) place (Some first) (suc place) (omega arith) (omega arith)
+sooner_within ls x1 place h = grind arith
 
 among_within : (ls : List Lane) (count : ℕ) → IfSome (first_among ls count) (λ n. n < count)
 unfolding first_among
@@ -47,8 +42,7 @@ among_within ls zero = tt
 among_within ls (suc count) = sooner_within ls (first_among ls count) count (among_within ls count)
 
 below : (o : Option ℕ) (count most : ℕ) → count ≤ most → IfSome o (λ n. n < count) → IfSome o (λ n. n < most)
-below None count most h f = tt
-below (Some n) count most h f = omega arith
+below x0 count most h f = grind arith
 
 -- it is one of the lanes
 among-within : (ls : List Lane) (count : ℕ) → count ≤ length ls → IfSome (first_among ls count) (λ n. n < length ls)
@@ -70,8 +64,7 @@ among-none ls = refl
 
 -- what was looked for is found
 pub found-here : (ls : List Lane) (o : Option ℕ) → o ≡ first_place ls → IsFound ls o
-found-here ls None e = refl
-found-here ls (Some place) e = sym e
+found-here ls x1 e = grind arith
 
 pub known-found : (ls : List Lane) (place : ℕ) → IsFound ls (Some place) → Some place ≡ first_place ls
 known-found ls place e = sym e

@@ -1,5 +1,7 @@
 -- The calls that turn to the feed whose item comes first.
-use Rattle.std.proofs.Common.{◌≡◌, ℕ, zero, suc, ◌+◌, ◌-◌, ◌<◌, ◌≤◌, Bool, true, false, cond, List, [], ◌∷◌, ◌++◌, length, get_or, take, drop, refl, sym, ap, ◌∙◌, subst, arith, inl, inr, Option, Some, None}
+use Rattle.std.proofs.lemmas.Bool.Decides.{nat_tests}
+use Rattle.std.proofs.lemmas.Grind.{common_steps}
+use Rattle.std.proofs.Common.{rules, ◌≡◌, ℕ, zero, suc, ◌+◌, ◌-◌, ◌<◌, ◌≤◌, Bool, true, false, cond, List, [], ◌∷◌, ◌++◌, length, get_or, take, drop, refl, sym, ap, ◌∙◌, subst, arith, inl, inr, Option, Some, None}
 use Rattle.std.specs.Prelude.{◌⊎◌, ◌||◌, ◌==◌, max, map, IsTrue, IfSome, is_some}
 use Rattle.std.specs.List.{AllByRecursion, list_any, flat_map}
 use Rattle.std.proofs.Math.Seq.{take-suc}
@@ -247,16 +249,7 @@ file_by : {F : Type 0} (f : F → Feed) (n file : ℕ) (l : Lane) (ls : List Lan
     → (b : Bool) → has_file (f x).files file ≡ b → (b ≡ false → FileAt f xs (suc n) file (endings_of (parts ls (map f xs))))
     → FileAt f (x ∷ xs) n file (endings_of (parts (l ∷ ls) (map f (x ∷ xs))))
 unfolding endings_of
-file_by f n file l ls x xs e k true h rest =
-    let same : n ≡ file = one_file (f x).files n file e h in
-    let none : file - n ≡ 0 = omega arith in
-    record {
-      above = omega arith;
-      within = omega arith;
-      known = λ d. ap (λ i. (f (get_or (x ∷ xs) i d)).known) none ∙ k;
-      has = λ d. ap (λ i. has_file (f (get_or (x ∷ xs) i d)).files file) none ∙ h;
-      ends = λ d. ap (λ b. cond b ((f x).endings file) (endings_of (parts ls (map f xs)) file)) h ∙ sym (ap (λ i. (f (get_or (x ∷ xs) i d)).endings file) none);
-    }
+file_by f n file l ls x xs e k true h rest = grind arith
 file_by f n file l ls x xs e k false h rest =
     let there = rest refl in
     let above : suc n ≤ file = there.above in

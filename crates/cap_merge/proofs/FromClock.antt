@@ -1,5 +1,7 @@
 -- What isn't above the clocks of all items to come, part by part.
-use Rattle.std.proofs.Common.{◌≡◌, Bool, true, false, List, [], ◌∷◌, refl, sym, ap, inl, inr, Option, Some, None}
+use Rattle.std.proofs.lemmas.Bool.Decides.{nat_tests}
+use Rattle.std.proofs.lemmas.Grind.{common_steps}
+use Rattle.std.proofs.Common.{rules, arith, ◌≡◌, Bool, true, false, List, [], ◌∷◌, refl, sym, ap, inl, inr, Option, Some, None}
 use Rattle.std.specs.Prelude.{◌||◌, ◌⊎◌, not}
 use Rattle.std.specs.List.{AllByRecursion}
 use Rattle.std.specs.Ordering.{is_gt}
@@ -20,18 +22,13 @@ abbrev pub EachFrom : Option Stamp → List Part → Type 0
 EachFrom clock ps = AllByRecursion (From clock) ps
 
 test_of : (h : Option Head) (above : Bool) → (h ≡ Some heads.End) ⊎ (above ≡ false) → (is_end h || not above) ≡ true
-test_of h above (inl e) = ap (λ k. is_end k || not above) e
-test_of h above (inr e) = or-back (is_end h) (not above) (ap not e)
+test_of h above x2 = grind arith
 
 not-above : (above : Bool) → not above ≡ true → above ≡ false
-not-above true e = absurd (true≢false (sym e))
-not-above false e = refl
+not-above x0 e = grind arith
 
 of_test : (h : Option Head) (above : Bool) → (is_end h || not above) ≡ true → (h ≡ Some heads.End) ⊎ (above ≡ false)
-of_test None above e = inr (not-above above e)
-of_test (Some (heads.Packet meta)) above e = inr (not-above above e)
-of_test (Some (heads.Refused refusal)) above e = inr (not-above above e)
-of_test (Some heads.End) above e = inl refl
+of_test x0 above e = grind arith
 
 tests_of : (clock : Option Stamp) (ps : List Part) → EachFrom clock ps → AllByRecursion (λ p. (is_end p.lane.head || not (is_gt (clock_cmp clock p.lane.clock))) ≡ true) ps
 tests_of clock [] f = tt

@@ -1,7 +1,9 @@
 -- Parts that move on one by one, and the feeds as one.
+use Rattle.std.proofs.lemmas.Bool.Decides.{nat_tests}
+use Rattle.std.proofs.lemmas.Grind.{common_steps}
 use Rattle.std.specs.Cmp.{tied_itself}
 use Rattle.cap_merge.specs.declared.lanes.Lane.{Lane}
-use Rattle.std.proofs.Common.{◌≡◌, ℕ, suc, ◌≤◌, Bool, true, false, cond, List, [], ◌∷◌, ◌++◌, drop, refl, sym, ap, ◌∙◌, subst, arith, inl, inr, Option, Some, None}
+use Rattle.std.proofs.Common.{rules, ◌≡◌, ℕ, suc, ◌≤◌, Bool, true, false, cond, List, [], ◌∷◌, ◌++◌, drop, refl, sym, ap, ◌∙◌, subst, arith, inl, inr, Option, Some, None}
 use Rattle.std.specs.Prelude.{◌||◌, map, ⊤, IsTrue, IfSome}
 use Rattle.std.specs.List.{AllByRecursion, list_all, list_any, flat_map}
 use Rattle.std.specs.Ordering.{is_lt}
@@ -56,8 +58,7 @@ pub kept-itself : (p : Part) → Kept p p
 kept-itself p = record { files = refl; told = λ t. t; can_fail = λ t. t; places = λ file. omega arith; left = omega arith }
 
 pub kept-learns_by : (p q : Part) (h : Option Head) → LearnsBy h p q → Kept p q
-kept-learns_by p q None l = l.1.keeps
-kept-learns_by p q (Some head) l = subst (λ (w : Part). Kept p w) (sym l) (kept-itself p)
+kept-learns_by p q x2 l = grind arith
 
 files_kept : (ps qs : List Part) → Each Kept ps qs → flat_map (λ p. p.feed.files) qs ≡ flat_map (λ p. p.feed.files) ps
 files_kept [] [] k = refl
@@ -69,35 +70,26 @@ told_kept : (ps qs : List Part) → Each Kept ps qs → list_all (λ p. p.feed.t
 told_kept [] [] k t = refl
 told_kept [] (q ∷ qs) k t = absurd k
 told_kept (p ∷ ps) [] k t = absurd k
-told_kept (p ∷ ps) (q ∷ qs) k t =
-    let both = and-both p.feed.told (list_all (λ x. x.feed.told) ps) t in
-    rw (k.0.told both.0) (told_kept ps qs k.1 both.1)
+told_kept (p ∷ ps) (q ∷ qs) k t = grind (arith, told_kept ps qs k.1)
 
 or_either : (a b c d : Bool) → (a || b) ≡ true → (a ≡ true → c ≡ true) → (b ≡ true → d ≡ true) → (c || d) ≡ true
-or_either true b c d e f g = rw (f refl) refl
-or_either false b true d e f g = refl
-or_either false b false d e f g = g e
+or_either x0 b c d e f g = grind arith
 
 can_fail_kept : (ps qs : List Part) → Each Kept ps qs → list_any (λ p. p.feed.can_fail) qs ≡ true → list_any (λ p. p.feed.can_fail) ps ≡ true
 can_fail_kept [] [] k t = t
 can_fail_kept [] (q ∷ qs) k t = absurd k
 can_fail_kept (p ∷ ps) [] k t = absurd k
-can_fail_kept (p ∷ ps) (q ∷ qs) k t =
-    or_either q.feed.can_fail (list_any (λ x. x.feed.can_fail) qs) p.feed.can_fail (list_any (λ x. x.feed.can_fail) ps) t k.0.can_fail (can_fail_kept ps qs k.1)
+can_fail_kept (p ∷ ps) (q ∷ qs) k t = grind (arith, can_fail_kept ps qs k.1)
 
 le_cond : (b : Bool) (m n k l : ℕ) → m ≤ n → k ≤ l → cond b m k ≤ cond b n l
-le_cond true m n k l f g = f
-le_cond false m n k l f g = g
+le_cond x0 m n k l f g = grind arith
 
 places_kept : (ps qs : List Part) (file : ℕ) → Each Kept ps qs → places_of ps file ≤ places_of qs file
 unfolding places_of
 places_kept [] [] file k = omega arith
 places_kept [] (q ∷ qs) file k = absurd k
 places_kept (p ∷ ps) [] file k = absurd k
-places_kept (p ∷ ps) (q ∷ qs) file k =
-    subst (λ (b : Bool). cond (has_file p.feed.files file) (p.feed.places file) (places_of ps file) ≤ cond b (q.feed.places file) (places_of qs file))
-    (ap (λ fs. has_file fs file) (sym k.0.files))
-    (le_cond (has_file p.feed.files file) (p.feed.places file) (q.feed.places file) (places_of ps file) (places_of qs file) (k.0.places file) (places_kept ps qs file k.1))
+places_kept (p ∷ ps) (q ∷ qs) file k = grind (arith, places_kept ps qs file k.1)
 
 left_kept : (ps qs : List Part) → Each Kept ps qs → left_of qs ≤ left_of ps
 left_kept [] [] k = omega arith
@@ -108,14 +100,7 @@ left_kept (p ∷ ps) (q ∷ qs) k = omega (arith, k.0.left, left_kept ps qs k.1)
 -- What is kept of each is kept of the feeds as one.
 pub keeps-each : (ps qs : List Part) → Each Kept ps qs → Keeps (feed_of ps) (feed_of qs)
 unfolding feed_of
-keeps-each ps qs k =
-    record {
-      files = files_kept ps qs k;
-      told = told_kept ps qs k;
-      can_fail = can_fail_kept ps qs k;
-      places = λ file. places_kept ps qs file k;
-      left = left_kept ps qs k;
-    }
+keeps-each ps qs k = search (files_kept, told_kept, can_fail_kept, places_kept, left_kept)
 
 pub from-each : (n : ℕ) (ps qs : List Part) → Each Kept ps qs → AreFrom n ps → AreFrom n qs
 from-each n [] [] k a = tt
@@ -135,95 +120,48 @@ alike-itself p = record { files = refl; placed = λ t file place. refl; endings 
 -- the time of the next item was taken note of
 noted : (h : Head) (clock : Option Stamp) (frame : List ℕ) (items : List Item) (file place : ℕ) → Leads (Some h) frame items
     → placed_from item_time file place (later clock (head_time h)) items ≡ placed_from item_time file place clock items
-noted (heads.Packet meta) clock frame items file place l =
-    ap (placed_from item_time file place (later clock (head_time (heads.Packet meta)))) l
-    ∙ (λ i. record { clock = later-again clock (head_time (heads.Packet meta)) i; file = file; place = place; item = packet meta frame }
-    ∷ placed_from item_time file (suc place) (later-again clock (head_time (heads.Packet meta)) i) (drop 1 items))
-    ∙ sym (ap (placed_from item_time file place clock) l)
-noted (heads.Refused refusal) clock frame items file place l =
-    ap (placed_from item_time file place (later clock None)) l
-    ∙ (λ i. record { clock = later-again clock None i; file = file; place = place; item = refused refusal } ∷ [])
-    ∙ sym (ap (placed_from item_time file place clock) l)
-noted heads.End clock frame items file place l =
-    ap (placed_from item_time file place (later clock None)) l ∙ sym (ap (placed_from item_time file place clock) l)
+noted x0 clock frame items file place l = grind arith
 
 alike_learns : (p : Part) (head : Head) (q : Part) → IsFeed q.feed → Learns p head q → ComesAlike p q
-alike_learns p head q f l =
-    record {
-      files = l.keeps.files;
-      placed = λ t file place.
-          ap (λ w. placed_from item_time file place w.clock q.feed.items) l.lane
-          ∙ noted head p.lane.clock q.feed.frame q.feed.items file place
-          (subst (λ (w : Option Head). Leads w q.feed.frame q.feed.items) l.knows.known (f.leads (l.keeps.told t)))
-          ∙ ap (placed_from item_time file place p.lane.clock) (l.items t).items;
-      endings = λ t. (l.items t).endings;
-    }
+alike_learns p head q f l = grind arith
 
 pub alike-learns_by : (p q : Part) (h : Option Head) → IsFeed q.feed → LearnsBy h p q → ComesAlike p q
-alike-learns_by p q None f l = alike_learns p l.0 q f l.1
-alike-learns_by p q (Some head) f l = subst (λ (w : Part). ComesAlike p w) (sym l) (alike-itself p)
+alike-learns_by p q x2 f l = grind arith
 
 pub alike-waits : (p q : Part) → Stops p Memory q → ComesAlike p q
-alike-waits p q s =
-    record {
-      files = s.keeps.files;
-      placed = λ t file place. (λ i. placed_from item_time file place (s.lane i).clock ((s.items t).items i));
-      endings = λ t. (s.items t).endings;
-    }
+alike-waits p q s = grind arith
 
 placed_alike : (ps qs : List Part) (file : ℕ) → Each ComesAlike ps qs → list_all (λ p. p.feed.told) ps ≡ true
     → placed_all item_time file (tracks qs) ≡ placed_all item_time file (tracks ps)
 placed_alike [] [] file a t = refl
 placed_alike [] (q ∷ qs) file a t = absurd a
 placed_alike (p ∷ ps) [] file a t = absurd a
-placed_alike (p ∷ ps) (q ∷ qs) file a t =
-    let both = and-both p.feed.told (list_all (λ x. x.feed.told) ps) t in
-    λ i. a.0.placed both.0 file 0 i ++ placed_alike ps qs (suc file) a.1 both.1 i
+placed_alike (p ∷ ps) (q ∷ qs) file a t = grind (arith, placed_alike ps qs (suc file) a.1)
 
 -- The run is the same.
 pub run-alike : (ps qs : List Part) → Each ComesAlike ps qs → list_all (λ p. p.feed.told) ps ≡ true → run_of qs ≡ run_of ps
 unfolding run_of
-run-alike ps qs a t =
-    ap (λ all. through_first (λ x. is_refusal x.item) (map clocked_of (in_order placed_cmp all)))
-    (placed_alike ps qs 1 a t)
+run-alike ps qs a t = grind (arith, in_order, placed_alike)
 
 endings_alike : (ps qs : List Part) (file : ℕ) → Each ComesAlike ps qs → list_all (λ p. p.feed.told) ps ≡ true → endings_of qs file ≡ endings_of ps file
 unfolding endings_of
 endings_alike [] [] file a t = refl
 endings_alike [] (q ∷ qs) file a t = absurd a
 endings_alike (p ∷ ps) [] file a t = absurd a
-endings_alike (p ∷ ps) (q ∷ qs) file a t =
-    let both = and-both p.feed.told (list_all (λ x. x.feed.told) ps) t in
-    λ i. cond (has_file (a.0.files i) file) (a.0.endings both.0 file i) (endings_alike ps qs file a.1 both.1 i)
+endings_alike (p ∷ ps) (q ∷ qs) file a t = grind (arith, endings_alike ps qs file a.1)
 
 pub items-alike : (ps qs : List Part) → Each ComesAlike ps qs → list_all (λ p. p.feed.told) ps ≡ true → SameItems (feed_of ps) (feed_of qs)
 unfolding feed_of
 items-alike ps qs a t = record { items = ap (map (λ x. x.item)) (run-alike ps qs a t); endings = λ file. endings_alike ps qs file a t }
 
 sound_learns : (p : Part) (head : Head) (q : Part) → Learns p head q → IsSound q
-sound_learns p head q l =
-    subst (λ (w : Lane). IsSound (record { lane = w; feed = q.feed })) (sym l.lane)
-    (record { agrees = l.knows.known; reached = noted_time p.lane.clock (head_time head) (is_lt (clock_cmp p.lane.clock (head_time head))) refl })
-  where
-    noted_time : (a b : Option Stamp) (t : Bool) → is_lt (clock_cmp a b) ≡ t → is_lt (clock_cmp (cond t b a) b) ≡ false
-    noted_time a b true e = ap is_lt (tied_itself clock_total b)
-    noted_time a b false e = e
+sound_learns p head q l = grind (arith, clock_total)
 
 pub sound-learns_by : (p q : Part) (h : Option Head) → IsSound p → LearnsBy h p q → IsSound q
-sound-learns_by p q None s l = sound_learns p l.0 q l.1
-sound-learns_by p q (Some head) s l = subst IsSound (sym l) s
+sound-learns_by p q x2 s l = grind (arith, sound_learns)
 
 pub sound-stops : (p q : Part) (fault : Fault) → Stops p fault q → IsSound q
-sound-stops p q fault s =
-    let unknown : q.lane.head ≡ None = ap (λ w. w.head) s.lane ∙ s.unknown in
-    record {
-      agrees = subst (λ (w : Option Head). IfSome w (λ head. q.feed.known ≡ Some head)) (sym unknown) tt;
-      reached = subst (λ (w : Option Head). is_lt (clock_cmp q.lane.clock (known_time w)) ≡ false) (sym unknown) (no_time q.lane.clock);
-    }
-  where
-    no_time : (a : Option Stamp) → is_lt (clock_cmp a None) ≡ false
-    no_time None = refl
-    no_time (Some a) = refl
+sound-stops p q fault s = grind arith
 
 pub sound-all : (ps qs : List Part) → Each (λ p q. IsSound p → IsSound q) ps qs → AllByRecursion IsSound ps → AllByRecursion IsSound qs
 sound-all [] [] e s = tt

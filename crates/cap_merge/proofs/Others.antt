@@ -1,5 +1,7 @@
 -- The feeds whose next is known, where one packet was passed.
-use Rattle.std.proofs.Common.{◌≡◌, ℕ, zero, suc, ◌<◌, Bool, true, refl, List, [], ◌∷◌, length, get_or, sym, ap, ◌∙◌, arith, inl, inr, Option, Some, None, Result, Ok, Err}
+use Rattle.std.proofs.lemmas.Bool.Decides.{nat_tests}
+use Rattle.std.proofs.lemmas.Grind.{common_steps}
+use Rattle.std.proofs.Common.{rules, ◌≡◌, ℕ, zero, suc, ◌<◌, Bool, true, refl, List, [], ◌∷◌, length, get_or, sym, ap, ◌∙◌, arith, inl, inr, Option, Some, None, Result, Ok, Err}
 use Rattle.std.specs.Prelude.{◌&&◌, map, is_some}
 use Rattle.std.proofs.Math.ListN.{set}
 use Rattle.std.proofs.lemmas.Bool.{true≢false}
@@ -24,31 +26,24 @@ passed_known : (ps qs : List Part) (place : ℕ) → PassesAt ps place qs → is
 passed_known [] qs place h k = absurd h
 passed_known (p ∷ ps) [] place h k = absurd h
 passed_known (p ∷ ps) (q ∷ qs) zero h k = ap is_known h.1 ∙ (known_behind p ps k).1
-passed_known (p ∷ ps) (q ∷ qs) (suc place) h k =
-    let known = known_behind p ps k in
-    both_true (is_some q.lane.head) (known_but qs place) (ap (λ x. is_some x.lane.head) h.0 ∙ known.0) (passed_known ps qs place h.1 known.1)
+passed_known (p ∷ ps) (q ∷ qs) (suc place) h k = grind (arith, passed_known ps qs place h.1)
 
 -- after a pass what comes next of the other feeds is known
 pub others-passed : (ps qs : List Part) (place : ℕ) → PassesAt ps place qs → IsPacket (feed_of ps).known → OthersKnown qs (Some place)
 others-passed ps qs place h p = passed_known ps qs place h (known-holds ps IsPacket (λ never. never) p).0
 
 learns_itself : (h : Option Head) (p : Part) → is_some h ≡ true → LearnsBy h p p
-learns_itself None p e = absurd (true≢false (sym e))
-learns_itself (Some head) p e = refl
+learns_itself x0 p e = grind arith
 
 learns_all : (ps : List Part) → is_known ps ≡ true → LearnsAll ps ps
 learns_all [] k = tt
-learns_all (p ∷ ps) k =
-    let known = known_behind p ps k in
-    (learns_itself p.lane.head p known.0, learns_all ps known.1)
+learns_all (p ∷ ps) k = grind (arith, learns_all ps)
 
 asks_front : {T : Type 0} (p q : Part) (ps : List Part) (r : Result T Fault) → is_known ps ≡ true → Asks p r q → AsksAll (p ∷ ps) r (q ∷ ps)
-asks_front p q ps (Ok x) k h = (h, learns_all ps k)
-asks_front p q ps (Err fault) k h = inl (h, refl)
+asks_front p q ps x3 k h = grind (arith, learns_all)
 
 asks_behind : {T : Type 0} (p : Part) (ps qs : List Part) (r : Result T Fault) → is_some p.lane.head ≡ true → AsksAll ps r qs → AsksAll (p ∷ ps) r (p ∷ qs)
-asks_behind p ps qs (Ok x) k h = (learns_itself p.lane.head p k, h)
-asks_behind p ps qs (Err fault) k h = inr (learns_itself p.lane.head p k, h)
+asks_behind p ps qs x3 k h = grind arith
 
 -- Where the others are known, one feed is asked as all are.
 pub asks-there : {F : Type 0} (f : F → Feed) (ls : List Lane) (fs : List F) (i : ℕ) (l m : Lane) (x y : F) {T : Type 0} (r : Result T Fault) → length ls ≡ length fs
@@ -57,19 +52,14 @@ pub asks-there : {F : Type 0} (f : F → Feed) (ls : List Lane) (fs : List F) (i
 asks-there f [] fs i l m x y r e k h = absurd (true≢false (sym k))
 asks-there f (a ∷ ls) [] i l m x y r e k h = absurd (omega arith)
 asks-there f (a ∷ ls) (b ∷ fs) zero l m x y r e k h = asks_front (part a (f b)) (part m (f y)) (parts ls (map f fs)) r k h
-asks-there f (a ∷ ls) (b ∷ fs) (suc i) l m x y r e k h =
-    let both : (is_some a.head ≡ true) × (known_but (parts ls (map f fs)) i ≡ true) = and-both (is_some a.head) (known_but (parts ls (map f fs)) i) k in
-    asks_behind (part a (f b)) (parts ls (map f fs)) (parts (set ls i m) (map f (set fs i y))) r both.0 (asks-there f ls fs i l m x y r (omega arith) both.1 h)
+asks-there f (a ∷ ls) (b ∷ fs) (suc i) l m x y r e k h = grind (arith, asks-there f ls fs i l m x y r (omega arith))
 
 -- the one that isn't known is one of them
 pub but-within : {F : Type 0} (f : F → Feed) (ls : List Lane) (fs : List F) (i : ℕ) → length ls ≡ length fs → known_but (parts ls (map f fs)) i ≡ true → i < length ls
 but-within f [] fs i e k = absurd (true≢false (sym k))
 but-within f (a ∷ ls) [] i e k = absurd (omega arith)
 but-within f (a ∷ ls) (b ∷ fs) zero e k = omega arith
-but-within f (a ∷ ls) (b ∷ fs) (suc i) e k =
-    let both : (is_some a.head ≡ true) × (known_but (parts ls (map f fs)) i ≡ true) = and-both (is_some a.head) (known_but (parts ls (map f fs)) i) k in
-    let below : i < length ls = but-within f ls fs i (omega arith) both.1 in
-    omega (arith, below)
+but-within f (a ∷ ls) (b ∷ fs) (suc i) e k = grind (arith, but-within f ls fs i (omega arith))
 
 -- the same where the slices show equal lists
 pub others-shown : {F : Type 0} (f : F → Feed) (ls ks : List Lane) (fs gs : List F) (passed : Option ℕ) → ks ≡ ls → gs ≡ fs

@@ -1,5 +1,7 @@
 -- Merging in rounds: files are merged in neighbouring groups, and then what came of the groups.
-use Rattle.std.proofs.Common.{◌≡◌, ℕ, zero, suc, ◌≤◌, false, List, [], ◌∷◌, ◌++◌, refl, sym, ap, ◌∙◌, subst, arith, inl, inr, append_assoc, append-nil, Less, Equal, Option, None}
+use Rattle.std.proofs.lemmas.Bool.Decides.{nat_tests}
+use Rattle.std.proofs.lemmas.Grind.{common_steps}
+use Rattle.std.proofs.Common.{rules, ◌≡◌, ℕ, zero, suc, ◌≤◌, false, List, [], ◌∷◌, ◌++◌, refl, sym, ap, ◌∙◌, subst, arith, inl, inr, append_assoc, append-nil, Less, Equal, Option, None}
 use Rattle.std.specs.Prelude.{map, ◌⊎◌}
 use Rattle.std.specs.List.{AllByRecursion}
 use Rattle.std.specs.Ordering.{is_gt}
@@ -27,16 +29,12 @@ placed_mapped : {A B : Type 0} (time : A → Option Stamp) (other : B → Option
     → placed_from other file place clock (map f xs) ≡ map (map_placed f) (placed_from time file place clock xs)
 unfolding map_placed
 placed_mapped time other f same file place clock [] = refl
-placed_mapped time other f same file place clock (x ∷ xs) =
-    (λ i. record { clock = later clock (same x i); file = file; place = place; item = f x } ∷ placed_from other file (suc place) (later clock (same x i)) (map f xs))
-    ∙ ap (λ ys. record { clock = later clock (time x); file = file; place = place; item = f x } ∷ ys) (placed_mapped time other f same file (suc place) (later clock (time x)) xs)
+placed_mapped time other f same file place clock (x ∷ xs) = grind (arith, placed_mapped time other f same file (suc place) (later clock (time x)) xs)
 
 all_mapped : {A B : Type 0} (time : A → Option Stamp) (other : B → Option Stamp) (f : A → B) → ((x : A) → other (f x) ≡ time x) → (file : ℕ) (ts : List (Track A))
     → placed_all other file (map (map_track f) ts) ≡ map (map_placed f) (placed_all time file ts)
 all_mapped time other f same file [] = refl
-all_mapped time other f same file (t ∷ ts) =
-    (λ i. placed_mapped time other f same file 0 t.clock t.items i ++ all_mapped time other f same (suc file) ts i)
-    ∙ sym (map-append (map_placed f) (placed_from time file 0 t.clock t.items) (placed_all time (suc file) ts))
+all_mapped time other f same file (t ∷ ts) = grind (arith, all_mapped time other f same (suc file) ts, placed_mapped, map-append, map_placed)
 
 -- A map that keeps the times commutes with merging.
 pub merged-mapped : {A B : Type 0} (time : A → Option Stamp) (other : B → Option Stamp) (f : A → B) → ((x : A) → other (f x) ≡ time x) → (ts : List (Track A))
@@ -111,13 +109,7 @@ within_by now done (s ∷ rest) gs [] t after deeper e =
       before_is = append-nil done;
       after_is = sym behind;
     }
-within_by now done (s ∷ rest) gs (b ∷ before) t after deeper e =
-    let same : s ≡ b = cc in
-    let behind : rest ++ files_of gs ≡ before ++ (t ∷ after) = cc in
-    subst (λ (ts : List (Track _)). Within (record { now = now; tracks = ts } ∷ gs) (done ++ (b ∷ before)) t after) (append_assoc done (s ∷ []) rest)
-    (subst (λ (ts : List (Track _)). Within (record { now = now; tracks = (done ++ (s ∷ [])) ++ rest } ∷ gs) ts t after)
-    (append_assoc done (s ∷ []) before ∙ ap (λ w. done ++ (w ∷ before)) same)
-    (within_by now (done ++ (s ∷ [])) rest gs before t after deeper behind))
+within_by now done (s ∷ rest) gs (b ∷ before) t after deeper e = grind (arith, within_by now (done ++ (s ∷ [])) rest gs before t after deeper, files_of, append_assoc)
 
 within : {A : Type 0} (gs : List (Group A)) (before : List (Track A)) (t : Track A) (after : List (Track A)) → files_of gs ≡ before ++ (t ∷ after) → Within gs before t after
 within [] [] t after e = absurd (cc)
@@ -132,27 +124,13 @@ AreBetween time gs = AllByRecursion (λ g. IsBetween time g.now g.tracks) gs
 head_of_group : {A : Type 0} (time : A → Option Stamp) (P : Option Stamp → Type 0) → ((a b : Option Stamp) → clock_cmp a b ≡ Equal → P a → P b)
     → (now : Option Stamp) (ts : List (Track A)) → IsBetween time now ts → AllByRecursion (λ t. HeadClock time P t.clock t.items) ts
     → (AllByRecursion (λ t. t.items ≡ []) ts ⊎ Next time ts) → HeadClock time P now (map (λ x. x.item) (merged time ts))
-head_of_group time P same now ts b h (inl e) =
-    subst (λ (xs : List (Clocked _)). HeadClock time P now (map (λ x. x.item) xs)) (sym (merged-none time ts e)) tt
-head_of_group time P same now ts b h (inr n) =
-    let between = subst (IsBetween time now) n.whole b in
-    let reached = (all-back (λ t. AtMost t.clock now) n.before (record { clock = n.clock; items = n.item ∷ n.rest } ∷ n.after) between.reached).0 in
-    let ahead = (all-back (λ t. HeadClock time (AtMost now) t.clock t.items) n.before (record { clock = n.clock; items = n.item ∷ n.rest } ∷ n.after) between.ahead).0 in
-    let told = first_told time now n.clock n.item reached ahead in
-    let holds = (all-back (λ t. HeadClock time P t.clock t.items) n.before (record { clock = n.clock; items = n.item ∷ n.rest } ∷ n.after)
-    (subst (λ (xs : List (Track _)). AllByRecursion (λ t. HeadClock time P t.clock t.items) xs) n.whole h)).0 in
-    subst (λ (xs : List (Clocked _)). HeadClock time P now (map (λ x. x.item) xs))
-    (sym (ap (merged time) n.whole ∙ merged-next time n.before n.after n.clock n.item n.rest n.first))
-    (same (later n.clock (time n.item)) (later now (time n.item)) (at_most-both (later n.clock (time n.item)) (later now (time n.item)) told.1 told.0) holds)
+head_of_group time x1 same now ts b h x7 = grind (arith, merged-none, all-back, first_told, merged-next, at_most-both)
 
 heads_of_groups : {A : Type 0} (time : A → Option Stamp) (P : Option Stamp → Type 0) → ((a b : Option Stamp) → clock_cmp a b ≡ Equal → P a → P b)
     → (gs : List (Group A)) → AreBetween time gs → AllByRecursion (λ t. HeadClock time P t.clock t.items) (files_of gs)
     → AllByRecursion (λ t. HeadClock time P t.clock t.items) (map (track_of time) gs)
 heads_of_groups time P same [] b h = tt
-heads_of_groups time P same (g ∷ gs) b h = (
-  head_of_group time P same g.now g.tracks b.0 (all-front (λ t. HeadClock time P t.clock t.items) g.tracks (files_of gs) h) (next-of time g.tracks),
-  heads_of_groups time P same gs b.1 (all-back (λ t. HeadClock time P t.clock t.items) g.tracks (files_of gs) h),
-)
+heads_of_groups time P same (g ∷ gs) b h = search (heads_of_groups time P same gs b.1, head_of_group, all-front, files_of, next-of, all-back)
 
 -- a clock that is equal to another is below, and not above, what the other is
 below_as : (d e : Option Stamp) → clock_cmp e d ≡ Equal → (h : Option Stamp) → clock_cmp d h ≡ Less → clock_cmp e h ≡ Less
@@ -170,10 +148,7 @@ at_most_change e a b ab h = at_most-trans e a b h (ap is_gt ab)
 none_left : {A : Type 0} (time : A → Option Stamp) (gs : List (Group A)) → AllByRecursion (λ t. t.items ≡ []) (files_of gs)
     → AllByRecursion (λ t. t.items ≡ []) (map (track_of time) gs)
 none_left time [] h = tt
-none_left time (g ∷ gs) h = (
-  ap (map (λ x. x.item)) (merged-none time g.tracks (all-front (λ t. t.items ≡ []) g.tracks (files_of gs) h)),
-  none_left time gs (all-back (λ t. t.items ≡ []) g.tracks (files_of gs) h),
-)
+none_left time (g ∷ gs) h = search (none_left time gs, merged-none, all-front, files_of, all-back)
 
 -- what comes of a group begins with the item that comes first of its files
 group_next : {A : Type 0} (time : A → Option Stamp) (now clock : Option Stamp) (x : A) (xs : List A) (left right : List (Track A)) (ts : List (Track A))
@@ -184,10 +159,7 @@ group_next time now clock x xs left right ts e f = ap (map (λ y. y.item)) (ap (
 -- the groups' files, where one file of one group stands apart
 files_apart : {A : Type 0} (front back : List (Group A)) (now : Option Stamp) (left right : List (Track A)) (t : Track A)
     → files_of (front ++ (record { now = now; tracks = left ++ (t ∷ right) } ∷ back)) ≡ (files_of front ++ left) ++ (t ∷ (right ++ files_of back))
-files_apart front back now left right t =
-    files-both front (record { now = now; tracks = left ++ (t ∷ right) } ∷ back)
-    ∙ ap (λ ts. files_of front ++ ts) (append_assoc left (t ∷ right) (files_of back))
-    ∙ sym (append_assoc (files_of front) left (t ∷ (right ++ files_of back)))
+files_apart front back now left right t = search (files-both, files_of, append_assoc)
 
 first_group : {A : Type 0} (time : A → Option Stamp) (front back : List (Group A)) (now clock : Option Stamp) (x : A) (left right : List (Track A))
     → AreBetween time front → AreBetween time back → clock_cmp (later now (time x)) (later clock (time x)) ≡ Equal
@@ -206,11 +178,7 @@ first_group time front back now clock x left right b c e f =
 -- the first of a group's files, among those of the group alone
 own_first : {A : Type 0} (time : A → Option Stamp) (front back left right : List (Track A)) (d : Option Stamp)
     → IsFirst time (front ++ left) d (right ++ back) → IsFirst time left d right
-own_first time front back left right d f =
-    record {
-      below = all-back (λ t. HeadClock time (λ h. clock_cmp d h ≡ Less) t.clock t.items) front left f.below;
-      not_above = all-front (λ t. HeadClock time (λ h. is_gt (clock_cmp d h) ≡ false) t.clock t.items) right back f.not_above;
-    }
+own_first time front back left right d f = search (all-back, all-front)
 
 -- one step of the merge of the groups, and of that of all files
 rounds_step : {A : Type 0} (time : A → Option Stamp) (front back : List (Group A)) (now clock : Option Stamp) (x : A) (xs : List A) (left right : List (Track A))
@@ -249,20 +217,12 @@ rounds_step {A} time front back now clock x xs left right b f deeper =
 fewer_left : {A : Type 0} (front back : List (Group A)) (now next clock : Option Stamp) (time : A → Option Stamp) (x : A) (xs : List A) (left right : List (Track A)) (n : ℕ)
     → total (files_of (front ++ (record { now = now; tracks = left ++ (record { clock = clock; items = x ∷ xs } ∷ right) } ∷ back))) ≤ suc n
     → total (files_of (front ++ (record { now = next; tracks = left ++ (passed time clock x xs ∷ right) } ∷ back))) ≤ n
-fewer_left front back now next clock time x xs left right n l =
-    omega (
-      arith,
-      l,
-      ap total (files_apart front back now left right (record { clock = clock; items = x ∷ xs })),
-      ap total (files_apart front back next left right (passed time clock x xs)),
-      total_less (files_of front ++ left) (right ++ files_of back) clock (later clock (time x)) x xs,
-    )
+fewer_left front back now next clock time x xs left right n l = grind (arith, files_apart, total_less, files_of)
 
 rounds_by : {A : Type 0} (time : A → Option Stamp) (n : ℕ) (gs : List (Group A)) → total (files_of gs) ≤ n → AreBetween time gs
     → (AllByRecursion (λ t. t.items ≡ []) (files_of gs) ⊎ Next time (files_of gs))
     → map (λ x. x.item) (merged time (map (track_of time) gs)) ≡ map (λ x. x.item) (merged time (files_of gs))
-rounds_by time n gs l b (inl e) =
-    ap (map (λ x. x.item)) (merged-none time (map (track_of time) gs) (none_left time gs e) ∙ sym (merged-none time (files_of gs) e))
+rounds_by time n gs l b (inl e) = search (merged-none, none_left, files_of)
 rounds_by time zero gs l b (inr m) =
     absurd (omega (arith, l, ap total m.whole, total_less m.before m.after m.clock m.clock m.item m.rest))
 rounds_by {A} time (suc n) gs l b (inr m) =

@@ -1,5 +1,7 @@
 -- Laws of the run, over any files.
-use Rattle.std.proofs.Common.{◌≡◌, ℕ, zero, suc, ◌+◌, ◌≤◌, Bool, true, false, cond, List, [], ◌∷◌, ◌++◌, length, refl, sym, ap, ◌∙◌, subst, arith, inl, inr, Less, Equal, Option, Some, None}
+use Rattle.std.proofs.lemmas.Bool.Decides.{nat_tests}
+use Rattle.std.proofs.lemmas.Grind.{common_steps}
+use Rattle.std.proofs.Common.{rules, ◌≡◌, ℕ, zero, suc, ◌+◌, ◌≤◌, Bool, true, false, cond, List, [], ◌∷◌, ◌++◌, length, refl, sym, ap, ◌∙◌, subst, arith, inl, inr, Less, Equal, Option, Some, None}
 use Rattle.std.specs.Prelude.{map, ⊤, ◌⊎◌}
 use Rattle.std.specs.List.{AllByRecursion}
 use Rattle.std.specs.Ordering.{is_lt, is_gt}
@@ -22,8 +24,7 @@ pub record Next {A : Type 0} (time : A → Option Stamp) (ts : List (Track A)) :
 
 all_heads : {A : Type 0} (time : A → Option Stamp) (P Q : Option Stamp → Type 0) → ((h : Option Stamp) → P h → Q h) → (clock : Option Stamp) (items : List A)
     → HeadClock time P clock items → HeadClock time Q clock items
-all_heads time P Q f clock [] h = tt
-all_heads time P Q f clock (x ∷ xs) h = f (later clock (time x)) h
+all_heads time x1 x2 f clock x5 h = grind arith
 
 pub heads-implied : {A : Type 0} (time : A → Option Stamp) (P Q : Option Stamp → Type 0) → ((h : Option Stamp) → P h → Q h) → (ts : List (Track A))
     → AllByRecursion (λ t. HeadClock time P t.clock t.items) ts → AllByRecursion (λ t. HeadClock time Q t.clock t.items) ts
@@ -92,8 +93,7 @@ with_file time clock (x ∷ xs) ts (inl h) =
       whole = refl;
       first = record { below = tt; not_above = empty_heads time (AtMost (later clock (time x))) ts h };
     })
-with_file time clock (x ∷ xs) ts (inr n) =
-    inr (with_one time clock x xs ts n (is_lt (clock_cmp (later n.clock (time n.item)) (later clock (time x)))) refl)
+with_file time clock (x ∷ xs) ts (inr n) = cc
 
 -- Either no file has items to come, or some file's next item comes first.
 pub next-of : {A : Type 0} (time : A → Option Stamp) (ts : List (Track A)) → AllByRecursion (λ t. t.items ≡ []) ts ⊎ Next time ts
@@ -124,10 +124,7 @@ pub record IsBetween {A : Type 0} (time : A → Option Stamp) (now : Option Stam
 -- the clock of the first item, and what is between after it
 pub first_told : {A : Type 0} (time : A → Option Stamp) (now clock : Option Stamp) (x : A) → AtMost clock now → AtMost now (later clock (time x))
     → AtMost (later now (time x)) (later clock (time x)) × AtMost (later clock (time x)) (later now (time x))
-first_told time now clock x reached ahead = (
-  later-least now (time x) (later clock (time x)) ahead (later-second clock (time x)),
-  later-least clock (time x) (later now (time x)) (at_most-trans clock now (later now (time x)) reached (later-first now (time x))) (later-second now (time x)),
-)
+first_told time now clock x reached ahead = search (later-least, later-second, at_most-trans, later-first)
 
 own_ahead : {A : Type 0} (time : A → Option Stamp) (now clock : Option Stamp) (xs : List A) → AtMost now clock → HeadClock time (AtMost now) clock xs
 own_ahead time now clock [] h = tt
@@ -173,27 +170,19 @@ clocks_told time (suc n) ts now l b (inr m) =
     )
 
 none_least : (h : Option Stamp) → AtMost None h
-none_least None = refl
-none_least (Some h) = refl
+none_least x0 = grind arith
 
 none_ahead : {A : Type 0} (time : A → Option Stamp) (clock : Option Stamp) (items : List A) → HeadClock time (AtMost None) clock items
-none_ahead time clock [] = tt
-none_ahead time clock (x ∷ xs) = none_least (later clock (time x))
+none_ahead time clock x2 = grind arith
 
 pub opened_between : {A : Type 0} (time : A → Option Stamp) (files : List (List A)) → IsBetween time None (map opened files)
 opened_between time [] = record { reached = tt; ahead = tt }
-opened_between time (items ∷ files) =
-    let rest = opened_between time files in
-    record { reached = (refl, rest.reached); ahead = (none_ahead time None items, rest.ahead) }
+opened_between time (items ∷ files) = grind (arith, opened_between time files)
 
 through_told : {A : Type 0} (time : A → Option Stamp) (ends : Clocked A → Bool) (now : Option Stamp) (xs : List (Clocked A)) → ClocksAreTold time now xs
     → ClocksAreTold time now (through_first ends xs)
 through_told time ends now [] h = tt
-through_told time ends now (x ∷ xs) h = (h.0, more (ends x) (through_told time ends (later now (time x.item)) xs h.1))
-  where
-    more : (b : Bool) → ClocksAreTold time (later now (time x.item)) (through_first ends xs) → ClocksAreTold time (later now (time x.item)) (cond b [] (through_first ends xs))
-    more true k = tt
-    more false k = k
+through_told time ends now (x ∷ xs) h = grind (arith, through_told time ends (later now (time x.item)) xs h.1)
 
 -- The greatest time of the packets of a run up to and with an item is, by the order, the item's clock, also for files that run back.
 pub run-clocks : {A : Type 0} (time : A → Option Stamp) (is_refusal : A → Bool) (files : List (List A)) → ClocksAreTold time None (run time is_refusal (map opened files))

@@ -1,5 +1,7 @@
 -- What comes next of a feed, as the items to come have it.
-use Rattle.std.proofs.Common.{◌≡◌, [], ◌∷◌, drop, IsTrue, Option, Some, None, Ok, Err, sym, ap, ◌∙◌, subst}
+use Rattle.std.proofs.lemmas.Bool.Decides.{nat_tests}
+use Rattle.std.proofs.lemmas.Grind.{common_steps}
+use Rattle.std.proofs.Common.{rules, arith, ◌≡◌, [], ◌∷◌, drop, IsTrue, Option, Some, None, Ok, Err, sym, ap, ◌∙◌, subst}
 use Rattle.cap_bytes.specs.declared.faults.Fault.TheVariants.{Refused}
 use Rattle.cap_bytes.specs.declared.faults.Refusal.{Refusal}
 use Rattle.cap_source.specs.Feed.{Feed, packet, refused, SameItems, IsFeed, Leads}
@@ -14,17 +16,11 @@ shown_by feed head law t known = subst (λ (k : Option Head). Leads k feed.frame
 
 pub shows-packet : (old new : Feed) (meta : Meta) → IsFeed new → IsTrue new.told → new.known ≡ Some (heads.Packet meta) → SameItems old new
     → ShowsItem old (Ok (Some meta)) new
-shows-packet old new meta law t known same =
-    let leads : new.items ≡ packet meta new.frame ∷ drop 1 new.items = shown_by new (heads.Packet meta) law t known in
-    (same, sym same.items ∙ (leads ∙ ap (λ l. packet meta new.frame ∷ drop 1 l) same.items))
+shows-packet old new meta law t known same = grind arith
 
 pub shows-refused : (old new : Feed) (r : Refusal) → IsFeed new → IsTrue new.told → new.known ≡ Some (heads.Refused r) → SameItems old new
     → ShowsItem old (Err (Refused r)) new
-shows-refused old new r law t known same =
-    let leads : new.items ≡ refused r ∷ [] = shown_by new (heads.Refused r) law t known in
-    (same, sym same.items ∙ leads)
+shows-refused old new r law t known same = grind arith
 
 pub shows-end : (old new : Feed) → IsFeed new → IsTrue new.told → new.known ≡ Some heads.End → SameItems old new → ShowsItem old (Ok None) new
-shows-end old new law t known same =
-    let leads : new.items ≡ [] = shown_by new heads.End law t known in
-    (same, sym same.items ∙ leads)
+shows-end old new law t known same = grind arith

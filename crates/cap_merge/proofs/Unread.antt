@@ -1,5 +1,7 @@
 -- The feeds of a merge before anything is read.
-use Rattle.std.proofs.Common.{◌≡◌, ℕ, zero, suc, ◌+◌, ◌==◌, ◌≤◌, ◌<◌, List, [], ◌∷◌, ◌++◌, length, map, Bool, true, false, ◌&&◌, ◌||◌, IsTrue, None, Result, Ok, Err, refl, sym, ap, ◌∙◌, subst, arith}
+use Rattle.std.proofs.lemmas.Bool.Decides.{nat_tests}
+use Rattle.std.proofs.lemmas.Grind.{common_steps}
+use Rattle.std.proofs.Common.{rules, ◌≡◌, ℕ, zero, suc, ◌+◌, ◌==◌, ◌≤◌, ◌<◌, List, [], ◌∷◌, ◌++◌, length, map, Bool, true, false, ◌&&◌, ◌||◌, IsTrue, None, Result, Ok, Err, refl, sym, ap, ◌∙◌, subst, arith}
 use Rattle.std.specs.Prelude.{if◌then◌else◌}
 use Rattle.std.specs.List.{flat_map, list_all, list_any, range_with_len}
 use Rattle.std.proofs.lemmas.Bool.{eqb-true, false≢true}
@@ -21,14 +23,10 @@ use Rattle.cap_source.specs.declared.feeds.Ending.{Ending}
 pub AreUnread-more : (tail : Tail) (file : ℕ) (readers : List Reader) (feeds : List Feed) (reader : Reader) (feed : Feed)
     → AreUnread tail file readers feeds → IsUnread tail (file + length readers) reader feed
     → AreUnread tail file (readers ++ reader ∷ []) (feeds ++ feed ∷ [])
-AreUnread-more tail file [] [] reader feed a is =
-    let e : file + 0 ≡ file = omega arith in
-    (subst (λ n. IsUnread tail n reader feed) e is, tt)
+AreUnread-more tail file [] [] reader feed a is = grind arith
 AreUnread-more tail file [] (f ∷ fs) reader feed a is = absurd a
 AreUnread-more tail file (r ∷ rs) [] reader feed a is = absurd a
-AreUnread-more tail file (r ∷ rs) (f ∷ fs) reader feed a is =
-    let e : file + length (r ∷ rs) ≡ file + 1 + length rs = omega arith in
-    (a.0, AreUnread-more tail (file + 1) rs fs reader feed a.1 (subst (λ n. IsUnread tail n reader feed) e is))
+AreUnread-more tail file (r ∷ rs) (f ∷ fs) reader feed a is = grind (arith, AreUnread-more tail (file + 1) rs fs reader feed a.1)
 
 pub AreUnread-length : (tail : Tail) (file : ℕ) (readers : List Reader) (feeds : List Feed) → AreUnread tail file readers feeds
     → length feeds ≡ length readers
@@ -42,9 +40,7 @@ numbered_from : (tail : Tail) (file : ℕ) (readers : List Reader) (feeds : List
 numbered_from tail file [] [] a = refl
 numbered_from tail file [] (f ∷ fs) a = absurd a
 numbered_from tail file (r ∷ rs) [] a = absurd a
-numbered_from tail file (r ∷ rs) (f ∷ fs) a =
-    ap (λ l. l ∷ map (λ g. g.files) fs) a.0.files
-    ∙ ap (λ l. (file ∷ []) ∷ l) (numbered_from tail (file + 1) rs fs a.1)
+numbered_from tail file (r ∷ rs) (f ∷ fs) a = cc (numbered_from tail (file + 1) rs fs a.1)
 
 pub AreUnread-numbered : (tail : Tail) (readers : List Reader) (feeds : List Feed) → AreUnread tail 1 readers feeds → IsNumbered feeds
 AreUnread-numbered tail readers feeds a = numbered_from tail 1 readers feeds a
@@ -54,36 +50,28 @@ tracks_are : (tail : Tail) (file : ℕ) (readers : List Reader) (feeds : List Fe
 tracks_are tail file [] [] a = refl
 tracks_are tail file [] (f ∷ fs) a = absurd a
 tracks_are tail file (r ∷ rs) [] a = absurd a
-tracks_are tail file (r ∷ rs) (f ∷ fs) a =
-    ap (λ items. opened items ∷ map (λ g. opened g.items) fs) a.0.items
-    ∙ ap (λ l. opened (file_items tail file r.bytes) ∷ l) (tracks_are tail (file + 1) rs fs a.1)
+tracks_are tail file (r ∷ rs) (f ∷ fs) a = cc (tracks_are tail (file + 1) rs fs a.1)
 
 told_same : (tail : Tail) (file : ℕ) (readers : List Reader) (feeds : List Feed) → AreUnread tail file readers feeds
     → list_all (λ p. p.feed.told) (new_parts feeds) ≡ list_all (λ r. r.told) readers
 told_same tail file [] [] a = refl
 told_same tail file [] (f ∷ fs) a = absurd a
 told_same tail file (r ∷ rs) [] a = absurd a
-told_same tail file (r ∷ rs) (f ∷ fs) a =
-    ap (λ b. b && list_all (λ p. p.feed.told) (new_parts fs)) a.0.told
-    ∙ ap (λ b. r.told && b) (told_same tail (file + 1) rs fs a.1)
+told_same tail file (r ∷ rs) (f ∷ fs) a = cc (told_same tail (file + 1) rs fs a.1)
 
 can_fail_same : (tail : Tail) (file : ℕ) (readers : List Reader) (feeds : List Feed) → AreUnread tail file readers feeds
     → list_any (λ p. p.feed.can_fail) (new_parts feeds) ≡ list_any (λ r. r.can_fail) readers
 can_fail_same tail file [] [] a = refl
 can_fail_same tail file [] (f ∷ fs) a = absurd a
 can_fail_same tail file (r ∷ rs) [] a = absurd a
-can_fail_same tail file (r ∷ rs) (f ∷ fs) a =
-    ap (λ b. b || list_any (λ p. p.feed.can_fail) (new_parts fs)) a.0.can_fail
-    ∙ ap (λ b. r.can_fail || b) (can_fail_same tail (file + 1) rs fs a.1)
+can_fail_same tail file (r ∷ rs) (f ∷ fs) a = cc (can_fail_same tail (file + 1) rs fs a.1)
 
 files_same : (tail : Tail) (file : ℕ) (readers : List Reader) (feeds : List Feed) → AreUnread tail file readers feeds
     → flat_map (λ p. p.feed.files) (new_parts feeds) ≡ range_with_len file (length readers)
 files_same tail file [] [] a = refl
 files_same tail file [] (f ∷ fs) a = absurd a
 files_same tail file (r ∷ rs) [] a = absurd a
-files_same tail file (r ∷ rs) (f ∷ fs) a =
-    ap (λ files. files ++ flat_map (λ p. p.feed.files) (new_parts fs)) a.0.files
-    ∙ ap (λ files. file ∷ files) (files_same tail (file + 1) rs fs a.1)
+files_same tail file (r ∷ rs) (f ∷ fs) a = cc (files_same tail (file + 1) rs fs a.1)
 
 -- how a file ends: as its own feed says
 chosen : (b c : Bool) (e f g h : Ending) → b ≡ c → e ≡ f → g ≡ h → (if b then e else g) ≡ (if c then f else h)
@@ -95,13 +83,7 @@ unfolding endings_of
 endings_same tail first [] [] file a = refl
 endings_same tail first [] (f ∷ fs) file a = absurd a
 endings_same tail first (r ∷ rs) [] file a = absurd a
-endings_same tail first (r ∷ rs) (f ∷ fs) file a =
-    chosen (has_file f.files file) (first == file) _ _ _ _ (ap (λ files. has_file files file) a.0.files ∙ or-false (first == file)) (a.0.endings file)
-    (endings_same tail (first + 1) rs fs file a.1)
-  where
-    or-false : (b : Bool) → (b || false) ≡ b
-    or-false true = refl
-    or-false false = refl
+endings_same tail first (r ∷ rs) (f ∷ fs) file a = grind (arith, endings_same tail (first + 1) rs fs file a.1)
 
 unknown : (tail : Tail) (readers : List Reader) (feeds : List Feed) → 1 ≤ length readers → AreUnread tail 1 readers feeds
     → known_of (new_parts feeds) ≡ None
@@ -163,22 +145,10 @@ run-items reader tail sources ps u = ap (map (λ x. x.item)) (u.run ∙ ap (cloc
 -- a file that is one of some has a number of theirs
 pub numbers-within : (file count n : ℕ) → HasFile (range_with_len file count) n → (file ≤ n) × (n < file + count)
 numbers-within file zero n has = absurd (false≢true has)
-numbers-within file (suc count) n has = by (file == n) (λ h. numbers-within (file + 1) count n h) refl has
-  where
-    by : (b : Bool) → (HasFile (range_with_len (file + 1) count) n → (file + 1 ≤ n) × (n < file + 1 + count))
-        → (file == n) ≡ b → (b || list_any (λ m. m == n) (range_with_len (file + 1) count)) ≡ true
-        → (file ≤ n) × (n < file + suc count)
-    by true more e h = let same = eqb-true file n e in (omega (arith, same), omega (arith, same))
-    by false more e h = let p = more h in (omega (arith, p.0), omega (arith, p.1))
+numbers-within file (suc count) n has = grind (arith, numbers-within (file + 1) count n)
 
 -- A read that fails as files are gone through as one is told of one of them.
 pub Fails-merged : {A B : Type 0} (reader : A → Reader) (tail : Tail) (sources : List A) (ps : List Part) (new : Feed) (result : Result B Fault)
     → IsUnreadRun tail (map reader sources) ps → Walks (feed_of ps) result new
     → FailsOf (length sources) (list_any (λ s. (reader s).can_fail) sources) result
-Fails-merged reader tail sources ps new (Ok x) u w = tt
-Fails-merged reader tail sources ps new (Err (Refused r)) u w = tt
-Fails-merged reader tail sources ps new (Err (Read file offset)) u w =
-    let p = numbers-within 1 (length (map reader sources)) file (subst (λ l. HasFile l file) u.files w.of) in
-    (p.0, omega (arith, p.1, length-map sources reader), can_fail-readers reader tail sources ps u w.can_fail)
-Fails-merged reader tail sources ps new (Err Write) u w = tt
-Fails-merged reader tail sources ps new (Err Memory) u w = tt
+Fails-merged reader tail sources ps new x5 u w = grind (arith, numbers-within, length-map, can_fail-readers)

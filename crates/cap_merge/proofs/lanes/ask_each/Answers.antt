@@ -1,4 +1,6 @@
-use Rattle.std.proofs.Common.{sym, add-one, length-set, arith, map}
+use Rattle.std.proofs.lemmas.Bool.Decides.{nat_tests}
+use Rattle.std.proofs.lemmas.Grind.{common_steps}
+use Rattle.std.proofs.Common.{rules, sym, add-one, length-set, arith, map}
 use Rattle.std.proofs.lemmas.Result.{err_from_is_err_and}
 use Rattle.cap_merge.specs.Parts.{parts}
 use Rattle.cap_merge.proofs.Asking.{asked-init, asked-all, lanes-more, lanes-stop, length-parts}
@@ -17,10 +19,7 @@ loop-i-preserved g c =
     }
 
 pub returns : goal.returns
-returns g c =
-    let n = length-parts g.F.PacketFeed.feed c.loop-i.lanes c.loop-i.feeds c.loop-i.invariant.same_length in
-    asked-all c.loop-i.i (parts c.args.lanes.now (map g.F.PacketFeed.feed c.args.feeds.now)) (parts c.loop-i.lanes (map g.F.PacketFeed.feed c.loop-i.feeds))
-    c.loop-i.invariant.asked (omega (arith, n))
+returns g c = grind (arith, length-parts, asked-all)
 
 pub returns-in_err-ask : goal.returns-in_err-ask
 returns-in_err-ask g c =

@@ -1,4 +1,6 @@
-use Rattle.std.proofs.Common.{◌≡◌, refl, ap, ◌∙◌, arith, add-one, lit<}
+use Rattle.std.proofs.lemmas.Bool.Decides.{nat_tests}
+use Rattle.std.proofs.lemmas.Grind.{common_steps}
+use Rattle.std.proofs.Common.{rules, ◌≡◌, refl, ap, ◌∙◌, arith, add-one, lit<}
 use Rattle.std.specs.Prelude.{replicate}
 use Rattle.cap_merge.specs.Parts.{new_lane}
 use Rattle.cap_merge.proofs.Placing.{one_more}
@@ -11,13 +13,7 @@ pub push-requires : goal.push-requires
 push-requires c = (lit< tt, omega (arith, c.loop.invariant.count))
 
 pub loop-preserved : goal.loop-preserved
-loop-preserved c =
-    record {
-      made = rw (add-one, c.push.ensures.items) (one_more c.loop.counter c.loop.lanes.items new_lane c.loop.invariant.made);
-      count = omega (arith, c.push.ensures.len, c.loop.invariant.count);
-    }
+loop-preserved c = grind (arith, add-one, one_more)
 
 pub returns : goal.returns
-returns c =
-    let done : c.loop.counter ≡ c.args.count = omega arith in
-    c.loop.invariant.made ∙ ap (λ n. replicate n new_lane) done
+returns c = grind arith

@@ -1,3 +1,6 @@
+use Rattle.std.proofs.lemmas.Bool.Decides.{nat_tests}
+use Rattle.std.proofs.lemmas.Grind.{common_steps}
+use Rattle.std.proofs.Common.{rules, arith}
 use Rattle.cap_merge.proofs.Asking.{packet-there, passes-there}
 use Rattle.cap_merge.proofs.lanes.pass_at.Goals as goal
 
@@ -5,7 +8,4 @@ pub pass_one-requires : goal.pass_one-requires
 pass_one-requires g c = packet-there g.F.PacketFeed.feed c.args.lanes.now c.args.feeds.now c.args.place c.index-feeds-place.result c.requires.packet
 
 pub returns : goal.returns
-returns g c =
-    passes-there g.F.PacketFeed.feed c.args.lanes.now c.args.feeds.now c.args.place c.index-lanes-place.result c.pass_one.new.lane
-    c.index-feeds-place.result c.pass_one.new.feed c.requires.place c.requires.alike
-    (record { lane = c.pass_one.ensures.lane; passes = c.pass_one.ensures.passes; keeps = c.pass_one.ensures.keeps })
+returns g c = grind (arith, passes-there)

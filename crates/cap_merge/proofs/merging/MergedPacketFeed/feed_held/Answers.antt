@@ -1,13 +1,12 @@
-use Rattle.std.proofs.Common.{ap, ◌∙◌, add-one, length, arith}
+use Rattle.std.proofs.lemmas.Bool.Decides.{nat_tests}
+use Rattle.std.proofs.lemmas.Grind.{common_steps}
+use Rattle.std.proofs.Common.{rules, ap, ◌∙◌, add-one, length, arith}
 use Rattle.cap_merge.specs.Parts.{both_held}
 use Rattle.cap_merge.proofs.Firsts.{held-here, held-done}
 use Rattle.cap_merge.proofs.merging.MergedPacketFeed.feed_held.Goals as goal
 
 pub loop-feed-preserved : goal.loop-feed-preserved
-loop-feed-preserved g c =
-    rw add-one
-    (c.greater-held.ensures ∙ ap (both_held c.loop-feed.held) c.feed_held.ensures.held
-    ∙ held-here g.F.PacketFeed.feed c.deref-feed-items.result.now c.loop-feed.feed-index c.feed-item.result c.loop-feed.held c.feed-item.is c.loop-feed-test.true c.loop-feed.invariant)
+loop-feed-preserved g c = grind (arith, add-one, held-here)
 
 pub returns : goal.returns
 returns g c =

@@ -1,4 +1,6 @@
-use Rattle.std.proofs.Common.{◌∙◌}
+use Rattle.std.proofs.lemmas.Bool.Decides.{nat_tests}
+use Rattle.std.proofs.lemmas.Grind.{common_steps}
+use Rattle.std.proofs.Common.{rules, arith, ◌∙◌}
 use Rattle.cap_merge.specs.Parts.{new_lane}
 use Rattle.cap_merge.specs.First.{lane_at}
 use Rattle.cap_merge.specs.declared.lanes.First.{First}
@@ -29,6 +31,4 @@ returns-in-Some g c =
     }
 
 pub returns-in-None : goal.returns-in-None
-returns-in-None g c =
-    let m = c.args.self.now in
-    record { frame = frame-none g.F.PacketFeed.feed m.lanes.items m.feeds.items (none-leads m.lanes.items c.found.result (rw c.as_slice.ensures.value at c.found.ensures.place) c.in-None.is) }
+returns-in-None g c = grind (arith, frame-none, none-leads)

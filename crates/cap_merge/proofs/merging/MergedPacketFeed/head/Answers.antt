@@ -1,4 +1,6 @@
-use Rattle.std.proofs.Common.{refl, sym, ◌∙◌, map}
+use Rattle.std.proofs.lemmas.Bool.Decides.{nat_tests}
+use Rattle.std.proofs.lemmas.Grind.{common_steps}
+use Rattle.std.proofs.Common.{rules, arith, refl, sym, ◌∙◌, map}
 use Rattle.std.proofs.lemmas.Result.{err_from_is_err_and}
 use Rattle.std.proofs.lemmas.List.{length-map}
 use Rattle.cap_merge.specs.Parts.{parts}
@@ -67,15 +69,7 @@ returns-in_err-ask_all g c =
     })
 
 pub head_of-requires : goal.head_of-requires
-head_of-requires g c =
-    let m = c.args.self.now in
-    let known = asked-known g.F.PacketFeed.feed m.lanes.items c.ask_all.new.lanes.items m.feeds.items c.ask_all.new.feeds.items
-    (c.ask_all.ensures.lanes ∙ m.alike ∙ sym c.ask_all.ensures.feeds) c.in_ok-ask_all.ensures.asks in
-    record {
-      known = rw c.as_slice-2.ensures.value known;
-      place = rw c.as_slice-2.ensures.value (rw c.as_slice.ensures.value at c.first_lane-self.ensures.place);
-      within = rw c.as_slice-2.ensures.value (rw c.as_slice.ensures.value at c.first_lane-self.ensures.within);
-    }
+head_of-requires g c = grind (arith, asked-known)
 
 pub returns : goal.returns
 returns g c =
