@@ -1,33 +1,19 @@
 -- The clocks that the feeds of a merge have reached have seconds below 2^65.
-use Rattle.std.proofs.lemmas.Bool.Decides.{nat_tests}
-use Rattle.std.proofs.lemmas.Grind.{common_steps}
-use Rattle.std.proofs.Common.{rules, ◌≡◌, ℕ, zero, suc, Bool, true, List, [], ◌∷◌, length, arith, refl, sym, ap, ◌∙◌, subst, inl, inr, Option, Some, None, IfSome, Result, Ok, Err, pos, ◌^◌}
+use Rattle.std.proofs.Common.{◌≡◌, ℕ, zero, suc, Bool, true, List, [], ◌∷◌, length, arith, refl, ap, ◌∙◌, inl, inr, Option, IfSome, Result, pos, ◌^◌}
 use Rattle.std.specs.Prelude.{◌&&◌, ◌<ℤ◌, replicate}
 use Rattle.std.specs.List.{list_all, AllByRecursion}
-use Rattle.std.proofs.lemmas.Float.{T_from_true}
-use Rattle.std.specs.Prelude.{int_lt}
 use Rattle.cap_bytes.specs.declared.faults.Fault.{Fault}
-use Rattle.cap_source.specs.declared.feeds.Head.{Head}
 use Rattle.cap_source.specs.Feed.{Feed}
 use Rattle.cap_time.specs.Stamp.{seconds_of}
 use Rattle.cap_time.specs.declared.stamps.Stamp.{Stamp}
-use Rattle.cap_merge.specs.Lists.{and-both, all-back}
+use Rattle.cap_merge.specs.Lists.{all-back}
 use Rattle.cap_merge.specs.declared.lanes.First.{First}
 use Rattle.cap_merge.specs.declared.lanes.Lane.{Lane}
 use Rattle.cap_merge.specs.Parts.{Part, parts, is_bounded, AreBounded, Leads, new_lane}
-use Rattle.cap_merge.specs.Merge.{LearnsBy, LearnsAll, StopsAt, AsksAll, PassesAt}
+use Rattle.cap_merge.specs.Merge.{LearnsAll, StopsAt, AsksAll, PassesAt}
 
 both_true : (a b : Bool) → a ≡ true → b ≡ true → (a && b) ≡ true
 both_true a b e h = rw e h
-
-first-rest : (p : Part) (ps : List Part) → AreBounded (p ∷ ps) → (is_bounded p.lane.clock ≡ true) × AreBounded ps
-first-rest p ps h = and-both (is_bounded p.lane.clock) (list_all (λ x. is_bounded x.lane.clock) ps) h
-
-rest-first : (p : Part) (ps : List Part) → is_bounded p.lane.clock ≡ true → AreBounded ps → AreBounded (p ∷ ps)
-rest-first p ps e h = both_true (is_bounded p.lane.clock) (list_all (λ x. is_bounded x.lane.clock) ps) e h
-
-learns_bounded : (h : Option Head) (p q : Part) → LearnsBy h p q → is_bounded p.lane.clock ≡ true → is_bounded q.lane.clock ≡ true
-learns_bounded x0 p q l e = grind arith
 
 all_learned : (ps qs : List Part) → LearnsAll ps qs → AreBounded ps → AreBounded qs
 all_learned [] [] l h = refl
@@ -43,7 +29,7 @@ some_learned fault (p ∷ ps) (q ∷ qs) (inr l) h = grind (arith, some_learned 
 
 -- asking keeps them so
 pub asked-bounded : {T : Type 0} (ps qs : List Part) (r : Result T Fault) → AsksAll ps r qs → AreBounded ps → AreBounded qs
-asked-bounded ps qs x2 l h = grind (arith, all_learned, some_learned)
+asked-bounded ps qs r l h = grind (arith, all_learned, some_learned)
 
 -- and so does a pass
 pub passed-bounded : (ps qs : List Part) (place : ℕ) → PassesAt ps place qs → AreBounded ps → AreBounded qs
@@ -67,7 +53,7 @@ each_lane (l ∷ ls) [] e h = absurd (omega arith)
 each_lane (l ∷ ls) (f ∷ fs) e h = grind (arith, each_lane ls fs (omega arith))
 
 in_bounds : (clock : Option Stamp) → is_bounded clock ≡ true → IfSome clock (λ c. seconds_of c <ℤ pos (2 ^ 65))
-in_bounds x0 e = grind arith
+in_bounds clock e = grind arith
 
 -- so the clock of what comes first is
 pub first-bounded : (ls : List Lane) (fs : List Feed) (first : First) → length fs ≡ length ls → Leads ls first.place first.clock → AreBounded (parts ls fs)

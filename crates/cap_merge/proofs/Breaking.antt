@@ -1,16 +1,12 @@
 -- What a read that failed of one feed is to the feeds as one.
-use Rattle.std.proofs.lemmas.Bool.Decides.{nat_tests}
-use Rattle.std.proofs.lemmas.Grind.{common_steps}
-use Rattle.std.proofs.Common.{rules, ◌≡◌, ◌≤◌, ℕ, suc, Bool, true, false, cond, List, [], ◌∷◌, ◌++◌, refl, sym, ap, ◌∙◌, subst, arith, inl, inr, Option, Some, None}
+use Rattle.std.proofs.Common.{◌≡◌, ◌≤◌, ℕ, suc, Bool, true, false, cond, List, [], ◌∷◌, ◌++◌, refl, ap, ◌∙◌, arith, inl, inr, Option, Some, None}
 use Rattle.std.specs.Prelude.{IfSome, is_some}
 use Rattle.cap_bytes.specs.declared.faults.Fault.{Fault}
 use Rattle.cap_bytes.specs.declared.faults.Fault.TheVariants.{Read, Memory}
 use Rattle.cap_source.specs.declared.feeds.Head.{Head}
-use Rattle.cap_merge.specs.Lists.{and-both}
 use Rattle.cap_merge.specs.Parts.{Part, has_file, is_known, broken_of, places_of}
 use Rattle.cap_merge.specs.Merge.{LearnsBy, Stops, LearnsAll, StopsAt}
 use Rattle.cap_merge.specs.Sound.{AreFrom}
-use Rattle.cap_merge.specs.Lawful.{one_file}
 
 -- the file isn't before that of the first feed
 stopped_from : (n file offset : ℕ) (ps qs : List Part) → AreFrom n qs → StopsAt (Read file offset) ps qs → n ≤ file
@@ -20,7 +16,7 @@ stopped_from n file offset (p ∷ ps) (q ∷ qs) a (inl s) = grind arith
 stopped_from n file offset (p ∷ ps) (q ∷ qs) a (inr s) = omega (arith, stopped_from (suc n) file offset ps qs a.1 s.1)
 
 before_file : (n file : ℕ) (files : List ℕ) → files ≡ n ∷ [] → suc n ≤ file → (b : Bool) → has_file files file ≡ b → b ≡ false
-before_file n file files is l x5 own = grind arith
+before_file n file files is l b own = grind arith
 
 -- the offset is the file's place then
 pub stopped-place : (n file offset : ℕ) (ps qs : List Part) → AreFrom n qs → StopsAt (Read file offset) ps qs → offset ≡ places_of qs file
@@ -33,14 +29,14 @@ stopped-place n file offset (p ∷ ps) (q ∷ qs) a (inr s) =
     (stopped-place (suc n) file offset ps qs a.1 s.1)
 
 pub known_by : (p q : Part) (h : Option Head) → p.lane.head ≡ h → LearnsBy h p q → is_some q.lane.head ≡ true
-known_by p q x2 e l = grind arith
+known_by p q h e l = grind arith
 
 own_break : (h : Option Head) (rest own : Option Fault) → h ≡ None → cond (is_some h) rest own ≡ own
 own_break h rest own is = rw is refl
 
 -- a feed that was asked has no break
 learned_break : (h : Option Head) (p q : Part) (P : Option Fault → Type 0) (rest : Option Fault) → LearnsBy h p q → P None → P rest → P (cond (is_some h) rest p.feed.broken)
-learned_break x0 p q x3 rest l none r = grind arith
+learned_break h p q P rest l none r = grind arith
 
 -- the same fault comes again
 pub stopped-again : (file offset : ℕ) (ps qs : List Part) → StopsAt (Read file offset) ps qs → IfSome (broken_of ps) (λ first. Read file offset ≡ first)

@@ -1,14 +1,10 @@
 -- What the calls of a merge keep, over the lists of its lanes and feeds.
-use Rattle.std.proofs.lemmas.Bool.Decides.{nat_tests}
-use Rattle.std.proofs.lemmas.Grind.{common_steps}
-use Rattle.std.proofs.Common.{rules, ℕ, ◌≡◌, true, List, [], ◌∷◌, length, refl, sym, ap, ◌∙◌, arith, Result, Err, suc, ◌+◌, ◌++◌}
+use Rattle.std.proofs.Common.{ℕ, ◌≡◌, true, List, [], ◌∷◌, length, refl, sym, ◌∙◌, arith, Result, Err, suc}
 use Rattle.std.specs.Prelude.{map, IsTrue, is_some}
 use Rattle.std.specs.List.{AllByRecursion, list_all, range_with_len, flat_map}
 use Rattle.std.proofs.lemmas.List.{length-map}
 use Rattle.cap_bytes.specs.declared.faults.Fault.{Fault}
-use Rattle.cap_bytes.specs.declared.faults.Fault.TheVariants.{Refused, Read, Write, Memory}
 use Rattle.cap_source.specs.Feed.{Feed, IsFeed, Keeps}
-use Rattle.cap_merge.specs.Lists.{and-both}
 use Rattle.cap_merge.specs.declared.lanes.Lane.{Lane}
 use Rattle.cap_merge.specs.Parts.{Part, parts, IsNumbered, Agrees, HasReached, is_known, run_of, feed_of, KeepsRun}
 use Rattle.cap_merge.specs.Merge.{LearnsAll, StopsAt, AsksAll}
@@ -50,7 +46,7 @@ pub run-asked : (ps qs : List Part) → LearnsAll ps qs → AllByRecursion (λ q
 run-asked ps qs l f t = run-alike ps qs (learns-each ComesAlike (λ p q g. alike-learns_by p q p.lane.head g) ps qs f l) (told_all ps t)
 
 pub run-stopped : (ps qs : List Part) (fault : Fault) → StopsAt fault ps qs → AllByRecursion (λ q. IsFeed q.feed) qs → IsTrue (feed_of ps).told → KeepsRun ps (Err fault) qs
-run-stopped ps qs x2 s f t = grind (arith, never, run-alike, stops-each, alike-itself, alike-learns_by, alike-waits, told_all)
+run-stopped ps qs fault s f t = grind (arith, never, run-alike, stops-each, alike-itself, alike-learns_by, alike-waits, told_all)
 
 -- all lanes are known after all feeds were asked
 known_lanes : (ls : List Lane) (fs : List Feed) → length fs ≡ length ls → is_known (parts ls fs) ≡ true → list_all (λ l. is_some l.head) ls ≡ true

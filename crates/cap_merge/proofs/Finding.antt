@@ -1,13 +1,11 @@
 -- The place of the lane whose item comes first, as it is looked for.
-use Rattle.std.proofs.lemmas.Bool.Decides.{nat_tests}
-use Rattle.std.proofs.lemmas.Grind.{common_steps}
-use Rattle.std.proofs.Common.{rules, ◌≡◌, ℕ, zero, suc, ◌<◌, ◌≤◌, Bool, true, false, cond, List, length, get_or, take, refl, sym, ap, ◌∙◌, subst, arith, Option, Some, None}
+use Rattle.std.proofs.Common.{◌≡◌, ℕ, zero, suc, ◌<◌, ◌≤◌, Bool, cond, List, length, get_or, take, refl, sym, ap, ◌∙◌, subst, arith, Option, Some, None}
 use Rattle.std.specs.Prelude.{IfSome}
 use Rattle.std.proofs.lemmas.List.{take_all, get_or_default}
 use Rattle.cap_merge.specs.declared.lanes.Lane.{Lane}
 use Rattle.cap_merge.specs.declared.lanes.First.{First}
-use Rattle.cap_merge.specs.Parts.{has_next, new_lane, sooner_lane, Leads, IsFirstLane}
-use Rattle.cap_merge.specs.First.{lane_at, comes_before, sooner_place, first_among, first_place, IsFound}
+use Rattle.cap_merge.specs.Parts.{new_lane, sooner_lane, Leads, IsFirstLane}
+use Rattle.cap_merge.specs.First.{lane_at, sooner_place, first_among, first_place, IsFound}
 use Rattle.cap_merge.proofs.Placing.{first-taken}
 
 -- the place of a lane, and its clock
@@ -16,10 +14,10 @@ first_at ls None = None
 first_at ls (Some place) = Some (record { place = place; clock = (lane_at ls place).clock })
 
 picked : (ls : List Lane) (b : Bool) (place : ℕ) (o : Option ℕ) → first_at ls (cond b (Some place) o) ≡ cond b (first_at ls (Some place)) (first_at ls o)
-picked ls x1 place o = grind arith
+picked ls b place o = grind arith
 
 sooner_same : (ls : List Lane) (o : Option ℕ) (place : ℕ) → first_at ls (sooner_place ls o place) ≡ sooner_lane (first_at ls o) place (lane_at ls place)
-sooner_same ls x1 place = grind arith
+sooner_same ls o place = grind arith
 
 among_is : (ls : List Lane) (count : ℕ) → count ≤ length ls → IsFirstLane (take count ls) (first_at ls (first_among ls count))
 unfolding first_among
@@ -30,11 +28,8 @@ among_is ls (suc count) h = search (among_is ls count (omega arith), take, soone
 pub place-is-first : (ls : List Lane) → IsFirstLane ls (first_at ls (first_place ls))
 place-is-first ls = grind (arith, first_place, take_all, among_is)
 
-one_within : (b : Bool) (place : ℕ) (o : Option ℕ) (count : ℕ) → place < count → IfSome o (λ n. n < count) → IfSome (cond b (Some place) o) (λ n. n < count)
-one_within x0 place o count h f = grind arith
-
 sooner_within : (ls : List Lane) (o : Option ℕ) (place : ℕ) → IfSome o (λ n. n < place) → IfSome (sooner_place ls o place) (λ n. n < suc place)
-sooner_within ls x1 place h = grind arith
+sooner_within ls o place h = grind arith
 
 among_within : (ls : List Lane) (count : ℕ) → IfSome (first_among ls count) (λ n. n < count)
 unfolding first_among
@@ -42,7 +37,7 @@ among_within ls zero = tt
 among_within ls (suc count) = sooner_within ls (first_among ls count) count (among_within ls count)
 
 below : (o : Option ℕ) (count most : ℕ) → count ≤ most → IfSome o (λ n. n < count) → IfSome o (λ n. n < most)
-below x0 count most h f = grind arith
+below o count most h f = grind arith
 
 -- it is one of the lanes
 among-within : (ls : List Lane) (count : ℕ) → count ≤ length ls → IfSome (first_among ls count) (λ n. n < length ls)
@@ -64,7 +59,7 @@ among-none ls = refl
 
 -- what was looked for is found
 pub found-here : (ls : List Lane) (o : Option ℕ) → o ≡ first_place ls → IsFound ls o
-found-here ls x1 e = grind arith
+found-here ls o e = grind arith
 
 pub known-found : (ls : List Lane) (place : ℕ) → IsFound ls (Some place) → Some place ≡ first_place ls
 known-found ls place e = sym e

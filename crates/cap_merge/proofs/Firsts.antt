@@ -1,7 +1,5 @@
 -- The calls that turn to the feed whose item comes first.
-use Rattle.std.proofs.lemmas.Bool.Decides.{nat_tests}
-use Rattle.std.proofs.lemmas.Grind.{common_steps}
-use Rattle.std.proofs.Common.{rules, ◌≡◌, ℕ, zero, suc, ◌+◌, ◌-◌, ◌<◌, ◌≤◌, Bool, true, false, cond, List, [], ◌∷◌, ◌++◌, length, get_or, take, drop, refl, sym, ap, ◌∙◌, subst, arith, inl, inr, Option, Some, None}
+use Rattle.std.proofs.Common.{◌≡◌, ℕ, zero, suc, ◌+◌, ◌-◌, ◌<◌, ◌≤◌, Bool, true, false, cond, List, [], ◌∷◌, ◌++◌, length, get_or, take, drop, refl, sym, ap, ◌∙◌, subst, arith, inl, inr, Option, Some, None}
 use Rattle.std.specs.Prelude.{◌⊎◌, ◌||◌, ◌==◌, max, map, IsTrue, IfSome, is_some}
 use Rattle.std.specs.List.{AllByRecursion, list_any, flat_map}
 use Rattle.std.proofs.Math.Seq.{take-suc}
@@ -23,7 +21,7 @@ use Rattle.cap_merge.specs.Clocks.{AtMost}
 use Rattle.cap_merge.specs.Leading.{Split, NoNext, IsFirstOf, first_is, first-split}
 use Rattle.cap_merge.specs.Sound.{IsSound, AreFrom, sound-each, lawful-each, numbered-from}
 use Rattle.cap_merge.specs.Coming.{IsReady, leads_known, reached_known, run-first}
-use Rattle.cap_merge.specs.Lawful.{ready_all, at_first, one_file}
+use Rattle.cap_merge.specs.Lawful.{ready_all, at_first}
 use Rattle.cap_merge.proofs.Calls.{told_all}
 use Rattle.cap_merge.proofs.FromClock.{each-from, from-each}
 use Rattle.cap_merge.proofs.Moving.{Each, each-itself, Kept, kept-itself}

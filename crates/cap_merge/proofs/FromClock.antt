@@ -1,15 +1,12 @@
 -- What isn't above the clocks of all items to come, part by part.
-use Rattle.std.proofs.lemmas.Bool.Decides.{nat_tests}
-use Rattle.std.proofs.lemmas.Grind.{common_steps}
-use Rattle.std.proofs.Common.{rules, arith, ◌≡◌, Bool, true, false, List, [], ◌∷◌, refl, sym, ap, inl, inr, Option, Some, None}
+use Rattle.std.proofs.Common.{arith, ◌≡◌, Bool, true, false, List, [], ◌∷◌, Option, Some}
 use Rattle.std.specs.Prelude.{◌||◌, ◌⊎◌, not}
 use Rattle.std.specs.List.{AllByRecursion}
 use Rattle.std.specs.Ordering.{is_gt}
-use Rattle.std.proofs.lemmas.Bool.{true≢false}
 use Rattle.cap_time.specs.declared.stamps.Stamp.{Stamp}
 use Rattle.cap_source.specs.declared.feeds.Head.{Head}
 use Rattle.cap_source.specs.declared.feeds.Head.TheVariants as heads
-use Rattle.cap_merge.specs.Lists.{all-each, each-all, or-back}
+use Rattle.cap_merge.specs.Lists.{all-each, each-all}
 use Rattle.cap_merge.specs.Clock.{clock_cmp}
 use Rattle.cap_merge.specs.Clocks.{AtMost}
 use Rattle.cap_merge.specs.Parts.{Part, is_end, ClocksFrom}
@@ -22,13 +19,10 @@ abbrev pub EachFrom : Option Stamp → List Part → Type 0
 EachFrom clock ps = AllByRecursion (From clock) ps
 
 test_of : (h : Option Head) (above : Bool) → (h ≡ Some heads.End) ⊎ (above ≡ false) → (is_end h || not above) ≡ true
-test_of h above x2 = grind arith
-
-not-above : (above : Bool) → not above ≡ true → above ≡ false
-not-above x0 e = grind arith
+test_of h above h' = grind arith
 
 of_test : (h : Option Head) (above : Bool) → (is_end h || not above) ≡ true → (h ≡ Some heads.End) ⊎ (above ≡ false)
-of_test x0 above e = grind arith
+of_test h above e = grind arith
 
 tests_of : (clock : Option Stamp) (ps : List Part) → EachFrom clock ps → AllByRecursion (λ p. (is_end p.lane.head || not (is_gt (clock_cmp clock p.lane.clock))) ≡ true) ps
 tests_of clock [] f = tt

@@ -1,26 +1,18 @@
 -- Parts that move on one by one, and the feeds as one.
-use Rattle.std.proofs.lemmas.Bool.Decides.{nat_tests}
-use Rattle.std.proofs.lemmas.Grind.{common_steps}
-use Rattle.std.specs.Cmp.{tied_itself}
-use Rattle.cap_merge.specs.declared.lanes.Lane.{Lane}
-use Rattle.std.proofs.Common.{rules, ◌≡◌, ℕ, suc, ◌≤◌, Bool, true, false, cond, List, [], ◌∷◌, ◌++◌, drop, refl, sym, ap, ◌∙◌, subst, arith, inl, inr, Option, Some, None}
-use Rattle.std.specs.Prelude.{◌||◌, map, ⊤, IsTrue, IfSome}
+use Rattle.std.proofs.Common.{◌≡◌, ℕ, suc, ◌≤◌, true, List, [], ◌∷◌, ◌++◌, refl, sym, ap, ◌∙◌, subst, arith, inl, inr, Option, Some}
+use Rattle.std.specs.Prelude.{map, ⊤, IsTrue}
 use Rattle.std.specs.List.{AllByRecursion, list_all, list_any, flat_map}
-use Rattle.std.specs.Ordering.{is_lt}
 use Rattle.cap_bytes.specs.declared.faults.Fault.{Fault}
 use Rattle.cap_bytes.specs.declared.faults.Fault.TheVariants.{Memory}
 use Rattle.cap_time.specs.declared.stamps.Stamp.{Stamp}
 use Rattle.cap_source.specs.declared.feeds.Head.{Head}
-use Rattle.cap_source.specs.declared.feeds.Head.TheVariants as heads
-use Rattle.cap_source.specs.Feed.{Item, packet, refused, Leads, IsFeed, Keeps, SameItems}
-use Rattle.cap_merge.specs.Lists.{and-both}
-use Rattle.cap_merge.specs.Clock.{clock_cmp, later}
-use Rattle.cap_merge.specs.Run.{placed_from, placed_all, through_first, clocked_of, in_order, placed_cmp}
-use Rattle.cap_merge.specs.Parts.{Part, item_time, head_time, known_time, is_refusal, has_file, tracks, run_of, endings_of, places_of, left_of, feed_of}
+use Rattle.cap_source.specs.Feed.{Item, Leads, IsFeed, Keeps, SameItems}
+use Rattle.cap_merge.specs.Clock.{later}
+use Rattle.cap_merge.specs.Run.{placed_from, placed_all, in_order}
+use Rattle.cap_merge.specs.Parts.{Part, item_time, head_time, tracks, run_of, endings_of, places_of, left_of, feed_of}
 use Rattle.cap_merge.specs.Merge.{Learns, LearnsBy, Stops, LearnsAll, StopsAt}
 use Rattle.cap_merge.specs.Clocks.{clock_total}
 use Rattle.cap_merge.specs.Sound.{IsSound, AreFrom}
-use Rattle.cap_merge.specs.Coming.{later-again}
 
 -- Each part and what became of it.
 abbrev pub Each : (Part → Part → Type 0) → List Part → List Part → Type 0
@@ -58,7 +50,7 @@ pub kept-itself : (p : Part) → Kept p p
 kept-itself p = record { files = refl; told = λ t. t; can_fail = λ t. t; places = λ file. omega arith; left = omega arith }
 
 pub kept-learns_by : (p q : Part) (h : Option Head) → LearnsBy h p q → Kept p q
-kept-learns_by p q x2 l = grind arith
+kept-learns_by p q h l = grind arith
 
 files_kept : (ps qs : List Part) → Each Kept ps qs → flat_map (λ p. p.feed.files) qs ≡ flat_map (λ p. p.feed.files) ps
 files_kept [] [] k = refl
@@ -72,17 +64,11 @@ told_kept [] (q ∷ qs) k t = absurd k
 told_kept (p ∷ ps) [] k t = absurd k
 told_kept (p ∷ ps) (q ∷ qs) k t = grind (arith, told_kept ps qs k.1)
 
-or_either : (a b c d : Bool) → (a || b) ≡ true → (a ≡ true → c ≡ true) → (b ≡ true → d ≡ true) → (c || d) ≡ true
-or_either x0 b c d e f g = grind arith
-
 can_fail_kept : (ps qs : List Part) → Each Kept ps qs → list_any (λ p. p.feed.can_fail) qs ≡ true → list_any (λ p. p.feed.can_fail) ps ≡ true
 can_fail_kept [] [] k t = t
 can_fail_kept [] (q ∷ qs) k t = absurd k
 can_fail_kept (p ∷ ps) [] k t = absurd k
 can_fail_kept (p ∷ ps) (q ∷ qs) k t = grind (arith, can_fail_kept ps qs k.1)
-
-le_cond : (b : Bool) (m n k l : ℕ) → m ≤ n → k ≤ l → cond b m k ≤ cond b n l
-le_cond x0 m n k l f g = grind arith
 
 places_kept : (ps qs : List Part) (file : ℕ) → Each Kept ps qs → places_of ps file ≤ places_of qs file
 unfolding places_of
@@ -120,13 +106,10 @@ alike-itself p = record { files = refl; placed = λ t file place. refl; endings 
 -- the time of the next item was taken note of
 noted : (h : Head) (clock : Option Stamp) (frame : List ℕ) (items : List Item) (file place : ℕ) → Leads (Some h) frame items
     → placed_from item_time file place (later clock (head_time h)) items ≡ placed_from item_time file place clock items
-noted x0 clock frame items file place l = grind arith
-
-alike_learns : (p : Part) (head : Head) (q : Part) → IsFeed q.feed → Learns p head q → ComesAlike p q
-alike_learns p head q f l = grind arith
+noted h clock frame items file place l = grind arith
 
 pub alike-learns_by : (p q : Part) (h : Option Head) → IsFeed q.feed → LearnsBy h p q → ComesAlike p q
-alike-learns_by p q x2 f l = grind arith
+alike-learns_by p q h f l = grind arith
 
 pub alike-waits : (p q : Part) → Stops p Memory q → ComesAlike p q
 alike-waits p q s = grind arith
@@ -158,7 +141,7 @@ sound_learns : (p : Part) (head : Head) (q : Part) → Learns p head q → IsSou
 sound_learns p head q l = grind (arith, clock_total)
 
 pub sound-learns_by : (p q : Part) (h : Option Head) → IsSound p → LearnsBy h p q → IsSound q
-sound-learns_by p q x2 s l = grind (arith, sound_learns)
+sound-learns_by p q h s l = grind (arith, sound_learns)
 
 pub sound-stops : (p q : Part) (fault : Fault) → Stops p fault q → IsSound q
 sound-stops p q fault s = grind arith

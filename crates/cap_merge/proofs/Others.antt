@@ -1,18 +1,15 @@
 -- The feeds whose next is known, where one packet was passed.
-use Rattle.std.proofs.lemmas.Bool.Decides.{nat_tests}
-use Rattle.std.proofs.lemmas.Grind.{common_steps}
-use Rattle.std.proofs.Common.{rules, ◌≡◌, ℕ, zero, suc, ◌<◌, Bool, true, refl, List, [], ◌∷◌, length, get_or, sym, ap, ◌∙◌, arith, inl, inr, Option, Some, None, Result, Ok, Err}
+use Rattle.std.proofs.Common.{◌≡◌, ℕ, zero, suc, ◌<◌, Bool, true, List, [], ◌∷◌, length, get_or, sym, ap, ◌∙◌, arith, Some, Result}
 use Rattle.std.specs.Prelude.{◌&&◌, map, is_some}
 use Rattle.std.proofs.Math.ListN.{set}
 use Rattle.std.proofs.lemmas.Bool.{true≢false}
 use Rattle.cap_bytes.specs.declared.faults.Fault.{Fault}
-use Rattle.cap_source.specs.declared.feeds.Head.{Head}
 use Rattle.cap_source.specs.Feed.{Feed, IsPacket}
 use Rattle.cap_merge.specs.Lists.{and-both}
 use Rattle.cap_merge.specs.declared.lanes.Lane.{Lane}
 use Rattle.cap_merge.specs.Parts.{Part, parts, is_known, feed_of}
-use Rattle.cap_merge.specs.First.{known_but, others_known, OthersKnown}
-use Rattle.cap_merge.specs.Merge.{LearnsBy, LearnsAll, Asks, AsksAll, PassesAt}
+use Rattle.cap_merge.specs.First.{known_but, OthersKnown}
+use Rattle.cap_merge.specs.Merge.{LearnsAll, Asks, AsksAll, PassesAt}
 use Rattle.cap_merge.proofs.Asking.{part}
 use Rattle.cap_merge.proofs.Firsts.{known-holds}
 
@@ -32,18 +29,12 @@ passed_known (p ∷ ps) (q ∷ qs) (suc place) h k = grind (arith, passed_known 
 pub others-passed : (ps qs : List Part) (place : ℕ) → PassesAt ps place qs → IsPacket (feed_of ps).known → OthersKnown qs (Some place)
 others-passed ps qs place h p = passed_known ps qs place h (known-holds ps IsPacket (λ never. never) p).0
 
-learns_itself : (h : Option Head) (p : Part) → is_some h ≡ true → LearnsBy h p p
-learns_itself x0 p e = grind arith
-
 learns_all : (ps : List Part) → is_known ps ≡ true → LearnsAll ps ps
 learns_all [] k = tt
 learns_all (p ∷ ps) k = grind (arith, learns_all ps)
 
 asks_front : {T : Type 0} (p q : Part) (ps : List Part) (r : Result T Fault) → is_known ps ≡ true → Asks p r q → AsksAll (p ∷ ps) r (q ∷ ps)
-asks_front p q ps x3 k h = grind (arith, learns_all)
-
-asks_behind : {T : Type 0} (p : Part) (ps qs : List Part) (r : Result T Fault) → is_some p.lane.head ≡ true → AsksAll ps r qs → AsksAll (p ∷ ps) r (p ∷ qs)
-asks_behind p ps qs x3 k h = grind arith
+asks_front p q ps r k h = grind (arith, learns_all)
 
 -- Where the others are known, one feed is asked as all are.
 pub asks-there : {F : Type 0} (f : F → Feed) (ls : List Lane) (fs : List F) (i : ℕ) (l m : Lane) (x y : F) {T : Type 0} (r : Result T Fault) → length ls ≡ length fs
@@ -60,8 +51,3 @@ but-within f [] fs i e k = absurd (true≢false (sym k))
 but-within f (a ∷ ls) [] i e k = absurd (omega arith)
 but-within f (a ∷ ls) (b ∷ fs) zero e k = omega arith
 but-within f (a ∷ ls) (b ∷ fs) (suc i) e k = grind (arith, but-within f ls fs i (omega arith))
-
--- the same where the slices show equal lists
-pub others-shown : {F : Type 0} (f : F → Feed) (ls ks : List Lane) (fs gs : List F) (passed : Option ℕ) → ks ≡ ls → gs ≡ fs
-    → OthersKnown (parts ls (map f fs)) passed → OthersKnown (parts ks (map f gs)) passed
-others-shown f ls ks fs gs passed a b h = (λ i. others_known (parts (a i) (map f (b i))) passed) ∙ h

@@ -1,7 +1,5 @@
 -- Merging in rounds: files are merged in neighbouring groups, and then what came of the groups.
-use Rattle.std.proofs.lemmas.Bool.Decides.{nat_tests}
-use Rattle.std.proofs.lemmas.Grind.{common_steps}
-use Rattle.std.proofs.Common.{rules, ◌≡◌, ℕ, zero, suc, ◌≤◌, false, List, [], ◌∷◌, ◌++◌, refl, sym, ap, ◌∙◌, subst, arith, inl, inr, append_assoc, append-nil, Less, Equal, Option, None}
+use Rattle.std.proofs.Common.{◌≡◌, ℕ, zero, suc, ◌≤◌, List, [], ◌∷◌, ◌++◌, refl, sym, ap, ◌∙◌, subst, arith, inl, inr, append_assoc, append-nil, Less, Equal, Option, None}
 use Rattle.std.specs.Prelude.{map, ◌⊎◌}
 use Rattle.std.specs.List.{AllByRecursion}
 use Rattle.std.specs.Ordering.{is_gt}
@@ -124,7 +122,7 @@ AreBetween time gs = AllByRecursion (λ g. IsBetween time g.now g.tracks) gs
 head_of_group : {A : Type 0} (time : A → Option Stamp) (P : Option Stamp → Type 0) → ((a b : Option Stamp) → clock_cmp a b ≡ Equal → P a → P b)
     → (now : Option Stamp) (ts : List (Track A)) → IsBetween time now ts → AllByRecursion (λ t. HeadClock time P t.clock t.items) ts
     → (AllByRecursion (λ t. t.items ≡ []) ts ⊎ Next time ts) → HeadClock time P now (map (λ x. x.item) (merged time ts))
-head_of_group time x1 same now ts b h x7 = grind (arith, merged-none, all-back, first_told, merged-next, at_most-both)
+head_of_group time P same now ts b h h' = grind (arith, merged-none, all-back, first_told, merged-next, at_most-both)
 
 heads_of_groups : {A : Type 0} (time : A → Option Stamp) (P : Option Stamp → Type 0) → ((a b : Option Stamp) → clock_cmp a b ≡ Equal → P a → P b)
     → (gs : List (Group A)) → AreBetween time gs → AllByRecursion (λ t. HeadClock time P t.clock t.items) (files_of gs)

@@ -1,7 +1,5 @@
 -- Laws of the run, over any files.
-use Rattle.std.proofs.lemmas.Bool.Decides.{nat_tests}
-use Rattle.std.proofs.lemmas.Grind.{common_steps}
-use Rattle.std.proofs.Common.{rules, ◌≡◌, ℕ, zero, suc, ◌+◌, ◌≤◌, Bool, true, false, cond, List, [], ◌∷◌, ◌++◌, length, refl, sym, ap, ◌∙◌, subst, arith, inl, inr, Less, Equal, Option, Some, None}
+use Rattle.std.proofs.Common.{◌≡◌, ℕ, zero, suc, ◌+◌, ◌≤◌, Bool, true, false, List, [], ◌∷◌, ◌++◌, length, refl, sym, ap, ◌∙◌, subst, arith, inl, inr, Less, Equal, Option, None}
 use Rattle.std.specs.Prelude.{map, ⊤, ◌⊎◌}
 use Rattle.std.specs.List.{AllByRecursion}
 use Rattle.std.specs.Ordering.{is_lt, is_gt}
@@ -24,7 +22,7 @@ pub record Next {A : Type 0} (time : A → Option Stamp) (ts : List (Track A)) :
 
 all_heads : {A : Type 0} (time : A → Option Stamp) (P Q : Option Stamp → Type 0) → ((h : Option Stamp) → P h → Q h) → (clock : Option Stamp) (items : List A)
     → HeadClock time P clock items → HeadClock time Q clock items
-all_heads time x1 x2 f clock x5 h = grind arith
+all_heads time P Q f clock items h = grind arith
 
 pub heads-implied : {A : Type 0} (time : A → Option Stamp) (P Q : Option Stamp → Type 0) → ((h : Option Stamp) → P h → Q h) → (ts : List (Track A))
     → AllByRecursion (λ t. HeadClock time P t.clock t.items) ts → AllByRecursion (λ t. HeadClock time Q t.clock t.items) ts
@@ -93,7 +91,8 @@ with_file time clock (x ∷ xs) ts (inl h) =
       whole = refl;
       first = record { below = tt; not_above = empty_heads time (AtMost (later clock (time x))) ts h };
     })
-with_file time clock (x ∷ xs) ts (inr n) = cc
+with_file time clock (x ∷ xs) ts (inr n) =
+    inr (with_one time clock x xs ts n (is_lt (clock_cmp (later n.clock (time n.item)) (later clock (time x)))) refl)
 
 -- Either no file has items to come, or some file's next item comes first.
 pub next-of : {A : Type 0} (time : A → Option Stamp) (ts : List (Track A)) → AllByRecursion (λ t. t.items ≡ []) ts ⊎ Next time ts
@@ -168,12 +167,6 @@ clocks_told time (suc n) ts now l b (inr m) =
       at_most-both (later now (time m.item)) (later m.clock (time m.item)) told.0 told.1,
       clocks_told time n behind (later now (time m.item)) fewer (between_next time now m.before m.after m.clock m.item m.rest between m.first) (next-of time behind),
     )
-
-none_least : (h : Option Stamp) → AtMost None h
-none_least x0 = grind arith
-
-none_ahead : {A : Type 0} (time : A → Option Stamp) (clock : Option Stamp) (items : List A) → HeadClock time (AtMost None) clock items
-none_ahead time clock x2 = grind arith
 
 pub opened_between : {A : Type 0} (time : A → Option Stamp) (files : List (List A)) → IsBetween time None (map opened files)
 opened_between time [] = record { reached = tt; ahead = tt }

@@ -1,20 +1,16 @@
 -- The feeds of a merge before anything is read.
-use Rattle.std.proofs.lemmas.Bool.Decides.{nat_tests}
-use Rattle.std.proofs.lemmas.Grind.{common_steps}
-use Rattle.std.proofs.Common.{rules, ◌≡◌, ℕ, zero, suc, ◌+◌, ◌==◌, ◌≤◌, ◌<◌, List, [], ◌∷◌, ◌++◌, length, map, Bool, true, false, ◌&&◌, ◌||◌, IsTrue, None, Result, Ok, Err, refl, sym, ap, ◌∙◌, subst, arith}
+use Rattle.std.proofs.Common.{◌≡◌, ℕ, zero, suc, ◌+◌, ◌≤◌, ◌<◌, List, [], ◌∷◌, ◌++◌, length, map, Bool, ◌&&◌, ◌||◌, IsTrue, None, Result, refl, sym, ap, ◌∙◌, subst, arith}
 use Rattle.std.specs.Prelude.{if◌then◌else◌}
 use Rattle.std.specs.List.{flat_map, list_all, list_any, range_with_len}
-use Rattle.std.proofs.lemmas.Bool.{eqb-true, false≢true}
+use Rattle.std.proofs.lemmas.Bool.{false≢true}
 use Rattle.std.proofs.lemmas.List.{length-map}
 use Rattle.cap_bytes.specs.declared.faults.Fault.{Fault}
-use Rattle.cap_bytes.specs.declared.faults.Fault.TheVariants.{Refused, Read, Write, Memory}
 use Rattle.cap_bytes.specs.declared.faults.Tail.{Tail}
 use Rattle.cap_merge.specs.Files.{items_of_files, run_of_files, clocked_run, endings_from, endings_of_files}
-use Rattle.cap_merge.specs.Parts.{Part, new_parts, item_time, is_refusal, feed_of, run_of, known_of, broken_of, endings_of, has_file, IsNumbered}
+use Rattle.cap_merge.specs.Parts.{Part, new_parts, item_time, is_refusal, feed_of, run_of, known_of, broken_of, endings_of, IsNumbered}
 use Rattle.cap_merge.specs.Readers.{Reader, IsUnread, AreUnread, IsUnreadRun}
 use Rattle.cap_merge.specs.Run.{opened, run}
 use Rattle.cap_source.specs.Feed.{Feed, HasFile}
-use Rattle.cap_source.specs.Items.{file_items}
 use Rattle.cap_source.specs.ReadFaults.{FailsOf}
 use Rattle.cap_source.specs.Walk.{Walks}
 use Rattle.cap_source.specs.declared.feeds.Ending.{Ending}
@@ -151,4 +147,4 @@ numbers-within file (suc count) n has = grind (arith, numbers-within (file + 1) 
 pub Fails-merged : {A B : Type 0} (reader : A → Reader) (tail : Tail) (sources : List A) (ps : List Part) (new : Feed) (result : Result B Fault)
     → IsUnreadRun tail (map reader sources) ps → Walks (feed_of ps) result new
     → FailsOf (length sources) (list_any (λ s. (reader s).can_fail) sources) result
-Fails-merged reader tail sources ps new x5 u w = grind (arith, numbers-within, length-map, can_fail-readers)
+Fails-merged reader tail sources ps new result u w = grind (arith, numbers-within, length-map, can_fail-readers)

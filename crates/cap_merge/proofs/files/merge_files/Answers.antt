@@ -1,7 +1,5 @@
-use Rattle.std.proofs.lemmas.Bool.Decides.{nat_tests}
-use Rattle.std.proofs.lemmas.Grind.{common_steps}
 use Rattle.std.proofs.lemmas.List.{length-map}
-use Rattle.std.proofs.Common.{rules, map, arith}
+use Rattle.std.proofs.Common.{map, arith}
 use Rattle.cap_source.specs.Captures.{feed_of}
 use Rattle.cap_merge.proofs.Unread.{AreUnread-length, AreUnread-numbered, IsUnreadRun-feeds}
 use Rattle.cap_merge.specs.Readers.{reader_of}

@@ -1,10 +1,7 @@
 use Rattle.std.proofs.lemmas.Bool.Decides.{nat_tests}
 use Rattle.std.proofs.lemmas.Grind.{common_steps}
-use Rattle.std.proofs.Common.{rules, arith, sym, ap, ◌∙◌, List, length}
-use Rattle.cap_merge.specs.Parts.{Part}
-use Rattle.cap_merge.specs.Merge.{AsksAll}
+use Rattle.std.proofs.Common.{arith}
 use Rattle.cap_merge.proofs.Asking.{kept-written, length-written}
-use Rattle.cap_merge.proofs.Others.{others-shown}
 use Rattle.cap_merge.proofs.lanes.ask_all.Goals as goal
 
 pub ask_unknown-requires : goal.ask_unknown-requires

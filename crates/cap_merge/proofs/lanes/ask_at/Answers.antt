@@ -1,6 +1,3 @@
-use Rattle.std.proofs.lemmas.Bool.Decides.{nat_tests}
-use Rattle.std.proofs.lemmas.Grind.{common_steps}
-use Rattle.std.proofs.Common.{rules, arith}
 use Rattle.cap_merge.proofs.Others.{asks-there}
 use Rattle.cap_merge.proofs.lanes.ask_at.Goals as goal
 

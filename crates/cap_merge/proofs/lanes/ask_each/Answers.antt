@@ -1,6 +1,4 @@
-use Rattle.std.proofs.lemmas.Bool.Decides.{nat_tests}
-use Rattle.std.proofs.lemmas.Grind.{common_steps}
-use Rattle.std.proofs.Common.{rules, sym, add-one, length-set, arith, map}
+use Rattle.std.proofs.Common.{sym, add-one, length-set, arith, map}
 use Rattle.std.proofs.lemmas.Result.{err_from_is_err_and}
 use Rattle.cap_merge.specs.Parts.{parts}
 use Rattle.cap_merge.proofs.Asking.{asked-init, asked-all, lanes-more, lanes-stop, length-parts}

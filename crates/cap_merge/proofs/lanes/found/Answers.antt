@@ -1,7 +1,5 @@
-use Rattle.std.proofs.lemmas.Bool.Decides.{nat_tests}
-use Rattle.std.proofs.lemmas.Grind.{common_steps}
 use Rattle.cap_merge.proofs.Finding.{known-found, first-within}
-use Rattle.std.proofs.Common.{rules, arith, Some}
+use Rattle.std.proofs.Common.{Some}
 use Rattle.cap_merge.proofs.lanes.found.Goals as goal
 
 pub returns-in-Some : goal.returns-in-Some

@@ -1,6 +1,3 @@
-use Rattle.std.proofs.lemmas.Bool.Decides.{nat_tests}
-use Rattle.std.proofs.lemmas.Grind.{common_steps}
-use Rattle.std.proofs.Common.{rules, arith}
 use Rattle.cap_merge.specs.Parts.{new_lane}
 use Rattle.cap_merge.specs.First.{lane_at}
 use Rattle.cap_merge.proofs.Placing.{known-none, known-first}

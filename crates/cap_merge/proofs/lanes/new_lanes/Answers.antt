@@ -1,8 +1,4 @@
-use Rattle.std.proofs.lemmas.Bool.Decides.{nat_tests}
-use Rattle.std.proofs.lemmas.Grind.{common_steps}
-use Rattle.std.proofs.Common.{rules, ◌≡◌, refl, ap, ◌∙◌, arith, add-one, lit<}
-use Rattle.std.specs.Prelude.{replicate}
-use Rattle.cap_merge.specs.Parts.{new_lane}
+use Rattle.std.proofs.Common.{refl, arith, add-one, lit<}
 use Rattle.cap_merge.proofs.Placing.{one_more}
 use Rattle.cap_merge.proofs.lanes.new_lanes.Goals as goal
 

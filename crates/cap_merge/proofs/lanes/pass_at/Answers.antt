@@ -1,6 +1,4 @@
-use Rattle.std.proofs.lemmas.Bool.Decides.{nat_tests}
-use Rattle.std.proofs.lemmas.Grind.{common_steps}
-use Rattle.std.proofs.Common.{rules, arith}
+use Rattle.std.proofs.Common.{arith}
 use Rattle.cap_merge.proofs.Asking.{packet-there, passes-there}
 use Rattle.cap_merge.proofs.lanes.pass_at.Goals as goal
 

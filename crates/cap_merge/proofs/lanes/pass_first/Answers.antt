@@ -1,8 +1,6 @@
 use Rattle.std.proofs.lemmas.Bool.Decides.{nat_tests}
 use Rattle.std.proofs.lemmas.Grind.{common_steps}
-use Rattle.std.proofs.Common.{rules, arith, sym, ap, ◌∙◌, List, length}
-use Rattle.cap_merge.specs.Parts.{Part}
-use Rattle.cap_merge.specs.Merge.{PassesAt}
+use Rattle.std.proofs.Common.{arith}
 use Rattle.cap_merge.proofs.Asking.{kept-written, length-written}
 use Rattle.cap_merge.proofs.lanes.pass_first.Goals as goal
 

@@ -1,6 +1,4 @@
-use Rattle.std.proofs.lemmas.Bool.Decides.{nat_tests}
-use Rattle.std.proofs.lemmas.Grind.{common_steps}
-use Rattle.std.proofs.Common.{rules, arith, ◌≡◌, sym, ◌∙◌, map, false}
+use Rattle.std.proofs.Common.{◌≡◌, sym, ◌∙◌, map, false}
 use Rattle.std.proofs.lemmas.List.{length-map}
 use Rattle.cap_merge.specs.Parts.{parts, has_next}
 use Rattle.cap_merge.proofs.Bounds.{first-bounded}

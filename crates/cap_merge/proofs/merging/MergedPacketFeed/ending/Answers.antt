@@ -1,7 +1,4 @@
-use Rattle.std.proofs.lemmas.Bool.Decides.{nat_tests}
-use Rattle.std.proofs.lemmas.Grind.{common_steps}
-use Rattle.std.proofs.Common.{rules, ℕ, ◌∙◌, map, arith}
-use Rattle.cap_merge.specs.Parts.{parts, feed_of}
+use Rattle.std.proofs.Common.{arith}
 use Rattle.cap_merge.specs.Sound.{numbered-from}
 use Rattle.cap_merge.proofs.Firsts.{ended-file, known-here, has-here, ends-here}
 use Rattle.cap_merge.proofs.merging.MergedPacketFeed.ending.Goals as goal

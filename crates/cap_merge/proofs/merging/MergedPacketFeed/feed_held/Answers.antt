@@ -1,7 +1,4 @@
-use Rattle.std.proofs.lemmas.Bool.Decides.{nat_tests}
-use Rattle.std.proofs.lemmas.Grind.{common_steps}
-use Rattle.std.proofs.Common.{rules, ap, ◌∙◌, add-one, length, arith}
-use Rattle.cap_merge.specs.Parts.{both_held}
+use Rattle.std.proofs.Common.{ap, add-one, length, arith}
 use Rattle.cap_merge.proofs.Firsts.{held-here, held-done}
 use Rattle.cap_merge.proofs.merging.MergedPacketFeed.feed_held.Goals as goal
 

@@ -1,6 +1,4 @@
-use Rattle.std.proofs.lemmas.Bool.Decides.{nat_tests}
-use Rattle.std.proofs.lemmas.Grind.{common_steps}
-use Rattle.std.proofs.Common.{rules, arith, ◌≡◌, refl, sym, ◌∙◌, map, false}
+use Rattle.std.proofs.Common.{◌≡◌, refl, sym, ◌∙◌, map, false}
 use Rattle.cap_merge.specs.Parts.{parts, has_next, new_lane}
 use Rattle.cap_merge.specs.First.{lane_at}
 use Rattle.cap_merge.specs.declared.lanes.First.{First}
