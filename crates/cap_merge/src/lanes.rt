@@ -71,7 +71,7 @@ fn reach(lane: &mut Lane)
     }
 }
 
-// Keeps what comes next in the lane. By cases, so that a packet is copied once, from where its feed keeps it.
+// Keeps what comes next in the lane. By cases, which spares a copy of the packet.
 #[inline(always)]
 fn keep(lane: &mut Lane, head: Head)
     ensures { lane.new ≡ record { clock = lane.old.clock; head = Some head } }
