@@ -4,7 +4,7 @@ use Rattle.std.specs.Option.{option_map}
 use Rattle.cap_bytes.specs.declared.faults.Refusal.{Refusal}
 use Rattle.cap_merge.specs.Run.{Clocked}
 use Rattle.cap_source.specs.Feed.{Item}
-use Rattle.cap_talks.specs.FileText.{or_else}
+use Rattle.cap_talks.specs.Files.Lines.{or_else}
 use Rattle.cap_talks.specs.ReportText.{refusal_here, refusal_after, with_item}
 use Rattle.cap_talks.specs.Taken.{Taken}
 use Rattle.cap_laws.specs.Reports.{Place, place_or, refused_after, RuleLaw}

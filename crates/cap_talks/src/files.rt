@@ -6,12 +6,16 @@ ghost use Rattle.cap_bytes.specs.Printing.{Prints, is_write};
 ghost use Rattle.cap_source.specs.Feed.{Keeps};
 ghost use Rattle.cap_source.specs.ReadFaults.{FailsAs, FailsOf};
 ghost use Rattle.cap_source.specs.Walk.{Walks};
-ghost use Rattle.cap_talks.specs.FileText.{files_text, info_text, first_refusal};
-ghost use Rattle.cap_talks.specs.Reading.{CountsAll, CountsFile, CountsFiles, FailsFirst, counted_texts};
+ghost use Rattle.cap_talks.specs.Files.Lines.{files_text, info_text, first_refusal};
+ghost use Rattle.cap_talks.specs.Files.Reading.{CountsAll, CountsFile, CountsFiles, FailsFirst, counted_texts};
 ghost use Rattle.cap_talks.specs.Telling.{Tells};
 
-use crate::counts::Counts;
-use crate::lines::{file_line, files_line};
+pub mod counts;
+pub mod lines;
+pub mod totals;
+
+use crate::files::counts::Counts;
+use crate::files::lines::{file_line, files_line};
 use cap_bytes::{Fault, Sink, Source, Tail, put_all};
 use cap_source::{Capture, Ending, Head, PacketFeed, next_packet};
 use std::alloc::Global;

@@ -4,11 +4,16 @@ ghost use Rattle.std.specs.Map.{lookup};
 ghost use Rattle.indexmap.specs.IndexMap.{insert_entry};
 ghost use Rattle.indexmap.specs.Layout.{set_value_at};
 ghost use Rattle.cap_talks.specs.Talks.{key_of, row_of, same_talk};
-ghost use Rattle.cap_talks.specs.Rows.{StandsFor, is_refused, is_limit, talk_limit, frames_in, bytes_in, frames_of_row, bytes_of_row, row_in, with_unit, with_talk};
-ghost use Rattle.cap_talks.specs.declared.units.CountedUnit.{CountedUnit};
+ghost use Rattle.cap_talks.specs.Talks.Rows.{StandsFor, is_refused, is_limit, talk_limit, frames_in, bytes_in, frames_of_row, bytes_of_row, row_in, with_unit, with_talk};
+ghost use Rattle.cap_talks.specs.declared.talks.units.CountedUnit.{CountedUnit};
 
-use crate::rows::{TalkKey, TalkRow};
-use crate::units::CountedUnit;
+pub mod adding;
+pub mod lines;
+pub mod rows;
+pub mod units;
+
+use crate::talks::rows::{TalkKey, TalkRow};
+use crate::talks::units::CountedUnit;
 use indexmap::IndexMap;
 use std::alloc::Global;
 use std::marker::Model;
@@ -35,11 +40,11 @@ pub struct Talks {
 }
 
 impl Model for Talks {
-    ghost use Rattle.cap_talks.specs.Rows.{TalksState};
+    ghost use Rattle.cap_talks.specs.Talks.Rows.{TalksState};
 
     ghost Value = { TalksState };
 
-    ghost use Rattle.cap_talks.specs.TalksView.{talks_view, IsSoundInside};
+    ghost use Rattle.cap_talks.specs.Talks.View.{talks_view, IsSoundInside};
 
     ghost view = { talks_view };
 

@@ -16,12 +16,12 @@ ghost use Rattle.cap_talks.specs.declared.tallies.TallyFault.TheVariants.{Memory
 ghost use Rattle.cap_talks.specs.Classes.{sum_of};
 ghost use Rattle.cap_talks.specs.CountedUnits.{is_limit_at};
 
-use crate::adding::{add_unit, class_of, joined_class, joined_unit, stamped_of, whole_unit};
 use crate::classes::{Class, ClassCounts};
 use crate::looks::{Seen, look};
 use crate::report_lines::{frames_line, joined_line};
-use crate::talk_lines::put_talks;
 use crate::talks::Talks;
+use crate::talks::adding::{add_unit, class_of, joined_class, joined_unit, stamped_of, whole_unit};
+use crate::talks::lines::put_talks;
 use cap_bytes::{Fault, Sink, put_all};
 use cap_ip::{Header, transport};
 use cap_join::{Datagram, Joiner, Put, Stamped};
