@@ -8,7 +8,7 @@ use Rattle.cap_bytes.specs.declared.faults.Tail.{Tail}
 use Rattle.cap_bytes.specs.declared.numbers.Order.{Order}
 use Rattle.cap_bytes.specs.declared.stops.Stop.{Stop}
 use Rattle.cap_blocks.specs.Grammar.{is_known, is_total}
-use Rattle.cap_blocks.specs.Split.{kind_at, total_at, is_section, is_ordered, own_order, order_at, front_fault, rest_fault, block_fault, block_at, stop_at, LacksRoom}
+use Rattle.cap_blocks.specs.Split.{kind_at, total_at, is_section, is_ordered, own_order, order_at, header_fault, body_fault, block_fault, block_at, stop_at, LacksRoom}
 use Rattle.cap_blocks.specs.declared.blocks.Block.{Block}
 
 -- the order in which the order magic of a section header reads, if it does in either
@@ -22,12 +22,12 @@ FindsOrder section bytes (Some order) = (order ≡ order_at section bytes) × ((
 FindsOrder section bytes None = (is_section bytes && not (is_ordered (order_at section bytes) bytes)) ≡ true
 
 -- the block at the front of some bytes, or the first condition that its first 12 bytes meet
-abbrev pub ParsesFront : Option Order → ℕ → List ℕ → Result Block Rule → Type 0
-ParsesFront section offset bytes (Ok block) = (front_fault section offset bytes ≡ None) × (block ≡ block_at section offset bytes)
-ParsesFront section offset bytes (Err rule) = front_fault section offset bytes ≡ Some rule
+abbrev pub ParsesHeader : Option Order → ℕ → List ℕ → Result Block Rule → Type 0
+ParsesHeader section offset bytes (Ok block) = (header_fault section offset bytes ≡ None) × (block ≡ block_at section offset bytes)
+ParsesHeader section offset bytes (Err rule) = header_fault section offset bytes ≡ Some rule
 
--- The first 12 bytes of a block stand at the front of some bytes.
-pub record IsFront (block : Block) (offset : ℕ) (bytes : List ℕ) : Type 0 where
+-- The header of a block stands at the front of some bytes.
+pub record IsHeader (block : Block) (offset : ℕ) (bytes : List ℕ) : Type 0 where
   pub head : 12 ≤ length bytes
   pub offset_is : block.offset ≡ offset
   pub kind : block.kind ≡ kind_at block.order bytes
@@ -46,18 +46,18 @@ pub record Stays (old new : State) : Type 0 where
   pub room : old.room ≤ new.room
   pub held : new.held ≤ 524288
 
--- The first 12 bytes of a block are shown.
-pub record SeesFront (section : Option Order) (block : Block) (old new : State) : Type 0 where
+-- The header of a block is shown.
+pub record SeesHeader (section : Option Order) (block : Block) (old new : State) : Type 0 where
   pub shows : Shows old new
-  pub front : IsFront block old.offset new.shown
+  pub header : IsHeader block old.offset new.shown
   pub room : 12 ≤ new.room
-  pub none : IsTrue old.told → front_fault section old.offset (coming old) ≡ None
+  pub none : IsTrue old.told → header_fault section old.offset (coming old) ≡ None
   pub block_is : IsTrue old.told → block ≡ block_at section old.offset (coming old)
 
--- what a look at the first 12 bytes answers
-abbrev pub LooksAtFront : Option Order → Tail → State → Result (Result Block Stop) Fault → State → Type 0
-LooksAtFront section tail old result new =
-    LooksFor (λ block. SeesFront section block old new) (is_some section) (block_fault section old.offset (coming old)) 12 ⊤ tail old result new
+-- what a look at the header answers
+abbrev pub LooksAtHeader : Option Order → Tail → State → Result (Result Block Stop) Fault → State → Type 0
+LooksAtHeader section tail old result new =
+    LooksFor (λ block. SeesHeader section block old new) (is_some section) (block_fault section old.offset (coming old)) 12 ⊤ tail old result new
 
 -- A block of a known kind is shown whole, and one of another kind is passed.
 abbrev pub Leaves : Bool → ℕ → State → State → Type 0
@@ -66,22 +66,22 @@ Leaves true total old new =
 Leaves false total old new =
     (new.offset ≡ old.offset + total) × (IsTrue old.told → coming new ≡ drop total (coming old))
 
--- The rest of a block is looked at, which meets that condition, if one.
-pub record SeesRest (block : Block) (fault : Option Rule) (old new : State) : Type 0 where
+-- The body of a block is looked at, with the total length after it: they meet that condition, if one.
+pub record SeesBody (block : Block) (fault : Option Rule) (old new : State) : Type 0 where
   pub goes : Goes old new
-  pub told_fault : IsTrue old.told → rest_fault block.order (coming old) ≡ fault
+  pub told_fault : IsTrue old.told → body_fault block.order (coming old) ≡ fault
   pub left : fault ≡ None → Leaves (is_known block.kind) block.total old new
 
--- what a look at the rest of a block answers
-abbrev pub LooksAtRest : Block → State → Result (Option Rule) Fault → State → Type 0
-LooksAtRest block old (Ok fault) new = SeesRest block fault old new
-LooksAtRest block old (Err fault) new = FailsBy 524288 ((is_known block.kind ≡ true) × (old.room < block.total)) old fault new
+-- what a look at the body of a block answers
+abbrev pub LooksAtBody : Block → State → Result (Option Rule) Fault → State → Type 0
+LooksAtBody block old (Ok fault) new = SeesBody block fault old new
+LooksAtBody block old (Err fault) new = FailsBy 524288 ((is_known block.kind ≡ true) × (old.room < block.total)) old fault new
 
 -- the same of a block that is skipped, where no fault but that of a read comes, which may fail after the block's
 -- beginning
-abbrev pub SkipsRest : Block → State → Result (Option Rule) Fault → State → Type 0
-SkipsRest block old (Ok fault) new = SeesRest block fault old new
-SkipsRest block old (Err fault) new = IsSome new.broken × IsTrue new.failed × IsTrue old.can_fail
+abbrev pub SkipsBody : Block → State → Result (Option Rule) Fault → State → Type 0
+SkipsBody block old (Ok fault) new = SeesBody block fault old new
+SkipsBody block old (Err fault) new = IsSome new.broken × IsTrue new.failed × IsTrue old.can_fail
 
 -- A block is there.
 pub record SeesBlock (section : Option Order) (tail : Tail) (block : Block) (old new : State) : Type 0 where

@@ -1,8 +1,8 @@
-//! The rest of a block, after its first 12 bytes. draft-ietf-opsawg-pcapng, 3.1 and 4.1.
+//! The body of a block, and its total length again after it. draft-ietf-opsawg-pcapng, 3.1 and 4.1.
 ghost use Rattle.std.specs.Prelude.{◌≡◌, ◌≤◌, None, true, false, length};
 ghost use Rattle.cap_blocks.specs.Grammar.{is_known};
-ghost use Rattle.cap_blocks.specs.Sights.{IsFront, LooksAtRest, SkipsRest, Stays};
-ghost use Rattle.cap_blocks.specs.Split.{rest_fault};
+ghost use Rattle.cap_blocks.specs.Sights.{IsHeader, LooksAtBody, SkipsBody, Stays};
+ghost use Rattle.cap_blocks.specs.Split.{body_fault};
 
 use crate::blocks::{Block, SECTION, is_known, is_version};
 use cap_bytes::{Fault, Rule, Source, Window, u16_at, u32_at};
@@ -11,10 +11,10 @@ use cap_bytes::{Fault, Rule, Source, Window, u16_at, u32_at};
 const TRAILER_SIZE: usize = 4;
 
 // What a block is refused by that is there whole.
-fn rest_rule(block: Block, bytes: &[u8]) -> Option<Rule>
-    requires front { IsFront block block.offset bytes.now }
+fn body_rule(block: Block, bytes: &[u8]) -> Option<Rule>
+    requires header { IsHeader block block.offset bytes.now }
     requires whole { block.total ≤ length bytes.now }
-    ensures { result ≡ rest_fault block.order bytes.now }
+    ensures { result ≡ body_fault block.order bytes.now }
 {
     let place = block.total as usize - TRAILER_SIZE;
     if u32_at(block.order, bytes, place) != block.total {
@@ -30,26 +30,26 @@ fn rest_rule(block: Block, bytes: &[u8]) -> Option<Rule>
     None
 }
 
-// Looks at the rest of a block of a known kind, which the window shows whole then.
+// Looks at the body of a block of a known kind, which the window shows whole then.
 fn look_at_known<R: Source>(window: &mut Window<R>, block: Block) -> Result<Option<Rule>, Fault>
-    requires front { IsFront block window.old.offset window.old.shown }
+    requires header { IsHeader block window.old.offset window.old.shown }
     requires known { is_known block.kind ≡ true }
-    ensures answer { LooksAtRest block window.old result window.new }
+    ensures answer { LooksAtBody block window.old result window.new }
     ensures stays { Stays window.old window.new }
 {
     if !window.need(block.total as usize)? {
         return Ok(Some(Rule::Cut));
     }
-    Ok(rest_rule(block, window.bytes()))
+    Ok(body_rule(block, window.bytes()))
 }
 
 // Passes a block of another kind, and looks at its trailer.
-fn skip_rest<R: Source>(window: &mut Window<R>, block: Block) -> Result<Option<Rule>, Fault>
-    requires front { IsFront block window.old.offset window.old.shown }
+fn skip_body<R: Source>(window: &mut Window<R>, block: Block) -> Result<Option<Rule>, Fault>
+    requires header { IsHeader block window.old.offset window.old.shown }
     requires room { 12 ≤ window.old.room }
     requires whole { window.old.broken ≡ None }
     requires unknown { is_known block.kind ≡ false }
-    ensures answer { SkipsRest block window.old result window.new }
+    ensures answer { SkipsBody block window.old result window.new }
     ensures stays { Stays window.old window.new }
 {
     if !window.skip(u64::from(block.total) - TRAILER_SIZE as u64)? {
@@ -67,14 +67,14 @@ fn skip_rest<R: Source>(window: &mut Window<R>, block: Block) -> Result<Option<R
 
 // The same, where a read that fails is told with the block's own offset.
 fn look_at_skipped<R: Source>(window: &mut Window<R>, block: Block) -> Result<Option<Rule>, Fault>
-    requires front { IsFront block window.old.offset window.old.shown }
+    requires header { IsHeader block window.old.offset window.old.shown }
     requires room { 12 ≤ window.old.room }
     requires whole { window.old.broken ≡ None }
     requires unknown { is_known block.kind ≡ false }
-    ensures answer { LooksAtRest block window.old result window.new }
+    ensures answer { LooksAtBody block window.old result window.new }
     ensures stays { Stays window.old window.new }
 {
-    match skip_rest(window, block) {
+    match skip_body(window, block) {
         Ok(fault) => Ok(fault),
         Err(_) => {
             let offset = block.offset;
@@ -87,13 +87,13 @@ fn look_at_skipped<R: Source>(window: &mut Window<R>, block: Block) -> Result<Op
     }
 }
 
-/// Looks at the rest of a block, the first 12 bytes of which a window shows. A block of a known kind is
+/// Looks at what follows the header of a block, which a window shows. A block of a known kind is
 /// shown whole then, and one of another kind is passed.
-pub fn look_at_rest<R: Source>(window: &mut Window<R>, block: Block) -> Result<Option<Rule>, Fault>
-    requires front { IsFront block window.old.offset window.old.shown }
+pub fn look_at_body<R: Source>(window: &mut Window<R>, block: Block) -> Result<Option<Rule>, Fault>
+    requires header { IsHeader block window.old.offset window.old.shown }
     requires room { 12 ≤ window.old.room }
     requires whole { window.old.broken ≡ None }
-    ensures answer { LooksAtRest block window.old result window.new }
+    ensures answer { LooksAtBody block window.old result window.new }
     ensures stays { Stays window.old window.new }
 {
     if is_known(block.kind) {

@@ -1,6 +1,6 @@
-//! The first 12 bytes of a block. draft-ietf-opsawg-pcapng, 3.1 and 4.1.
+//! The header of a block: its first 12 bytes. draft-ietf-opsawg-pcapng, 3.1 and 4.1.
 ghost use Rattle.std.specs.Prelude.{◌≡◌, ◌+◌, ◌≤◌, ◌^◌, ◌&&◌, ◌==◌, None, is_some, length};
-ghost use Rattle.cap_blocks.specs.Sights.{FindsOwnOrder, FindsOrder, ParsesFront, LooksAtFront, Stays};
+ghost use Rattle.cap_blocks.specs.Sights.{FindsOwnOrder, FindsOrder, ParsesHeader, LooksAtHeader, Stays};
 ghost use Rattle.cap_blocks.specs.Split.{is_section, is_ordered, first_fault};
 
 use crate::blocks::{Block, ORDER_MAGIC, SECTION, is_total};
@@ -72,9 +72,9 @@ fn order_of(section: Option<Order>, bytes: &[u8]) -> Option<Order>
 /// The block that stands at the front of some bytes, which begin at `offset`, as far as its first 12
 /// bytes tell it. Where there is none, the first rule that they break; `Rule::Cut` where they are too
 /// few. The order is that of the section that is being read, if one is.
-pub fn front_of(section: Option<Order>, offset: u64, bytes: &[u8]) -> Result<Block, Rule>
+pub fn header_of(section: Option<Order>, offset: u64, bytes: &[u8]) -> Result<Block, Rule>
     requires { offset ≤ 2 ^ 40 }
-    ensures { ParsesFront section offset bytes.now result }
+    ensures { ParsesHeader section offset bytes.now result }
 {
     if let Some(rule) = first_rule(section, bytes) {
         return Err(rule);
@@ -108,13 +108,13 @@ fn is_end(section: Option<Order>, bytes: &[u8]) -> bool
     section.is_some() && bytes.is_empty()
 }
 
-/// Looks for the first 12 bytes of a block at the front of a window, which shows them then.
-pub fn look_at_front<R: Source>(
+/// Looks for the header of a block at the front of a window, which shows it then.
+pub fn look_at_header<R: Source>(
     window: &mut Window<R>,
     section: Option<Order>,
     tail: Tail,
 ) -> Result<Result<Block, Stop>, Fault>
-    ensures answer { LooksAtFront section tail window.old result window.new }
+    ensures answer { LooksAtHeader section tail window.old result window.new }
     ensures stays { Stays window.old window.new }
 {
     let file = window.file();
@@ -123,7 +123,7 @@ pub fn look_at_front<R: Source>(
     if is_end(section, window.bytes()) {
         return Ok(Err(Stop::End));
     }
-    match front_of(section, offset, window.bytes()) {
+    match header_of(section, offset, window.bytes()) {
         Ok(block) => Ok(Ok(block)),
         Err(rule) => Ok(Err(Stop::by(section.is_some(), tail, Refusal { file, offset, rule }))),
     }
