@@ -3,11 +3,11 @@
 
 mod blocks;
 mod bodies;
+mod buffers;
 mod headers;
 pub mod laws;
 mod options;
 mod readers;
-mod texts;
 mod writing;
 
 pub use crate::blocks::{

@@ -1,18 +1,18 @@
-//! Short texts of numbers, put together in an array.
+//! A buffer in which the fixed parts of a block are put together.
 ghost use Rattle.std.specs.Prelude.{◌≡◌, ◌+◌, ◌≤◌, ◌++◌, [], length, take};
 ghost use Rattle.cap_bytes.specs.Number.{bytes_of};
 
 use cap_bytes::{Order, put_u16, put_u32, put_u64};
 use std::marker::Model;
 
-/// A text of at most 44 bytes.
+/// The first bytes of a block, or its last ones: 44 at most.
 #[derive(Drop)]
-pub struct Text {
+pub struct BlockBuffer {
     bytes: [u8; 44],
     length: usize,
 }
 
-impl Model for Text {
+impl Model for BlockBuffer {
     ghost use Rattle.std.specs.Prelude.{◌≤◌, ℕ, List, take};
 
     ghost Value = { List ℕ };
@@ -22,58 +22,58 @@ impl Model for Text {
     ghost invariant = { λ t. t.length ≤ 44 };
 }
 
-impl Text {
-    /// A text without bytes.
-    pub fn new() -> Text
+impl BlockBuffer {
+    /// A buffer without bytes.
+    pub fn new() -> BlockBuffer
         ensures { result ≡ [] }
     {
-        Text {
+        BlockBuffer {
             bytes: [0; 44],
             length: 0,
         }
     }
 
-    /// The text.
+    /// The bytes that were put into it.
     pub fn bytes(&self) -> &[u8]
         ensures { result.now ≡ self.now }
     {
         self.bytes.split_at(self.length).0
     }
 
-    /// Puts bytes after the text.
+    /// Puts bytes after those that stand.
     pub fn add(&mut self, bytes: &[u8])
         requires { length self.old + length bytes.now ≤ 44 }
-        ensures text { self.new ≡ self.old ++ bytes.now }
+        ensures bytes { self.new ≡ self.old ++ bytes.now }
         ensures size { length self.new ≡ length self.old + length bytes.now }
     {
         copy_to(&mut self.bytes, self.length, bytes);
         self.length += bytes.len();
     }
 
-    /// Puts a number of 2 bytes after the text.
-    pub fn short(&mut self, order: Order, number: u16)
+    /// Puts a number of 2 bytes after those that stand.
+    pub fn add_u16(&mut self, order: Order, number: u16)
         requires { length self.old + 2 ≤ 44 }
-        ensures text { self.new ≡ self.old ++ bytes_of order 2 number }
+        ensures bytes { self.new ≡ self.old ++ bytes_of order 2 number }
         ensures size { length self.new ≡ length self.old + 2 }
     {
         put_u16(order, &mut self.bytes, self.length, number);
         self.length += 2;
     }
 
-    /// Puts a number of 4 bytes after the text.
-    pub fn word(&mut self, order: Order, number: u32)
+    /// Puts a number of 4 bytes after those that stand.
+    pub fn add_u32(&mut self, order: Order, number: u32)
         requires { length self.old + 4 ≤ 44 }
-        ensures text { self.new ≡ self.old ++ bytes_of order 4 number }
+        ensures bytes { self.new ≡ self.old ++ bytes_of order 4 number }
         ensures size { length self.new ≡ length self.old + 4 }
     {
         put_u32(order, &mut self.bytes, self.length, number);
         self.length += 4;
     }
 
-    /// Puts a number of 8 bytes after the text.
-    pub fn long(&mut self, order: Order, number: u64)
+    /// Puts a number of 8 bytes after those that stand.
+    pub fn add_u64(&mut self, order: Order, number: u64)
         requires { length self.old + 8 ≤ 44 }
-        ensures text { self.new ≡ self.old ++ bytes_of order 8 number }
+        ensures bytes { self.new ≡ self.old ++ bytes_of order 8 number }
         ensures size { length self.new ≡ length self.old + 8 }
     {
         put_u64(order, &mut self.bytes, self.length, number);
