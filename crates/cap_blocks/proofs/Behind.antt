@@ -3,9 +3,9 @@ use Rattle.std.proofs.Common.{◌≡◌, ℕ, ◌-◌, ◌≤◌, ◌<◌, ◌==
 use Rattle.std.proofs.lemmas.Bool.Decides.{nat_tests}
 use Rattle.std.proofs.lemmas.List.{take-append-drop, drop-append-le}
 use Rattle.cap_bytes.specs.Number.{number}
-use Rattle.cap_bytes.specs.Sights.{Fails}
+use Rattle.cap_bytes.specs.Parsing.{Fails}
 use Rattle.cap_bytes.specs.Window.{State, Needs, Skips, Drops, DropsAll, Passes, FailsAt, coming}
-use Rattle.cap_bytes.proofs.Sights.{all_shown, Goes-trans, if_none, if_some}
+use Rattle.cap_bytes.proofs.Parsing.{all_shown, Goes-trans, if_none, if_some}
 use Rattle.cap_bytes.specs.declared.faults.Fault.{Fault}
 use Rattle.cap_bytes.specs.declared.faults.Fault.TheVariants.{Refused, Read, Write, Memory}
 use Rattle.cap_bytes.specs.declared.faults.Rule.{Rule}
@@ -13,7 +13,7 @@ use Rattle.cap_bytes.specs.declared.faults.Rule.TheVariants.{Cut, BlockTrailer, 
 use Rattle.cap_bytes.specs.declared.numbers.Order.{Order}
 use Rattle.cap_bytes.proofs.Spelling.{number-append, number-drop_append}
 use Rattle.cap_blocks.specs.Grammar.{section_kind, is_known, is_version}
-use Rattle.cap_blocks.specs.Sights.{IsHeader, SeesBody, SkipsBody}
+use Rattle.cap_blocks.specs.Parsing.{IsHeader, SeesBody, SkipsBody}
 use Rattle.cap_blocks.specs.Split.{kind_at, total_at, has_other_version, body_fault}
 use Rattle.cap_blocks.specs.declared.blocks.Block.{Block}
 use Rattle.cap_blocks.proofs.Faults.{total-section}

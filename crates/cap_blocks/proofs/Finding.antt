@@ -1,15 +1,15 @@
 -- A look at a block's header, and then one at its body.
 use Rattle.std.proofs.Common.{◌≡◌, ℕ, ◌+◌, ◌<◌, List, length, drop, Option, Some, None, is_some, Bool, true, false, IsTrue, Err, inr, refl, sym, ◌∙◌, ap, subst, arith, length-append}
 use Rattle.cap_bytes.specs.Items.{stop_by}
-use Rattle.cap_bytes.specs.Sights.{SeesStop, FailsBy}
+use Rattle.cap_bytes.specs.Parsing.{SeesStop, FailsBy}
 use Rattle.cap_bytes.specs.Window.{State, coming}
-use Rattle.cap_bytes.proofs.Sights.{Goes-trans, some_left, SeesStop-fault, FailsBy-later}
+use Rattle.cap_bytes.proofs.Parsing.{Goes-trans, some_left, SeesStop-fault, FailsBy-later}
 use Rattle.cap_bytes.specs.declared.faults.Fault.{Fault}
 use Rattle.cap_bytes.specs.declared.faults.Rule.{Rule}
 use Rattle.cap_bytes.specs.declared.faults.Tail.{Tail}
 use Rattle.cap_bytes.specs.declared.numbers.Order.{Order}
 use Rattle.cap_blocks.specs.Grammar.{is_known}
-use Rattle.cap_blocks.specs.Sights.{Stays, SeesHeader, SeesBody, SeesBlock, Leaves, LooksAtBody}
+use Rattle.cap_blocks.specs.Parsing.{Stays, SeesHeader, SeesBody, SeesBlock, Leaves, LooksAtBody}
 use Rattle.cap_blocks.specs.Split.{order_at, body_fault, block_fault, block_at, LacksRoom}
 use Rattle.cap_blocks.specs.declared.blocks.Block.{Block}
 use Rattle.cap_blocks.proofs.Faults.{block_fault-body, stop_at-whole}

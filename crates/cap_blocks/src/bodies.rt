@@ -1,7 +1,7 @@
 //! The body of a block, and its total length again after it. draft-ietf-opsawg-pcapng, 3.1 and 4.1.
 ghost use Rattle.std.specs.Prelude.{◌≡◌, ◌≤◌, None, true, false, length};
 ghost use Rattle.cap_blocks.specs.Grammar.{is_known};
-ghost use Rattle.cap_blocks.specs.Sights.{IsHeader, LooksAtBody, SkipsBody, Stays};
+ghost use Rattle.cap_blocks.specs.Parsing.{IsHeader, LooksAtBody, SkipsBody, Stays};
 ghost use Rattle.cap_blocks.specs.Split.{body_fault};
 
 use crate::blocks::{Block, SECTION, is_known, is_version};

@@ -3,7 +3,7 @@ ghost use Rattle.std.specs.Prelude.{◌≡◌, ◌↔◌, ◌≤◌, IsTrue, IsS
 ghost use Rattle.cap_bytes.specs.Reader.{opened, Keeps, HasWindow};
 ghost use Rattle.cap_blocks.specs.Reader.{GivesNext, TakesItem, size_of, shown_size};
 ghost use Rattle.cap_blocks.specs.Grammar.{is_known};
-ghost use Rattle.cap_blocks.specs.Sights.{LooksForBlock, Stays};
+ghost use Rattle.cap_blocks.specs.Parsing.{LooksForBlock, Stays};
 
 use crate::blocks::{Block, is_known};
 use crate::bodies::look_at_body;

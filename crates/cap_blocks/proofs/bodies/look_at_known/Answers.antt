@@ -1,5 +1,5 @@
 use Rattle.std.proofs.lemmas.Result.{err_from_is_err_and}
-use Rattle.cap_bytes.proofs.Sights.{FailsBy-need}
+use Rattle.cap_bytes.proofs.Parsing.{FailsBy-need}
 use Rattle.cap_blocks.proofs.Faults.{total-known}
 use Rattle.cap_blocks.proofs.Behind.{IsHeader-same, SeesBody-known, SeesBody-cut}
 use Rattle.cap_blocks.proofs.bodies.look_at_known.Goals as goal

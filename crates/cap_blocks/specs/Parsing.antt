@@ -1,6 +1,6 @@
 -- What is seen at the front of the bytes that a window shows.
 use Rattle.std.specs.Prelude.{◌≡◌, ◌&&◌, not, true, false, Bool, ◌≤◌, ◌<◌, ◌+◌, ◌^◌, ℕ, List, length, drop, IsTrue, Option, Some, None, is_some, IsSome, Result, Ok, Err, ⊤}
-use Rattle.cap_bytes.specs.Sights.{FailsBy, LooksFor}
+use Rattle.cap_bytes.specs.Parsing.{FailsBy, LooksFor}
 use Rattle.cap_bytes.specs.Window.{State, Goes, Shows, coming}
 use Rattle.cap_bytes.specs.declared.faults.Fault.{Fault}
 use Rattle.cap_bytes.specs.declared.faults.Rule.{Rule}

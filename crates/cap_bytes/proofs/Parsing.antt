@@ -2,7 +2,7 @@
 use Rattle.std.proofs.Common.{◌≡◌, ℕ, ◌≤◌, ◌<◌, ◌==◌, ◌&&◌, [], ◌++◌, length, take, drop, Option, Some, None, IfSome, IfNone, Bool, true, false, IsTrue, Err, refl, sym, ◌∙◌, ap, subst, arith, append-nil, length-append, take-take, length-take}
 use Rattle.std.proofs.lemmas.List.{drop-append-le}
 use Rattle.cap_bytes.specs.Items.{stop_by}
-use Rattle.cap_bytes.specs.Sights.{Fails, FailsBy, SeesStop}
+use Rattle.cap_bytes.specs.Parsing.{Fails, FailsBy, SeesStop}
 use Rattle.cap_bytes.specs.Window.{State, Goes, Shows, Needs, Breaks, Passes, coming}
 use Rattle.cap_bytes.specs.declared.faults.Fault.{Fault}
 use Rattle.cap_bytes.specs.declared.faults.Fault.TheVariants.{Refused, Read, Write, Memory}

@@ -1,6 +1,6 @@
 -- What is seen at the front of the bytes that a window shows.
 use Rattle.std.specs.Prelude.{◌≡◌, ◌||◌, true, false, ⊤, ◌≤◌, ◌<◌, ◌+◌, ◌^◌, ℕ, List, length, take, drop, IsTrue, Some, None, Result, Ok, Err}
-use Rattle.cap_bytes.specs.Sights.{SeesStop, FailsBy, LooksFor}
+use Rattle.cap_bytes.specs.Parsing.{SeesStop, FailsBy, LooksFor}
 use Rattle.cap_bytes.specs.Window.{State, Shows, coming}
 use Rattle.cap_bytes.specs.declared.faults.Fault.{Fault}
 use Rattle.cap_bytes.specs.declared.faults.Refusal.{Refusal}
