@@ -7,7 +7,7 @@ use Rattle.cap_bytes.specs.declared.faults.Rule.{Rule}
 use Rattle.cap_bytes.specs.declared.faults.Rule.TheVariants.{NoTime, InterfaceLimit}
 use Rattle.cap_source.specs.Feed.{Item, packet, refused}
 use Rattle.cap_source.specs.declared.packets.Meta.{Meta}
-use Rattle.cap_write.specs.Numbering.{Name, Numbered, with_name, is_full, write_fault, numbered, numbered_of, numbered_or, refusal_in, refusal_or, refusal_at}
+use Rattle.cap_write.specs.Numbering.{Origin, Numbered, with_origin, is_full, write_fault, numbered, numbered_of, numbered_or, refusal_in, refusal_or, refusal_at}
 
 -- Two packets have the same interface, units, lengths and bytes.
 pub record IsTwin (m n : Meta) (f g : List ℕ) : Type 0 where
@@ -33,28 +33,28 @@ true-false : true ≡ false → ⊥
 true-false e = cc
 
 -- a packet that isn't refused: it has a time, and is the next of those that are written
-pub record Goes (names : List Name) (meta : Meta) (frame : List ℕ) (items : List Item) : Type 0 where
+pub record Goes (origins : List Origin) (meta : Meta) (frame : List ℕ) (items : List Item) : Type 0 where
   pub timed : is_none meta.units ≡ false
-  pub packets : numbered names (packet meta frame ∷ items) ≡ numbered_of names meta frame ∷ numbered (with_name names meta) items
-  pub rest : refusal_in (with_name names meta) items ≡ None
+  pub packets : numbered origins (packet meta frame ∷ items) ≡ numbered_of origins meta frame ∷ numbered (with_origin origins meta) items
+  pub rest : refusal_in (with_origin origins meta) items ≡ None
 
 timed_by : (b full : Bool) → (if b then Some NoTime else (if full then Some InterfaceLimit else None)) ≡ None → b ≡ false
 timed_by true full e = absurd (some-none NoTime e)
 timed_by false full e = refl
 
-time_of : (names : List Name) (meta : Meta) → write_fault names meta ≡ None → is_none meta.units ≡ false
+time_of : (origins : List Origin) (meta : Meta) → write_fault origins meta ≡ None → is_none meta.units ≡ false
 unfolding write_fault
-time_of names meta e = timed_by (is_none meta.units) (is_full names meta) e
+time_of origins meta e = timed_by (is_none meta.units) (is_full origins meta) e
 
-pub goes : (names : List Name) (meta : Meta) (frame : List ℕ) (items : List Item) → refusal_in names (packet meta frame ∷ items) ≡ None → Goes names meta frame items
+pub goes : (origins : List Origin) (meta : Meta) (frame : List ℕ) (items : List Item) → refusal_in origins (packet meta frame ∷ items) ≡ None → Goes origins meta frame items
 unfolding numbered refusal_in
-goes names meta frame items none = by (write_fault names meta) refl none
+goes origins meta frame items none = by (write_fault origins meta) refl none
   where
-    by : (fault : Option Rule) → write_fault names meta ≡ fault → refusal_or fault meta (refusal_in (with_name names meta) items) ≡ None → Goes names meta frame items
+    by : (fault : Option Rule) → write_fault origins meta ≡ fault → refusal_or fault meta (refusal_in (with_origin origins meta) items) ≡ None → Goes origins meta frame items
     by (Some rule) is none = absurd (some-none (refusal_at meta rule) none)
     by None is none = record {
-      timed = time_of names meta is;
-      packets = ap (λ (r : Option Rule). numbered_or r (numbered_of names meta frame) (numbered (with_name names meta) items)) is;
+      timed = time_of origins meta is;
+      packets = ap (λ (r : Option Rule). numbered_or r (numbered_of origins meta frame) (numbered (with_origin origins meta) items)) is;
       rest = none;
     }
 
@@ -69,30 +69,30 @@ empty-more x xs e = cc
 heads : {A : Type 0} (x y : A) (xs ys : List A) → x ∷ xs ≡ y ∷ ys → (x ≡ y) × (xs ≡ ys)
 heads x y xs ys e = (cc, cc)
 
-nothing : (names : List Name) → numbered names [] ≡ []
+nothing : (origins : List Origin) → numbered origins [] ≡ []
 unfolding numbered
-nothing names = refl
+nothing origins = refl
 
-pub refuses : (names : List Name) (r : Refusal) (items : List Item) → refusal_in names (refused r ∷ items) ≡ Some r
+pub refuses : (origins : List Origin) (r : Refusal) (items : List Item) → refusal_in origins (refused r ∷ items) ≡ Some r
 unfolding refusal_in
-refuses names r items = refl
+refuses origins r items = refl
 
 -- Lists of which the same packets are written, and none is refused, are such packets one by one.
-pub twins : (names others : List Name) (xs ys : List Item) → refusal_in names xs ≡ None → refusal_in others ys ≡ None → numbered names xs ≡ numbered others ys → AllZip TwinItems xs ys
-twins names others [] [] h k e = tt
-twins names others [] (packet n g ∷ ys) h k e =
+pub twins : (origins others : List Origin) (xs ys : List Item) → refusal_in origins xs ≡ None → refusal_in others ys ≡ None → numbered origins xs ≡ numbered others ys → AllZip TwinItems xs ys
+twins origins others [] [] h k e = tt
+twins origins others [] (packet n g ∷ ys) h k e =
     let one = goes others n g ys k in
-    absurd (empty-more (numbered_of others n g) (numbered (with_name others n) ys) (sym (nothing names) ∙ e ∙ one.packets))
-twins names others [] (refused r ∷ ys) h k e = absurd (none-some r (sym k ∙ refuses others r ys))
-twins names others (packet m f ∷ xs) [] h k e =
-    let one = goes names m f xs h in
-    absurd (empty-more (numbered_of names m f) (numbered (with_name names m) xs) (sym (nothing others) ∙ sym e ∙ one.packets))
-twins names others (refused q ∷ xs) ys h k e = absurd (none-some q (sym h ∙ refuses names q xs))
-twins names others (packet m f ∷ xs) (refused r ∷ ys) h k e = absurd (none-some r (sym k ∙ refuses others r ys))
-twins names others (packet m f ∷ xs) (packet n g ∷ ys) h k e =
-    let one = goes names m f xs h in
+    absurd (empty-more (numbered_of others n g) (numbered (with_origin others n) ys) (sym (nothing origins) ∙ e ∙ one.packets))
+twins origins others [] (refused r ∷ ys) h k e = absurd (none-some r (sym k ∙ refuses others r ys))
+twins origins others (packet m f ∷ xs) [] h k e =
+    let one = goes origins m f xs h in
+    absurd (empty-more (numbered_of origins m f) (numbered (with_origin origins m) xs) (sym (nothing others) ∙ sym e ∙ one.packets))
+twins origins others (refused q ∷ xs) ys h k e = absurd (none-some q (sym h ∙ refuses origins q xs))
+twins origins others (packet m f ∷ xs) (refused r ∷ ys) h k e = absurd (none-some r (sym k ∙ refuses others r ys))
+twins origins others (packet m f ∷ xs) (packet n g ∷ ys) h k e =
+    let one = goes origins m f xs h in
     let two = goes others n g ys k in
-    let both = heads (numbered_of names m f) (numbered_of others n g) (numbered (with_name names m) xs) (numbered (with_name others n) ys) (sym one.packets ∙ e ∙ two.packets) in (
+    let both = heads (numbered_of origins m f) (numbered_of others n g) (numbered (with_origin origins m) xs) (numbered (with_origin others n) ys) (sym one.packets ∙ e ∙ two.packets) in (
       record {
         interface = ap (λ (x : Numbered). x.interface) both.0;
         units = same_units m.units n.units one.timed two.timed (ap (λ (x : Numbered). x.units) both.0);
@@ -100,5 +100,5 @@ twins names others (packet m f ∷ xs) (packet n g ∷ ys) h k e =
         original = ap (λ (x : Numbered). x.original) both.0;
         frame = ap (λ (x : Numbered). x.frame) both.0;
       },
-      twins (with_name names m) (with_name others n) xs ys one.rest two.rest both.1,
+      twins (with_origin origins m) (with_origin others n) xs ys one.rest two.rest both.1,
     )

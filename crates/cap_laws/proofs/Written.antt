@@ -12,8 +12,8 @@ use Rattle.cap_source.specs.Feed.{Item, packet, refused, refusal_of}
 use Rattle.cap_source.specs.Items.{file_first, file_items}
 use Rattle.cap_time.specs.declared.stamps.Stamp.{Stamp}
 use Rattle.cap_write.specs.Laws.{MergeLaw, PcapngAgain}
-use Rattle.cap_write.specs.Numbering.{Name, numbered, refusal_at, refusal_in, refusal_or, with_name, write_fault}
-use Rattle.cap_write.specs.Texts.{first_names, merged_refusal, merged_bytes, pcapng_refusal, pcapng_bytes}
+use Rattle.cap_write.specs.Numbering.{Origin, numbered, refusal_at, refusal_in, refusal_or, with_origin, write_fault}
+use Rattle.cap_write.specs.Texts.{first_origins, merged_refusal, merged_bytes, pcapng_refusal, pcapng_bytes}
 use Rattle.cap_laws.proofs.OneFile.{run-one}
 use Rattle.cap_laws.proofs.Alike.{AlikeItems, RunsAlike}
 use Rattle.cap_laws.proofs.SameRun.{IsRewritten, rewritten-alike, same-run}
@@ -48,14 +48,14 @@ some-none : (r : Refusal) → Some r ≡ None → ⊥
 some-none r e = cc
 
 -- where each packet is written, the file isn't refused
-unrefused : (names : List Name) (items : List Item) → refusal_in names items ≡ None → refusal_of items ≡ None
+unrefused : (origins : List Origin) (items : List Item) → refusal_in origins items ≡ None → refusal_of items ≡ None
 unfolding refusal_in refusal_of
-unrefused names [] none = refl
-unrefused names (refused r ∷ items) none = none
-unrefused names (packet meta frame ∷ items) none = by (write_fault names meta) none (λ later. unrefused (with_name names meta) items later)
+unrefused origins [] none = refl
+unrefused origins (refused r ∷ items) none = none
+unrefused origins (packet meta frame ∷ items) none = by (write_fault origins meta) none (λ later. unrefused (with_origin origins meta) items later)
   where
-    by : (fault : Option Rule) → refusal_or fault meta (refusal_in (with_name names meta) items) ≡ None
-        → (refusal_in (with_name names meta) items ≡ None → refusal_of items ≡ None) → refusal_of items ≡ None
+    by : (fault : Option Rule) → refusal_or fault meta (refusal_in (with_origin origins meta) items) ≡ None
+        → (refusal_in (with_origin origins meta) items ≡ None → refusal_of items ≡ None) → refusal_of items ≡ None
     by (Some rule) none later = absurd (some-none (refusal_at meta rule) none)
     by None none later = later none
 
@@ -65,28 +65,28 @@ pcapng_items order tail tail_again bytes = file_items tail_again 1 (pcapng_bytes
 pcapng-rewritten : PcapngAgain → (order : Order) (tail tail_again : Tail) (bytes : List ℕ) → AreBytes bytes
     → pcapng_refusal 1 (file_first tail 1 bytes) (file_items tail 1 bytes) ≡ None
     → length (pcapng_bytes order 1 (file_first tail 1 bytes) (file_items tail 1 bytes)) ≤ 2 ^ 40
-    → IsRewritten (first_names 1 (file_first tail 1 bytes)) (first_names 1 (file_first tail 1 bytes)) (file_items tail 1 bytes ∷ [])
+    → IsRewritten (first_origins 1 (file_first tail 1 bytes)) (first_origins 1 (file_first tail 1 bytes)) (file_items tail 1 bytes ∷ [])
     (pcapng_items order tail tail_again bytes ∷ [])
 unfolding pcapng_items
 pcapng-rewritten again-law order tail tail_again bytes are none short =
     let items = file_items tail 1 bytes in
     let first = file_first tail 1 bytes in
-    let names = first_names 1 first in
+    let origins = first_origins 1 first in
     let again = file_items tail_again 1 (pcapng_bytes order 1 first items) in
     let law = again-law order tail tail_again 1 1 bytes are short in
     let same : run_of_lists (again ∷ []) ≡ again = run-one again law.2 in
-    let whole : run_of_lists (items ∷ []) ≡ items = run-one items (unrefused names items none) in
+    let whole : run_of_lists (items ∷ []) ≡ items = run-one items (unrefused origins items none) in
     record {
-      accepted = ap (refusal_in names) whole ∙ none;
-      accepted_again = ap (refusal_in names) same ∙ law.1;
-      packets = ap (numbered names) same ∙ (law.0 ∙ sym (ap (numbered names) whole));
+      accepted = ap (refusal_in origins) whole ∙ none;
+      accepted_again = ap (refusal_in origins) same ∙ law.1;
+      packets = ap (numbered origins) same ∙ (law.0 ∙ sym (ap (numbered origins) whole));
     }
 
 pub pcapng-report : PcapngAgain → PcapngReport
 unfolding pcapng_items
 pcapng-report again-law order tail tail_again bytes are none short =
-    let names = first_names 1 (file_first tail 1 bytes) in
-    same-run names names (file_items tail 1 bytes ∷ []) (pcapng_items order tail tail_again bytes ∷ [])
+    let origins = first_origins 1 (file_first tail 1 bytes) in
+    same-run origins origins (file_items tail 1 bytes ∷ []) (pcapng_items order tail tail_again bytes ∷ [])
     (pcapng-rewritten again-law order tail tail_again bytes are none short)
 
 -- ---- runs
@@ -105,12 +105,12 @@ same-runs (x ∷ xs) [] h = absurd h
 same-runs (x ∷ xs) (y ∷ ys) h = (same-items x.clock y.clock x.item y.item h.0, same-runs xs ys h.1)
 
 -- the run of files of some bytes, and that of a file of which the same packets are written
-run-again : (tail tail_again : Tail) (names others : List Name) (files : List (List ℕ)) (text : List ℕ)
-    → IsRewritten names others (items_of_files tail 1 files) (file_items tail_again 1 text ∷ [])
+run-again : (tail tail_again : Tail) (origins others : List Origin) (files : List (List ℕ)) (text : List ℕ)
+    → IsRewritten origins others (items_of_files tail 1 files) (file_items tail_again 1 text ∷ [])
     → SameRun (clocked_run tail files) (clocked_run tail_again (text ∷ []))
-run-again tail tail_again names others files text is =
+run-again tail tail_again origins others files text is =
     same-runs (clocked_run tail files) (clocked_run tail_again (text ∷ []))
-    (rewritten-alike names others (items_of_files tail 1 files) (file_items tail_again 1 text ∷ []) is)
+    (rewritten-alike origins others (items_of_files tail 1 files) (file_items tail_again 1 text ∷ []) is)
 
 pub merged-run : MergeLaw → MergedRun
 unfolding merged_items
@@ -122,6 +122,6 @@ pub pcapng-run : PcapngAgain → PcapngRun
 unfolding pcapng_items
 pcapng-run again-law order tail tail_again bytes are none short =
     let first = file_first tail 1 bytes in
-    let names = first_names 1 first in
-    run-again tail tail_again names names (bytes ∷ []) (pcapng_bytes order 1 first (file_items tail 1 bytes))
+    let origins = first_origins 1 first in
+    run-again tail tail_again origins origins (bytes ∷ []) (pcapng_bytes order 1 first (file_items tail 1 bytes))
     (pcapng-rewritten again-law order tail tail_again bytes are none short)

@@ -6,7 +6,7 @@ ghost use Rattle.cap_source.specs.Feed.{Keeps};
 ghost use Rattle.cap_source.specs.Walk.{Walks};
 ghost use Rattle.cap_write.specs.Texts.{merged_bytes, merged_refusal};
 
-use crate::names::Names;
+use crate::interfaces::Origins;
 use crate::packets::put_packets;
 use cap_blocks::put_section;
 use cap_bytes::{Fault, Order, Sink};
@@ -33,6 +33,6 @@ pub fn write_merged<F: PacketFeed, W: Sink>(
     ensures keeps { Keeps (F.feed feed.old) (F.feed feed.new) }
 {
     put_section(writer, order)?;
-    let mut names = Names::new(alloc);
-    put_packets(feed, order, &mut names, writer)
+    let mut origins = Origins::new(alloc);
+    put_packets(feed, order, &mut origins, writer)
 }

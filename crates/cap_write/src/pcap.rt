@@ -10,7 +10,7 @@ ghost use Rattle.cap_write.specs.Times.{HasTime, HasRecord, IsBare};
 ghost use Rattle.cap_write.specs.Texts.{text_or};
 ghost use Rattle.cap_write.specs.Numbering.{refusal_by};
 
-use crate::names::{refused, units_of};
+use crate::interfaces::{refused, units_of};
 use cap_bytes::{Fault, Order, Refusal, Rule, Sink, Source};
 use cap_pcap::{PcapHeader, put_header, put_record};
 use cap_source::{Capture, Head, Meta, PacketFeed, next_packet};

@@ -1,15 +1,15 @@
 //! The numbers of interfaces in a written file, by first use.
 ghost use Rattle.std.specs.Prelude.{◌≡◌, ◌≤◌, length, IsSome};
 ghost use Rattle.cap_write.specs.Numbering.{is_full, refusal_at};
-ghost use Rattle.cap_write.specs.Names.{HasUnits, Numbers};
+ghost use Rattle.cap_write.specs.Interfaces.{HasUnits, Numbers};
 
 use cap_bytes::{Fault, Refusal, Rule};
 use cap_source::Meta;
 use indexmap::IndexSet;
 
-/// Interfaces by their file's number and by how many interface blocks of the file stand before their
-/// own, in the order of their first use.
-pub type Names = IndexSet<(u32, u64)>;
+/// The origins of the interfaces that were used, in the order of their first use. An origin is the number of a file,
+/// and how many interface blocks of the file stand before the interface's own.
+pub type Origins = IndexSet<(u32, u64)>;
 
 // How many interfaces a written file describes at most.
 const INTERFACE_LIMIT: usize = 1024;
@@ -36,24 +36,24 @@ pub fn units_of(meta: &Meta) -> Result<u64, Fault>
 }
 
 // Whether a packet's interface would be the 1,025th.
-fn is_full(names: &Names, meta: &Meta) -> bool
-    ensures { result ≡ is_full names.now.keys meta.now }
+fn is_full(origins: &Origins, meta: &Meta) -> bool
+    ensures { result ≡ is_full origins.now.keys meta.now }
 {
-    names.len() >= INTERFACE_LIMIT && !names.contains(&(meta.file, meta.instance))
+    origins.len() >= INTERFACE_LIMIT && !origins.contains(&(meta.file, meta.instance))
 }
 
 /// The number of a packet's interface, which is the next one where it wasn't used before. `Refused`
 /// comes where it would be the 1,025th, `Memory` where a growth was refused.
-pub fn number_of(names: &mut Names, meta: &Meta) -> Result<u32, Fault>
+pub fn number_of(origins: &mut Origins, meta: &Meta) -> Result<u32, Fault>
     requires time { IsSome meta.now.units }
-    requires limit { length names.old.keys ≤ 1024 }
-    ensures answer { Numbers meta.now names.old.keys result names.new.keys }
-    ensures limit { length names.new.keys ≤ 1024 }
+    requires limit { length origins.old.keys ≤ 1024 }
+    ensures answer { Numbers meta.now origins.old.keys result origins.new.keys }
+    ensures limit { length origins.new.keys ≤ 1024 }
 {
-    if is_full(names, meta) {
+    if is_full(origins, meta) {
         return Err(refused(meta, Rule::InterfaceLimit));
     }
-    match names.insert_full((meta.file, meta.instance)) {
+    match origins.insert_full((meta.file, meta.instance)) {
         Ok((number, _)) => Ok(number as u32),
         Err(_) => Err(Fault::Memory),
     }

@@ -5,12 +5,12 @@ use Rattle.cap_bytes.specs.declared.faults.Fault.TheVariants.{Refused, Read, Wri
 use Rattle.cap_bytes.specs.declared.faults.Rule.{Rule}
 use Rattle.cap_bytes.specs.declared.faults.Rule.TheVariants.{NoTime}
 use Rattle.cap_source.specs.declared.packets.Meta.{Meta}
-use Rattle.cap_write.specs.Numbering.{Name, number_of, with_name, write_fault, refusal_at}
+use Rattle.cap_write.specs.Numbering.{Origin, number_of, with_origin, write_fault, refusal_at}
 
 -- The packet is written with that number; or it is refused; or there was no memory.
-abbrev pub Numbers : Meta → List Name → Result ℕ Fault → List Name → Type 0
+abbrev pub Numbers : Meta → List Origin → Result ℕ Fault → List Origin → Type 0
 Numbers meta old (Ok number) new =
-    (write_fault old meta ≡ None) × (number ≡ number_of old meta) × (new ≡ with_name old meta)
+    (write_fault old meta ≡ None) × (number ≡ number_of old meta) × (new ≡ with_origin old meta)
 Numbers meta old (Err (Refused refusal)) new =
     (rule : Rule) × (write_fault old meta ≡ Some rule) × (refusal ≡ refusal_at meta rule) × (new ≡ old)
 Numbers meta old (Err (Read file offset)) new = ⊥
@@ -25,10 +25,10 @@ HasUnits meta (Err (Read file offset)) = ⊥
 HasUnits meta (Err Write) = ⊥
 HasUnits meta (Err Memory) = ⊥
 
--- A table of those names was made, or there was no memory.
-abbrev pub Holds : {S : Type 0} → (S → List Name) → List Name → Result S Fault → Type 0
-Holds names_of names (Ok table) = names_of table ≡ names
-Holds names_of names (Err (Refused refusal)) = ⊥
-Holds names_of names (Err (Read file offset)) = ⊥
-Holds names_of names (Err Write) = ⊥
-Holds names_of names (Err Memory) = ⊤
+-- A table of those origins was made, or there was no memory.
+abbrev pub Holds : {S : Type 0} → (S → List Origin) → List Origin → Result S Fault → Type 0
+Holds origins_of origins (Ok table) = origins_of table ≡ origins
+Holds origins_of origins (Err (Refused refusal)) = ⊥
+Holds origins_of origins (Err (Read file offset)) = ⊥
+Holds origins_of origins (Err Write) = ⊥
+Holds origins_of origins (Err Memory) = ⊤
