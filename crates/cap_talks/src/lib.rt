@@ -7,6 +7,7 @@ mod laws;
 mod looks;
 mod report_lines;
 mod reports;
+mod run_packets;
 mod tables;
 mod talks;
 mod tallies;

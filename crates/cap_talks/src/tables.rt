@@ -17,6 +17,7 @@ use crate::files::counts::Counts;
 use crate::files::lines::{file_line, files_line};
 use crate::files::totals::Totals;
 use crate::report_lines::total_line;
+use crate::run_packets::RunPacket;
 use crate::tallies::{Tally, TallyFault};
 use cap_bytes::{Fault, Refusal, Rule, Sink, put_all};
 use cap_merge::Merged;
@@ -114,7 +115,13 @@ impl<F: PacketFeed> Table<F> {
         let clock = self.merged.clock();
         let frame = self.merged.frame();
         let time = meta.time();
-        match self.tally.take(clock, time, meta, frame) {
+        let packet = RunPacket {
+            clock,
+            time,
+            meta,
+            frame,
+        };
+        match self.tally.take(&packet) {
             Ok(()) => {
                 self.totals.take(time, meta, frame);
                 self.merged.pass();
