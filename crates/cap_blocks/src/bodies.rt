@@ -1,4 +1,4 @@
-//! The body of a block, and its total length again after it. draft-ietf-opsawg-pcapng, 3.1 and 4.1.
+//! The body of a block, and its total length again after it (draft-ietf-opsawg-pcapng, 3.1 and 4.1).
 ghost use Rattle.std.specs.Prelude.{◌≡◌, ◌≤◌, None, true, false, length};
 ghost use Rattle.cap_blocks.specs.Grammar.{is_known};
 ghost use Rattle.cap_blocks.specs.Parsing.{IsHeader, LooksAtBody, SkipsBody, Stays};

@@ -1,4 +1,4 @@
-//! The header of a block: its first 12 bytes. draft-ietf-opsawg-pcapng, 3.1 and 4.1.
+//! The header of a block: its first 12 bytes (draft-ietf-opsawg-pcapng, 3.1 and 4.1).
 ghost use Rattle.std.specs.Prelude.{◌≡◌, ◌+◌, ◌≤◌, ◌^◌, ◌&&◌, ◌==◌, None, is_some, length};
 ghost use Rattle.cap_blocks.specs.Parsing.{FindsOwnOrder, FindsOrder, ParsesHeader, LooksAtHeader, Stays};
 ghost use Rattle.cap_blocks.specs.Split.{is_section, is_ordered, first_fault};

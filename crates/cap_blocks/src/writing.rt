@@ -10,7 +10,7 @@ use crate::buffers::BlockBuffer;
 use cap_bytes::{Fault, Order, Sink, put_all};
 use cap_time::Interface;
 
-// The codes of options that are written. draft-ietf-opsawg-pcapng, 3.5 and 4.2.
+// The codes of options that are written (draft-ietf-opsawg-pcapng, 3.5 and 4.2).
 const RESOLUTION_OPTION: u16 = 9;
 
 const OFFSET_OPTION: u16 = 14;

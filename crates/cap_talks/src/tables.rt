@@ -92,11 +92,11 @@ impl<F: PacketFeed> Table<F> {
         }
     }
 
-    /// Takes the packet that comes next, or answers `Done` if none is left, and then again.
+    /// Takes the packet that comes next, or answers `Done` if none is left, now and at each later call.
     ///
     /// `Refused` comes exactly if what comes next is a refusal, or a packet that would open the 1,048,577th
-    /// conversation (rule 16, talk-limit), and then again. `Read` comes if a device failed, and `Memory` if a
-    /// growth was refused. A step that answers a fault has taken nothing: the table is as it was, and so are the
+    /// conversation (rule 16, talk-limit); each later call answers it again. `Read` comes if a device failed, and
+    /// `Memory` if a growth was refused. A step that answers a fault has taken nothing: the table is as it was, and so are the
     /// packets to come, unless it was `Read`.
     pub fn step(&mut self) -> Result<Step, Fault>
         ensures step { Steps (table_of self.old) result (table_of self.new) }
@@ -208,7 +208,7 @@ fn put_each<F: PacketFeed, W: Sink>(
     Ok(())
 }
 
-// The same after the line that says how many they are.
+// Writes these lines after one that says how many files there are.
 fn put_files<F: PacketFeed, W: Sink>(
     writer: &mut W,
     files: &[Counts],

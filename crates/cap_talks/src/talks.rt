@@ -24,9 +24,9 @@ const TALK_LIMIT: usize = 1_048_576;
 /// Why a unit wasn't counted. The table is as it was.
 #[derive(Clone, Copy, Debug, PartialEq, Eq)]
 pub enum TalksFault {
-    /// Its conversation is a new one, and 1,048,576 stand.
+    /// Its conversation is a new one, and there are 1,048,576 already.
     Limit,
-    /// No memory was found.
+    /// A growth was refused.
     Memory,
 }
 
@@ -66,8 +66,8 @@ impl Talks {
     /// that completed them. All frames of its rows and the unit's are fewer than 2^64, and their bytes fewer
     /// than 2^128.
     ///
-    /// `Limit` comes exactly where the unit's conversation is a new one and 1,048,576 stand, `Memory`
-    /// where a growth was refused. Both leave the table as it was.
+    /// `Limit` comes exactly if the unit's conversation is a new one and there are 1,048,576 already, `Memory`
+    /// if a growth was refused. Both leave the table as it was.
     #[inline(always)]
     pub fn add(&mut self, unit: &CountedUnit) -> Result<(), TalksFault>
         requires frames { frames_in self.old.rows + unit.now.frames < 2 ^ 64 }

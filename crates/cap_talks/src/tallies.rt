@@ -1,4 +1,4 @@
-//! What is counted of packets beside what is told of files.
+//! What is counted of packets, besides what is told of files.
 ghost use Rattle.std.specs.Prelude.{◌≡◌, ℕ, false, ◌+◌, ◌*◌, ◌++◌, IsOkUnless, max, ◌≤◌, ◌<◌, ◌<ℤ◌, ◌^◌, pos, List, [], ◌∷◌, length, IsTrue, IfSome, IsSome, OnOk, OnErr, IfOk, IfErr, Option, Some, None, Err, if◌then◌else◌};
 ghost use Rattle.cap_bytes.specs.Device.{WriterKeeps, writer_of};
 ghost use Rattle.cap_bytes.specs.Printing.{Prints, is_write};
@@ -33,9 +33,9 @@ use std::marker::Model;
 /// Why a packet wasn't taken.
 #[derive(Clone, Copy, Debug, PartialEq, Eq)]
 pub enum TallyFault {
-    /// It completes a unit of a new conversation, and 1,048,576 stand.
+    /// It completes a unit of a new conversation, and there are 1,048,576 already.
     Limit,
-    /// No memory was found.
+    /// A growth was refused.
     Memory,
 }
 
@@ -47,7 +47,7 @@ pub struct Tally {
     joined: u64,
     talks: Talks,
     joiner: Joiner,
-    // a joined datagram whose conversation found no memory, or is one too many
+    // a joined datagram whose conversation got no memory, or is one too many
     waiting: Option<Datagram>,
 }
 
@@ -153,8 +153,8 @@ impl Tally {
         }
     }
 
-    // Takes a packet that is a fragment, while no datagram waits. It is counted, or it completes a datagram, which waits from then on:
-    // that is answered. It isn't inlined, so that what it answers takes no room where whole datagrams are taken.
+    // Takes a packet that is a fragment, while no datagram waits. It is counted, or it completes a datagram, which waits from then on;
+    // the answer is whether one does. It isn't inlined, so that what it answers takes no room where whole datagrams are taken.
     #[inline(never)]
     fn take_fragment(
         &mut self,
@@ -188,7 +188,7 @@ impl Tally {
     }
 
     // Looks at the packet that comes next, while no datagram waits. It is counted, or it completes a datagram, which waits from then
-    // on: that is answered.
+    // on; the answer is whether one does.
     fn look_at(&mut self, packet: &RunPacket<'_>) -> Result<bool, TallyFault>
         requires none { self.old.waiting ≡ None }
         requires few { self.old.place < 2 ^ 62 }
@@ -247,8 +247,8 @@ impl Tally {
 
     /// Takes the packet that comes next.
     ///
-    /// `Limit` comes exactly if it completes a unit of a new conversation and 1,048,576 stand, `Memory` if a growth was
-    /// refused. Both leave the counts as they were, and the same call may be made again; a datagram that the packet joined is kept
+    /// `Limit` comes exactly if it completes a unit of a new conversation and there are 1,048,576 already, `Memory` if a
+    /// growth was refused. Both leave the counts as they were, and the same call may be made again; a datagram that the packet joined is kept
     /// for it.
     pub fn take(&mut self, packet: &RunPacket<'_>) -> Result<(), TallyFault>
         requires few { self.old.place < 2 ^ 62 }

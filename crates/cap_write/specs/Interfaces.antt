@@ -17,7 +17,7 @@ Numbers meta old (Err (Read file offset)) new = ⊥
 Numbers meta old (Err Write) new = ⊥
 Numbers meta old (Err Memory) new = new ≡ old
 
--- The packet has that time, or is refused since it has none.
+-- The packet has that time, or is refused because it has none.
 abbrev pub HasUnits : Meta → Result ℕ Fault → Type 0
 HasUnits meta (Ok units) = meta.units ≡ Some units
 HasUnits meta (Err (Refused refusal)) = (meta.units ≡ None) × (refusal ≡ refusal_at meta NoTime)

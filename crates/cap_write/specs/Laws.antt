@@ -258,7 +258,7 @@ SamePackets (packet meta frame) (refused refusal) = ⊥
 SamePackets (refused refusal) again = ⊥
 
 -- The one interface of what is written as pcap of a file with that first interface: its link and snaplen, and the units in which
--- times are written, counted from 1970. draft-ietf-opsawg-pcap, 4.
+-- times are written, counted from 1970 (draft-ietf-opsawg-pcap, 4).
 abbrev pub written_first : Interface → Interface
 written_first first =
     record { link = first.link; snaplen = first.snaplen; resolution = resolution_of_unit (fraction_of first); offset = pos 0 }

@@ -9,7 +9,7 @@ use Rattle.cap_source.specs.declared.packets.Meta.{Meta}
 use Rattle.cap_time.specs.declared.resolutions.Interface.{Interface}
 use Rattle.cap_write.specs.Numbering.{Origin, Numbered, numbered_of, numbered, write_fault, refusal_in}
 
--- what is written for a packet, where `count` interfaces were described before it: its interface, if it
+-- what is written for a packet, where `count` interfaces were described before it: its interface, if that
 -- wasn't, and the packet
 abbrev pub interface_part : Order → ℕ → Numbered → List ℕ
 interface_part order count n = if n.number == count then interface_bytes order n.interface else []

@@ -42,8 +42,8 @@ fn is_full(origins: &Origins, meta: &Meta) -> bool
     origins.len() >= INTERFACE_LIMIT && !origins.contains(&(meta.file, meta.instance))
 }
 
-/// The number of a packet's interface, which is the next one where it wasn't used before. `Refused`
-/// comes where it would be the 1,025th, `Memory` where a growth was refused.
+/// The number of a packet's interface, which is the next one if it wasn't used before. `Refused`
+/// comes if it would be the 1,025th, `Memory` if a growth was refused.
 pub fn number_of(origins: &mut Origins, meta: &Meta) -> Result<u32, Fault>
     requires time { IsSome meta.now.units }
     requires limit { length origins.old.keys ≤ 1024 }

@@ -29,7 +29,7 @@ use std::alloc::Global;
 /// LINKTYPE_RAW: no link header, an IPv4 or IPv6 packet.
 const RAW: u16 = 101;
 
-// What is told of a datagram of that many bytes as one packet, which that packet completed.
+// What is told of a datagram of that many bytes, written as one packet; that packet of the run completed it.
 fn datagram_meta(meta: &Meta, size: u32) -> Meta
     ensures { result ≡ datagram_meta meta.now size }
 {
@@ -123,17 +123,17 @@ fn put_joined<F: PacketFeed, W: Sink>(
     Ok(())
 }
 
-/// Writes the datagrams of a run of packets as a pcapng file of one section in that order: each whole
-/// IPv4 datagram, and each that is joined of fragments (RFC 791, 3.2), as one packet without a link
-/// header, of the datagram's header without options and all of its data. It has the place, the time and
-/// the interface's number of the packet that completed it; the interface has link 101 and no snaplen.
-/// A datagram isn't written where some of its data wasn't captured, or doesn't have the form of UDP
+/// Writes the datagrams of a run of packets as a pcapng file (draft-ietf-opsawg-pcapng, 4) of one section in
+/// that byte order: each whole IPv4 datagram, and each that is joined of fragments (RFC 791, 3.2), as one packet
+/// without a link header, of the datagram's header without options and all of its data. It has the place, the
+/// time and the interface's number of the packet that completed it; the interface has link 101 and no snaplen.
+/// A datagram isn't written if some of its data wasn't captured, or if its data doesn't have the form of UDP
 /// or TCP; nor is a frame that isn't IPv4. Interfaces are numbered by first use.
 ///
 /// `Refused` comes at a packet that has no time (rule 17, no-time), whatever it holds, at one that
 /// completes a datagram whose interface would be the 1,025th (rule 13, interface-limit), and where the run
 /// ends in a refusal: what is written is the text of the datagrams before it. After `Read`, `Write` or
-/// `Memory` a prefix of the text is written. draft-ietf-opsawg-pcapng, 4.
+/// `Memory` a prefix of the text is written.
 pub fn write_joined<F: PacketFeed, W: Sink>(
     alloc: Global,
     merged: &mut Merged<F>,

@@ -61,12 +61,12 @@ fn put_front<W: Sink>(writer: &mut W, order: Order, first: Option<Interface>) ->
     put_first(writer, order, first)
 }
 
-/// Writes a file as a pcapng file of one section in that order: its first interface, where one stands
-/// before the first packet, right after the section header, and each other interface in front of its
-/// first packet. Nothing of the file was passed before. `Refused` comes at a packet that has no time
+/// Writes a file as a pcapng file (draft-ietf-opsawg-pcapng, 4) of one section in that byte order: its first
+/// interface, if one stands before the first packet, right after the section header, and each other interface
+/// in front of its first packet. Nothing of the file was passed before. `Refused` comes at a packet that has no time
 /// (rule 17, no-time), at one whose interface would be the 1,025th (rule 13, interface-limit), and where
 /// the file's packets end in a refusal: what is written is the text of the packets before it. After
-/// `Read`, `Write` or `Memory` a prefix of the text is written. draft-ietf-opsawg-pcapng, 4.
+/// `Read`, `Write` or `Memory` a prefix of the text is written.
 pub fn to_pcapng<R: Source, W: Sink>(
     alloc: Global,
     capture: &mut Capture<R>,

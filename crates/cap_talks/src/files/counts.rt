@@ -16,7 +16,7 @@ pub struct Counts {
     pub packets: u64,
     /// The sum of their original lengths, in bytes.
     pub bytes: u128,
-    /// Of how many of them fewer bytes were captured than they had.
+    /// How many of them had more bytes than were captured.
     pub truncated: u64,
     /// How many blocks of the file were skipped before the last of them.
     pub skipped: u64,

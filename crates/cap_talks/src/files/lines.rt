@@ -21,7 +21,7 @@ fn put_format(line: &mut Line, label: &[u8], format: Option<Format>)
     }
 }
 
-// Appends ` cut` where a rest was dropped.
+// Appends ` cut` if a rest was dropped.
 fn put_cut(line: &mut Line, was_cut: bool)
     requires { array_vec_len line.old + 4 ≤ 512 }
     ensures items { line.new.items ≡ line.old.items ++ cut_text was_cut }
@@ -61,7 +61,7 @@ fn line_of(file: u32, format: Option<Format>, counts: &Counts, skipped: u64, was
 }
 
 /// The line of the file of that number:
-/// `file I FORMAT packets P bytes B truncated Q skipped S first T last T`, with ` cut` after it where a rest
+/// `file I FORMAT packets P bytes B truncated Q skipped S first T last T`, with ` cut` after it if a rest
 /// of the file was dropped. Before the file has ended, the format and the skipped blocks are those of the last packet
 /// that was taken.
 pub fn file_line(file: u32, counts: &Counts, ending: Option<Ending>) -> Line

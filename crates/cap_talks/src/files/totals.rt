@@ -57,7 +57,7 @@ fn take_at(files: &mut [Counts], place: usize, time: Option<Stamp>, meta: &Meta)
     files[place].take(time, meta);
 }
 
-// One, if that is so.
+// One if that is so, else zero.
 fn one_if(is_so: bool) -> u64
     ensures { result ≡ (if is_so then 1 else 0) }
 {
@@ -79,7 +79,7 @@ impl Totals {
         }
     }
 
-    /// Takes the packet that comes next of the run, which has that time, and of which those bytes were captured.
+    /// Takes the next packet of the run, which has that time and those captured bytes.
     #[inline(always)]
     pub fn take(&mut self, time: Option<Stamp>, meta: &Meta, frame: &[u8])
         requires time { time ≡ meta_time meta.now }
@@ -124,7 +124,7 @@ impl Totals {
         self.bytes
     }
 
-    /// Of how many of them fewer bytes were captured than they had.
+    /// How many of them had more bytes than were captured.
     pub fn truncated(&self) -> u64
         ensures { result ≡ self.now.truncated }
     {

@@ -156,7 +156,7 @@ fn put_each<W: Sink>(writer: &mut W, talks: &Talks) -> Result<(), Fault>
 }
 
 /// Writes a line that says how many conversations there are, and a line for each, in the order of their first
-/// units. Where the writer fails, a prefix of the lines is written.
+/// units. If the writer fails, a prefix of the lines is written.
 pub fn put_talks<W: Sink>(writer: &mut W, talks: &Talks) -> Result<(), Fault>
     ensures text { IsTrue (W.tells_held writer.old)
         → Prints (talks_text (length talks.now.rows) ++ talk_texts talks.now.rows) None (W.held writer.old) result (W.held writer.new) }

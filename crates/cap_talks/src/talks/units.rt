@@ -17,7 +17,7 @@ pub struct End {
 }
 
 /// The source and the destination of a datagram between two addresses, whose transport was read; `None`
-/// where that is bad or cut.
+/// if that is bad or cut.
 pub fn ends_of(source: u32, destination: u32, transport: Transport) -> Option<(End, End)>
     ensures { result ≡ ends_of source destination transport }
 {
