@@ -12,7 +12,7 @@ TOP = pathlib.Path(__file__).resolve().parent.parent
 ROOTS = {
     "list": ["cap_tasks.ListText.list_text", "cap_tasks.ListText.list_refusal"],
     "blocks": ["cap_tasks.BlockText.block_list", "cap_tasks.BlockText.block_refusal"],
-    "info": ["cap_talks.FileText.files_text", "cap_talks.FileText.lines_from", "cap_source.Items.file_items", "cap_source.Items.file_ending"],
+    "info": ["cap_talks.Files.Lines.files_text", "cap_talks.Files.Lines.lines_from", "cap_source.Items.file_items", "cap_source.Items.file_ending"],
     "report": [
         "cap_talks.ReportText.report_text", "cap_talks.ReportText.report_refusal", "cap_merge.Files.clocked_run",
         "cap_merge.Files.endings_of_files",
@@ -26,7 +26,8 @@ ROOTS = {
 def parsed(path):
     """A file's imports (name to its full name) and its definitions (name to its lines, comment first)."""
     text = path.read_text(encoding="utf-8")
-    module = f"{path.parts[-3]}.{path.stem}"
+    crate, _, *inner = path.relative_to(TOP / "crates").with_suffix("").parts
+    module = ".".join([crate, *inner])
     imports, wide = {}, {}
     for crate, inner, names in re.findall(r"^use Rattle\.(\w+)\.specs\.([\w.]+)\.\{([^}]*)\}", text, re.M):
         for name in re.split(r",\s*", names):
@@ -91,7 +92,7 @@ def closure(roots, files):
 
 
 files = {}
-for path in sorted(TOP.glob("crates/*/specs/*.antt")):
+for path in sorted(TOP.glob("crates/*/specs/**/*.antt")):
     module, imports, wide, definitions = parsed(path)
     files[module] = imports, wide, definitions
 
@@ -106,8 +107,8 @@ for command, roots in ROOTS.items():
             module = ""
             for lines, (where, _) in parts.items():
                 if where != module:
-                    crate, _, stem = where.partition(".")
-                    print(f"\n-- crates/{crate}/specs/{stem}.antt\n")
+                    crate, *inner = where.split(".")
+                    print(f"\n-- crates/{crate}/specs/{'/'.join(inner)}.antt\n")
                     module = where
                 print("\n".join(lines) + "\n")
         continue

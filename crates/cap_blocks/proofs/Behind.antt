@@ -1,11 +1,11 @@
--- What the rest of a block is refused by.
+-- What the body of a block is refused by, and its total length after it.
 use Rattle.std.proofs.Common.{◌≡◌, ℕ, ◌-◌, ◌≤◌, ◌<◌, ◌==◌, not, List, ◌++◌, length, take, drop, Option, Some, None, IsSome, Bool, true, false, IsTrue, Ok, Err, refl, sym, ◌∙◌, ap, subst, arith, drop-drop, length-append, length-drop, nat_lt}
 use Rattle.std.proofs.lemmas.Bool.Decides.{nat_tests}
 use Rattle.std.proofs.lemmas.List.{take-append-drop, drop-append-le}
 use Rattle.cap_bytes.specs.Number.{number}
-use Rattle.cap_bytes.specs.Sights.{Fails}
+use Rattle.cap_bytes.specs.Parsing.{Fails}
 use Rattle.cap_bytes.specs.Window.{State, Needs, Skips, Drops, DropsAll, Passes, FailsAt, coming}
-use Rattle.cap_bytes.proofs.Sights.{all_shown, Goes-trans, if_none, if_some}
+use Rattle.cap_bytes.proofs.Parsing.{all_shown, Goes-trans, if_none, if_some}
 use Rattle.cap_bytes.specs.declared.faults.Fault.{Fault}
 use Rattle.cap_bytes.specs.declared.faults.Fault.TheVariants.{Refused, Read, Write, Memory}
 use Rattle.cap_bytes.specs.declared.faults.Rule.{Rule}
@@ -13,15 +13,15 @@ use Rattle.cap_bytes.specs.declared.faults.Rule.TheVariants.{Cut, BlockTrailer, 
 use Rattle.cap_bytes.specs.declared.numbers.Order.{Order}
 use Rattle.cap_bytes.proofs.Spelling.{number-append, number-drop_append}
 use Rattle.cap_blocks.specs.Grammar.{section_kind, is_known, is_version}
-use Rattle.cap_blocks.specs.Sights.{IsFront, SeesRest, SkipsRest}
-use Rattle.cap_blocks.specs.Split.{kind_at, total_at, has_other_version, rest_fault}
+use Rattle.cap_blocks.specs.Parsing.{IsHeader, SeesBody, SkipsBody}
+use Rattle.cap_blocks.specs.Split.{kind_at, total_at, has_other_version, body_fault}
 use Rattle.cap_blocks.specs.declared.blocks.Block.{Block}
 use Rattle.cap_blocks.proofs.Faults.{total-section}
 
--- the rest of a block, condition by condition
-pub rest_fault-cut : (order : Order) (bytes : List ℕ) → length bytes < total_at order bytes → rest_fault order bytes ≡ Some Cut
-unfolding rest_fault
-rest_fault-cut order bytes few = grind (arith, nat_tests)
+-- the body of a block, condition by condition
+pub body_fault-cut : (order : Order) (bytes : List ℕ) → length bytes < total_at order bytes → body_fault order bytes ≡ Some Cut
+unfolding body_fault
+body_fault-cut order bytes few = grind (arith, nat_tests)
 
 -- there are as many
 pub there : (n m : ℕ) → m ≤ n → nat_lt n m ≡ false
@@ -33,28 +33,28 @@ differs a b h = grind (arith, nat_tests)
 pub same : (a b : ℕ) → a ≡ b → (a == b) ≡ true
 same a b h = grind (arith, nat_tests)
 
-pub rest_fault-trailer : (order : Order) (bytes : List ℕ) → total_at order bytes ≤ length bytes
-    → (number order 4 (drop (total_at order bytes - 4) bytes) ≡ total_at order bytes → ⊥) → rest_fault order bytes ≡ Some BlockTrailer
-unfolding rest_fault
-rest_fault-trailer order bytes whole other =
+pub body_fault-trailer : (order : Order) (bytes : List ℕ) → total_at order bytes ≤ length bytes
+    → (number order 4 (drop (total_at order bytes - 4) bytes) ≡ total_at order bytes → ⊥) → body_fault order bytes ≡ Some BlockTrailer
+unfolding body_fault
+body_fault-trailer order bytes whole other =
     let e = there (length bytes) (total_at order bytes) whole in
     let f = differs _ _ other in
     rw (e, f) refl
 
-pub rest_fault-version : (order : Order) (bytes : List ℕ) → total_at order bytes ≤ length bytes
+pub body_fault-version : (order : Order) (bytes : List ℕ) → total_at order bytes ≤ length bytes
     → number order 4 (drop (total_at order bytes - 4) bytes) ≡ total_at order bytes
-    → has_other_version order bytes ≡ true → rest_fault order bytes ≡ Some Version
-unfolding rest_fault
-rest_fault-version order bytes whole trailer version =
+    → has_other_version order bytes ≡ true → body_fault order bytes ≡ Some Version
+unfolding body_fault
+body_fault-version order bytes whole trailer version =
     let e = there (length bytes) (total_at order bytes) whole in
     let f = same _ _ trailer in
     rw (e, f, version) refl
 
-pub rest_fault-whole : (order : Order) (bytes : List ℕ) → total_at order bytes ≤ length bytes
+pub body_fault-whole : (order : Order) (bytes : List ℕ) → total_at order bytes ≤ length bytes
     → number order 4 (drop (total_at order bytes - 4) bytes) ≡ total_at order bytes
-    → has_other_version order bytes ≡ false → rest_fault order bytes ≡ None
-unfolding rest_fault
-rest_fault-whole order bytes whole trailer version =
+    → has_other_version order bytes ≡ false → body_fault order bytes ≡ None
+unfolding body_fault
+body_fault-whole order bytes whole trailer version =
     let e = there (length bytes) (total_at order bytes) whole in
     let f = same _ _ trailer in
     rw (e, f, version) refl
@@ -78,10 +78,10 @@ version_same : (here : Bool) (order : Order) (xs zs : List ℕ) → (kind_at ord
 version_same true order xs zs is kind major minor = rw (kind, major refl, minor refl) refl
 version_same false order xs zs is kind major minor = rw (kind, is) refl
 
-pub rest_fault-append : (order : Order) (xs ys : List ℕ) → 12 ≤ total_at order xs → total_at order xs ≤ length xs
-    → (kind_at order xs ≡ section_kind → 28 ≤ total_at order xs) → rest_fault order (xs ++ ys) ≡ rest_fault order xs
-unfolding rest_fault
-rest_fault-append order xs ys least whole section =
+pub body_fault-append : (order : Order) (xs ys : List ℕ) → 12 ≤ total_at order xs → total_at order xs ≤ length xs
+    → (kind_at order xs ≡ section_kind → 28 ≤ total_at order xs) → body_fault order (xs ++ ys) ≡ body_fault order xs
+unfolding body_fault
+body_fault-append order xs ys least whole section =
     let total : total_at order (xs ++ ys) ≡ total_at order xs = number-drop_append order 4 4 xs ys (omega arith) in
     let trailer : number order 4 (drop (total_at order xs - 4) (xs ++ ys)) ≡ number order 4 (drop (total_at order xs - 4) xs) =
     number-drop_append order 4 (total_at order xs - 4) xs ys (omega arith) in
@@ -94,8 +94,8 @@ rest_fault-append order xs ys least whole section =
     rw (total, trailer, version, e, f) refl
 
 -- the first 12 bytes of a block are those of a longer list
-pub IsFront-append : (block : Block) (offset : ℕ) (xs ys : List ℕ) → IsFront block offset xs → IsFront block offset (xs ++ ys)
-IsFront-append block offset xs ys f =
+pub IsHeader-append : (block : Block) (offset : ℕ) (xs ys : List ℕ) → IsHeader block offset xs → IsHeader block offset (xs ++ ys)
+IsHeader-append block offset xs ys f =
     let head = f.head in
     record {
       head = omega (arith, length-append xs ys);
@@ -107,70 +107,70 @@ IsFront-append block offset xs ys f =
       limit = f.limit;
     }
 
-pub IsFront-front : (block : Block) (offset later : ℕ) (xs zs : List ℕ) → IsFront block offset xs → take (length xs) zs ≡ xs → later ≡ offset
-    → IsFront block later zs
-IsFront-front block offset later xs zs f front at =
+pub IsHeader-same : (block : Block) (offset later : ℕ) (xs zs : List ℕ) → IsHeader block offset xs → take (length xs) zs ≡ xs → later ≡ offset
+    → IsHeader block later zs
+IsHeader-same block offset later xs zs f front at =
     let whole : xs ++ drop (length xs) zs ≡ zs = ap (λ l. l ++ drop (length xs) zs) (sym front) ∙ take-append-drop (length xs) zs in
-    subst (λ (n : ℕ). IsFront block n zs) (sym at)
-    (subst (λ (l : List ℕ). IsFront block offset l) whole (IsFront-append block offset xs (drop (length xs) zs) f))
+    subst (λ (n : ℕ). IsHeader block n zs) (sym at)
+    (subst (λ (l : List ℕ). IsHeader block offset l) whole (IsHeader-append block offset xs (drop (length xs) zs) f))
 
 -- a block of a known kind is shown whole
-pub SeesRest-known : (block : Block) (old new : State) (fault : Option Rule) → IsFront block old.offset old.shown → is_known block.kind ≡ true
-    → Needs block.total old (Ok true) new → fault ≡ rest_fault block.order new.shown → SeesRest block fault old new
-SeesRest-known block old new fault f known n is =
-    let later = IsFront-front block old.offset old.offset old.shown new.shown f n.0.front refl in
+pub SeesBody-known : (block : Block) (old new : State) (fault : Option Rule) → IsHeader block old.offset old.shown → is_known block.kind ≡ true
+    → Needs block.total old (Ok true) new → fault ≡ body_fault block.order new.shown → SeesBody block fault old new
+SeesBody-known block old new fault f known n is =
+    let later = IsHeader-same block old.offset old.offset old.shown new.shown f n.0.front refl in
     let least = f.least in
     record {
       goes = n.0.goes;
-      told_fault = λ t. ap (rest_fault block.order) (sym (n.0.coming_same t))
-          ∙ (rest_fault-append block.order new.shown new.unread (omega (arith, later.total)) (omega (arith, later.total, n.1))
+      told_fault = λ t. ap (body_fault block.order) (sym (n.0.coming_same t))
+          ∙ (body_fault-append block.order new.shown new.unread (omega (arith, later.total)) (omega (arith, later.total, n.1))
           (λ section. omega (arith, later.total, total-section block.kind block.total f.allowed (later.kind ∙ section)))
           ∙ sym is);
       left = λ none. rw known (n.0.offset, n.1, n.0.coming_same);
     }
 
 -- the input ends inside it
-pub SeesRest-cut : (block : Block) (old new : State) → IsFront block old.offset old.shown
-    → Needs block.total old (Ok false) new → SeesRest block (Some Cut) old new
-SeesRest-cut block old new f n =
-    let later = IsFront-front block old.offset old.offset old.shown new.shown f n.0.front refl in
+pub SeesBody-cut : (block : Block) (old new : State) → IsHeader block old.offset old.shown
+    → Needs block.total old (Ok false) new → SeesBody block (Some Cut) old new
+SeesBody-cut block old new f n =
+    let later = IsHeader-same block old.offset old.offset old.shown new.shown f n.0.front refl in
     record {
       goes = n.0.goes;
-      told_fault = λ t. ap (rest_fault block.order) (all_shown old new n.0 n.2 t)
-          ∙ rest_fault-cut block.order new.shown (omega (arith, later.total, n.1));
+      told_fault = λ t. ap (body_fault block.order) (all_shown old new n.0 n.2 t)
+          ∙ body_fault-cut block.order new.shown (omega (arith, later.total, n.1));
       left = λ none. absurd (cc);
     }
 
 -- a block that is skipped: the bytes to come before it
-pub skipped_total : (block : Block) (old : State) → IsFront block old.offset old.shown → block.total ≡ total_at block.order (coming old)
-skipped_total block old f = (IsFront-append block old.offset old.shown old.unread f).total
+pub skipped_total : (block : Block) (old : State) → IsHeader block old.offset old.shown → block.total ≡ total_at block.order (coming old)
+skipped_total block old f = (IsHeader-append block old.offset old.shown old.unread f).total
 
-pub skipped_kind : (block : Block) (old : State) → IsFront block old.offset old.shown → block.kind ≡ kind_at block.order (coming old)
-skipped_kind block old f = (IsFront-append block old.offset old.shown old.unread f).kind
+pub skipped_kind : (block : Block) (old : State) → IsHeader block old.offset old.shown → block.kind ≡ kind_at block.order (coming old)
+skipped_kind block old f = (IsHeader-append block old.offset old.shown old.unread f).kind
 
 -- the input ends in the part that is skipped
-pub SeesRest-ended : (block : Block) (old new : State) → IsFront block old.offset old.shown → DropsAll (block.total - 4) old new
-    → SeesRest block (Some Cut) old new
-SeesRest-ended block old new f d = record {
+pub SeesBody-ended : (block : Block) (old new : State) → IsHeader block old.offset old.shown → DropsAll (block.total - 4) old new
+    → SeesBody block (Some Cut) old new
+SeesBody-ended block old new f d = record {
   goes = d.goes;
-  told_fault = λ t. rest_fault-cut block.order (coming old) (omega (arith, skipped_total block old f, d.offset t, d.fewer));
+  told_fault = λ t. body_fault-cut block.order (coming old) (omega (arith, skipped_total block old f, d.offset t, d.fewer));
   left = λ none. absurd (cc);
 }
 
 -- the input ends in its trailer
-pub SeesRest-short : (block : Block) (old mid new : State) → IsFront block old.offset old.shown → Drops (block.total - 4) old mid
-    → (IsTrue old.told → IsTrue mid.told) → Needs 4 mid (Ok false) new → SeesRest block (Some Cut) old new
-SeesRest-short block old mid new f d told n = record {
+pub SeesBody-short : (block : Block) (old mid new : State) → IsHeader block old.offset old.shown → Drops (block.total - 4) old mid
+    → (IsTrue old.told → IsTrue mid.told) → Needs 4 mid (Ok false) new → SeesBody block (Some Cut) old new
+SeesBody-short block old mid new f d told n = record {
   goes = Goes-trans old mid new d.goes n.0.goes;
   told_fault = λ t.
       let rest = ap length (sym (d.coming_dropped t) ∙ all_shown mid new n.0 n.2 (told t)) in
-      rest_fault-cut block.order (coming old)
+      body_fault-cut block.order (coming old)
       (omega (arith, skipped_total block old f, rest, length-drop (block.total - 4) (coming old), n.1, f.least));
   left = λ none. absurd (cc);
 }
 
 -- its trailer is shown
-trailer_shown : (block : Block) (old mid new : State) → IsFront block old.offset old.shown → Drops (block.total - 4) old mid
+trailer_shown : (block : Block) (old mid new : State) → IsHeader block old.offset old.shown → Drops (block.total - 4) old mid
     → (IsTrue old.told → IsTrue mid.told) → Needs 4 mid (Ok true) new → IsTrue old.told
     → (total_at block.order (coming old) ≤ length (coming old))
     × (number block.order 4 (drop (total_at block.order (coming old) - 4) (coming old)) ≡ number block.order 4 new.shown)
@@ -181,27 +181,27 @@ trailer_shown block old mid new f d told n t =
       rw (← total, ← rest) (number-append block.order 4 new.shown new.unread n.1),
     )
 
-pub SeesRest-other : (block : Block) (old mid new : State) → IsFront block old.offset old.shown → Drops (block.total - 4) old mid
+pub SeesBody-other : (block : Block) (old mid new : State) → IsHeader block old.offset old.shown → Drops (block.total - 4) old mid
     → (IsTrue old.told → IsTrue mid.told) → Needs 4 mid (Ok true) new → (number block.order 4 new.shown ≡ block.total → ⊥)
-    → SeesRest block (Some BlockTrailer) old new
-SeesRest-other block old mid new f d told n other = record {
+    → SeesBody block (Some BlockTrailer) old new
+SeesBody-other block old mid new f d told n other = record {
   goes = Goes-trans old mid new d.goes n.0.goes;
   told_fault = λ t.
       let e = trailer_shown block old mid new f d told n t in
-      rest_fault-trailer block.order (coming old) e.0
+      body_fault-trailer block.order (coming old) e.0
       (λ is. other (sym e.1 ∙ (is ∙ sym (skipped_total block old f))));
   left = λ none. absurd (cc);
 }
 
-pub SeesRest-skipped : (block : Block) (old mid new last : State) → IsFront block old.offset old.shown → is_known block.kind ≡ false
+pub SeesBody-skipped : (block : Block) (old mid new last : State) → IsHeader block old.offset old.shown → is_known block.kind ≡ false
     → Drops (block.total - 4) old mid → (IsTrue old.told → IsTrue mid.told) → Needs 4 mid (Ok true) new → number block.order 4 new.shown ≡ block.total
-    → Passes 4 new last → SeesRest block None old last
-SeesRest-skipped block old mid new last f unknown d told n trailer p = record {
+    → Passes 4 new last → SeesBody block None old last
+SeesBody-skipped block old mid new last f unknown d told n trailer p = record {
   goes = Goes-trans old new last (Goes-trans old mid new d.goes n.0.goes)
       (record { before = n.0.goes.after; after = p.broken ∙ n.0.goes.after; failed = p.failed });
   told_fault = λ t.
       let e = trailer_shown block old mid new f d told n t in
-      rest_fault-whole block.order (coming old) e.0 (e.1 ∙ (trailer ∙ skipped_total block old f))
+      body_fault-whole block.order (coming old) e.0 (e.1 ∙ (trailer ∙ skipped_total block old f))
       (no_version block.order (coming old) (λ section. unknown_section block.kind unknown (skipped_kind block old f ∙ section)));
   left = λ none. rw unknown (
     omega (arith, p.offset, n.0.offset, d.offset, f.least),
@@ -216,16 +216,16 @@ some_is : (o : Option ℕ) (n : ℕ) → o ≡ Some n → IsSome o
 some_is o n e = rw e refl
 
 -- a read fails in a block that is skipped
-pub SkipsRest-fault : (block : Block) (n : ℕ) (old new : State) (fault : Fault) → 12 ≤ old.room
-    → Skips n old (Err fault) new → SkipsRest block old (Err fault) new
-SkipsRest-fault block n old new (Read file offset) room (b, later) = (some_is new.broken offset b.after, b.failed, b.can_fail)
-SkipsRest-fault block n old new Memory room h = absurd (omega (arith, h.1))
-SkipsRest-fault block n old new Write room h = absurd h
-SkipsRest-fault block n old new (Refused refusal) room h = absurd h
+pub SkipsBody-fault : (block : Block) (n : ℕ) (old new : State) (fault : Fault) → 12 ≤ old.room
+    → Skips n old (Err fault) new → SkipsBody block old (Err fault) new
+SkipsBody-fault block n old new (Read file offset) room (b, later) = (some_is new.broken offset b.after, b.failed, b.can_fail)
+SkipsBody-fault block n old new Memory room h = absurd (omega (arith, h.1))
+SkipsBody-fault block n old new Write room h = absurd h
+SkipsBody-fault block n old new (Refused refusal) room h = absurd h
 
 -- it is told with the block's own offset
 pub Fails-told : (block : Block) (old mid new : State) (file : ℕ) (fault : Fault) → block.offset ≡ old.offset → old.broken ≡ None
-    → SkipsRest block old (Err fault) mid → mid.file ≡ old.file → FailsAt block.offset mid new → file ≡ new.file → Fails old file block.offset new
+    → SkipsBody block old (Err fault) mid → mid.file ≡ old.file → FailsAt block.offset mid new → file ≡ new.file → Fails old file block.offset new
 Fails-told block old mid new file fault at whole s same f is = record {
   file_is = is ∙ (f.file ∙ same);
   again = if_some old.broken (λ first. block.offset ≡ first) whole;

@@ -10,7 +10,7 @@ use Rattle.cap_bytes.specs.declared.numbers.Order.TheVariants.{Big}
 use Rattle.cap_bytes.proofs.Items.{stop_where-whole, no_fault}
 use Rattle.cap_bytes.proofs.Spelling.{number-append, number-drop_append}
 use Rattle.cap_blocks.specs.Grammar.{section_kind, is_total, is_known}
-use Rattle.cap_blocks.specs.Split.{kind_at, total_at, is_section, is_ordered, order_at, or_else, first_fault, head_fault, front_fault, rest_fault, block_fault, block_at, stop_at}
+use Rattle.cap_blocks.specs.Split.{kind_at, total_at, is_section, is_ordered, order_at, or_else, first_fault, fields_fault, header_fault, body_fault, block_fault, block_at, stop_at}
 
 -- what a total length that a kind allows is
 pub total-least : (kind total : ℕ) → is_total kind total ≡ true → 12 ≤ total
@@ -26,44 +26,44 @@ unfolding is_total
 total-known kind total allowed known = let e = rw known at allowed in grind (arith, nat_tests)
 
 -- none of the conditions is met that the first 12 bytes tell
-pub record HeadFits (order : Order) (offset : ℕ) (bytes : List ℕ) : Type 0 where
+pub record FieldsFit (order : Order) (offset : ℕ) (bytes : List ℕ) : Type 0 where
   pub head : 12 ≤ length bytes
   pub ordered : (is_section bytes && not (is_ordered order bytes)) ≡ false
   pub allowed : is_total (kind_at order bytes) (total_at order bytes) ≡ true
   pub limit : offset + total_at order bytes ≤ 2 ^ 40
 
-pub head_fault-short : (order : Order) (offset : ℕ) (bytes : List ℕ) → length bytes < 12 → head_fault order offset bytes ≡ Some Cut
-unfolding head_fault
-head_fault-short order offset bytes short = grind (arith, nat_tests)
+pub fields_fault-short : (order : Order) (offset : ℕ) (bytes : List ℕ) → length bytes < 12 → fields_fault order offset bytes ≡ Some Cut
+unfolding fields_fault
+fields_fault-short order offset bytes short = grind (arith, nat_tests)
 
-pub head_fault-unordered : (order : Order) (offset : ℕ) (bytes : List ℕ) → 12 ≤ length bytes
-    → (is_section bytes && not (is_ordered order bytes)) ≡ true → head_fault order offset bytes ≡ Some OrderMagic
-unfolding head_fault
-head_fault-unordered order offset bytes head unordered = rw unordered (grind (arith, nat_tests))
+pub fields_fault-unordered : (order : Order) (offset : ℕ) (bytes : List ℕ) → 12 ≤ length bytes
+    → (is_section bytes && not (is_ordered order bytes)) ≡ true → fields_fault order offset bytes ≡ Some OrderMagic
+unfolding fields_fault
+fields_fault-unordered order offset bytes head unordered = rw unordered (grind (arith, nat_tests))
 
-pub head_fault-length : (order : Order) (offset : ℕ) (bytes : List ℕ) → 12 ≤ length bytes
+pub fields_fault-length : (order : Order) (offset : ℕ) (bytes : List ℕ) → 12 ≤ length bytes
     → (is_section bytes && not (is_ordered order bytes)) ≡ false
-    → is_total (kind_at order bytes) (total_at order bytes) ≡ false → head_fault order offset bytes ≡ Some BlockLength
-unfolding head_fault
-head_fault-length order offset bytes head ordered other = rw (ordered, other) (grind (arith, nat_tests))
+    → is_total (kind_at order bytes) (total_at order bytes) ≡ false → fields_fault order offset bytes ≡ Some BlockLength
+unfolding fields_fault
+fields_fault-length order offset bytes head ordered other = rw (ordered, other) (grind (arith, nat_tests))
 
-pub head_fault-limit : (order : Order) (offset : ℕ) (bytes : List ℕ) → 12 ≤ length bytes
+pub fields_fault-limit : (order : Order) (offset : ℕ) (bytes : List ℕ) → 12 ≤ length bytes
     → (is_section bytes && not (is_ordered order bytes)) ≡ false
     → is_total (kind_at order bytes) (total_at order bytes) ≡ true
-    → 2 ^ 40 < offset + total_at order bytes → head_fault order offset bytes ≡ Some FileLimit
-unfolding head_fault
-head_fault-limit order offset bytes head ordered allowed past = rw (ordered, allowed) (grind (arith, nat_tests))
+    → 2 ^ 40 < offset + total_at order bytes → fields_fault order offset bytes ≡ Some FileLimit
+unfolding fields_fault
+fields_fault-limit order offset bytes head ordered allowed past = rw (ordered, allowed) (grind (arith, nat_tests))
 
-pub head_fault-fits : (order : Order) (offset : ℕ) (bytes : List ℕ) → HeadFits order offset bytes → head_fault order offset bytes ≡ None
-unfolding head_fault
-head_fault-fits order offset bytes f =
+pub fields_fault-fits : (order : Order) (offset : ℕ) (bytes : List ℕ) → FieldsFit order offset bytes → fields_fault order offset bytes ≡ None
+unfolding fields_fault
+fields_fault-fits order offset bytes f =
     let head = f.head in
     let limit = f.limit in
     rw (f.ordered, f.allowed) (grind (arith, nat_tests))
 
-pub HeadFits-from_none : (order : Order) (offset : ℕ) (bytes : List ℕ) → head_fault order offset bytes ≡ None → HeadFits order offset bytes
-unfolding head_fault
-HeadFits-from_none order offset bytes h = record {
+pub FieldsFit-from_none : (order : Order) (offset : ℕ) (bytes : List ℕ) → fields_fault order offset bytes ≡ None → FieldsFit order offset bytes
+unfolding fields_fault
+FieldsFit-from_none order offset bytes h = record {
   head = grind (arith, nat_tests);
   ordered = grind (arith, nat_tests);
   allowed = grind (arith, nat_tests);
@@ -71,9 +71,9 @@ HeadFits-from_none order offset bytes h = record {
 }
 
 -- the conditions of a first block come before those of its first 12 bytes
-pub front_fault-head : (section : Option Order) (offset : ℕ) (bytes : List ℕ) → first_fault section bytes ≡ None
-    → front_fault section offset bytes ≡ head_fault (order_at section bytes) offset bytes
-front_fault-head section offset bytes is = rw is refl
+pub header_fault-fields : (section : Option Order) (offset : ℕ) (bytes : List ℕ) → first_fault section bytes ≡ None
+    → header_fault section offset bytes ≡ fields_fault (order_at section bytes) offset bytes
+header_fault-fields section offset bytes is = rw is refl
 
 -- a first block that isn't refused so is a section header
 pub first_fault-section : (bytes : List ℕ) → first_fault None bytes ≡ None → is_section bytes ≡ true
@@ -85,11 +85,11 @@ pub or_else-none : (a b : Option Rule) → or_else a b ≡ None → (a ≡ None)
 or_else-none None b h = (refl, h)
 or_else-none (Some rule) b h = absurd (cc)
 
-pub HeadFits-from_front : (section : Option Order) (offset : ℕ) (bytes : List ℕ) → front_fault section offset bytes ≡ None
-    → HeadFits (order_at section bytes) offset bytes
-HeadFits-from_front section offset bytes h =
-    HeadFits-from_none (order_at section bytes) offset bytes
-    (or_else-none (first_fault section bytes) (head_fault (order_at section bytes) offset bytes) h).1
+pub FieldsFit-from_header : (section : Option Order) (offset : ℕ) (bytes : List ℕ) → header_fault section offset bytes ≡ None
+    → FieldsFit (order_at section bytes) offset bytes
+FieldsFit-from_header section offset bytes h =
+    FieldsFit-from_none (order_at section bytes) offset bytes
+    (or_else-none (first_fault section bytes) (fields_fault (order_at section bytes) offset bytes) h).1
 
 -- there are as many
 lt-ltb-false : (n : ℕ) → 12 ≤ n → nat_lt n 12 ≡ false
@@ -111,8 +111,8 @@ head_same : (order : Order) (offset : ℕ) (xs zs : List ℕ) → 12 ≤ length 
     → ((order : Order) → number order 4 zs ≡ number order 4 xs)
     → ((order : Order) → number order 4 (drop 4 zs) ≡ number order 4 (drop 4 xs))
     → ((order : Order) → number order 4 (drop 8 zs) ≡ number order 4 (drop 8 xs))
-    → head_fault order offset zs ≡ head_fault order offset xs
-unfolding head_fault
+    → fields_fault order offset zs ≡ fields_fault order offset xs
+unfolding fields_fault
 head_same order offset xs zs long longer kind total magic =
     let e = lt-ltb-false (length xs) long in
     let f = lt-ltb-false (length zs) longer in
@@ -122,9 +122,9 @@ pub order_at-append : (section : Option Order) (xs ys : List ℕ) → 12 ≤ len
 order_at-append section xs ys h =
     order_same section xs (xs ++ ys) (λ order. number-append order 4 xs ys (omega arith)) (λ order. number-drop_append order 4 8 xs ys (omega arith))
 
-pub front_fault-append : (section : Option Order) (offset : ℕ) (xs ys : List ℕ) → 12 ≤ length xs
-    → front_fault section offset (xs ++ ys) ≡ front_fault section offset xs
-front_fault-append section offset xs ys h =
+pub header_fault-append : (section : Option Order) (offset : ℕ) (xs ys : List ℕ) → 12 ≤ length xs
+    → header_fault section offset (xs ++ ys) ≡ header_fault section offset xs
+header_fault-append section offset xs ys h =
     let longer : 12 ≤ length (xs ++ ys) = omega (arith, length-append xs ys) in
     let kind = λ (order : Order). number-append order 4 xs ys (omega arith) in
     let total = λ (order : Order). number-drop_append order 4 4 xs ys (omega arith) in
@@ -146,15 +146,15 @@ block_at-append section offset xs ys h =
     ) refl
 
 -- what ends the blocks, by the condition that is met
-pub block_fault-front : (section : Option Order) (offset : ℕ) (bytes : List ℕ) (rule : Rule) → front_fault section offset bytes ≡ Some rule
+pub block_fault-header : (section : Option Order) (offset : ℕ) (bytes : List ℕ) (rule : Rule) → header_fault section offset bytes ≡ Some rule
     → block_fault section offset bytes ≡ Some rule
 unfolding block_fault
-block_fault-front section offset bytes rule is = rw is refl
+block_fault-header section offset bytes rule is = rw is refl
 
-pub block_fault-rest : (section : Option Order) (offset : ℕ) (bytes : List ℕ) (fault : Option Rule) → front_fault section offset bytes ≡ None
-    → rest_fault (order_at section bytes) bytes ≡ fault → block_fault section offset bytes ≡ fault
+pub block_fault-body : (section : Option Order) (offset : ℕ) (bytes : List ℕ) (fault : Option Rule) → header_fault section offset bytes ≡ None
+    → body_fault (order_at section bytes) bytes ≡ fault → block_fault section offset bytes ≡ fault
 unfolding block_fault
-block_fault-rest section offset bytes fault none is = rw (none, is) refl
+block_fault-body section offset bytes fault none is = rw (none, is) refl
 
 -- nothing ends the blocks where a whole one stands
 pub stop_at-whole : (section : Option Order) (tail : Tail) (file offset : ℕ) (bytes : List ℕ) → 0 < length bytes
@@ -168,11 +168,11 @@ block_fault-from_none section tail file offset bytes h =
     no_fault (is_some section) tail file offset bytes (block_fault section offset bytes) h
 
 pub faults-from_none : (section : Option Order) (offset : ℕ) (bytes : List ℕ) → block_fault section offset bytes ≡ None
-    → (front_fault section offset bytes ≡ None) × (rest_fault (order_at section bytes) bytes ≡ None)
+    → (header_fault section offset bytes ≡ None) × (body_fault (order_at section bytes) bytes ≡ None)
 unfolding block_fault
-faults-from_none section offset bytes h = or_else-none (front_fault section offset bytes) (rest_fault (order_at section bytes) bytes) h
+faults-from_none section offset bytes h = or_else-none (header_fault section offset bytes) (body_fault (order_at section bytes) bytes) h
 
-pub HeadFits-from_stop_at : (section : Option Order) (tail : Tail) (file offset : ℕ) (bytes : List ℕ)
-    → stop_at section tail file offset bytes ≡ None → HeadFits (order_at section bytes) offset bytes
-HeadFits-from_stop_at section tail file offset bytes h =
-    HeadFits-from_front section offset bytes (faults-from_none section offset bytes (block_fault-from_none section tail file offset bytes h)).0
+pub FieldsFit-from_stop_at : (section : Option Order) (tail : Tail) (file offset : ℕ) (bytes : List ℕ)
+    → stop_at section tail file offset bytes ≡ None → FieldsFit (order_at section bytes) offset bytes
+FieldsFit-from_stop_at section tail file offset bytes h =
+    FieldsFit-from_header section offset bytes (faults-from_none section offset bytes (block_fault-from_none section tail file offset bytes h)).0

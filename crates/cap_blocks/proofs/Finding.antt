@@ -1,18 +1,18 @@
--- A look at a block's first 12 bytes, and then one at the rest.
+-- A look at a block's header, and then one at its body.
 use Rattle.std.proofs.Common.{◌≡◌, ℕ, ◌+◌, ◌<◌, List, length, drop, Option, Some, None, is_some, Bool, true, false, IsTrue, Err, inr, refl, sym, ◌∙◌, ap, subst, arith, length-append}
 use Rattle.cap_bytes.specs.Items.{stop_by}
-use Rattle.cap_bytes.specs.Sights.{SeesStop, FailsBy}
+use Rattle.cap_bytes.specs.Parsing.{SeesStop, FailsBy}
 use Rattle.cap_bytes.specs.Window.{State, coming}
-use Rattle.cap_bytes.proofs.Sights.{Goes-trans, some_left, SeesStop-fault, FailsBy-later}
+use Rattle.cap_bytes.proofs.Parsing.{Goes-trans, some_left, SeesStop-fault, FailsBy-later}
 use Rattle.cap_bytes.specs.declared.faults.Fault.{Fault}
 use Rattle.cap_bytes.specs.declared.faults.Rule.{Rule}
 use Rattle.cap_bytes.specs.declared.faults.Tail.{Tail}
 use Rattle.cap_bytes.specs.declared.numbers.Order.{Order}
 use Rattle.cap_blocks.specs.Grammar.{is_known}
-use Rattle.cap_blocks.specs.Sights.{Stays, SeesFront, SeesRest, SeesBlock, Leaves, LooksAtRest}
-use Rattle.cap_blocks.specs.Split.{order_at, rest_fault, block_fault, block_at, LacksRoom}
+use Rattle.cap_blocks.specs.Parsing.{Stays, SeesHeader, SeesBody, SeesBlock, Leaves, LooksAtBody}
+use Rattle.cap_blocks.specs.Split.{order_at, body_fault, block_fault, block_at, LacksRoom}
 use Rattle.cap_blocks.specs.declared.blocks.Block.{Block}
-use Rattle.cap_blocks.proofs.Faults.{block_fault-rest, stop_at-whole}
+use Rattle.cap_blocks.proofs.Faults.{block_fault-body, stop_at-whole}
 
 -- the order of a block that stands there
 pub order_told : (section : Option Order) (offset : ℕ) (bytes : List ℕ) (block : Block) → block ≡ block_at section offset bytes
@@ -26,45 +26,45 @@ Leaves-later true total a b c at told bytes l = (l.0 ∙ at, l.1, λ t. l.2 (tol
 Leaves-later false total a b c at told bytes l = (l.0 ∙ ap (λ n. n + total) at, λ t. l.1 (told t) ∙ ap (drop total) (bytes t))
 
 -- some bytes are to come
-some_come : (section : Option Order) (block : Block) (a b : State) → SeesFront section block a b → IsTrue a.told → 0 < length (coming a)
+some_come : (section : Option Order) (block : Block) (a b : State) → SeesHeader section block a b → IsTrue a.told → 0 < length (coming a)
 some_come section block a b f t =
-    omega (arith, ap length (f.shows.coming_same t), length-append b.shown b.unread, f.front.head)
+    omega (arith, ap length (f.shows.coming_same t), length-append b.shown b.unread, f.header.head)
 
--- what the rest is refused by, if by anything
-rest_told : (section : Option Order) (block : Block) (fault : Option Rule) (a b c : State) → SeesFront section block a b
-    → (IsTrue a.told → IsTrue b.told) → SeesRest block fault b c → IsTrue a.told → rest_fault (order_at section (coming a)) (coming a) ≡ fault
-rest_told section block fault a b c f told r t =
+-- what the body is refused by, if by anything
+body_told : (section : Option Order) (block : Block) (fault : Option Rule) (a b c : State) → SeesHeader section block a b
+    → (IsTrue a.told → IsTrue b.told) → SeesBody block fault b c → IsTrue a.told → body_fault (order_at section (coming a)) (coming a) ≡ fault
+body_told section block fault a b c f told r t =
     rw (← order_told section a.offset (coming a) block (f.block_is t))
-    (ap (rest_fault block.order) (sym (f.shows.coming_same t)) ∙ r.told_fault (told t))
+    (ap (body_fault block.order) (sym (f.shows.coming_same t)) ∙ r.told_fault (told t))
 
 -- a block is there
-pub SeesBlock-both : (section : Option Order) (tail : Tail) (block : Block) (a b c : State) → SeesFront section block a b
-    → (IsTrue a.told → IsTrue b.told) → SeesRest block None b c → SeesBlock section tail block a c
+pub SeesBlock-both : (section : Option Order) (tail : Tail) (block : Block) (a b c : State) → SeesHeader section block a b
+    → (IsTrue a.told → IsTrue b.told) → SeesBody block None b c → SeesBlock section tail block a c
 SeesBlock-both section tail block a b c f told r = record {
   goes = Goes-trans a b c f.shows.goes r.goes;
-  offset = f.front.offset_is;
-  allowed = f.front.allowed;
-  limit = f.front.limit;
-  least = f.front.least;
+  offset = f.header.offset_is;
+  allowed = f.header.allowed;
+  limit = f.header.limit;
+  least = f.header.least;
   left = Leaves-later (is_known block.kind) block.total a b c f.shows.offset told f.shows.coming_same (r.left refl);
   none = λ t. stop_at-whole section tail a.file a.offset (coming a) (some_come section block a b f t)
-      (block_fault-rest section a.offset (coming a) None (f.none t) (rest_told section block None a b c f told r t));
+      (block_fault-body section a.offset (coming a) None (f.none t) (body_told section block None a b c f told r t));
   block_is = f.block_is;
 }
 
--- none is, by the rest
-pub SeesStop-rest : (section : Option Order) (tail : Tail) (block : Block) (rule : Rule) (a b c : State) → SeesFront section block a b
-    → (IsTrue a.told → IsTrue b.told) → SeesRest block (Some rule) b c
+-- none is, by the body
+pub SeesStop-body : (section : Option Order) (tail : Tail) (block : Block) (rule : Rule) (a b c : State) → SeesHeader section block a b
+    → (IsTrue a.told → IsTrue b.told) → SeesBody block (Some rule) b c
     → SeesStop (is_some section) (block_fault section a.offset (coming a)) tail (stop_by (is_some section) tail a.file a.offset rule) a c
-SeesStop-rest section tail block rule a b c f told r =
+SeesStop-body section tail block rule a b c f told r =
     SeesStop-fault (is_some section) _ tail rule a c (Goes-trans a b c f.shows.goes r.goes)
-    (some_left (is_some section) a b f.shows (omega (arith, f.front.head)))
-    (λ t. block_fault-rest section a.offset (coming a) (Some rule) (f.none t) (rest_told section block (Some rule) a b c f told r t))
+    (some_left (is_some section) a b f.shows (omega (arith, f.header.head)))
+    (λ t. block_fault-body section a.offset (coming a) (Some rule) (f.none t) (body_told section block (Some rule) a b c f told r t))
 
 -- a fault in the second look
-pub FailsBy-rest : (section : Option Order) (block : Block) (a b c : State) (fault : Fault) → SeesFront section block a b → Stays a b
-    → LooksAtRest block b (Err fault) c → FailsBy 524288 (LacksRoom section a.offset (coming a) a.room) a fault c
-FailsBy-rest section block a b c fault f k h =
+pub FailsBy-body : (section : Option Order) (block : Block) (a b c : State) (fault : Fault) → SeesHeader section block a b → Stays a b
+    → LooksAtBody block b (Err fault) c → FailsBy 524288 (LacksRoom section a.offset (coming a) a.room) a fault c
+FailsBy-body section block a b c fault f k h =
     FailsBy-later 524288 _ _ a b c fault f.shows k.file k.told k.can_fail k.room
     (λ t lacks. inr (
       ap (λ (w : Block). is_known w.kind) (sym (f.block_is t)) ∙ lacks.0,

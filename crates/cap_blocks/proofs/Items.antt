@@ -9,11 +9,11 @@ use Rattle.cap_bytes.specs.declared.stops.Stop.TheVariants as stops
 use Rattle.cap_bytes.proofs.Items as items
 use Rattle.cap_bytes.proofs.Items.{Advances, stop_where-end, stop_where-fault}
 use Rattle.cap_blocks.specs.Split.{block_fault, order_at, kind_at, total_at, block_at, body_at, stop_at, blocks, items_from}
-use Rattle.cap_blocks.proofs.Faults.{HeadFits-from_stop_at, total-least}
+use Rattle.cap_blocks.proofs.Faults.{FieldsFit-from_stop_at, total-least}
 
 advances : Advances blocks
 advances section tail file offset bytes is =
-    let f = HeadFits-from_stop_at section tail file offset bytes is in
+    let f = FieldsFit-from_stop_at section tail file offset bytes is in
     let least = total-least (kind_at (order_at section bytes) bytes) (total_at (order_at section bytes) bytes) f.allowed in
     let head = f.head in
     (omega arith, omega arith)

@@ -2,17 +2,17 @@
 use Rattle.std.proofs.Common.{◌≡◌, ℕ, ◌==◌, ◌&&◌, List, [], ◌∷◌, length, Option, Some, None, is_some, IsSome, Bool, true, false, Ok, refl, sym, ◌∙◌, ap, arith}
 use Rattle.std.proofs.lemmas.Bool.Decides.{nat_tests}
 use Rattle.cap_bytes.specs.Items.{stop_by}
-use Rattle.cap_bytes.specs.Sights.{SeesStop}
+use Rattle.cap_bytes.specs.Parsing.{SeesStop}
 use Rattle.cap_bytes.specs.Window.{State, Needs, Keeps, coming}
-use Rattle.cap_bytes.proofs.Sights.{all_shown, some_left, SeesStop-fault, SeesStop-end}
+use Rattle.cap_bytes.proofs.Parsing.{all_shown, some_left, SeesStop-fault, SeesStop-end}
 use Rattle.cap_bytes.specs.declared.faults.Rule.{Rule}
 use Rattle.cap_bytes.specs.declared.faults.Tail.{Tail}
 use Rattle.cap_bytes.specs.declared.numbers.Order.{Order}
-use Rattle.cap_blocks.specs.Sights.{FindsOwnOrder, FindsOrder, IsFront, SeesFront}
-use Rattle.cap_blocks.specs.Split.{is_section, own_order, order_at, front_fault, block_fault, block_at}
+use Rattle.cap_blocks.specs.Parsing.{FindsOwnOrder, FindsOrder, IsHeader, SeesHeader}
+use Rattle.cap_blocks.specs.Split.{is_section, own_order, order_at, header_fault, block_fault, block_at}
 use Rattle.cap_blocks.specs.declared.blocks.Block.{Block}
 use Rattle.cap_bytes.specs.declared.stops.Stop.TheVariants as stops
-use Rattle.cap_blocks.proofs.Faults.{total-least, HeadFits-from_front, front_fault-append, block_at-append, block_fault-front}
+use Rattle.cap_blocks.proofs.Faults.{total-least, FieldsFit-from_header, header_fault-append, block_at-append, block_fault-header}
 
 -- a section header's order is its own
 pub FindsOrder-own : (section : Option Order) (bytes : List ℕ) (found : Option Order) → order_at section bytes ≡ own_order bytes
@@ -21,11 +21,11 @@ FindsOrder-own section bytes (Some order) same head own = (own.0 ∙ sym same, r
 FindsOrder-own section bytes None same head own = rw (same, head, own) refl
 
 -- a block as its first 12 bytes tell it
-pub IsFront-at : (section : Option Order) (offset : ℕ) (bytes : List ℕ) → front_fault section offset bytes ≡ None
-    → IsFront (block_at section offset bytes) offset bytes
+pub IsHeader-at : (section : Option Order) (offset : ℕ) (bytes : List ℕ) → header_fault section offset bytes ≡ None
+    → IsHeader (block_at section offset bytes) offset bytes
 unfolding block_at
-IsFront-at section offset bytes none =
-    let f = HeadFits-from_front section offset bytes none in
+IsHeader-at section offset bytes none =
+    let f = FieldsFit-from_header section offset bytes none in
     record {
       head = f.head;
       offset_is = refl;
@@ -37,30 +37,30 @@ IsFront-at section offset bytes none =
     }
 
 -- the first 12 bytes of a block are shown
-pub SeesFront-parsed : (there : Bool) (section : Option Order) (old new : State) (block : Block) → Needs 12 old (Ok there) new → Keeps old new
-    → front_fault section old.offset new.shown ≡ None → block ≡ block_at section old.offset new.shown → SeesFront section block old new
-SeesFront-parsed true section old new block n k none is = record {
+pub SeesHeader-parsed : (there : Bool) (section : Option Order) (old new : State) (block : Block) → Needs 12 old (Ok there) new → Keeps old new
+    → header_fault section old.offset new.shown ≡ None → block ≡ block_at section old.offset new.shown → SeesHeader section block old new
+SeesHeader-parsed true section old new block n k none is = record {
   shows = n.0;
-  front = rw is (IsFront-at section old.offset new.shown none);
+  header = rw is (IsHeader-at section old.offset new.shown none);
   room = omega (arith, n.1, k.shown_held, k.held_room);
-  none = λ t. ap (front_fault section old.offset) (sym (n.0.coming_same t)) ∙ (front_fault-append section old.offset new.shown new.unread n.1 ∙ none);
+  none = λ t. ap (header_fault section old.offset) (sym (n.0.coming_same t)) ∙ (header_fault-append section old.offset new.shown new.unread n.1 ∙ none);
   block_is = λ t. is ∙ sym (ap (block_at section old.offset) (sym (n.0.coming_same t)) ∙ block_at-append section old.offset new.shown new.unread n.1);
 }
-SeesFront-parsed false section old new block n k none is =
-    absurd (omega (arith, (HeadFits-from_front section old.offset new.shown none).head, n.1))
+SeesHeader-parsed false section old new block n k none is =
+    absurd (omega (arith, (FieldsFit-from_header section old.offset new.shown none).head, n.1))
 
 -- no block is there, since its first 12 bytes are refused
-pub SeesStop-front : (there : Bool) (section : Option Order) (tail : Tail) (old new : State) (rule : Rule) → Needs 12 old (Ok there) new
-    → (is_some section && (length new.shown == 0)) ≡ false → front_fault section old.offset new.shown ≡ Some rule
+pub SeesStop-header : (there : Bool) (section : Option Order) (tail : Tail) (old new : State) (rule : Rule) → Needs 12 old (Ok there) new
+    → (is_some section && (length new.shown == 0)) ≡ false → header_fault section old.offset new.shown ≡ Some rule
     → SeesStop (is_some section) (block_fault section old.offset (coming old)) tail (stop_by (is_some section) tail old.file old.offset rule) old new
-SeesStop-front true section tail old new rule n some fault =
+SeesStop-header true section tail old new rule n some fault =
     SeesStop-fault (is_some section) _ tail rule old new n.0.goes (some_left (is_some section) old new n.0 (omega (arith, n.1)))
     (λ t. ap (block_fault section old.offset) (sym (n.0.coming_same t))
-    ∙ block_fault-front section old.offset (coming new) rule (front_fault-append section old.offset new.shown new.unread n.1 ∙ fault))
-SeesStop-front false section tail old new rule n some fault =
+    ∙ block_fault-header section old.offset (coming new) rule (header_fault-append section old.offset new.shown new.unread n.1 ∙ fault))
+SeesStop-header false section tail old new rule n some fault =
     SeesStop-fault (is_some section) _ tail rule old new n.0.goes
     (λ t. ap (λ l. is_some section && (length l == 0)) (all_shown old new n.0 n.2 t) ∙ some)
-    (λ t. ap (block_fault section old.offset) (all_shown old new n.0 n.2 t) ∙ block_fault-front section old.offset new.shown rule fault)
+    (λ t. ap (block_fault section old.offset) (all_shown old new n.0 n.2 t) ∙ block_fault-header section old.offset new.shown rule fault)
 
 -- no block is there, since nothing is
 ends_now : (section : Option Order) (xs : List ℕ) → (is_some section && (length xs == 0)) ≡ true → IsSome section × (xs ≡ [])

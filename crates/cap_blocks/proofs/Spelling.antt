@@ -7,34 +7,34 @@ use Rattle.cap_bytes.specs.declared.numbers.Order.{Order}
 use Rattle.cap_bytes.specs.declared.numbers.Order.TheVariants.{Big, Little}
 use Rattle.cap_bytes.proofs.Spelling.{number-take, number-drop_take}
 use Rattle.cap_blocks.specs.Grammar.{section_kind, order_magic, is_total, is_version, SpellsSection, SpellsBlock}
-use Rattle.cap_blocks.specs.Split.{kind_at, total_at, is_section, is_ordered, own_order, order_at, first_fault, front_fault, rest_fault, has_other_version, block_fault, body_in, body_at, Piece, piece_size, MayFollow, Begins, AreBytes}
-use Rattle.cap_blocks.proofs.Behind.{same, differs, there, rest_fault-whole, no_version, version_is}
+use Rattle.cap_blocks.specs.Split.{kind_at, total_at, is_section, is_ordered, own_order, order_at, first_fault, header_fault, body_fault, has_other_version, block_fault, body_in, body_at, Piece, piece_size, MayFollow, Begins, AreBytes}
+use Rattle.cap_blocks.proofs.Behind.{same, differs, there, body_fault-whole, no_version, version_is}
 use Rattle.cap_blocks.proofs.Bytes.{kind_same, magic_one, AreBytes-drop}
-use Rattle.cap_blocks.proofs.Faults.{HeadFits, HeadFits-from_front, head_fault-fits, front_fault-head, block_fault-rest, faults-from_none, first_fault-section, total-least, total-section, or_else-none}
+use Rattle.cap_blocks.proofs.Faults.{FieldsFit, FieldsFit-from_header, fields_fault-fits, header_fault-fields, block_fault-body, faults-from_none, first_fault-section, total-least, total-section, or_else-none}
 
 -- the piece at the front of some bytes
 abbrev pub piece_at : Option Order → List ℕ → Piece
 piece_at section bytes =
     record { order = order_at section bytes; kind = kind_at (order_at section bytes) bytes; body = body_at section bytes }
 
--- none of the conditions is met that the rest of a block tells
-pub record RestFits (order : Order) (bytes : List ℕ) : Type 0 where
+-- none of the conditions is met that the body of a block tells
+pub record BodyFits (order : Order) (bytes : List ℕ) : Type 0 where
   pub whole : total_at order bytes ≤ length bytes
   pub trailer : number order 4 (drop (total_at order bytes - 4) bytes) ≡ total_at order bytes
   pub version : has_other_version order bytes ≡ false
 
-rest_none : (order : Order) (bytes : List ℕ) (short trailer other : Bool) → nat_lt (length bytes) (total_at order bytes) ≡ short
+body_none : (order : Order) (bytes : List ℕ) (short trailer other : Bool) → nat_lt (length bytes) (total_at order bytes) ≡ short
     → (number order 4 (drop (total_at order bytes - 4) bytes) == total_at order bytes) ≡ trailer → has_other_version order bytes ≡ other
-    → rest_fault order bytes ≡ None → (short ≡ false) × (trailer ≡ true) × (other ≡ false)
-unfolding rest_fault
-rest_none order bytes true trailer other s t o h = let e = rw s at h in absurd (cc)
-rest_none order bytes false false other s t o h = let e = rw (s, t) at h in absurd (cc)
-rest_none order bytes false true true s t o h = let e = rw (s, t, o) at h in absurd (cc)
-rest_none order bytes false true false s t o h = (refl, refl, refl)
+    → body_fault order bytes ≡ None → (short ≡ false) × (trailer ≡ true) × (other ≡ false)
+unfolding body_fault
+body_none order bytes true trailer other s t o h = let e = rw s at h in absurd (cc)
+body_none order bytes false false other s t o h = let e = rw (s, t) at h in absurd (cc)
+body_none order bytes false true true s t o h = let e = rw (s, t, o) at h in absurd (cc)
+body_none order bytes false true false s t o h = (refl, refl, refl)
 
-pub RestFits-from_none : (order : Order) (bytes : List ℕ) → rest_fault order bytes ≡ None → RestFits order bytes
-RestFits-from_none order bytes h =
-    let e = rest_none order bytes _ _ _ refl refl refl h in
+pub BodyFits-from_none : (order : Order) (bytes : List ℕ) → body_fault order bytes ≡ None → BodyFits order bytes
+BodyFits-from_none order bytes h =
+    let e = body_none order bytes _ _ _ refl refl refl h in
     let short = e.0 in
     let trailer = e.1 in
     record {
@@ -80,7 +80,7 @@ version_of order bytes true is read h = refl
 version_of order bytes false is read h = let e = version_is order bytes false is read in absurd (cc)
 
 -- a section header that isn't refused has an order magic and a version
-SpellsSection-at : (order : Order) (offset total : ℕ) (bytes : List ℕ) → Plain bytes → HeadFits order offset bytes → RestFits order bytes
+SpellsSection-at : (order : Order) (offset total : ℕ) (bytes : List ℕ) → Plain bytes → FieldsFit order offset bytes → BodyFits order bytes
     → total ≡ total_at order bytes → kind_at order bytes ≡ section_kind → SpellsSection order (body_in total bytes)
 SpellsSection-at order offset total bytes fits f r size is =
     let ordered = ordered_of (is_section bytes) (is_ordered order bytes) (section_told order bytes fits is) f.ordered in
@@ -98,7 +98,7 @@ drop_take_at : (i n : ℕ) (bytes : List ℕ) → i ≤ n → take (n - i) (drop
 drop_take_at i n bytes h = sym (drop-take i (n - i) bytes) ∙ ap (λ k. drop i (take k bytes)) (omega arith)
 
 -- a block that isn't refused is spelled by its bytes
-pub SpellsBlock-at : (order : Order) (offset : ℕ) (bytes : List ℕ) → Plain bytes → HeadFits order offset bytes → RestFits order bytes
+pub SpellsBlock-at : (order : Order) (offset : ℕ) (bytes : List ℕ) → Plain bytes → FieldsFit order offset bytes → BodyFits order bytes
     → SpellsBlock order (kind_at order bytes) (body_in (total_at order bytes) bytes) (take (total_at order bytes) bytes)
 SpellsBlock-at order offset bytes fits f r =
     let total = total_at order bytes in
@@ -137,8 +137,8 @@ Begins-at section offset bytes fits none =
     let e = faults-from_none section offset bytes none in
     let order = order_at section bytes in
     let total = total_at order bytes in
-    let f = HeadFits-from_front section offset bytes e.0 in
-    let r = RestFits-from_none order bytes e.1 in
+    let f = FieldsFit-from_header section offset bytes e.0 in
+    let r = BodyFits-from_none order bytes e.1 in
     let least = total-least (kind_at order bytes) total f.allowed in
     let whole = r.whole in
     let body : length (body_in total bytes) ≡ total - 12 = length-take-le (total - 12) (drop 8 bytes) (omega (arith, length-drop 8 bytes)) in
@@ -241,15 +241,15 @@ Reads-spelled section offset piece bytes fits b =
     magic_in order (length piece.body) piece.body bytes refl whole (omega (arith, total-section piece.kind size allowed is)) body (s.section is) in
     let order_is = order_follows section order piece.kind piece.body bytes (piece.kind == section_kind) refl fits b.follows kind (λ is. (inside is).0) in
     let first = first_none section piece bytes fits b.follows kind (omega arith) in
-    let head : HeadFits order offset bytes = record {
+    let head : FieldsFit order offset bytes = record {
       head = omega arith;
       ordered = ordered_none order bytes (kind_at order bytes == section_kind) refl fits (λ is. (inside (sym kind ∙ is)).0);
       allowed = rw (kind, total) allowed;
       limit = rw total b.limit;
     } in
-    let front : front_fault section offset bytes ≡ None =
-    front_fault-head section offset bytes first ∙ (rw order_is (head_fault-fits order offset bytes head)) in
-    let rest : rest_fault order bytes ≡ None = rest_fault-whole order bytes (rw total whole)
+    let header : header_fault section offset bytes ≡ None =
+    header_fault-fields section offset bytes first ∙ (rw order_is (fields_fault-fits order offset bytes head)) in
+    let rest : body_fault order bytes ≡ None = body_fault-whole order bytes (rw total whole)
     (rw total (ap (λ n. number order 4 (drop n bytes)) (omega arith) ∙ trailer))
     (version_none order bytes (kind_at order bytes == section_kind) refl (λ is. (inside (sym kind ∙ is)).1)) in
     record {
@@ -258,5 +258,5 @@ Reads-spelled section offset piece bytes fits b =
       kind_is = kind;
       total_is = total;
       body_is = ap (λ n. take n (drop 8 bytes)) (omega arith) ∙ body;
-      none = block_fault-rest section offset bytes None front (rw order_is rest);
+      none = block_fault-body section offset bytes None header (rw order_is rest);
     }

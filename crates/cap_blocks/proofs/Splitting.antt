@@ -13,7 +13,7 @@ use Rattle.cap_blocks.specs.Laws.{OneBlock, OneSplit, EverySplit, SplitItems, It
 use Rattle.cap_blocks.specs.Split.{block_at, Piece, piece_size, MayFollow, Begins, Splits, AreBytes, stop_at, items_from}
 use Rattle.cap_bytes.specs.declared.stops.Stop.{Stop}
 use Rattle.cap_blocks.proofs.Bytes.{AreBytes-drop}
-use Rattle.cap_blocks.proofs.Faults.{block_fault-from_none, faults-from_none, HeadFits-from_front, stop_at-whole}
+use Rattle.cap_blocks.proofs.Faults.{block_fault-from_none, faults-from_none, FieldsFit-from_header, stop_at-whole}
 use Rattle.cap_blocks.proofs.Items.{items_from-stop, items_from-fault, items_from-block}
 use Rattle.cap_blocks.proofs.Spelling.{piece_at, Begins-at, Reads, Reads-spelled, plain}
 
@@ -164,5 +164,5 @@ items_at_fault-law section tail file offset bytes rule some fault =
 
 pub items_at_block-law : ItemsAtBlock
 items_at_block-law section tail file offset bytes none =
-    let head = (HeadFits-from_front section offset bytes (faults-from_none section offset bytes none).0).head in
+    let head = (FieldsFit-from_header section offset bytes (faults-from_none section offset bytes none).0).head in
     items_from-block section tail file offset bytes (stop_at-whole section tail file offset bytes (omega arith) none)

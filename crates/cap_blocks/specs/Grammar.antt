@@ -38,13 +38,13 @@ least_total kind =
     if kind == simple_kind then 16 else
     if kind == enhanced_kind then 32 else 12
 
--- Whether a block of that kind may have that total length. draft-ietf-opsawg-pcapng, 3.1, and for the
--- known kinds the most that is read of them.
+-- Whether a block of that kind may have that total length (draft-ietf-opsawg-pcapng, 3.1); one of a known kind
+-- has at most as many bytes as are read.
 unfoldable pub is_total : ℕ → ℕ → Bool
 is_total kind total =
     (total % 4 == 0) && nat_le (least_total kind) total && (not (is_known kind) || nat_le total 524288)
 
--- what a section header's order magic reads as in the section's order. draft-ietf-opsawg-pcapng, 4.1.
+-- what a section header's order magic reads as in the section's order (draft-ietf-opsawg-pcapng, 4.1).
 abbrev pub order_magic : ℕ
 order_magic = 0x1A2B3C4D
 
@@ -59,7 +59,7 @@ pub record SpellsSection (order : Order) (body : List ℕ) : Type 0 where
   pub version : IsTrue (is_version (number order 2 (drop 4 body)) (number order 2 (drop 6 body)))
 
 -- The bytes spell a block of that kind with that body: the kind, the total length, the body, and the
--- total length again. draft-ietf-opsawg-pcapng, 3.1.
+-- total length again (draft-ietf-opsawg-pcapng, 3.1).
 pub record SpellsBlock (order : Order) (kind : ℕ) (body bytes : List ℕ) : Type 0 where
   pub size : length bytes ≡ 12 + length body
   pub kind_is : number order 4 bytes ≡ kind
@@ -79,13 +79,13 @@ abbrev pub section_body : Order → List ℕ
 section_body order =
     bytes_of order 4 order_magic ++ bytes_of order 2 1 ++ bytes_of order 2 0 ++ bytes_of order 8 0xFFFF_FFFF_FFFF_FFFF
 
--- an option, of which the value is padded by zeros. draft-ietf-opsawg-pcapng, 3.5.
+-- an option, of which the value is padded by zeros (draft-ietf-opsawg-pcapng, 3.5).
 abbrev pub option_bytes : Order → ℕ → List ℕ → List ℕ
 option_bytes order code value =
     bytes_of order 2 code ++ bytes_of order 2 (length value) ++ value ++ replicate (padded (length value) - length value) 0
 
 -- the options of an interface: its resolution, its offset where that isn't 0, in two's complement, and the
--- end. draft-ietf-opsawg-pcapng, 4.2.
+-- end (draft-ietf-opsawg-pcapng, 4.2).
 abbrev pub offset_option : Order → ℕ → List ℕ
 offset_option order seconds = if seconds == 0 then [] else option_bytes order 14 (bytes_of order 8 seconds)
 

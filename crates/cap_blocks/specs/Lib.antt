@@ -3,5 +3,5 @@ pub mod Laws
 pub mod OptionList
 pub mod Options
 pub mod Reader
-pub mod Sights
+pub mod Parsing
 pub mod Split

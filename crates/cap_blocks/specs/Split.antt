@@ -48,26 +48,26 @@ first_fault None bytes =
     if nat_lt (length bytes) 4 then Some Cut else
     if is_section bytes then None else Some Magic
 
--- What the first 12 bytes of a block are refused by, which begins at `offset`.
-unfoldable pub head_fault : Order → ℕ → List ℕ → Option Rule
-head_fault order offset bytes =
+-- What the fields of a block's header are refused by; the block begins at `offset`.
+unfoldable pub fields_fault : Order → ℕ → List ℕ → Option Rule
+fields_fault order offset bytes =
     if nat_lt (length bytes) 12 then Some Cut else
     if is_section bytes && not (is_ordered order bytes) then Some OrderMagic else
     if not (is_total (kind_at order bytes) (total_at order bytes)) then Some BlockLength else
     if nat_lt (2 ^ 40) (offset + total_at order bytes) then Some FileLimit else None
 
--- both
-abbrev pub front_fault : Option Order → ℕ → List ℕ → Option Rule
-front_fault section offset bytes = or_else (first_fault section bytes) (head_fault (order_at section bytes) offset bytes)
+-- What the header of a block is refused by: both of these.
+abbrev pub header_fault : Option Order → ℕ → List ℕ → Option Rule
+header_fault section offset bytes = or_else (first_fault section bytes) (fields_fault (order_at section bytes) offset bytes)
 
 -- whether a section header at the front has a version that isn't read
 abbrev pub has_other_version : Order → List ℕ → Bool
 has_other_version order bytes =
     (kind_at order bytes == section_kind) && not (is_version (number order 2 (drop 12 bytes)) (number order 2 (drop 14 bytes)))
 
--- what a block is refused by, the first 12 bytes of which aren't
-unfoldable pub rest_fault : Order → List ℕ → Option Rule
-rest_fault order bytes =
+-- what a block is refused by, the header of which isn't
+unfoldable pub body_fault : Order → List ℕ → Option Rule
+body_fault order bytes =
     if nat_lt (length bytes) (total_at order bytes) then Some Cut else
     if not (number order 4 (drop (total_at order bytes - 4) bytes) == total_at order bytes) then Some BlockTrailer else
     if has_other_version order bytes then Some Version else None
@@ -75,7 +75,7 @@ rest_fault order bytes =
 -- The first condition that some bytes, which begin at `offset`, meet in a block's place, if one does. The
 -- order is that of the section that is being read, if one is.
 unfoldable pub block_fault : Option Order → ℕ → List ℕ → Option Rule
-block_fault section offset bytes = or_else (front_fault section offset bytes) (rest_fault (order_at section bytes) bytes)
+block_fault section offset bytes = or_else (header_fault section offset bytes) (body_fault (order_at section bytes) bytes)
 
 -- the block at the front of some bytes that meet none of them, and its body
 unfoldable pub block_at : Option Order → ℕ → List ℕ → Block

@@ -1,4 +1,4 @@
-//! Blocks, and what ends them. draft-ietf-opsawg-pcapng, 3.1.
+//! Blocks, and what ends them (draft-ietf-opsawg-pcapng, 3.1).
 ghost use Rattle.std.specs.Prelude.{◌≡◌};
 ghost use Rattle.cap_blocks.specs.Grammar.{is_known, least_total, is_total, is_version};
 
@@ -21,7 +21,7 @@ pub const ORDER_MAGIC: u32 = 0x1A2B_3C4D;
 /// The most bytes that a block of a known kind may take.
 pub const BLOCK_LIMIT: u32 = 524_288;
 
-/// A block of a file. draft-ietf-opsawg-pcapng, 3.1.
+/// A block of a file (draft-ietf-opsawg-pcapng, 3.1).
 #[derive(Clone, Copy, Debug, PartialEq, Eq)]
 pub struct Block {
     /// The block's type.

@@ -2,18 +2,18 @@
 #![tactic(auto)]
 
 mod blocks;
-mod fronts;
+mod bodies;
+mod buffers;
+mod headers;
 pub mod laws;
 mod options;
 mod readers;
-mod rests;
-mod texts;
 mod writing;
 
 pub use crate::blocks::{
     Block, ENHANCED_PACKET, INTERFACE, OBSOLETE_PACKET, SECTION, SIMPLE_PACKET, is_known,
 };
-pub use crate::fronts::is_section;
+pub use crate::headers::is_section;
 pub use crate::options::Options;
 pub use crate::readers::BlockReader;
 pub use crate::writing::{put_interface, put_packet, put_section};

@@ -4,10 +4,9 @@ ghost use Rattle.cap_blocks.specs.OptionList.{padded};
 
 use cap_bytes::{Order, Rule, u16_at};
 
-/// The options of a list, in order: each its code and its value, without the padding to 4 bytes. The
-/// list ends with code 0, whatever its length and whatever follows, or with the bytes. Where a value
-/// runs past the end of the bytes, a last item is `Rule::OptionEnd`.
-/// draft-ietf-opsawg-pcapng, 3.5.
+/// The options of a list (draft-ietf-opsawg-pcapng, 3.5), in order: each its code and its value, without
+/// the padding to 4 bytes. The list ends with code 0, whatever its length and whatever follows, or with
+/// the bytes. If a value runs past the end of the bytes, a last item is `Rule::OptionEnd`.
 #[derive(Drop)]
 pub struct Options<'a> {
     order: Order,

@@ -3,11 +3,11 @@ ghost use Rattle.std.specs.Prelude.{◌≡◌, ◌↔◌, ◌≤◌, IsTrue, IsS
 ghost use Rattle.cap_bytes.specs.Reader.{opened, Keeps, HasWindow};
 ghost use Rattle.cap_blocks.specs.Reader.{GivesNext, TakesItem, size_of, shown_size};
 ghost use Rattle.cap_blocks.specs.Grammar.{is_known};
-ghost use Rattle.cap_blocks.specs.Sights.{LooksForBlock, Stays};
+ghost use Rattle.cap_blocks.specs.Parsing.{LooksForBlock, Stays};
 
 use crate::blocks::{Block, is_known};
-use crate::fronts::{FRAME_SIZE, look_at_front};
-use crate::rests::look_at_rest;
+use crate::bodies::look_at_body;
+use crate::headers::{FRAME_SIZE, look_at_header};
 use cap_bytes::{Fault, Order, Refusal, Source, Stop, Tail, Window};
 use std::marker::Model;
 
@@ -50,12 +50,12 @@ fn look_for_block<R: Source>(
     ensures stays { Stays window.old window.new }
 {
     let file = window.file();
-    let block = match look_at_front(window, section, tail)? {
+    let block = match look_at_header(window, section, tail)? {
         Ok(block) => block,
         Err(stop) => return Ok(Err(stop)),
     };
     let offset = block.offset;
-    match look_at_rest(window, block)? {
+    match look_at_body(window, block)? {
         None => Ok(Ok(block)),
         Some(rule) => Ok(Err(Stop::by(section.is_some(), tail, Refusal { file, offset, rule }))),
     }

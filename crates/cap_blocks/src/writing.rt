@@ -6,11 +6,11 @@ ghost use Rattle.cap_blocks.specs.Grammar.{section_bytes, interface_bytes, inter
 ghost use Rattle.cap_blocks.specs.OptionList.{padded};
 
 use crate::blocks::{ENHANCED_PACKET, INTERFACE, ORDER_MAGIC, SECTION};
-use crate::texts::Text;
+use crate::buffers::BlockBuffer;
 use cap_bytes::{Fault, Order, Sink, put_all};
 use cap_time::Interface;
 
-// The codes of options that are written. draft-ietf-opsawg-pcapng, 3.5 and 4.2.
+// The codes of options that are written (draft-ietf-opsawg-pcapng, 3.5 and 4.2).
 const RESOLUTION_OPTION: u16 = 9;
 
 const OFFSET_OPTION: u16 = 14;
@@ -30,18 +30,18 @@ pub fn put_section<W: Sink>(writer: &mut W, order: Order) -> Result<(), Fault>
 }
 
 // A section header.
-fn section_header(order: Order) -> Text
+fn section_header(order: Order) -> BlockBuffer
     ensures { result ≡ section_bytes order }
 {
-    let mut text = Text::new();
-    text.word(order, SECTION);
-    text.word(order, 28);
-    text.word(order, ORDER_MAGIC);
-    text.short(order, 1);
-    text.short(order, 0);
-    text.long(order, u64::MAX);
-    text.word(order, 28);
-    text
+    let mut buffer = BlockBuffer::new();
+    buffer.add_u32(order, SECTION);
+    buffer.add_u32(order, 28);
+    buffer.add_u32(order, ORDER_MAGIC);
+    buffer.add_u16(order, 1);
+    buffer.add_u16(order, 0);
+    buffer.add_u64(order, u64::MAX);
+    buffer.add_u32(order, 28);
+    buffer
 }
 
 /// Writes an interface block (draft-ietf-opsawg-pcapng, 4.2) with the resolution as the option
@@ -62,25 +62,25 @@ pub fn put_interface<W: Sink>(
 }
 
 // An interface block.
-fn interface_block(order: Order, interface: &Interface) -> Text
+fn interface_block(order: Order, interface: &Interface) -> BlockBuffer
     ensures { result ≡ interface_bytes order interface.now }
 {
     let seconds = seconds_of(interface);
     let total = total_of(seconds);
-    let mut text = Text::new();
-    text.word(order, INTERFACE);
-    text.word(order, total);
-    text.short(order, interface.link);
-    text.short(order, 0);
-    text.word(order, interface.snaplen);
-    text.short(order, RESOLUTION_OPTION);
-    text.short(order, 1);
-    text.add(&[interface.resolution.code(), 0, 0, 0]);
-    add_offset(&mut text, order, seconds);
-    text.short(order, END_OPTION);
-    text.short(order, 0);
-    text.word(order, total);
-    text
+    let mut buffer = BlockBuffer::new();
+    buffer.add_u32(order, INTERFACE);
+    buffer.add_u32(order, total);
+    buffer.add_u16(order, interface.link);
+    buffer.add_u16(order, 0);
+    buffer.add_u32(order, interface.snaplen);
+    buffer.add_u16(order, RESOLUTION_OPTION);
+    buffer.add_u16(order, 1);
+    buffer.add(&[interface.resolution.code(), 0, 0, 0]);
+    add_offset(&mut buffer, order, seconds);
+    buffer.add_u16(order, END_OPTION);
+    buffer.add_u16(order, 0);
+    buffer.add_u32(order, total);
+    buffer
 }
 
 // An interface's offset in two's complement.
@@ -97,16 +97,16 @@ fn total_of(seconds: u64) -> u32
     if seconds == 0 { 32 } else { 44 }
 }
 
-// Puts an interface's offset after a text, where it isn't 0.
-fn add_offset(text: &mut Text, order: Order, seconds: u64)
-    requires { length text.old + 12 ≤ 44 }
-    ensures text { text.new ≡ text.old ++ offset_option order seconds }
-    ensures size { length text.new ≡ length text.old + length (offset_option order seconds) }
+// Puts an interface's offset into a buffer, where it isn't 0.
+fn add_offset(buffer: &mut BlockBuffer, order: Order, seconds: u64)
+    requires { length buffer.old + 12 ≤ 44 }
+    ensures bytes { buffer.new ≡ buffer.old ++ offset_option order seconds }
+    ensures size { length buffer.new ≡ length buffer.old + length (offset_option order seconds) }
 {
     if seconds != 0 {
-        text.short(order, OFFSET_OPTION);
-        text.short(order, 8);
-        text.long(order, seconds);
+        buffer.add_u16(order, OFFSET_OPTION);
+        buffer.add_u16(order, 8);
+        buffer.add_u64(order, seconds);
     }
 }
 
@@ -138,32 +138,38 @@ pub fn put_packet<W: Sink>(
 }
 
 // What stands in front of the captured bytes.
-fn packet_head(order: Order, interface: u32, units: u64, captured: u32, original: u32) -> Text
+fn packet_head(
+    order: Order,
+    interface: u32,
+    units: u64,
+    captured: u32,
+    original: u32,
+) -> BlockBuffer
     requires { captured ≤ 262144 }
     ensures { result ≡ packet_head order interface units captured original }
 {
-    let mut text = Text::new();
-    text.word(order, ENHANCED_PACKET);
-    text.word(order, 32 + padded(captured));
-    text.word(order, interface);
-    text.word(order, (units >> 32) as u32);
-    text.word(order, (units % 0x1_0000_0000) as u32);
-    text.word(order, captured);
-    text.word(order, original);
-    text
+    let mut buffer = BlockBuffer::new();
+    buffer.add_u32(order, ENHANCED_PACKET);
+    buffer.add_u32(order, 32 + padded(captured));
+    buffer.add_u32(order, interface);
+    buffer.add_u32(order, (units >> 32) as u32);
+    buffer.add_u32(order, (units % 0x1_0000_0000) as u32);
+    buffer.add_u32(order, captured);
+    buffer.add_u32(order, original);
+    buffer
 }
 
 // What comes after them.
-fn packet_tail(order: Order, captured: u32) -> Text
+fn packet_tail(order: Order, captured: u32) -> BlockBuffer
     requires { captured ≤ 262144 }
     ensures { result ≡ packet_tail order captured }
 {
     let size = padded(captured);
     let zeros = [0u8; 3];
-    let mut text = Text::new();
-    text.add(zeros.split_at((size - captured) as usize).0);
-    text.word(order, 32 + size);
-    text
+    let mut buffer = BlockBuffer::new();
+    buffer.add(zeros.split_at((size - captured) as usize).0);
+    buffer.add_u32(order, 32 + size);
+    buffer
 }
 
 // A length with the padding to a multiple of 4.

@@ -3,5 +3,5 @@ pub mod Lists
 pub mod Putting
 pub mod Readers
 pub mod Reading
-pub mod Sights
+pub mod Parsing
 pub mod Spelling

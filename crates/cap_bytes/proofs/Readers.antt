@@ -2,7 +2,7 @@
 use Rattle.std.proofs.Common.{◌≡◌, ℕ, ◌+◌, ◌≤◌, List, [], ◌∷◌, length, drop, Option, Some, None, Bool, IsTrue, Result, Ok, Err, refl, sym, ◌∙◌, ap, subst, add-zero}
 use Rattle.cap_bytes.specs.Items.{stop_where, answer_of, Item, stopped, items_by_stop, TakesItem}
 use Rattle.cap_bytes.specs.Reader.{State, Keeps, Goes, Waits, Gives, Stops, GivesStop, GivesNext, state_of}
-use Rattle.cap_bytes.specs.Sights.{SeesStop}
+use Rattle.cap_bytes.specs.Parsing.{SeesStop}
 use Rattle.cap_bytes.specs.Window.{State as WindowState, Passes, coming}
 use Rattle.cap_bytes.specs.Window as windows
 use Rattle.cap_bytes.specs.declared.faults.Fault.{Fault}
@@ -11,7 +11,7 @@ use Rattle.cap_bytes.specs.declared.faults.Rule.{Rule}
 use Rattle.cap_bytes.specs.declared.faults.Tail.{Tail}
 use Rattle.cap_bytes.specs.declared.stops.Stop.{Stop}
 use Rattle.cap_bytes.specs.declared.stops.Stop.TheVariants as stops
-use Rattle.cap_bytes.proofs.Sights.{coming-passed, if_none, from_none, if_some, from_some}
+use Rattle.cap_bytes.proofs.Parsing.{coming-passed, if_none, from_none, if_some, from_some}
 
 -- A window stands where a reader does, of which nothing has ended the pieces.
 pub record Stands {K : Type 0} (old : State K) (u : WindowState) : Type 0 where

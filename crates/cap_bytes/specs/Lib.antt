@@ -6,6 +6,6 @@ pub mod Number
 pub mod Printing
 pub mod Reader
 pub mod Rules
-pub mod Sights
+pub mod Parsing
 pub mod Tracked
 pub mod Window

@@ -13,7 +13,7 @@ ports_of captured = Ports (number Big 2 captured) (number Big 2 (drop 2 captured
 unfoldable pub udp_length : List ℕ → ℕ
 udp_length captured = number Big 2 (drop 4 captured)
 
--- RFC 768: a header of 8 bytes, whose length is that of header and data
+-- UDP (RFC 768): a header of 8 bytes, whose length is that of header and data
 unfoldable pub udp_of : List ℕ → ℕ → Transport
 udp_of captured size =
     if nat_lt size 8 then Bad
@@ -25,7 +25,7 @@ udp_of captured size =
 unfoldable pub tcp_header_length : List ℕ → ℕ
 tcp_header_length captured = 4 * (slice_index captured 12 / 16)
 
--- RFC 9293, 3.1: a header of at least 20 bytes, that ends within the data
+-- TCP (RFC 9293, 3.1): a header of at least 20 bytes, which ends within the data
 unfoldable pub tcp_of : List ℕ → ℕ → Transport
 tcp_of captured size =
     if nat_lt size 20 then Bad

@@ -10,7 +10,7 @@ use Rattle.cap_merge.specs.Files.{items_of_files, run_of_lists, run_of_files}
 use Rattle.cap_source.specs.Feed.{Item, packet, refused}
 use Rattle.cap_source.specs.Items.{file_items}
 use Rattle.cap_write.specs.Laws.{MergeLaw, instances, numbers}
-use Rattle.cap_write.specs.Numbering.{Name, numbered, refusal_in, with_name}
+use Rattle.cap_write.specs.Numbering.{Origin, numbered, refusal_in, with_origin}
 use Rattle.cap_write.specs.Rounds.{FileRoundsLaw, IsItemOf, IsMergeOf, numbered_files, run_of}
 use Rattle.cap_write.specs.Texts.{packets_bytes}
 use Rattle.cap_laws.proofs.FileNumbers.{file-numbered}
@@ -44,12 +44,12 @@ tails : (a b : ℕ) (xs ys : List ℕ) → a ∷ xs ≡ b ∷ ys → (a ≡ b) �
 tails a b xs ys e = (cc, cc)
 
 -- where each packet is written, and its instance is its number, the items are those of what is written
-items-are : (names : List Name) (items : List Item) → refusal_in names items ≡ None → instances items ≡ numbers (numbered names items)
-    → AllZip IsItemOf (numbered names items) items
+items-are : (origins : List Origin) (items : List Item) → refusal_in origins items ≡ None → instances items ≡ numbers (numbered origins items)
+    → AllZip IsItemOf (numbered origins items) items
 unfolding numbered instances
-items-are names [] none same = tt
-items-are names (refused r ∷ items) none same = absurd (some-none r (sym (refuses names r items) ∙ none))
-items-are names (packet meta frame ∷ items) none same = grind (arith, items-are (with_name names meta) items, goes, tails, instances, numbers)
+items-are origins [] none same = tt
+items-are origins (refused r ∷ items) none same = absurd (some-none r (sym (refuses origins r items) ∙ none))
+items-are origins (packet meta frame ∷ items) none same = grind (arith, items-are (with_origin origins meta) items, goes, tails, instances, numbers)
 
 -- ---- groups
 

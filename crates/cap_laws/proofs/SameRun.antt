@@ -11,7 +11,7 @@ use Rattle.cap_merge.specs.Parts.{item_time, is_refusal}
 use Rattle.cap_merge.specs.Run.{Clocked, opened, run}
 use Rattle.cap_source.specs.Feed.{Item}
 use Rattle.cap_time.specs.declared.stamps.Stamp.{Stamp}
-use Rattle.cap_write.specs.Numbering.{Name, numbered, refusal_in}
+use Rattle.cap_write.specs.Numbering.{Origin, numbered, refusal_in}
 use Rattle.cap_laws.proofs.Alike.{AlikeItems, RunsAlike, same-report}
 use Rattle.cap_laws.proofs.Twins.{TwinItems, twins}
 use Rattle.cap_laws.specs.Reports.{SameReport}
@@ -42,24 +42,24 @@ runs-alike t u (a ∷ as_) [] e h k w = absurd w
 runs-alike t u (a ∷ as_) (b ∷ bs) e h k w = search (runs-alike (later t (item_time a.item)) (later u (item_time b.item)) as_ bs, later_equal, twin_times, told_twice, alike-twins)
 
 -- Of the runs of two lists of files the same packets are written, after those interfaces, and none is refused.
-pub record IsRewritten (names others : List Name) (files again : List (List Item)) : Type 0 where
-  pub accepted : refusal_in names (run_of_lists files) ≡ None
+pub record IsRewritten (origins others : List Origin) (files again : List (List Item)) : Type 0 where
+  pub accepted : refusal_in origins (run_of_lists files) ≡ None
   pub accepted_again : refusal_in others (run_of_lists again) ≡ None
-  pub packets : numbered others (run_of_lists again) ≡ numbered names (run_of_lists files)
+  pub packets : numbered others (run_of_lists again) ≡ numbered origins (run_of_lists files)
 
-back_again : (names others : List Name) (files again : List (List Item)) → IsRewritten names others files again → IsRewritten others names again files
-back_again names others files again is = record { accepted = is.accepted_again; accepted_again = is.accepted; packets = sym is.packets }
+back_again : (origins others : List Origin) (files again : List (List Item)) → IsRewritten origins others files again → IsRewritten others origins again files
+back_again origins others files again is = record { accepted = is.accepted_again; accepted_again = is.accepted; packets = sym is.packets }
 
 -- Such runs are alike,
-pub rewritten-alike : (names others : List Name) (files again : List (List Item)) → IsRewritten names others files again
+pub rewritten-alike : (origins others : List Origin) (files again : List (List Item)) → IsRewritten origins others files again
     → RunsAlike (run item_time is_refusal (map opened files)) (run item_time is_refusal (map opened again))
-rewritten-alike names others files again is =
+rewritten-alike origins others files again is =
     let run_now = run item_time is_refusal (map opened files) in
     let run_again = run item_time is_refusal (map opened again) in
     runs-alike None None run_now run_again refl (run-clocks item_time is_refusal files) (run-clocks item_time is_refusal again)
-    (twins names others (run_of_lists files) (run_of_lists again) is.accepted is.accepted_again (sym is.packets))
+    (twins origins others (run_of_lists files) (run_of_lists again) is.accepted is.accepted_again (sym is.packets))
 
 -- and have the same report.
-pub same-run : (names others : List Name) (files again : List (List Item)) → IsRewritten names others files again
+pub same-run : (origins others : List Origin) (files again : List (List Item)) → IsRewritten origins others files again
     → SameReport (run item_time is_refusal (map opened files)) (run item_time is_refusal (map opened again))
-same-run names others files again is = search (same-report, rewritten-alike, back_again)
+same-run origins others files again is = search (same-report, rewritten-alike, back_again)

@@ -11,8 +11,8 @@ use Rattle.cap_source.specs.Feed.{Item, packet, refused, refusal_of}
 use Rattle.cap_source.specs.Items.{file_first, file_items}
 use Rattle.cap_time.specs.declared.stamps.Stamp.{Stamp}
 use Rattle.cap_write.specs.Laws.{MergeLaw, PcapngAgain}
-use Rattle.cap_write.specs.Numbering.{Name, refusal_in, with_name}
-use Rattle.cap_write.specs.Texts.{first_names, merged_refusal, merged_bytes, pcapng_refusal, pcapng_bytes}
+use Rattle.cap_write.specs.Numbering.{Origin, refusal_in, with_origin}
+use Rattle.cap_write.specs.Texts.{first_origins, merged_refusal, merged_bytes, pcapng_refusal, pcapng_bytes}
 use Rattle.cap_laws.proofs.OneFile.{run-one}
 use Rattle.cap_laws.proofs.Alike.{AlikeItems, RunsAlike}
 use Rattle.cap_laws.proofs.SameRun.{IsRewritten, rewritten-alike, same-run}
@@ -43,11 +43,11 @@ some-none : (r : Refusal) → Some r ≡ None → ⊥
 some-none r e = cc
 
 -- where each packet is written, the file isn't refused
-unrefused : (names : List Name) (items : List Item) → refusal_in names items ≡ None → refusal_of items ≡ None
+unrefused : (origins : List Origin) (items : List Item) → refusal_in origins items ≡ None → refusal_of items ≡ None
 unfolding refusal_in refusal_of
-unrefused names [] none = refl
-unrefused names (refused r ∷ items) none = none
-unrefused names (packet meta frame ∷ items) none = grind (arith, unrefused (with_name names meta) items)
+unrefused origins [] none = refl
+unrefused origins (refused r ∷ items) none = none
+unrefused origins (packet meta frame ∷ items) none = grind (arith, unrefused (with_origin origins meta) items)
 
 pcapng_items : (order : Order) (tail tail_again : Tail) (bytes : List ℕ) → List Item
 pcapng_items order tail tail_again bytes = file_items tail_again 1 (pcapng_bytes order 1 (file_first tail 1 bytes) (file_items tail 1 bytes))
@@ -55,7 +55,7 @@ pcapng_items order tail tail_again bytes = file_items tail_again 1 (pcapng_bytes
 pcapng-rewritten : PcapngAgain → (order : Order) (tail tail_again : Tail) (bytes : List ℕ) → AreBytes bytes
     → pcapng_refusal 1 (file_first tail 1 bytes) (file_items tail 1 bytes) ≡ None
     → length (pcapng_bytes order 1 (file_first tail 1 bytes) (file_items tail 1 bytes)) ≤ 2 ^ 40
-    → IsRewritten (first_names 1 (file_first tail 1 bytes)) (first_names 1 (file_first tail 1 bytes)) (file_items tail 1 bytes ∷ [])
+    → IsRewritten (first_origins 1 (file_first tail 1 bytes)) (first_origins 1 (file_first tail 1 bytes)) (file_items tail 1 bytes ∷ [])
     (pcapng_items order tail tail_again bytes ∷ [])
 unfolding pcapng_items
 pcapng-rewritten again-law order tail tail_again bytes are none short = grind (arith, run-one, unrefused)
@@ -63,8 +63,8 @@ pcapng-rewritten again-law order tail tail_again bytes are none short = grind (a
 pub pcapng-report : PcapngAgain → PcapngReport
 unfolding pcapng_items
 pcapng-report again-law order tail tail_again bytes are none short =
-    let names = first_names 1 (file_first tail 1 bytes) in
-    same-run names names (file_items tail 1 bytes ∷ []) (pcapng_items order tail tail_again bytes ∷ [])
+    let origins = first_origins 1 (file_first tail 1 bytes) in
+    same-run origins origins (file_items tail 1 bytes ∷ []) (pcapng_items order tail tail_again bytes ∷ [])
     (pcapng-rewritten again-law order tail tail_again bytes are none short)
 
 -- ---- runs
@@ -79,10 +79,10 @@ same-runs (x ∷ xs) [] h = absurd h
 same-runs (x ∷ xs) (y ∷ ys) h = (same-items x.clock y.clock x.item y.item h.0, same-runs xs ys h.1)
 
 -- the run of files of some bytes, and that of a file of which the same packets are written
-run-again : (tail tail_again : Tail) (names others : List Name) (files : List (List ℕ)) (text : List ℕ)
-    → IsRewritten names others (items_of_files tail 1 files) (file_items tail_again 1 text ∷ [])
+run-again : (tail tail_again : Tail) (origins others : List Origin) (files : List (List ℕ)) (text : List ℕ)
+    → IsRewritten origins others (items_of_files tail 1 files) (file_items tail_again 1 text ∷ [])
     → SameRun (clocked_run tail files) (clocked_run tail_again (text ∷ []))
-run-again tail tail_again names others files text is = search (same-runs, rewritten-alike)
+run-again tail tail_again origins others files text is = search (same-runs, rewritten-alike)
 
 pub merged-run : MergeLaw → MergedRun
 unfolding merged_items
@@ -94,6 +94,6 @@ pub pcapng-run : PcapngAgain → PcapngRun
 unfolding pcapng_items
 pcapng-run again-law order tail tail_again bytes are none short =
     let first = file_first tail 1 bytes in
-    let names = first_names 1 first in
-    run-again tail tail_again names names (bytes ∷ []) (pcapng_bytes order 1 first (file_items tail 1 bytes))
+    let origins = first_origins 1 first in
+    run-again tail tail_again origins origins (bytes ∷ []) (pcapng_bytes order 1 first (file_items tail 1 bytes))
     (pcapng-rewritten again-law order tail tail_again bytes are none short)

@@ -2,15 +2,15 @@
 use Rattle.std.proofs.Common.{◌≡◌, ℕ, ◌+◌, ◌≤◌, ◌<◌, ◌^◌, [], length, Some, None, Bool, true, false, IsTrue, Ok, Err, refl, sym, ◌∙◌, ap, arith}
 use Rattle.std.proofs.lemmas.List.{nil_from_length}
 use Rattle.cap_bytes.specs.Items.{stop_by}
-use Rattle.cap_bytes.specs.Sights.{SeesStop, FailsBy}
+use Rattle.cap_bytes.specs.Parsing.{SeesStop, FailsBy}
 use Rattle.cap_bytes.specs.Window.{State, Shows, Needs, Keeps, coming}
 use Rattle.cap_bytes.specs.declared.faults.Fault.{Fault}
 use Rattle.cap_bytes.specs.declared.faults.Rule.{Rule}
 use Rattle.cap_bytes.specs.declared.faults.Rule.TheVariants.{Cut}
 use Rattle.cap_bytes.specs.declared.faults.Tail.{Tail}
 use Rattle.cap_bytes.specs.declared.stops.Stop.TheVariants as stops
-use Rattle.cap_bytes.proofs.Sights.{all_shown, longer_shown, Shows-trans, FailsBy-need, FailsBy-later, some_left, SeesStop-fault, SeesStop-end}
-use Rattle.cap_pcap.specs.Sights.{SeesHeader, SeesRecord}
+use Rattle.cap_bytes.proofs.Parsing.{all_shown, longer_shown, Shows-trans, FailsBy-need, FailsBy-later, some_left, SeesStop-fault, SeesStop-end}
+use Rattle.cap_pcap.specs.Parsing.{SeesHeader, SeesRecord}
 use Rattle.cap_pcap.specs.Split.{header_fault, header_at, captured_at, record_fault, record_at, stop_at}
 use Rattle.cap_pcap.specs.declared.headers.PcapHeader.{PcapHeader}
 use Rattle.cap_pcap.proofs.Faults.{Fits, FitsHeader-from_none, Fits-append, captured_at-append, captured_at-front, header_fault-append, header_at-append, record_fault-append, record_fault-cut, stop_at-fits}

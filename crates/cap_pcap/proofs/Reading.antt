@@ -11,9 +11,9 @@ use Rattle.cap_bytes.specs.declared.stops.Stop.{Stop}
 use Rattle.cap_bytes.specs.declared.stops.Stop.TheVariants as stops
 use Rattle.cap_bytes.proofs.Readers.{Stands, Stands-here, Gives-seen, GivesStop-seen, waits_kept, stop_kept}
 use Rattle.cap_bytes.proofs.Readers as readers
-use Rattle.cap_bytes.proofs.Sights.{coming-passed, from_none, from_some}
+use Rattle.cap_bytes.proofs.Parsing.{coming-passed, from_none, from_some}
 use Rattle.cap_pcap.specs.Reader.{ReadsHeader, HasHeader, GivesHeader, packet_of, GivesRecord, GivesNext, KeepsItems, TakesItem, items_at, items_of, state_of, IsInOrder, MayGoOn}
-use Rattle.cap_pcap.specs.Sights.{SeesHeader}
+use Rattle.cap_pcap.specs.Parsing.{SeesHeader}
 use Rattle.cap_pcap.specs.Split.{header_fault, header_at, record_fault, stop_at, record_at, frame_at, file_items}
 use Rattle.cap_pcap.specs.declared.headers.PcapHeader.{PcapHeader}
 use Rattle.cap_pcap.specs.declared.records.Record.{Record}

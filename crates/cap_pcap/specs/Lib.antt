@@ -1,5 +1,5 @@
 pub mod Grammar
 pub mod Laws
 pub mod Reader
-pub mod Sights
+pub mod Parsing
 pub mod Split

@@ -3,7 +3,7 @@ ghost use Rattle.std.specs.Prelude.{◌≡◌, true, false, ◌≤◌, ◌^◌, 
 ghost use Rattle.cap_bytes.specs.Device.{Puts, WriterKeeps, writer_of};
 ghost use Rattle.cap_bytes.specs.Window.{Keeps};
 ghost use Rattle.cap_pcap.specs.Grammar.{magic_of, header_bytes};
-ghost use Rattle.cap_pcap.specs.Sights.{HasMagic, ParsesHeader, LooksForHeader};
+ghost use Rattle.cap_pcap.specs.Parsing.{HasMagic, ParsesHeader, LooksForHeader};
 ghost use Rattle.cap_pcap.specs.Split.{is_magic, unit_at};
 
 use cap_bytes::{

@@ -3,7 +3,7 @@ ghost use Rattle.std.specs.Prelude.{◌≡◌, ◌+◌, ◌≤◌, ◌^◌, leng
 ghost use Rattle.cap_bytes.specs.Device.{Puts, WriterKeeps, writer_of};
 ghost use Rattle.cap_bytes.specs.Window.{Keeps};
 ghost use Rattle.cap_pcap.specs.Grammar.{head_bytes, record_bytes};
-ghost use Rattle.cap_pcap.specs.Sights.{Measures, LooksForRecord};
+ghost use Rattle.cap_pcap.specs.Parsing.{Measures, LooksForRecord};
 ghost use Rattle.cap_pcap.specs.Split.{record_at};
 
 use crate::headers::PcapHeader;

@@ -16,18 +16,18 @@ use Rattle.cap_join.specs.declared.datagrams.Put.TheVariants as puts
 use Rattle.cap_join.specs.Joiners as joiners
 use Rattle.cap_join.specs.declared.datagrams.Datagram.{Datagram}
 use Rattle.cap_join.specs.declared.datagrams.Stamped.{Stamped}
-use Rattle.cap_talks.specs.Rows.{TalksState, frames_in, bytes_in, is_refused, talk_limit}
-use Rattle.cap_talks.specs.Rows as talks
+use Rattle.cap_talks.specs.Talks.Rows.{TalksState, frames_in, bytes_in, is_refused, talk_limit}
+use Rattle.cap_talks.specs.Talks.Rows as talks
 use Rattle.cap_talks.specs.Talks.{frames_of, bytes_of, key_of, rows_of}
-use Rattle.cap_talks.specs.Units.{ends_of, timed_frame}
-use Rattle.cap_talks.specs.declared.units.CountedUnit.{CountedUnit}
-use Rattle.cap_talks.specs.declared.units.TimedFrame.{TimedFrame}
-use Rattle.cap_talks.proofs.RowSums.{frames_in-more}
+use Rattle.cap_talks.specs.Talks.Units.{ends_of, timed_frame}
+use Rattle.cap_talks.specs.declared.talks.units.CountedUnit.{CountedUnit}
+use Rattle.cap_talks.specs.declared.talks.units.TimedFrame.{TimedFrame}
+use Rattle.cap_talks.proofs.TalkLemmas.RowSums.{frames_in-more}
 use Rattle.cap_time.specs.declared.stamps.Stamp.{Stamp}
 use Rattle.cap_talks.proofs.Frames.{frames-counted}
 use Rattle.cap_talks.proofs.Steps.{one-class}
 use Rattle.cap_talks.proofs.Tallying.{unit-waiting, enough-waiting, Stands-joined, state, unit-is, Stands-plain, Stands-datagram, Stands-kept, Stands-waiting}
-use Rattle.cap_talks.specs.Adding.{datagram_unit, datagram_class, is_over}
+use Rattle.cap_talks.specs.Talks.Adding.{datagram_unit, datagram_class, is_over}
 use Rattle.cap_join.specs.Completed.{if_complete, completed_of}
 use Rattle.cap_talks.specs.Classes.{group_class, is_class, class_of, classes, counts_of, sum_of, times}
 use Rattle.cap_talks.specs.Taken.{Taken, Look, plain, datagram, fragment, look, stamped_of, events_with, events_of}

@@ -13,9 +13,9 @@ use Rattle.cap_join.specs.History.{joined_pieces, state_of}
 use Rattle.cap_join.specs.Joiners.{open_limit}
 use Rattle.cap_join.specs.declared.datagrams.Stamped.{Stamped}
 use Rattle.cap_talks.specs.Talks.{frames_of}
-use Rattle.cap_talks.specs.Units.{ends_of, timed_frame}
-use Rattle.cap_talks.specs.declared.units.CountedUnit.{CountedUnit}
-use Rattle.cap_talks.specs.declared.units.TimedFrame.{TimedFrame}
+use Rattle.cap_talks.specs.Talks.Units.{ends_of, timed_frame}
+use Rattle.cap_talks.specs.declared.talks.units.CountedUnit.{CountedUnit}
+use Rattle.cap_talks.specs.declared.talks.units.TimedFrame.{TimedFrame}
 use Rattle.cap_talks.proofs.Recount.{some_of}
 use Rattle.cap_talks.proofs.Steps.{classes-plain, classes-datagram, classes-kept, classes-completed}
 use Rattle.cap_talks.specs.Classes.{class_of, classes, group_class, joined_transport, times}

@@ -1,15 +1,6 @@
-pub mod Times
-pub mod Counting
-pub mod Printing
-pub mod FileByFile
+pub mod FileLemmas
+pub mod TalkLemmas
 pub mod Chosen
-pub mod FrameOrder
-pub mod Talking
-pub mod RowSums
-pub mod KeyLaws
-pub mod FrameLaws
-pub mod SumLaws
-pub mod TalkPrinting
 pub mod Recount
 pub mod Steps
 pub mod Frames
@@ -20,9 +11,7 @@ pub mod Stepping
 pub mod Reporting
 pub mod Lone
 pub mod Room
-pub mod Totaling
 pub mod Waiting
 pub mod Written
-pub mod FileLines
 pub mod TableTexts
 pub mod Headline

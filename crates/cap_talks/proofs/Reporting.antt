@@ -9,7 +9,7 @@ use Rattle.cap_source.specs.Walk.{Walks}
 use Rattle.cap_merge.specs.Parts.{feed_of, run_of}
 use Rattle.cap_merge.specs.Run.{Clocked}
 use Rattle.cap_source.specs.Feed.{Item, packet, refused}
-use Rattle.cap_talks.specs.FileText.{or_else}
+use Rattle.cap_talks.specs.Files.Lines.{or_else}
 use Rattle.cap_time.specs.declared.stamps.Stamp.{Stamp}
 use Rattle.cap_talks.specs.ReportText.{refusal_at, taken_after, refusal_after}
 use Rattle.cap_talks.specs.Reporting.{TookAll, TakesAll}

@@ -17,7 +17,7 @@ use Rattle.cap_source.specs.declared.packets.Meta.{Meta}
 use Rattle.cap_time.specs.declared.stamps.Stamp.{Stamp}
 use Rattle.cap_talks.specs.Stepping.{next_by, next_taken, clocked, TableState, TableStands, SameRun, Steps, AnswersAgain}
 use Rattle.cap_talks.specs.Taken.{Taken}
-use Rattle.cap_talks.specs.Totals.{TotalsState}
+use Rattle.cap_talks.specs.Files.Totals.{TotalsState}
 use Rattle.cap_talks.specs.declared.tables.Step.{Step}
 use Rattle.cap_talks.specs.declared.tables.Step.TheVariants as steps
 use Rattle.cap_talks.specs.Tallies.{TallyState, WaitsFor, Joins, Stands}

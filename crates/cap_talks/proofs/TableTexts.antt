@@ -4,16 +4,16 @@ use Rattle.std.specs.List.{flat_map, range_with_len}
 use Rattle.cap_source.specs.declared.feeds.Ending.{Ending}
 use Rattle.cap_talks.specs.Classes.{classes, counts_of}
 use Rattle.cap_talks.specs.CountedUnits.{units_of, joined_in, given_up_in}
-use Rattle.cap_talks.specs.FileText.{files_text, lines_from}
+use Rattle.cap_talks.specs.Files.Lines.{files_text, lines_from}
 use Rattle.cap_talks.specs.ReportText.{file_line, files_part, body_text, text_of, total_text, frames_text, joined_text, bytes_of, truncated_of}
-use Rattle.cap_talks.specs.Rows.{StandsFor}
+use Rattle.cap_talks.specs.Talks.Rows.{StandsFor}
 use Rattle.cap_talks.specs.Stepping.{TableState, TableStands}
 use Rattle.cap_talks.specs.Taken.{Taken}
 use Rattle.cap_talks.specs.Talks.{rows_of}
-use Rattle.cap_talks.specs.TalkText.{talk_texts, talks_text}
+use Rattle.cap_talks.specs.Talks.Lines.{talk_texts, talks_text}
 use Rattle.cap_talks.specs.Tallies.{TallyState, Stands, tally_text}
-use Rattle.cap_talks.specs.Totals.{TotalsState, TotalsStand}
-use Rattle.cap_talks.proofs.FileLines.{lines-counted}
+use Rattle.cap_talks.specs.Files.Totals.{TotalsState, TotalsStand}
+use Rattle.cap_talks.proofs.FileLemmas.TableLines.{lines-counted}
 use Rattle.cap_talks.proofs.Waiting.{given-up}
 
 -- the lines of the files

@@ -15,14 +15,14 @@ use Rattle.cap_join.specs.Joiners.{JoinerState, open_limit}
 use Rattle.cap_join.specs.Joiners as joiners
 use Rattle.cap_join.specs.declared.datagrams.Datagram.{Datagram}
 use Rattle.cap_join.specs.declared.datagrams.Stamped.{Stamped}
-use Rattle.cap_talks.specs.Rows.{TalksState, is_refused, talk_limit}
-use Rattle.cap_talks.specs.Rows as talks
+use Rattle.cap_talks.specs.Talks.Rows.{TalksState, is_refused, talk_limit}
+use Rattle.cap_talks.specs.Talks.Rows as talks
 use Rattle.cap_talks.specs.Talks.{key_of, rows_of}
-use Rattle.cap_talks.specs.Units.{ends_of, timed_frame}
-use Rattle.cap_talks.specs.declared.units.CountedUnit.{CountedUnit}
+use Rattle.cap_talks.specs.Talks.Units.{ends_of, timed_frame}
+use Rattle.cap_talks.specs.declared.talks.units.CountedUnit.{CountedUnit}
 use Rattle.cap_talks.proofs.Recount.{some_of}
 use Rattle.cap_talks.proofs.Steps.{classes-plain, classes-datagram, classes-kept, classes-completed}
-use Rattle.cap_talks.specs.Adding.{datagram_unit, datagram_class, is_over}
+use Rattle.cap_talks.specs.Talks.Adding.{datagram_unit, datagram_class, is_over}
 use Rattle.cap_talks.specs.Classes.{class_of, classes, counts_of, group_class, groups_of, is_class, joined_transport, times}
 use Rattle.cap_join.specs.Completed.{if_complete, completed_of}
 use Rattle.cap_talks.specs.Taken.{Taken, Look, plain, datagram, fragment, look, stamped_of, events_with, events_of}

@@ -8,6 +8,7 @@ use Rattle.cap_time.specs.declared.stamps.Stamp.{Stamp}
 use Rattle.cap_talks.specs.Taken.{Taken, Look, plain, datagram, fragment}
 use Rattle.cap_talks.specs.declared.looks.Seen.{Seen}
 use Rattle.cap_talks.specs.declared.looks.Seen.TheVariants as seen
+use Rattle.cap_talks.specs.declared.run_packets.RunPacket.{RunPacket}
 
 -- the same at a place in the run
 abbrev pub look_of : Seen → Stamped → Look
@@ -23,3 +24,7 @@ IsAll (seen.Fragment header bytes) = IsSome header.fragment × (length bytes.now
 
 abbrev pub taken : Option Stamp → Meta → List ℕ → Taken
 taken clock meta frame = record { clock = clock; meta = meta; frame = frame }
+
+-- a packet that a tally takes
+abbrev pub taken_of : RunPacket → Taken
+taken_of packet = taken packet.clock packet.meta.now packet.frame.now

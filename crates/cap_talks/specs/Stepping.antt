@@ -14,7 +14,7 @@ use Rattle.cap_talks.specs.CountedUnits.{is_limit_at}
 use Rattle.cap_talks.specs.ReportText.{refusal_at}
 use Rattle.cap_talks.specs.Taken.{Taken}
 use Rattle.cap_talks.specs.Tallies.{TallyState, Stands}
-use Rattle.cap_talks.specs.Totals.{TotalsState, TotalsStand}
+use Rattle.cap_talks.specs.Files.Totals.{TotalsState, TotalsStand}
 use Rattle.cap_talks.specs.declared.tables.Step.{Step}
 use Rattle.cap_talks.specs.declared.tables.Step.TheVariants as steps
 

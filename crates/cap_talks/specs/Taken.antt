@@ -1,4 +1,4 @@
--- The packets of a run that were taken, and what each is by itself (RFC 791, 3.1, 3.2). Lists have the latest first, so the place of a
+-- The packets of a run that were taken, and what each is by itself (RFC 791, 3.1 and 3.2). Lists have the latest first, so the place of a
 -- packet in the run is the number of packets that follow it in the list.
 use Rattle.std.specs.Prelude.{ℕ, List, [], ◌∷◌, Bool, length, Option, None, Some}
 use Rattle.cap_ip.specs.Header.{HeaderFields}

@@ -1,15 +1,23 @@
 -- The conversations of some counted units, which are listed by the places of the frames that completed them.
+pub mod Units
+pub mod Keys
+pub mod Rows
+pub mod View
+pub mod Lines
+pub mod Laws
+pub mod Worked
+pub mod Adding
 use Rattle.std.specs.Prelude.{ℕ, List, [], ◌∷◌, Bool, ◌+◌, ◌==◌, ◌&&◌, not, nat_eq, filter, map, Option, Some, None, if◌then◌else◌}
 use Rattle.std.specs.Ordering.{nat_cmp, ordering_then, is_lt, is_gt}
 use Rattle.std.specs.Option.{option_eq}
 use Rattle.std.specs.declared.cmp.Ordering.{Ordering}
 use Rattle.cap_time.specs.Stamp.{stamp_cmp}
-use Rattle.cap_talks.specs.Units.{end_cmp}
-use Rattle.cap_talks.specs.declared.rows.TalkKey.{TalkKey}
-use Rattle.cap_talks.specs.declared.rows.TalkRow.{TalkRow}
-use Rattle.cap_talks.specs.declared.units.CountedUnit.{CountedUnit}
-use Rattle.cap_talks.specs.declared.units.End.{End}
-use Rattle.cap_talks.specs.declared.units.TimedFrame.{TimedFrame}
+use Rattle.cap_talks.specs.Talks.Units.{end_cmp}
+use Rattle.cap_talks.specs.declared.talks.rows.TalkKey.{TalkKey}
+use Rattle.cap_talks.specs.declared.talks.rows.TalkRow.{TalkRow}
+use Rattle.cap_talks.specs.declared.talks.units.CountedUnit.{CountedUnit}
+use Rattle.cap_talks.specs.declared.talks.units.End.{End}
+use Rattle.cap_talks.specs.declared.talks.units.TimedFrame.{TimedFrame}
 use Rattle.cap_time.specs.declared.stamps.Stamp.{Stamp}
 
 -- a unit goes from the lesser of its ends, or from an end to itself

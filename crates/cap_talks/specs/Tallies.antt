@@ -8,11 +8,11 @@ use Rattle.cap_join.specs.Joiners.{JoinerState, open_limit}
 use Rattle.cap_join.specs.Joiners as joiners
 use Rattle.cap_join.specs.declared.datagrams.Datagram.{Datagram}
 use Rattle.cap_join.specs.Fitting.{FitsDatagram}
-use Rattle.cap_talks.specs.Rows.{TalksState, frames_in, bytes_in}
-use Rattle.cap_talks.specs.Rows as talks
+use Rattle.cap_talks.specs.Talks.Rows.{TalksState, frames_in, bytes_in}
+use Rattle.cap_talks.specs.Talks.Rows as talks
 use Rattle.cap_talks.specs.Classes.{classes, counts_of, is_class}
 use Rattle.cap_talks.specs.ReportText.{frames_text, joined_text}
-use Rattle.cap_talks.specs.TalkText.{talk_texts, talks_text}
+use Rattle.cap_talks.specs.Talks.Lines.{talk_texts, talks_text}
 use Rattle.cap_talks.specs.Taken.{Taken, fragment, look, events_of}
 use Rattle.cap_talks.specs.CountedUnits.{units_of, joined_in, is_limit_at}
 use Rattle.cap_talks.specs.declared.classes.Class.{Class}

@@ -6,12 +6,16 @@ ghost use Rattle.cap_bytes.specs.Printing.{Prints, is_write};
 ghost use Rattle.cap_source.specs.Feed.{Keeps};
 ghost use Rattle.cap_source.specs.ReadFaults.{FailsAs, FailsOf};
 ghost use Rattle.cap_source.specs.Walk.{Walks};
-ghost use Rattle.cap_talks.specs.FileText.{files_text, info_text, first_refusal};
-ghost use Rattle.cap_talks.specs.Reading.{CountsAll, CountsFile, CountsFiles, FailsFirst, counted_texts};
+ghost use Rattle.cap_talks.specs.Files.Lines.{files_text, info_text, first_refusal};
+ghost use Rattle.cap_talks.specs.Files.Reading.{CountsAll, CountsFile, CountsFiles, FailsFirst, counted_texts};
 ghost use Rattle.cap_talks.specs.Telling.{Tells};
 
-use crate::counts::Counts;
-use crate::lines::{file_line, files_line};
+pub mod counts;
+pub mod lines;
+pub mod totals;
+
+use crate::files::counts::Counts;
+use crate::files::lines::{file_line, files_line};
 use cap_bytes::{Fault, Sink, Source, Tail, put_all};
 use cap_source::{Capture, Ending, Head, PacketFeed, next_packet};
 use std::alloc::Global;
@@ -86,7 +90,7 @@ fn put_each<W: Sink>(writer: &mut W, counted: &[Counted]) -> Result<(), Fault>
     Ok(())
 }
 
-// The same after the line that says how many they are.
+// Writes these lines after one that says how many files there are.
 fn put_lines<W: Sink>(writer: &mut W, counted: &[Counted]) -> Result<(), Fault>
     requires most { length counted.now ≤ 32 }
     ensures text { IsTrue (W.tells_held writer.old)
@@ -101,8 +105,8 @@ fn put_lines<W: Sink>(writer: &mut W, counted: &[Counted]) -> Result<(), Fault>
 
 /// Writes a line that says how many files there are, and a line for each of 1 to 32 capture files, each of either
 /// format: `file I FORMAT packets P bytes B truncated Q skipped S first T last T`. Each file is read by itself, in
-/// order. The first that is refused is answered, and then nothing is written, nor where a read fails or a growth is
-/// refused; after `Write` a prefix of the lines is written.
+/// order. If some are refused, the refusal of the first is answered and nothing is written; nor is anything if a read
+/// fails or a growth is refused. After `Write` a prefix of the lines is written.
 pub fn file_lines<R: Source, W: Sink>(
     alloc: Global,
     sources: Vec<R>,

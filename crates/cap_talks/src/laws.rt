@@ -2,14 +2,14 @@
 ghost use Rattle.std.specs.Prelude.{List};
 ghost use Rattle.cap_talks.specs.Classes.{OneClass};
 ghost use Rattle.cap_talks.specs.InOrder.{ByPlaces};
-ghost use Rattle.cap_talks.specs.TalkLaws.{KeyLaw, FrameLaw, SumLaw};
+ghost use Rattle.cap_talks.specs.Talks.Laws.{KeyLaw, FrameLaw, SumLaw};
 ghost use Rattle.cap_talks.specs.Taken.{Taken};
 ghost use Rattle.cap_talks.specs.WorkedReport.{Overlapped, Tagged};
-ghost use Rattle.cap_talks.specs.WorkedTalks.{TalkLines, TalkLimit};
-ghost use Rattle.cap_talks.specs.declared.units.CountedUnit.{CountedUnit};
+ghost use Rattle.cap_talks.specs.Talks.Worked.{TalkLines, TalkLimit};
+ghost use Rattle.cap_talks.specs.declared.talks.units.CountedUnit.{CountedUnit};
 
-/// What a conversation is: two units are of the same where they have one protocol and the same two ends,
-/// whichever of these is the source. The frames that give a row's printed times are the first by time, and by
+/// What a conversation is: two units belong to the same one if they have the same protocol and the same two
+/// ends, whichever of these is the source. The frames that give a row's printed times are the first by time, and by
 /// time from the greatest down, and then by place. All rows together count each unit once.
 pub fn talk_laws()
     ensures key { KeyLaw }

@@ -6,18 +6,19 @@ ghost use Rattle.cap_bytes.specs.Printing.{Prints, is_write};
 ghost use Rattle.cap_merge.specs.Parts.{feed_of, is_end};
 ghost use Rattle.cap_merge.specs.View.{parts_of};
 ghost use Rattle.cap_source.specs.Feed.{HasFile};
-ghost use Rattle.cap_talks.specs.FileProps.{IsNumbered-prop};
-ghost use Rattle.cap_talks.specs.FileText.{files_text, ending_at, lines_from};
+ghost use Rattle.cap_talks.specs.Files.Props.{IsNumbered-prop};
+ghost use Rattle.cap_talks.specs.Files.Lines.{files_text, ending_at, lines_from};
 ghost use Rattle.cap_talks.specs.Holding.{held_of};
 ghost use Rattle.cap_talks.specs.Stepping.{TableStands, StepKeeps, Steps, AnswersAgain, endings_so_far};
 ghost use Rattle.cap_talks.specs.ReportText.{refusal_at, text_of};
 ghost use Rattle.cap_talks.specs.Taken.{Taken};
 
-use crate::counts::Counts;
-use crate::lines::{file_line, files_line};
+use crate::files::counts::Counts;
+use crate::files::lines::{file_line, files_line};
+use crate::files::totals::Totals;
 use crate::report_lines::total_line;
+use crate::run_packets::RunPacket;
 use crate::tallies::{Tally, TallyFault};
-use crate::totals::Totals;
 use cap_bytes::{Fault, Refusal, Rule, Sink, put_all};
 use cap_merge::Merged;
 use cap_source::{Ending, Head, Meta, PacketFeed};
@@ -91,11 +92,11 @@ impl<F: PacketFeed> Table<F> {
         }
     }
 
-    /// Takes the packet that comes next, or answers `Done` if none is left, and then again.
+    /// Takes the packet that comes next, or answers `Done` if none is left, now and at each later call.
     ///
     /// `Refused` comes exactly if what comes next is a refusal, or a packet that would open the 1,048,577th
-    /// conversation (rule 16, talk-limit), and then again. `Read` comes if a device failed, and `Memory` if a
-    /// growth was refused. A step that answers a fault has taken nothing: the table is as it was, and so are the
+    /// conversation (rule 16, talk-limit); each later call answers it again. `Read` comes if a device failed, and
+    /// `Memory` if a growth was refused. A step that answers a fault has taken nothing: the table is as it was, and so are the
     /// packets to come, unless it was `Read`.
     pub fn step(&mut self) -> Result<Step, Fault>
         ensures step { Steps (table_of self.old) result (table_of self.new) }
@@ -114,7 +115,13 @@ impl<F: PacketFeed> Table<F> {
         let clock = self.merged.clock();
         let frame = self.merged.frame();
         let time = meta.time();
-        match self.tally.take(clock, time, meta, frame) {
+        let packet = RunPacket {
+            clock,
+            time,
+            meta,
+            frame,
+        };
+        match self.tally.take(&packet) {
             Ok(()) => {
                 self.totals.take(time, meta, frame);
                 self.merged.pass();
@@ -201,7 +208,7 @@ fn put_each<F: PacketFeed, W: Sink>(
     Ok(())
 }
 
-// The same after the line that says how many they are.
+// Writes these lines after one that says how many files there are.
 fn put_files<F: PacketFeed, W: Sink>(
     writer: &mut W,
     files: &[Counts],

@@ -4,11 +4,16 @@ ghost use Rattle.std.specs.Map.{lookup};
 ghost use Rattle.indexmap.specs.IndexMap.{insert_entry};
 ghost use Rattle.indexmap.specs.Layout.{set_value_at};
 ghost use Rattle.cap_talks.specs.Talks.{key_of, row_of, same_talk};
-ghost use Rattle.cap_talks.specs.Rows.{StandsFor, is_refused, is_limit, talk_limit, frames_in, bytes_in, frames_of_row, bytes_of_row, row_in, with_unit, with_talk};
-ghost use Rattle.cap_talks.specs.declared.units.CountedUnit.{CountedUnit};
+ghost use Rattle.cap_talks.specs.Talks.Rows.{StandsFor, is_refused, is_limit, talk_limit, frames_in, bytes_in, frames_of_row, bytes_of_row, row_in, with_unit, with_talk};
+ghost use Rattle.cap_talks.specs.declared.talks.units.CountedUnit.{CountedUnit};
 
-use crate::rows::{TalkKey, TalkRow};
-use crate::units::CountedUnit;
+pub mod adding;
+pub mod lines;
+pub mod rows;
+pub mod units;
+
+use crate::talks::rows::{TalkKey, TalkRow};
+use crate::talks::units::CountedUnit;
 use indexmap::IndexMap;
 use std::alloc::Global;
 use std::marker::Model;
@@ -19,9 +24,9 @@ const TALK_LIMIT: usize = 1_048_576;
 /// Why a unit wasn't counted. The table is as it was.
 #[derive(Clone, Copy, Debug, PartialEq, Eq)]
 pub enum TalksFault {
-    /// Its conversation is a new one, and 1,048,576 stand.
+    /// Its conversation is a new one, and there are 1,048,576 already.
     Limit,
-    /// No memory was found.
+    /// A growth was refused.
     Memory,
 }
 
@@ -35,11 +40,11 @@ pub struct Talks {
 }
 
 impl Model for Talks {
-    ghost use Rattle.cap_talks.specs.Rows.{TalksState};
+    ghost use Rattle.cap_talks.specs.Talks.Rows.{TalksState};
 
     ghost Value = { TalksState };
 
-    ghost use Rattle.cap_talks.specs.TalksView.{talks_view, IsSoundInside};
+    ghost use Rattle.cap_talks.specs.Talks.View.{talks_view, IsSoundInside};
 
     ghost view = { talks_view };
 
@@ -61,8 +66,8 @@ impl Talks {
     /// that completed them. All frames of its rows and the unit's are fewer than 2^64, and their bytes fewer
     /// than 2^128.
     ///
-    /// `Limit` comes exactly where the unit's conversation is a new one and 1,048,576 stand, `Memory`
-    /// where a growth was refused. Both leave the table as it was.
+    /// `Limit` comes exactly if the unit's conversation is a new one and there are 1,048,576 already, `Memory`
+    /// if a growth was refused. Both leave the table as it was.
     #[inline(always)]
     pub fn add(&mut self, unit: &CountedUnit) -> Result<(), TalksFault>
         requires frames { frames_in self.old.rows + unit.now.frames < 2 ^ 64 }

@@ -1,4 +1,4 @@
-//! What is counted of packets beside what is told of files.
+//! What is counted of packets, besides what is told of files.
 ghost use Rattle.std.specs.Prelude.{◌≡◌, ℕ, false, ◌+◌, ◌*◌, ◌++◌, IsOkUnless, max, ◌≤◌, ◌<◌, ◌<ℤ◌, ◌^◌, pos, List, [], ◌∷◌, length, IsTrue, IfSome, IsSome, OnOk, OnErr, IfOk, IfErr, Option, Some, None, Err, if◌then◌else◌};
 ghost use Rattle.cap_bytes.specs.Device.{WriterKeeps, writer_of};
 ghost use Rattle.cap_bytes.specs.Printing.{Prints, is_write};
@@ -6,9 +6,8 @@ ghost use Rattle.cap_join.specs.Fitting.{FitsPut};
 ghost use Rattle.cap_join.specs.Fragments.{piece_of};
 ghost use Rattle.cap_join.specs.History.{Event, arrives, state_of, joined_pieces};
 ghost use Rattle.cap_join.specs.Joiners.{StandsFor, IsAnswer, most_bytes, open_limit};
-ghost use Rattle.cap_source.specs.Times.{meta_time};
 ghost use Rattle.cap_time.specs.Stamp.{seconds_of};
-ghost use Rattle.cap_talks.specs.Looking.{taken};
+ghost use Rattle.cap_talks.specs.Looking.{taken_of};
 ghost use Rattle.cap_talks.specs.ReportText.{frames_text, joined_text};
 ghost use Rattle.cap_talks.specs.Taken.{Taken, fragment, look, stamped_of};
 ghost use Rattle.cap_talks.specs.Tallies.{Stands, LimitBy, one_if, tally_text, waiting_bytes, counted_one, Looks, WaitsIf, with_frames, with_group};
@@ -16,16 +15,16 @@ ghost use Rattle.cap_talks.specs.declared.tallies.TallyFault.TheVariants.{Memory
 ghost use Rattle.cap_talks.specs.Classes.{sum_of};
 ghost use Rattle.cap_talks.specs.CountedUnits.{is_limit_at};
 
-use crate::adding::{add_unit, class_of, joined_class, joined_unit, stamped_of, whole_unit};
 use crate::classes::{Class, ClassCounts};
 use crate::looks::{Seen, look};
 use crate::report_lines::{frames_line, joined_line};
-use crate::talk_lines::put_talks;
+use crate::run_packets::RunPacket;
 use crate::talks::Talks;
+use crate::talks::adding::{add_unit, class_of, joined_class, joined_unit, stamped_of, whole_unit};
+use crate::talks::lines::put_talks;
 use cap_bytes::{Fault, Sink, put_all};
 use cap_ip::{Header, transport};
 use cap_join::{Datagram, Joiner, Put, Stamped};
-use cap_source::Meta;
 use cap_time::Stamp;
 use std::alloc::Global;
 use std::cmp::max;
@@ -34,9 +33,9 @@ use std::marker::Model;
 /// Why a packet wasn't taken.
 #[derive(Clone, Copy, Debug, PartialEq, Eq)]
 pub enum TallyFault {
-    /// It completes a unit of a new conversation, and 1,048,576 stand.
+    /// It completes a unit of a new conversation, and there are 1,048,576 already.
     Limit,
-    /// No memory was found.
+    /// A growth was refused.
     Memory,
 }
 
@@ -48,7 +47,7 @@ pub struct Tally {
     joined: u64,
     talks: Talks,
     joiner: Joiner,
-    // a joined datagram whose conversation found no memory, or is one too many
+    // a joined datagram whose conversation got no memory, or is one too many
     waiting: Option<Datagram>,
 }
 
@@ -154,31 +153,28 @@ impl Tally {
         }
     }
 
-    // Takes a packet that is a fragment, while no datagram waits. It is counted, or it completes a datagram, which waits from then on:
-    // that is answered. It isn't inlined, so that what it answers takes no room where whole datagrams are taken.
+    // Takes a packet that is a fragment, while no datagram waits. It is counted, or it completes a datagram, which waits from then on;
+    // the answer is whether one does. It isn't inlined, so that what it answers takes no room where whole datagrams are taken.
     #[inline(never)]
     fn take_fragment(
         &mut self,
-        clock: Option<Stamp>,
-        meta: &Meta,
-        frame: &[u8],
+        packet: &RunPacket<'_>,
         header: Header,
         bytes: &[u8],
     ) -> Result<bool, TallyFault>
         requires none { self.old.waiting ≡ None }
-        requires clock { IfSome clock (λ c. seconds_of c <ℤ pos (2 ^ 65)) }
         requires few { self.old.place < 2 ^ 62 }
         requires fragment { IsSome header.fragment }
         requires whole { length bytes.now ≡ header.data_length }
-        requires look { (place : ℕ) → look place (taken clock meta.now frame.now) ≡ fragment (piece_of header bytes.now (stamped_of place meta.now)) }
-        ensures looks { IfOk result (λ waits. Looks self.old (taken clock meta.now frame.now) waits self.new) }
+        requires look { (place : ℕ) → look place (taken_of packet.now) ≡ fragment (piece_of header bytes.now (stamped_of place packet.now.meta.now)) }
+        ensures looks { IfOk result (λ waits. Looks self.old (taken_of packet.now) waits self.new) }
         ensures waits { IfOk result (λ waits. WaitsIf self.new.waiting waits) }
         ensures place { IfOk result (λ waits. self.new.place ≡ (if waits then self.old.place else self.old.place + 1)) }
         ensures fault { IfErr result (λ e. e ≡ Memory) }
         ensures err { OnErr result (self.new ≡ self.old) }
     {
-        let stamped = stamped_of(self.place, meta.time(), meta);
-        match put_fragment(&mut self.joiner, clock, &header, bytes, stamped)? {
+        let stamped = stamped_of(self.place, packet.time, packet.meta);
+        match put_fragment(&mut self.joiner, packet.clock, &header, bytes, stamped)? {
             Put::Kept => {
                 self.classes = with_frames(self.classes, Class::Unjoined, 1);
                 self.place += 1;
@@ -192,27 +188,19 @@ impl Tally {
     }
 
     // Looks at the packet that comes next, while no datagram waits. It is counted, or it completes a datagram, which waits from then
-    // on: that is answered.
-    fn look_at(
-        &mut self,
-        clock: Option<Stamp>,
-        time: Option<Stamp>,
-        meta: &Meta,
-        frame: &[u8],
-    ) -> Result<bool, TallyFault>
+    // on; the answer is whether one does.
+    fn look_at(&mut self, packet: &RunPacket<'_>) -> Result<bool, TallyFault>
         requires none { self.old.waiting ≡ None }
-        requires clock { IfSome clock (λ c. seconds_of c <ℤ pos (2 ^ 65)) }
         requires few { self.old.place < 2 ^ 62 }
-        requires time { time ≡ meta_time meta.now }
-        ensures looks { IfOk result (λ waits. Looks self.old (taken clock meta.now frame.now) waits self.new) }
+        ensures looks { IfOk result (λ waits. Looks self.old (taken_of packet.now) waits self.new) }
         ensures waits { IfOk result (λ waits. WaitsIf self.new.waiting waits) }
         ensures place { IfOk result (λ waits. self.new.place ≡ (if waits then self.old.place else self.old.place + 1)) }
-        ensures limit { IfErr result (λ e. (xs : List Taken) → Stands self.old xs (Some (taken clock meta.now frame.now))
-            → LimitBy (Err e) (is_limit_at xs (taken clock meta.now frame.now))) }
+        ensures limit { IfErr result (λ e. (xs : List Taken) → Stands self.old xs (Some (taken_of packet.now))
+            → LimitBy (Err e) (is_limit_at xs (taken_of packet.now))) }
         ensures err { OnErr result (self.new ≡ self.old) }
     {
-        let stamped = stamped_of(self.place, time, meta);
-        match look(meta, frame) {
+        let stamped = stamped_of(self.place, packet.time, packet.meta);
+        match look(packet.meta, packet.frame) {
             Seen::Plain(class) => {
                 self.classes = with_frames(self.classes, class, 1);
                 self.place += 1;
@@ -229,7 +217,7 @@ impl Tally {
                 self.place += 1;
                 Ok(false)
             }
-            Seen::Fragment(header, bytes) => self.take_fragment(clock, meta, frame, header, bytes),
+            Seen::Fragment(header, bytes) => self.take_fragment(packet, header, bytes),
         }
     }
 
@@ -257,34 +245,26 @@ impl Tally {
         Ok(())
     }
 
-    /// Takes the packet that comes next, which has that clock in the run and that time.
+    /// Takes the packet that comes next.
     ///
-    /// `Limit` comes exactly if it completes a unit of a new conversation and 1,048,576 stand, `Memory` if a growth was
-    /// refused. Both leave the counts as they were, and the same call may be made again; a datagram that the packet joined is kept
+    /// `Limit` comes exactly if it completes a unit of a new conversation and there are 1,048,576 already, `Memory` if a
+    /// growth was refused. Both leave the counts as they were, and the same call may be made again; a datagram that the packet joined is kept
     /// for it.
-    pub fn take(
-        &mut self,
-        clock: Option<Stamp>,
-        time: Option<Stamp>,
-        meta: &Meta,
-        frame: &[u8],
-    ) -> Result<(), TallyFault>
-        requires clock { IfSome clock (λ c. seconds_of c <ℤ pos (2 ^ 65)) }
+    pub fn take(&mut self, packet: &RunPacket<'_>) -> Result<(), TallyFault>
         requires few { self.old.place < 2 ^ 62 }
-        requires time { time ≡ meta_time meta.now }
-        ensures stands { OnOk result (Looks self.old (taken clock meta.now frame.now) false self.new) }
-        ensures limit { IfErr result (λ e. (xs : List Taken) → Stands self.old xs (Some (taken clock meta.now frame.now))
-            → LimitBy (Err e) (is_limit_at xs (taken clock meta.now frame.now))) }
+        ensures stands { OnOk result (Looks self.old (taken_of packet.now) false self.new) }
+        ensures limit { IfErr result (λ e. (xs : List Taken) → Stands self.old xs (Some (taken_of packet.now))
+            → LimitBy (Err e) (is_limit_at xs (taken_of packet.now))) }
         ensures none { OnOk result (self.new.waiting ≡ None) }
         ensures place { OnOk result (self.new.place ≡ self.old.place + 1) }
         ensures same { OnErr result (self.new.place ≡ self.old.place) }
-        ensures err { OnErr result ((xs : List Taken) → Stands self.old xs (Some (taken clock meta.now frame.now))
-            → Stands self.new xs (Some (taken clock meta.now frame.now))) }
+        ensures err { OnErr result ((xs : List Taken) → Stands self.old xs (Some (taken_of packet.now))
+            → Stands self.new xs (Some (taken_of packet.now))) }
     {
         if self.is_waiting() {
             return self.take_waiting();
         }
-        if self.look_at(clock, time, meta, frame)? {
+        if self.look_at(packet)? {
             return self.take_waiting();
         }
         Ok(())

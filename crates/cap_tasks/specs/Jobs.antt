@@ -10,7 +10,7 @@ use Rattle.cap_line.specs.declared.job.Task.{Task}
 use Rattle.cap_line.specs.declared.job.Task.TheVariants as tasks
 use Rattle.cap_merge.specs.Files.{clocked_run, endings_of_files}
 use Rattle.cap_source.specs.declared.packets.Format.{Format}
-use Rattle.cap_talks.specs.FileText.{first_refusal, info_text}
+use Rattle.cap_talks.specs.Files.Lines.{first_refusal, info_text}
 use Rattle.cap_talks.specs.ReportText.{report_refusal, report_text}
 use Rattle.cap_talks.specs.Telling.{Tells}
 use Rattle.cap_tasks.specs.BlockText.{block_list, block_refusal}

@@ -22,10 +22,10 @@ use Rattle.cap_source.specs.declared.packets.Meta.{Meta}
 use Rattle.cap_time.specs.declared.stamps.Stamp.{Stamp}
 use Rattle.cap_write.proofs.Feeding.{plan_of-is, plan_of-next, plan_of-refused}
 use Rattle.cap_write.proofs.Written.{Prints-untimed}
-use Rattle.cap_write.specs.Names.{HasUnits}
-use Rattle.cap_write.specs.Datagrams.{IsFilled, answered, names_behind}
+use Rattle.cap_write.specs.Interfaces.{HasUnits}
+use Rattle.cap_write.specs.Datagrams.{IsFilled, answered, origins_behind}
 use Rattle.cap_write.specs.Joined.{Complete, complete_of, joined_of, completed_by, completed_in, completed, datagram_meta, datagram_items, items_of_packet}
-use Rattle.cap_write.specs.Numbering.{Name, with_name, write_fault, refusal_by, refusal_in, refusal_or, numbered_of}
+use Rattle.cap_write.specs.Numbering.{Origin, with_origin, write_fault, refusal_by, refusal_in, refusal_or, numbered_of}
 use Rattle.cap_write.specs.Texts.{text_behind, one_bytes, text_or, numbered_bytes}
 
 answered-pieces : (ps : List Piece) (arrived : Arrived) → IsFragmentOf ps arrived → answered arrived ≡ joined_of ps
@@ -68,19 +68,19 @@ answered-is cut as_.Kept clock stamped events h = absurd h
 answered-is cut (as_.Joined d) clock stamped events h = absurd h
 
 -- one packet is written as in a list of its own
-pub text-one : (order : Order) (names : List Name) (meta : Meta) (frame : List ℕ)
-    → text_behind order names (packet meta frame ∷ []) ≡ one_bytes order names meta frame
-text-one order names meta frame = by (write_fault names meta) refl
+pub text-one : (order : Order) (origins : List Origin) (meta : Meta) (frame : List ℕ)
+    → text_behind order origins (packet meta frame ∷ []) ≡ one_bytes order origins meta frame
+text-one order origins meta frame = by (write_fault origins meta) refl
   where
-    by : (fault : Option Rule) → write_fault names meta ≡ fault → text_behind order names (packet meta frame ∷ []) ≡ one_bytes order names meta frame
-    by (Some rule) is = (plan_of-refused order names meta frame rule is).text [] ∙ sym (ap (λ f. text_or f (numbered_bytes order (length names) (numbered_of names meta frame))) is)
+    by : (fault : Option Rule) → write_fault origins meta ≡ fault → text_behind order origins (packet meta frame ∷ []) ≡ one_bytes order origins meta frame
+    by (Some rule) is = (plan_of-refused order origins meta frame rule is).text [] ∙ sym (ap (λ f. text_or f (numbered_bytes order (length origins) (numbered_of origins meta frame))) is)
     by None is =
-        (plan_of-next order names meta frame is).text []
-        ∙ (ap (λ l. one_bytes order names meta frame ++ l) (plan_of-is order (with_name names meta)).text_none ∙ append-nil (one_bytes order names meta frame))
+        (plan_of-next order origins meta frame is).text []
+        ∙ (ap (λ l. one_bytes order origins meta frame ++ l) (plan_of-is order (with_origin origins meta)).text_none ∙ append-nil (one_bytes order origins meta frame))
 
-pub refusal-one : (names : List Name) (meta : Meta) (frame : List ℕ) → refusal_in names (packet meta frame ∷ []) ≡ refusal_by meta (write_fault names meta)
+pub refusal-one : (origins : List Origin) (meta : Meta) (frame : List ℕ) → refusal_in origins (packet meta frame ∷ []) ≡ refusal_by meta (write_fault origins meta)
 unfolding refusal_in
-refusal-one names meta frame = by (write_fault names meta)
+refusal-one origins meta frame = by (write_fault origins meta)
   where
     by : (fault : Option Rule) → refusal_or fault meta None ≡ refusal_by meta fault
     by (Some rule) = refl
@@ -120,15 +120,15 @@ OnOk-map (Ok x) P Q f h = f h
 OnOk-map (Err e) P Q f h = tt
 
 -- the items of a packet that isn't timed
-abbrev PrintsItems : Order → List Name → List Item → List ℕ → Result (Unit {0}) Fault → List ℕ → Type 0
-PrintsItems order names items held result new = Prints {A = Unit {0}} (text_behind order names items) (refusal_in names items) held result new
+abbrev PrintsItems : Order → List Origin → List Item → List ℕ → Result (Unit {0}) Fault → List ℕ → Type 0
+PrintsItems order origins items held result new = Prints {A = Unit {0}} (text_behind order origins items) (refusal_in origins items) held result new
 
-Prints-packet : (order : Order) (names : List Name) (meta : Meta) (frame held new : List ℕ) (result : Result (Unit {0}) Fault)
-    → Prints {A = Unit {0}} (one_bytes order names meta frame) (refusal_by meta (write_fault names meta)) held result new
-    → PrintsItems order names (packet meta frame ∷ []) held result new
-Prints-packet order names meta frame held new result h =
-    subst (λ t. Prints {A = Unit {0}} t (refusal_in names (packet meta frame ∷ [])) held result new) (sym (text-one order names meta frame))
-    (subst (λ r. Prints {A = Unit {0}} (one_bytes order names meta frame) r held result new) (sym (refusal-one names meta frame)) h)
+Prints-packet : (order : Order) (origins : List Origin) (meta : Meta) (frame held new : List ℕ) (result : Result (Unit {0}) Fault)
+    → Prints {A = Unit {0}} (one_bytes order origins meta frame) (refusal_by meta (write_fault origins meta)) held result new
+    → PrintsItems order origins (packet meta frame ∷ []) held result new
+Prints-packet order origins meta frame held new result h =
+    subst (λ t. Prints {A = Unit {0}} t (refusal_in origins (packet meta frame ∷ [])) held result new) (sym (text-one order origins meta frame))
+    (subst (λ r. Prints {A = Unit {0}} (one_bytes order origins meta frame) r held result new) (sym (refusal-one origins meta frame)) h)
 
 -- a packet without a time is refused
 no-time : (meta : Meta) (fault : Fault) → HasUnits meta (Err fault) → meta.units ≡ None
@@ -137,11 +137,11 @@ no-time meta (Read file offset) h = absurd h
 no-time meta Write h = absurd h
 no-time meta Memory h = absurd h
 
-pub Prints-no-time : (order : Order) (names : List Name) (place : ℕ) (events : List Event) (clock : Option Stamp) (meta : Meta) (frame held : List ℕ) (fault : Fault)
-    → HasUnits meta (Err fault) → PrintsItems order names (items_of_packet place events clock meta frame) held (Err fault) held
-Prints-no-time order names place events clock meta frame held fault h =
-    subst (λ items. PrintsItems order names items held (Err fault) held) (sym (items-untimed place events clock meta frame (no-time meta fault h)))
-    (Prints-packet order names meta frame held held (Err fault) (Prints-untimed order names meta frame held fault h))
+pub Prints-no-time : (order : Order) (origins : List Origin) (place : ℕ) (events : List Event) (clock : Option Stamp) (meta : Meta) (frame held : List ℕ) (fault : Fault)
+    → HasUnits meta (Err fault) → PrintsItems order origins (items_of_packet place events clock meta frame) held (Err fault) held
+Prints-no-time order origins place events clock meta frame held fault h =
+    subst (λ items. PrintsItems order origins items held (Err fault) held) (sym (items-untimed place events clock meta frame (no-time meta fault h)))
+    (Prints-packet order origins meta frame held held (Err fault) (Prints-untimed order origins meta frame held fault h))
 
 -- a packet that completes a datagram
 pub items-filled : (place : ℕ) (events : List Event) (clock : Option Stamp) (meta : Meta) (frame : List ℕ) (units : ℕ) (some : Bool) (bytes lent : List ℕ) (size : ℕ) (written : Meta)
@@ -153,23 +153,23 @@ items-filled place events clock meta frame units some bytes lent size written ti
     ∙ (ap (λ b. if b then packet (datagram_meta meta (length bytes)) bytes ∷ [] else []) filled
     ∙ sym (λ i. packet ((is ∙ ap (datagram_meta meta) counted) i) (same i) ∷ []))
 
-pub Prints-datagram : (order : Order) (names : List Name) (items : List Item) (written : Meta) (lent held new : List ℕ) (result : Result (Unit {0}) Fault)
+pub Prints-datagram : (order : Order) (origins : List Origin) (items : List Item) (written : Meta) (lent held new : List ℕ) (result : Result (Unit {0}) Fault)
     → items ≡ packet written lent ∷ []
-    → Prints {A = Unit {0}} (one_bytes order names written lent) (refusal_by written (write_fault names written)) held result new
-    → PrintsItems order names items held result new
-Prints-datagram order names items written lent held new result is h =
-    subst (λ l. PrintsItems order names l held result new) (sym is) (Prints-packet order names written lent held new result h)
+    → Prints {A = Unit {0}} (one_bytes order origins written lent) (refusal_by written (write_fault origins written)) held result new
+    → PrintsItems order origins items held result new
+Prints-datagram order origins items written lent held new result is h =
+    subst (λ l. PrintsItems order origins l held result new) (sym is) (Prints-packet order origins written lent held new result h)
 
-names-one : (names : List Name) (written : Meta) (lent : List ℕ) → names_behind names (packet written lent ∷ []) ≡ with_name names written
-unfolding names_behind
-names-one names written lent = refl
+origins-one : (origins : List Origin) (written : Meta) (lent : List ℕ) → origins_behind origins (packet written lent ∷ []) ≡ with_origin origins written
+unfolding origins_behind
+origins-one origins written lent = refl
 
-pub named-datagram : (names names_new : List Name) (items : List Item) (written : Meta) (lent : List ℕ) → items ≡ packet written lent ∷ []
-    → (names_new ≡ with_name names written) × (write_fault names written ≡ None)
-    → (names_new ≡ names_behind names items) × (refusal_in names items ≡ None)
-named-datagram names names_new items written lent is h = (
-  h.0 ∙ (sym (names-one names written lent) ∙ ap (names_behind names) (sym is)),
-  ap (refusal_in names) is ∙ (refusal-one names written lent ∙ ap (refusal_by written) h.1),
+pub named-datagram : (origins origins_new : List Origin) (items : List Item) (written : Meta) (lent : List ℕ) → items ≡ packet written lent ∷ []
+    → (origins_new ≡ with_origin origins written) × (write_fault origins written ≡ None)
+    → (origins_new ≡ origins_behind origins items) × (refusal_in origins items ≡ None)
+named-datagram origins origins_new items written lent is h = (
+  h.0 ∙ (sym (origins-one origins written lent) ∙ ap (origins_behind origins) (sym is)),
+  ap (refusal_in origins) is ∙ (refusal-one origins written lent ∙ ap (refusal_by written) h.1),
 )
 
 -- a packet that completes none
@@ -180,17 +180,17 @@ items-none place events clock meta frame units some bytes timed unfilled h =
     items-timed place events clock meta frame units some bytes timed h
     ∙ ap (λ b. if b then packet (datagram_meta meta (length bytes)) bytes ∷ [] else []) unfilled
 
-pub Prints-none : (order : Order) (names : List Name) (items : List Item) (held : List ℕ) → items ≡ []
-    → (refusal_in names items ≡ None) × (held ≡ held ++ text_behind order names items)
-Prints-none order names items held is = (
-  ap (refusal_in names) is ∙ (plan_of-is order names).refusal_none,
-  sym (append-nil held) ∙ ap (λ l. held ++ l) (sym (ap (text_behind order names) is ∙ (plan_of-is order names).text_none)),
+pub Prints-none : (order : Order) (origins : List Origin) (items : List Item) (held : List ℕ) → items ≡ []
+    → (refusal_in origins items ≡ None) × (held ≡ held ++ text_behind order origins items)
+Prints-none order origins items held is = (
+  ap (refusal_in origins) is ∙ (plan_of-is order origins).refusal_none,
+  sym (append-nil held) ∙ ap (λ l. held ++ l) (sym (ap (text_behind order origins) is ∙ (plan_of-is order origins).text_none)),
 )
 
-names-nothing : (names : List Name) → names_behind names [] ≡ names
-unfolding names_behind
-names-nothing names = refl
+origins-nothing : (origins : List Origin) → origins_behind origins [] ≡ origins
+unfolding origins_behind
+origins-nothing origins = refl
 
-pub named-none : (order : Order) (names : List Name) (items : List Item) → items ≡ [] → (names ≡ names_behind names items) × (refusal_in names items ≡ None)
-named-none order names items is =
-    (sym (ap (names_behind names) is ∙ names-nothing names), ap (refusal_in names) is ∙ (plan_of-is order names).refusal_none)
+pub named-none : (order : Order) (origins : List Origin) (items : List Item) → items ≡ [] → (origins ≡ origins_behind origins items) × (refusal_in origins items ≡ None)
+named-none order origins items is =
+    (sym (ap (origins_behind origins) is ∙ origins-nothing origins), ap (refusal_in origins) is ∙ (plan_of-is order origins).refusal_none)

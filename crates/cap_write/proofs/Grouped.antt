@@ -9,7 +9,7 @@ use Rattle.cap_bytes.specs.declared.faults.Rule.{Rule}
 use Rattle.cap_bytes.specs.declared.faults.Rule.TheVariants.{NoTime, InterfaceLimit}
 use Rattle.cap_source.specs.Feed.{Item, packet, refused}
 use Rattle.cap_source.specs.declared.packets.Meta.{Meta}
-use Rattle.cap_write.specs.Numbering.{Name, name_of, Numbered, with_name, is_full, number_of, write_fault, numbered_of, numbered_or, numbered, refusal_or, refusal_in}
+use Rattle.cap_write.specs.Numbering.{Origin, origin_of, Numbered, with_origin, is_full, number_of, write_fault, numbered_of, numbered_or, numbered, refusal_or, refusal_in}
 use Rattle.cap_merge.specs.Run.{Clocked, opened, merged, through_first}
 use Rattle.cap_merge.specs.Parts.{item_time, is_refusal}
 use Rattle.cap_write.specs.Rounds.{in_file, numbered_files, run_of, merged_packets, IsItemOf, IsMergeOf, FileRoundsLaw, RoundsLaw, file_of, ClockLaw}
@@ -17,7 +17,7 @@ use Rattle.cap_merge.proofs.Rounds.{files_in}
 use Rattle.cap_merge.proofs.Rounds as merged_rounds
 use Rattle.cap_merge.proofs.RunLaws as run_laws
 use Rattle.cap_write.proofs.Renaming.{IsOneToOne, Renamed, renamed-implied, numbered-renamed, refusal-renamed}
-use Rattle.cap_write.proofs.UsedNames.{IsNumberIn, all_names, number-given, number-kept, GroupNames, IsOfGroup, IsOfGroups, groups-apart}
+use Rattle.cap_write.proofs.UsedOrigins.{IsNumberIn, all_origins, number-given, number-kept, GroupOrigins, IsOfGroup, IsOfGroups, groups-apart}
 use Rattle.cap_write.proofs.Alike.{merge_of, merge-alike, merge-all}
 
 pub clock-law : ClockLaw
@@ -35,16 +35,16 @@ through_items (x ∷ xs) = ap (λ ys. x.item ∷ ys) (more (is_refusal x.item) (
     more false e = e
 
 -- what comes after a refusal isn't written
-numbered_through : (ns : List Name) (xs : List Item) → numbered ns (through_first is_refusal xs) ≡ numbered ns xs
+numbered_through : (ns : List Origin) (xs : List Item) → numbered ns (through_first is_refusal xs) ≡ numbered ns xs
 unfolding numbered
 numbered_through ns [] = refl
-numbered_through ns (packet m f ∷ xs) = ap (numbered_or (write_fault ns m) (numbered_of ns m f)) (numbered_through (with_name ns m) xs)
+numbered_through ns (packet m f ∷ xs) = ap (numbered_or (write_fault ns m) (numbered_of ns m f)) (numbered_through (with_origin ns m) xs)
 numbered_through ns (refused r ∷ xs) = refl
 
-refusal_through : (ns : List Name) (xs : List Item) → refusal_in ns (through_first is_refusal xs) ≡ refusal_in ns xs
+refusal_through : (ns : List Origin) (xs : List Item) → refusal_in ns (through_first is_refusal xs) ≡ refusal_in ns xs
 unfolding refusal_in
 refusal_through ns [] = refl
-refusal_through ns (packet m f ∷ xs) = ap (refusal_or (write_fault ns m) m) (refusal_through (with_name ns m) xs)
+refusal_through ns (packet m f ∷ xs) = ap (refusal_or (write_fault ns m) m) (refusal_through (with_origin ns m) xs)
 refusal_through ns (refused r ∷ xs) = refl
 
 run_is : (files : List (List Item)) → run_of files ≡ through_first is_refusal (merge_of item_time (numbered_files 1 files))
@@ -59,15 +59,15 @@ refusal_is files = ap (refusal_in []) (run_is files) ∙ refusal_through [] (mer
 
 -- ---- other numbers of files
 
--- another name of an interface leaves the time
-pub same_time : (R : Name → Name → Type 0) (x y : Item) → Renamed R x y → item_time y ≡ item_time x
+-- another origin of an interface leaves the time
+pub same_time : (R : Origin → Origin → Type 0) (x y : Item) → Renamed R x y → item_time y ≡ item_time x
 same_time R (packet m f) (packet n g) h = λ i. option_map (λ units. Rattle.cap_time.specs.Stamp.stamp_in units (h.0.interface i)) (h.0.units i)
 same_time R (packet m f) (refused s) h = absurd h
 same_time R (refused r) (packet n g) h = absurd h
 same_time R (refused r) (refused s) h = refl
 
 -- The file's number is another, as far from the first.
-record IsMoved (p q : ℕ) (a b : Name) : Type 0 where
+record IsMoved (p q : ℕ) (a b : Origin) : Type 0 where
   file : b.0 + p ≡ a.0 + q
   instance : b.1 ≡ a.1
 
@@ -79,7 +79,7 @@ moved_apart p q a b c d h k = λ i. same_tests a.0 b.0 c.0 d.0 p q h.file k.file
 
 item_moved : (p q n m : ℕ) → m + p ≡ n + q → (x : Item) → Renamed (IsMoved p q) (in_file n x) (in_file m x)
 item_moved p q n m e (packet meta frame) =
-    (record { name = record { file = e; instance = refl }; interface = refl; units = refl; captured = refl; original = refl }, refl)
+    (record { origin = record { file = e; instance = refl }; interface = refl; units = refl; captured = refl; original = refl }, refl)
 item_moved p q n m e (refused refusal) = refl
 
 items_moved : (p q n m : ℕ) → m + p ≡ n + q → (xs : List Item) → AllZip (Renamed (IsMoved p q)) (map (in_file n) xs) (map (in_file m) xs)
@@ -133,21 +133,21 @@ timed : (units : Option ℕ) (full : Bool) → (if is_none units then Some NoTim
 timed None full e = absurd (cc)
 timed (Some n) full e = refl
 
-timed_by : (ns : List Name) (m : Meta) → write_fault ns m ≡ None → Some (unwrap_or m.units 0) ≡ m.units
+timed_by : (ns : List Origin) (m : Meta) → write_fault ns m ≡ None → Some (unwrap_or m.units 0) ≡ m.units
 unfolding write_fault
 timed_by ns m e = timed m.units (is_full ns m) e
 
 -- a packet as the file of the group has it
-group_item : (file place count : ℕ) (ns : List Name) (m : Meta) (f : List ℕ) (xs : List Item) (y : Item)
+group_item : (file place count : ℕ) (ns : List Origin) (m : Meta) (f : List ℕ) (xs : List Item) (y : Item)
     → write_fault ns m ≡ None → IsItemOf (numbered_of ns m f) y → InFiles file (file + count) (packet m f)
-    → Renamed (IsOfGroup file place (record { count = count; names = all_names (with_name ns m) xs })) (packet m f) (in_file place y)
+    → Renamed (IsOfGroup file place (record { count = count; origins = all_origins (with_origin ns m) xs })) (packet m f) (in_file place y)
 group_item file place count ns m f xs (packet n g) e w h = (
   record {
-    name = record {
+    origin = record {
       from = h.0;
       below = h.1;
       group = refl;
-      number = subst (λ (k : ℕ). IsNumberIn (all_names (with_name ns m) xs) (name_of m) k) (sym w.instance) (number-kept (with_name ns m) xs (name_of m) (number_of ns m) (number-given ns m));
+      number = subst (λ (k : ℕ). IsNumberIn (all_origins (with_origin ns m) xs) (origin_of m) k) (sym w.instance) (number-kept (with_origin ns m) xs (origin_of m) (number_of ns m) (number-given ns m));
     };
     interface = w.interface;
     units = w.units ∙ timed_by ns m e;
@@ -158,34 +158,34 @@ group_item file place count ns m f xs (packet n g) e w h = (
 )
 group_item file place count ns m f xs (refused r) e w h = absurd w
 
-group_next : (file place count : ℕ) (ns : List Name) (m : Meta) (f : List ℕ) (xs ys : List Item) (fault : Option Rule)
-    → write_fault ns m ≡ fault → refusal_or fault m (refusal_in (with_name ns m) xs) ≡ None
-    → AllZip IsItemOf (numbered_or fault (numbered_of ns m f) (numbered (with_name ns m) xs)) ys
+group_next : (file place count : ℕ) (ns : List Origin) (m : Meta) (f : List ℕ) (xs ys : List Item) (fault : Option Rule)
+    → write_fault ns m ≡ fault → refusal_or fault m (refusal_in (with_origin ns m) xs) ≡ None
+    → AllZip IsItemOf (numbered_or fault (numbered_of ns m f) (numbered (with_origin ns m) xs)) ys
     → InFiles file (file + count) (packet m f)
-    → ((zs : List Item) → refusal_in (with_name ns m) xs ≡ None → AllZip IsItemOf (numbered (with_name ns m) xs) zs
-    → AllZip (Renamed (IsOfGroup file place (record { count = count; names = all_names (with_name ns m) xs }))) xs (map (in_file place) zs))
-    → AllZip (Renamed (IsOfGroup file place (record { count = count; names = all_names (with_name ns m) xs }))) (packet m f ∷ xs) (map (in_file place) ys)
+    → ((zs : List Item) → refusal_in (with_origin ns m) xs ≡ None → AllZip IsItemOf (numbered (with_origin ns m) xs) zs
+    → AllZip (Renamed (IsOfGroup file place (record { count = count; origins = all_origins (with_origin ns m) xs }))) xs (map (in_file place) zs))
+    → AllZip (Renamed (IsOfGroup file place (record { count = count; origins = all_origins (with_origin ns m) xs }))) (packet m f ∷ xs) (map (in_file place) ys)
 group_next file place count ns m f xs ys (Some rule) w e z h deeper = absurd (cc)
 group_next file place count ns m f xs [] None w e z h deeper = absurd z
 group_next file place count ns m f xs (y ∷ ys) None w e z h deeper = (group_item file place count ns m f xs y w z.0 h, deeper ys e z.1)
 
-group_items : (file place count : ℕ) (ns : List Name) (xs ys : List Item) → refusal_in ns xs ≡ None → AllZip IsItemOf (numbered ns xs) ys
+group_items : (file place count : ℕ) (ns : List Origin) (xs ys : List Item) → refusal_in ns xs ≡ None → AllZip IsItemOf (numbered ns xs) ys
     → AllByRecursion (InFiles file (file + count)) xs
-    → AllZip (Renamed (IsOfGroup file place (record { count = count; names = all_names ns xs }))) xs (map (in_file place) ys)
+    → AllZip (Renamed (IsOfGroup file place (record { count = count; origins = all_origins ns xs }))) xs (map (in_file place) ys)
 unfolding numbered refusal_in
 group_items file place count ns [] [] e z h = tt
 group_items file place count ns [] (y ∷ ys) e z h = absurd z
 group_items file place count ns (packet m f ∷ xs) ys e z h =
     group_next file place count ns m f xs ys (write_fault ns m) refl e z h.0
-    (λ zs d w. group_items file place count (with_name ns m) xs zs d w h.1)
+    (λ zs d w. group_items file place count (with_origin ns m) xs zs d w h.1)
 group_items file place count ns (refused r ∷ xs) ys e z h = absurd (cc)
 
-names_of : ℕ → List (List Item) → GroupNames
-names_of file files = record { count = length files; names = all_names [] (merge_of item_time (numbered_files file files)) }
+origins_of : ℕ → List (List Item) → GroupOrigins
+origins_of file files = record { count = length files; origins = all_origins [] (merge_of item_time (numbered_files file files)) }
 
 group_alike : (file place : ℕ) (files : List (List Item)) (items : List Item) → IsMergeOf files items
-    → AllZip (Renamed (IsOfGroup file place (names_of file files))) (merge_of item_time (numbered_files file files)) (map (in_file place) items)
-unfolding names_of
+    → AllZip (Renamed (IsOfGroup file place (origins_of file files))) (merge_of item_time (numbered_files file files)) (map (in_file place) items)
+unfolding origins_of
 group_alike file place files items h =
     group_items file place (length files) [] (merge_of item_time (numbered_files file files)) items (accepted_moved file files h.accepted)
     (subst (λ (ns : List Numbered). AllZip IsItemOf ns items) (sym (packets_moved file files)) h.packets)
@@ -198,9 +198,9 @@ grouped : ℕ → List (List (List Item)) → List (List (List Item))
 grouped file [] = []
 grouped file (g ∷ gs) = numbered_files file g ∷ grouped (file + length g) gs
 
-all_names_of : ℕ → List (List (List Item)) → List GroupNames
-all_names_of file [] = []
-all_names_of file (g ∷ gs) = names_of file g ∷ all_names_of (file + length g) gs
+all_origins_of : ℕ → List (List (List Item)) → List GroupOrigins
+all_origins_of file [] = []
+all_origins_of file (g ∷ gs) = origins_of file g ∷ all_origins_of (file + length g) gs
 
 numbered_both : (file : ℕ) (fs gs : List (List Item)) → numbered_files file (fs ++ gs) ≡ numbered_files file fs ++ numbered_files (file + length fs) gs
 numbered_both file [] gs =
@@ -216,45 +216,45 @@ grouped_files file [] = refl
 grouped_files file (g ∷ gs) =
     ap (λ r. numbered_files file g ++ r) (grouped_files (file + length g) gs) ∙ sym (numbered_both file g (flat_map (λ h. h) gs))
 
-zip_implied : (R S : Name → Name → Type 0) → ((a b : Name) → R a b → S a b) → (xs ys : List Item) → AllZip (Renamed R) xs ys → AllZip (Renamed S) xs ys
+zip_implied : (R S : Origin → Origin → Type 0) → ((a b : Origin) → R a b → S a b) → (xs ys : List Item) → AllZip (Renamed R) xs ys → AllZip (Renamed S) xs ys
 zip_implied R S f [] [] h = tt
 zip_implied R S f [] (y ∷ ys) h = absurd h
 zip_implied R S f (x ∷ xs) [] h = absurd h
 zip_implied R S f (x ∷ xs) (y ∷ ys) h = (renamed-implied R S f x y h.0, zip_implied R S f xs ys h.1)
 
-zips_implied : (R S : Name → Name → Type 0) → ((a b : Name) → R a b → S a b) → (fs gs : List (List Item)) → AllZip (AllZip (Renamed R)) fs gs → AllZip (AllZip (Renamed S)) fs gs
+zips_implied : (R S : Origin → Origin → Type 0) → ((a b : Origin) → R a b → S a b) → (fs gs : List (List Item)) → AllZip (AllZip (Renamed R)) fs gs → AllZip (AllZip (Renamed S)) fs gs
 zips_implied R S f [] [] h = tt
 zips_implied R S f [] (y ∷ ys) h = absurd h
 zips_implied R S f (x ∷ xs) [] h = absurd h
 zips_implied R S f (x ∷ xs) (y ∷ ys) h = (zip_implied R S f x y h.0, zips_implied R S f xs ys h.1)
 
 groups_alike : (file place : ℕ) (groups : List (List (List Item))) (files : List (List Item)) → AllZip IsMergeOf groups files
-    → AllZip (AllZip (Renamed (IsOfGroups file place (all_names_of file groups)))) (map (merge_of item_time) (grouped file groups)) (numbered_files place files)
-unfolding grouped all_names_of names_of
+    → AllZip (AllZip (Renamed (IsOfGroups file place (all_origins_of file groups)))) (map (merge_of item_time) (grouped file groups)) (numbered_files place files)
+unfolding grouped all_origins_of origins_of
 groups_alike file place [] [] h = tt
 groups_alike file place [] (f ∷ fs) h = absurd h
 groups_alike file place (g ∷ gs) [] h = absurd h
 groups_alike file place (g ∷ gs) (f ∷ fs) h = (
-  zip_implied (IsOfGroup file place (names_of file g)) (IsOfGroups file place (all_names_of file (g ∷ gs))) (λ a b r. inl r)
+  zip_implied (IsOfGroup file place (origins_of file g)) (IsOfGroups file place (all_origins_of file (g ∷ gs))) (λ a b r. inl r)
       (merge_of item_time (numbered_files file g)) (map (in_file place) f) (group_alike file place g f h.0),
-  zips_implied (IsOfGroups (file + length g) (suc place) (all_names_of (file + length g) gs)) (IsOfGroups file place (all_names_of file (g ∷ gs))) (λ a b r. inr r)
+  zips_implied (IsOfGroups (file + length g) (suc place) (all_origins_of (file + length g) gs)) (IsOfGroups file place (all_origins_of file (g ∷ gs))) (λ a b r. inr r)
       (map (merge_of item_time) (grouped (file + length g) gs)) (numbered_files (suc place) fs) (groups_alike (file + length g) (suc place) gs fs h.1),
 )
 
 -- the merge of the groups' files, and that of all files, item by item
 rounds_alike : (groups : List (List (List Item))) (files : List (List Item)) → AllZip IsMergeOf groups files
-    → AllZip (Renamed (IsOfGroups 1 1 (all_names_of 1 groups))) (merge_of item_time (numbered_files 1 (flat_map (λ g. g) groups))) (merge_of item_time (numbered_files 1 files))
+    → AllZip (Renamed (IsOfGroups 1 1 (all_origins_of 1 groups))) (merge_of item_time (numbered_files 1 (flat_map (λ g. g) groups))) (merge_of item_time (numbered_files 1 files))
 rounds_alike groups files h =
-    let R = IsOfGroups 1 1 (all_names_of 1 groups) in
+    let R = IsOfGroups 1 1 (all_origins_of 1 groups) in
     subst (λ (xs : List Item). AllZip (Renamed R) xs (merge_of item_time (numbered_files 1 files)))
     (merged_rounds.rounds-law item_time (grouped 1 groups) ∙ ap (merge_of item_time) (grouped_files 1 groups))
     (merge-alike (Renamed R) item_time (same_time R) (map (merge_of item_time) (grouped 1 groups)) (numbered_files 1 files) (groups_alike 1 1 groups files h))
 
 pub file_rounds-law : FileRoundsLaw
 file_rounds-law groups files h =
-    let R = IsOfGroups 1 1 (all_names_of 1 groups) in
+    let R = IsOfGroups 1 1 (all_origins_of 1 groups) in
     let whole = flat_map (λ g. g) groups in
-    let apart = groups-apart 1 1 (all_names_of 1 groups) in
+    let apart = groups-apart 1 1 (all_origins_of 1 groups) in
     let alike = rounds_alike groups files h in (
       packets_are files
           ∙ numbered-renamed R apart [] [] tt (merge_of item_time (numbered_files 1 whole)) (merge_of item_time (numbered_files 1 files)) alike

@@ -19,89 +19,89 @@ use Rattle.cap_source.specs.Walk.{GivesPacket, ShowsItem}
 use Rattle.cap_source.specs.declared.packets.Meta.{Meta}
 use Rattle.cap_time.specs.declared.stamps.Stamp.{Stamp}
 use Rattle.cap_write.proofs.Feeding.{plan_of, plan_of-is, plan_of-next, plan_of-refused}
-use Rattle.cap_write.specs.Datagrams.{names_behind}
+use Rattle.cap_write.specs.Datagrams.{origins_behind}
 use Rattle.cap_write.specs.Joined.{items_of_packet, events_after, items_here, events_here, joined_items}
-use Rattle.cap_write.specs.Numbering.{Name, with_name, write_fault, refusal_at, refusal_in, numbered}
+use Rattle.cap_write.specs.Numbering.{Origin, with_origin, write_fault, refusal_at, refusal_in, numbered}
 use Rattle.cap_write.specs.Texts.{text_behind, packets_bytes, one_bytes}
 
 none-some : (r : Refusal) → None ≡ Some r → ⊥
 none-some r e = cc
 
-refusal-first : (names : List Name) (r : Refusal) (items : List Item) → refusal_in names (refused r ∷ items) ≡ Some r
+refusal-first : (origins : List Origin) (r : Refusal) (items : List Item) → refusal_in origins (refused r ∷ items) ≡ Some r
 unfolding refusal_in
-refusal-first names r items = refl
+refusal-first origins r items = refl
 
 -- what is written of some items and of others after them, where none of the first is refused, and what refuses them
-pub behind : (order : Order) (names : List Name) (items rest : List Item) → refusal_in names items ≡ None
-    → (text_behind order names (items ++ rest) ≡ text_behind order names items ++ text_behind order (names_behind names items) rest)
-    × (refusal_in names (items ++ rest) ≡ refusal_in (names_behind names items) rest)
-unfolding names_behind
-behind order names [] rest none = (ap (λ l. l ++ text_behind order names rest) (sym (plan_of-is order names).text_none), refl)
-behind order names (packet meta frame ∷ items) rest none = by (write_fault names meta) refl (behind order (with_name names meta) items rest)
+pub behind : (order : Order) (origins : List Origin) (items rest : List Item) → refusal_in origins items ≡ None
+    → (text_behind order origins (items ++ rest) ≡ text_behind order origins items ++ text_behind order (origins_behind origins items) rest)
+    × (refusal_in origins (items ++ rest) ≡ refusal_in (origins_behind origins items) rest)
+unfolding origins_behind
+behind order origins [] rest none = (ap (λ l. l ++ text_behind order origins rest) (sym (plan_of-is order origins).text_none), refl)
+behind order origins (packet meta frame ∷ items) rest none = by (write_fault origins meta) refl (behind order (with_origin origins meta) items rest)
   where
-    by : (fault : Option Rule) → write_fault names meta ≡ fault
-        → (refusal_in (with_name names meta) items ≡ None
-        → (text_behind order (with_name names meta) (items ++ rest) ≡ text_behind order (with_name names meta) items ++ text_behind order (names_behind (with_name names meta) items) rest)
-        × (refusal_in (with_name names meta) (items ++ rest) ≡ refusal_in (names_behind (with_name names meta) items) rest))
-        → (text_behind order names (packet meta frame ∷ (items ++ rest)) ≡ text_behind order names (packet meta frame ∷ items) ++ text_behind order (names_behind (with_name names meta) items) rest)
-        × (refusal_in names (packet meta frame ∷ (items ++ rest)) ≡ refusal_in (names_behind (with_name names meta) items) rest)
-    by (Some rule) is go = absurd (none-some (refusal_at meta rule) (sym none ∙ (plan_of-refused order names meta frame rule is).refusal items))
+    by : (fault : Option Rule) → write_fault origins meta ≡ fault
+        → (refusal_in (with_origin origins meta) items ≡ None
+        → (text_behind order (with_origin origins meta) (items ++ rest) ≡ text_behind order (with_origin origins meta) items ++ text_behind order (origins_behind (with_origin origins meta) items) rest)
+        × (refusal_in (with_origin origins meta) (items ++ rest) ≡ refusal_in (origins_behind (with_origin origins meta) items) rest))
+        → (text_behind order origins (packet meta frame ∷ (items ++ rest)) ≡ text_behind order origins (packet meta frame ∷ items) ++ text_behind order (origins_behind (with_origin origins meta) items) rest)
+        × (refusal_in origins (packet meta frame ∷ (items ++ rest)) ≡ refusal_in (origins_behind (with_origin origins meta) items) rest)
+    by (Some rule) is go = absurd (none-some (refusal_at meta rule) (sym none ∙ (plan_of-refused order origins meta frame rule is).refusal items))
     by None is go =
-        let next = plan_of-next order names meta frame is in
-        let line = one_bytes order names meta frame in
-        let later = text_behind order (names_behind (with_name names meta) items) rest in
+        let next = plan_of-next order origins meta frame is in
+        let line = one_bytes order origins meta frame in
+        let later = text_behind order (origins_behind (with_origin origins meta) items) rest in
         let both = go (sym (next.refusal items) ∙ none) in (
           next.text (items ++ rest)
               ∙ (ap (λ l. line ++ l) both.0
-              ∙ (sym (append_assoc line (text_behind order (with_name names meta) items) later) ∙ ap (λ l. l ++ later) (sym (next.text items)))),
+              ∙ (sym (append_assoc line (text_behind order (with_origin origins meta) items) later) ∙ ap (λ l. l ++ later) (sym (next.text items)))),
           next.refusal (items ++ rest) ∙ both.1,
         )
-behind order names (refused r ∷ items) rest none = absurd (none-some r (sym none ∙ refusal-first names r items))
+behind order origins (refused r ∷ items) rest none = absurd (none-some r (sym none ∙ refusal-first origins r items))
 
-text-first : (order : Order) (names : List Name) (r : Refusal) (items : List Item) → text_behind order names (refused r ∷ items) ≡ []
+text-first : (order : Order) (origins : List Origin) (r : Refusal) (items : List Item) → text_behind order origins (refused r ∷ items) ≡ []
 unfolding numbered packets_bytes
-text-first order names r items = refl
+text-first order origins r items = refl
 
 -- and where one is: nothing more
-pub stopped-text : (order : Order) (names : List Name) (items rest : List Item) (r : Refusal) → refusal_in names items ≡ Some r
-    → (text_behind order names (items ++ rest) ≡ text_behind order names items) × (refusal_in names (items ++ rest) ≡ Some r)
-stopped-text order names [] rest r some = absurd (none-some r ((sym (plan_of-is order names).refusal_none) ∙ some))
-stopped-text order names (packet meta frame ∷ items) rest r some = by (write_fault names meta) refl (stopped-text order (with_name names meta) items rest r)
+pub stopped-text : (order : Order) (origins : List Origin) (items rest : List Item) (r : Refusal) → refusal_in origins items ≡ Some r
+    → (text_behind order origins (items ++ rest) ≡ text_behind order origins items) × (refusal_in origins (items ++ rest) ≡ Some r)
+stopped-text order origins [] rest r some = absurd (none-some r ((sym (plan_of-is order origins).refusal_none) ∙ some))
+stopped-text order origins (packet meta frame ∷ items) rest r some = by (write_fault origins meta) refl (stopped-text order (with_origin origins meta) items rest r)
   where
-    by : (fault : Option Rule) → write_fault names meta ≡ fault
-        → (refusal_in (with_name names meta) items ≡ Some r
-        → (text_behind order (with_name names meta) (items ++ rest) ≡ text_behind order (with_name names meta) items) × (refusal_in (with_name names meta) (items ++ rest) ≡ Some r))
-        → (text_behind order names (packet meta frame ∷ (items ++ rest)) ≡ text_behind order names (packet meta frame ∷ items))
-        × (refusal_in names (packet meta frame ∷ (items ++ rest)) ≡ Some r)
+    by : (fault : Option Rule) → write_fault origins meta ≡ fault
+        → (refusal_in (with_origin origins meta) items ≡ Some r
+        → (text_behind order (with_origin origins meta) (items ++ rest) ≡ text_behind order (with_origin origins meta) items) × (refusal_in (with_origin origins meta) (items ++ rest) ≡ Some r))
+        → (text_behind order origins (packet meta frame ∷ (items ++ rest)) ≡ text_behind order origins (packet meta frame ∷ items))
+        × (refusal_in origins (packet meta frame ∷ (items ++ rest)) ≡ Some r)
     by (Some rule) is go =
-        let gives = plan_of-refused order names meta frame rule is in
+        let gives = plan_of-refused order origins meta frame rule is in
         (gives.text (items ++ rest) ∙ sym (gives.text items), gives.refusal (items ++ rest) ∙ (sym (gives.refusal items) ∙ some))
     by None is go =
-        let next = plan_of-next order names meta frame is in
+        let next = plan_of-next order origins meta frame is in
         let both = go (sym (next.refusal items) ∙ some) in
-        (next.text (items ++ rest) ∙ (ap (λ l. one_bytes order names meta frame ++ l) both.0 ∙ sym (next.text items)), next.refusal (items ++ rest) ∙ both.1)
-stopped-text order names (refused q ∷ items) rest r some =
-    (text-first order names q (items ++ rest) ∙ sym (text-first order names q items), refusal-first names q (items ++ rest) ∙ (sym (refusal-first names q items) ∙ some))
+        (next.text (items ++ rest) ∙ (ap (λ l. one_bytes order origins meta frame ++ l) both.0 ∙ sym (next.text items)), next.refusal (items ++ rest) ∙ both.1)
+stopped-text order origins (refused q ∷ items) rest r some =
+    (text-first order origins q (items ++ rest) ∙ sym (text-first order origins q items), refusal-first origins q (items ++ rest) ∙ (sym (refusal-first origins q items) ∙ some))
 
 -- what is written where some of the items to come aren't written whole
-pub Prints-part : (order : Order) (fault : Fault) (text : List ℕ) (refusal : Option Refusal) (from mid : Writer) (held : List ℕ) (names : List Name) (all items rest : List Item)
+pub Prints-part : (order : Order) (fault : Fault) (text : List ℕ) (refusal : Option Refusal) (from mid : Writer) (held : List ℕ) (origins : List Origin) (all items rest : List Item)
     → all ≡ items ++ rest
-    → Putting from mid text (text_behind order names all) → IsTrue from.told → refusal_in names all ≡ refusal
-    → Prints {A = Unit {0}} (text_behind order names items) (refusal_in names items) mid.held (Err fault) held
+    → Putting from mid text (text_behind order origins all) → IsTrue from.told → refusal_in origins all ≡ refusal
+    → Prints {A = Unit {0}} (text_behind order origins items) (refusal_in origins items) mid.held (Err fault) held
     → Prints {A = Unit {0}} text refusal from.held (Err fault) held
-Prints-part order fault text refusal from mid held names all items rest split p t same prints = by (refusal_in names items) refl
+Prints-part order fault text refusal from mid held origins all items rest split p t same prints = by (refusal_in origins items) refl
   where
-    by : (stops : Option Refusal) → refusal_in names items ≡ stops → Prints {A = Unit {0}} text refusal from.held (Err fault) held
+    by : (stops : Option Refusal) → refusal_in origins items ≡ stops → Prints {A = Unit {0}} text refusal from.held (Err fault) held
     by (Some r) is =
-        let both = stopped-text order names items rest r is in
-        Prints-whole fault text (text_behind order names items) refusal r from mid held
-        (subst (Putting from mid text) (ap (text_behind order names) split ∙ both.0) p) t
-        (sym same ∙ (ap (refusal_in names) split ∙ both.1))
-        (subst (λ s. Prints {A = Unit {0}} (text_behind order names items) s mid.held (Err fault) held) is prints)
+        let both = stopped-text order origins items rest r is in
+        Prints-whole fault text (text_behind order origins items) refusal r from mid held
+        (subst (Putting from mid text) (ap (text_behind order origins) split ∙ both.0) p) t
+        (sym same ∙ (ap (refusal_in origins) split ∙ both.1))
+        (subst (λ s. Prints {A = Unit {0}} (text_behind order origins items) s mid.held (Err fault) held) is prints)
     by None is =
-        Prints-front fault text (text_behind order names items) (text_behind order (names_behind names items) rest) refusal from mid held
-        (subst (Putting from mid text) (ap (text_behind order names) split ∙ (behind order names items rest is).0) p) t
-        (subst (λ s. Prints {A = Unit {0}} (text_behind order names items) s mid.held (Err fault) held) is prints)
+        Prints-front fault text (text_behind order origins items) (text_behind order (origins_behind origins items) rest) refusal from mid held
+        (subst (Putting from mid text) (ap (text_behind order origins) split ∙ (behind order origins items rest is).0) p) t
+        (subst (λ s. Prints {A = Unit {0}} (text_behind order origins items) s mid.held (Err fault) held) is prints)
 
 -- the run, by its items
 pub items-of-run : (ps : List Part) → (feed_of ps).items ≡ map (λ x. x.item) (run_of ps)
@@ -145,35 +145,35 @@ abbrev pub feeding : List Part → ℕ → List Event → Feed
 feeding ps place events = record (feed_of ps) { items = joined_items place events (run_of ps) }
 
 -- The datagrams so far of a run that was `old` are written by a writer that was `from`.
-pub record Joining (order : Order) (old new : List Part) (names_old names : List Name) (joiner : JoinerState) (place : ℕ) (failed_old failed_new : Bool) (from to : Writer) : Type 0 where
-  pub limit : length names ≤ 1024
+pub record Joining (order : Order) (old new : List Part) (origins_old origins : List Origin) (joiner : JoinerState) (place : ℕ) (failed_old failed_new : Bool) (from to : Writer) : Type 0 where
+  pub limit : length origins ≤ 1024
   pub went : Went (feed_of old) (feed_of new)
   pub events : List Event
   pub stands : StandsFor joiner events
   pub next : joiner.next ≤ place
   pub places : place + (feed_of new).left ≤ (feed_of old).left
-  pub walk : Walking (plan_of order names_old) (plan_of order names) (feeding old 0 []) (feeding new place events) failed_old failed_new from to
+  pub walk : Walking (plan_of order origins_old) (plan_of order origins) (feeding old 0 []) (feeding new place events) failed_old failed_new from to
 
 -- one more packet
-pub Joining-more : (order : Order) (old mid shown new : List Part) (names_old names names_new : List Name) (joiner joiner_new : JoinerState) (place : ℕ) (fo fm fn : Bool)
+pub Joining-more : (order : Order) (old mid shown new : List Part) (origins_old origins origins_new : List Origin) (joiner joiner_new : JoinerState) (place : ℕ) (fo fm fn : Bool)
     (from m to : Writer) (meta : Meta) (lent : List ℕ) (clock : Option Stamp)
     → lent ≡ (feed_of shown).frame
-    → Joining order old mid names_old names joiner place fo fm from m
+    → Joining order old mid origins_old origins joiner place fo fm from m
     → GivesPacket (feed_of mid) (Ok (Some meta)) (feed_of shown) → Keeps (feed_of mid) (feed_of shown) → (IsTrue (feed_of mid).told → ShowsItem (feed_of mid) (Ok (Some meta)) (feed_of shown))
     → (IsTrue (feed_of mid).told → run_of shown ≡ run_of mid)
     → (IsTrue (feed_of shown).told → BeginsAt clock (run_of shown))
     → Keeps (feed_of shown) (feed_of new) → Passes (feed_of shown) (feed_of new)
     → (IsTrue (feed_of shown).told → run_of new ≡ drop 1 (run_of shown))
-    → length names_new ≤ 1024 → joiner_new.next ≤ place + 1
+    → length origins_new ≤ 1024 → joiner_new.next ≤ place + 1
     → ((events : List Event) → StandsFor joiner events → StandsFor joiner_new (events_after place events clock meta lent))
     → ((events : List Event) → StandsFor joiner events
-    → (names_new ≡ names_behind names (items_of_packet place events clock meta lent))
-    × (refusal_in names (items_of_packet place events clock meta lent) ≡ None))
+    → (origins_new ≡ origins_behind origins (items_of_packet place events clock meta lent))
+    × (refusal_in origins (items_of_packet place events clock meta lent) ≡ None))
     → (IsTrue m.told → (events : List Event) → StandsFor joiner events
-    → to.held ≡ m.held ++ text_behind order names (items_of_packet place events clock meta lent))
+    → to.held ≡ m.held ++ text_behind order origins (items_of_packet place events clock meta lent))
     → (IsTrue m.told → IsTrue to.told) → (IsTrue to.can_fail → IsTrue m.can_fail) → fn ≡ fm
-    → Joining order old new names_old names_new joiner_new (place + 1) fo fn from to
-Joining-more order old mid shown new names_old names names_new joiner joiner_new place fo fm fn from m to meta frame clock lent p gives asked shows same begins passed passes dropped limit next stands named wrote told cannot failed =
+    → Joining order old new origins_old origins_new joiner_new (place + 1) fo fn from to
+Joining-more order old mid shown new origins_old origins origins_new joiner joiner_new place fo fm fn from m to meta frame clock lent p gives asked shows same begins passed passes dropped limit next stands named wrote told cannot failed =
     let events = p.events in
     let after = events_after place events clock meta frame in
     let items = items_of_packet place events clock meta frame in
@@ -181,7 +181,7 @@ Joining-more order old mid shown new names_old names names_new joiner joiner_new
     let split : IsTrue (feed_of mid).told → joined_items place events (run_of mid) ≡ items ++ rest =
     λ t. joined-first mid shown new meta frame clock place events ((shows t).1 ∙ ap (λ f. packet meta f ∷ drop 1 (feed_of mid).items) (sym lent)) (same t) (begins (asked.told t)) (dropped (asked.told t)) in
     let name = named events p.stands in
-    let both = behind order names items rest name.1 in
+    let both = behind order origins items rest name.1 in
     record {
       limit = limit;
       went = Went-more (feed_of old) (feed_of mid) (feed_of shown) (feed_of new) meta p.went gives asked passes passed;
@@ -190,11 +190,11 @@ Joining-more order old mid shown new names_old names names_new joiner joiner_new
       next = next;
       places = omega (arith, p.places, asked.left, passes.left);
       walk =
-          Walking-by (plan_of order names_old) (plan_of order names) (plan_of order names_new) (feeding old 0 []) (feeding mid place events) (feeding new (place + 1) after) fo fm fn from m to
-          (text_behind order names items) p.walk
+          Walking-by (plan_of order origins_old) (plan_of order origins) (plan_of order origins_new) (feeding old 0 []) (feeding mid place events) (feeding new (place + 1) after) fo fm fn from m to
+          (text_behind order origins items) p.walk
           (λ t. passed.told (asked.told t)) (λ c. asked.can_fail (passed.can_fail c)) (omega (arith, passed.left, asked.left))
-          (λ t. ap (text_behind order names) (split t) ∙ (both.0 ∙ ap (λ n. text_behind order names items ++ text_behind order n rest) (sym name.0)))
-          (λ t. ap (refusal_in names) (split t) ∙ (both.1 ∙ ap (λ n. refusal_in n rest) (sym name.0)))
+          (λ t. ap (text_behind order origins) (split t) ∙ (both.0 ∙ ap (λ n. text_behind order origins items ++ text_behind order n rest) (sym name.0)))
+          (λ t. ap (refusal_in origins) (split t) ∙ (both.1 ∙ ap (λ n. refusal_in n rest) (sym name.0)))
           (λ w. wrote w events p.stands) told cannot failed;
     }
 
@@ -237,17 +237,17 @@ shows-end mid shown place events shows =
     (record { items = refl; endings = λ file. refl }, joined-none (run_of mid) place events (sym (items-of-run mid) ∙ shows.1))
 
 -- what is written where a packet's datagram isn't written whole, or is refused
-pub Joining-part : (order : Order) (fault : Fault) (old mid shown : List Part) (names_old names : List Name) (joiner : JoinerState) (place : ℕ) (fo fm : Bool) (from m : Writer) (held : List ℕ)
+pub Joining-part : (order : Order) (fault : Fault) (old mid shown : List Part) (origins_old origins : List Origin) (joiner : JoinerState) (place : ℕ) (fo fm : Bool) (from m : Writer) (held : List ℕ)
     (meta : Meta) (lent : List ℕ) (clock : Option Stamp)
     → lent ≡ (feed_of shown).frame
-    → Joining order old mid names_old names joiner place fo fm from m → IsTrue (feed_of old).told → IsTrue from.told
+    → Joining order old mid origins_old origins joiner place fo fm from m → IsTrue (feed_of old).told → IsTrue from.told
     → (feed_of mid).items ≡ packet meta (feed_of shown).frame ∷ drop 1 (feed_of mid).items → run_of shown ≡ run_of mid → BeginsAt clock (run_of shown)
     → ((events : List Event) → StandsFor joiner events
-    → Prints {A = Unit {0}} (text_behind order names (items_of_packet place events clock meta lent))
-    (refusal_in names (items_of_packet place events clock meta lent)) m.held (Err fault) held)
-    → Prints {A = Unit {0}} (text_behind order names_old (joined_items 0 [] (run_of old))) (refusal_in names_old (joined_items 0 [] (run_of old))) from.held (Err fault) held
-Joining-part order fault old mid shown names_old names joiner place fo fm from m held meta frame clock lent p t w head same begins prints =
-    Prints-part order fault (text_behind order names_old (joined_items 0 [] (run_of old))) (refusal_in names_old (joined_items 0 [] (run_of old))) from m held names
+    → Prints {A = Unit {0}} (text_behind order origins (items_of_packet place events clock meta lent))
+    (refusal_in origins (items_of_packet place events clock meta lent)) m.held (Err fault) held)
+    → Prints {A = Unit {0}} (text_behind order origins_old (joined_items 0 [] (run_of old))) (refusal_in origins_old (joined_items 0 [] (run_of old))) from.held (Err fault) held
+Joining-part order fault old mid shown origins_old origins joiner place fo fm from m held meta frame clock lent p t w head same begins prints =
+    Prints-part order fault (text_behind order origins_old (joined_items 0 [] (run_of old))) (refusal_in origins_old (joined_items 0 [] (run_of old))) from m held origins
     (joined_items place p.events (run_of mid)) (items_of_packet place p.events clock meta frame)
     (joined_items (place + 1) (events_after place p.events clock meta frame) (drop 1 (run_of mid)))
     (joined-at-first mid shown meta frame clock place p.events (head ∙ ap (λ f. packet meta f ∷ drop 1 (feed_of mid).items) (sym lent)) same begins)

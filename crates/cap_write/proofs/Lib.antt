@@ -24,5 +24,5 @@ mod Renaming
 mod Renumbered
 mod RoundTrip
 mod Trips
-mod UsedNames
+mod UsedOrigins
 mod Written

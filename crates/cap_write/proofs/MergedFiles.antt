@@ -18,19 +18,19 @@ use Rattle.cap_write.proofs.Measured.{numbered-measured}
 use Rattle.cap_write.proofs.MergedAgain.{fits-numbered}
 use Rattle.cap_write.proofs.Renumbered.{merged_again-law}
 use Rattle.cap_write.specs.Laws.{AllAlike, HasFields, AllHave, MergeLaw}
-use Rattle.cap_write.specs.Numbering.{Name, name_of}
+use Rattle.cap_write.specs.Numbering.{Origin, origin_of}
 use Rattle.cap_merge.specs.Files.{items_of_files, run_of_files}
 
--- A packet has the interface of its name, its fields fit, and its file has at least that number.
-abbrev IsOfFile : ℕ → (Name → Interface) → Item → Type 0
+-- A packet has the interface of its origin, its fields fit, and its file has at least that number.
+abbrev IsOfFile : ℕ → (Origin → Interface) → Item → Type 0
 IsOfFile least given (packet meta frame) = (least ≤ meta.file) × HasFields given meta frame
 IsOfFile least given (refused refusal) = Unit {0}
 
--- the interfaces of some files by their names
-given_from : Tail → ℕ → List (List ℕ) → Name → Interface
-given_from tail file [] name = (one_interface-law tail 0 []).0 0
-given_from tail file (bytes ∷ files) name =
-    if name.0 == file then (one_interface-law tail file bytes).0 name.1 else given_from tail (file + 1) files name
+-- the interfaces of some files by their origins
+given_from : Tail → ℕ → List (List ℕ) → Origin → Interface
+given_from tail file [] origin = (one_interface-law tail 0 []).0 0
+given_from tail file (bytes ∷ files) origin =
+    if origin.0 == file then (one_interface-law tail file bytes).0 origin.1 else given_from tail (file + 1) files origin
 
 -- what one file gives
 of_one : (tail : Tail) (file : ℕ) (bytes : List ℕ) (files : List (List ℕ)) (items : List Item)
@@ -45,7 +45,7 @@ of_one tail file bytes files (packet meta frame ∷ items) alike fit = (
     record {
       interface =
           alike.1
-          ∙ sym (ap (λ b. if b then (one_interface-law tail file bytes).0 meta.instance else given_from tail (file + 1) files (name_of meta))
+          ∙ sym (ap (λ b. if b then (one_interface-law tail file bytes).0 meta.instance else given_from tail (file + 1) files (origin_of meta))
           (eq-eqb meta.file file alike.0));
       fits = fits-numbered meta frame fit.0;
     },
@@ -64,7 +64,7 @@ raised tail file bytes files (packet meta frame) is =
       record {
         interface =
             is.1.interface
-            ∙ sym (ap (λ b. if b then (one_interface-law tail file bytes).0 meta.instance else given_from tail (file + 1) files (name_of meta))
+            ∙ sym (ap (λ b. if b then (one_interface-law tail file bytes).0 meta.instance else given_from tail (file + 1) files (origin_of meta))
             (ne_eqb meta.file file (λ e. absurd (omega (arith, least, e)))));
         fits = is.1.fits;
       },
@@ -95,7 +95,7 @@ front Q ends (x ∷ xs) h = (h.0, by (ends x) (front Q ends xs h.1))
     by true later = tt
     by false later = later
 
-all_have : (least : ℕ) (given : Name → Interface) (items : List Item) → AllByRecursion (IsOfFile least given) items → AllHave given items
+all_have : (least : ℕ) (given : Origin → Interface) (items : List Item) → AllByRecursion (IsOfFile least given) items → AllHave given items
 all_have least given [] h = tt
 all_have least given (refused refusal ∷ items) h = tt
 all_have least given (packet meta frame ∷ items) h = (h.0.1, all_have least given items h.1)

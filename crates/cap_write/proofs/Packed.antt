@@ -10,7 +10,7 @@ use Rattle.cap_source.specs.Items.{pcap_items}
 use Rattle.cap_time.specs.declared.resolutions.Interface.{Interface}
 use Rattle.cap_write.specs.Laws.{Kept, kept, read_items, IsNumbered, all_described}
 use Rattle.cap_source.specs.Feed.{refusal_of}
-use Rattle.cap_write.specs.Numbering.{Name, is_name, Numbered, numbered, refusal_in, write_fault}
+use Rattle.cap_write.specs.Numbering.{Origin, is_origin, Numbered, numbered, refusal_in, write_fault}
 use Rattle.cap_write.specs.Texts.{interface_part, packet_part, count_after}
 use Rattle.indexmap.specs.IndexSet.{insert_key}
 use Rattle.std.proofs.lemmas.Bool.{eq-eqb}
@@ -31,8 +31,8 @@ abbrev pub keep_all : Interface → List Packet → List Kept
 keep_all i [] = []
 keep_all i (p ∷ ps) = keep_one i p ∷ keep_all i ps
 
-abbrev one_name : ℕ → List Name
-one_name file = (file, 0) ∷ []
+abbrev one_origin : ℕ → List Origin
+one_origin file = (file, 0) ∷ []
 
 abbrev pub stop_refusal : Stop → Option Refusal
 stop_refusal stops.End = None
@@ -40,34 +40,34 @@ stop_refusal stops.Cut = None
 stop_refusal (stops.Refused refusal) = Some refusal
 
 -- the one interface keeps its number, 0
-number-same : (file : ℕ) → position_or_len (is_name (file, 0)) (one_name file) ≡ 0
+number-same : (file : ℕ) → position_or_len (is_origin (file, 0)) (one_origin file) ≡ 0
 number-same file = ap (λ b. cond (not (b && true)) (1 + 0) 0) (eq-eqb file file refl)
 
-names-same : (file : ℕ) → insert_key is_name (one_name file) (file, 0) ≡ one_name file
-names-same file = ap (λ b. if (b && true) || false then one_name file else one_name file ++ (file, 0) ∷ []) (eq-eqb file file refl)
+origins-same : (file : ℕ) → insert_key is_origin (one_origin file) (file, 0) ≡ one_origin file
+origins-same file = ap (λ b. if (b && true) || false then one_origin file else one_origin file ++ (file, 0) ∷ []) (eq-eqb file file refl)
 
 -- what is written of them is all
 pub numbered-packets : (file : ℕ) (i : Interface) (offset : ℕ) (ps : List Packet) (stop : Stop)
-    → numbered (one_name file) (pcap_items file i (records.items_with offset ps stop)) ≡ number_all i ps
+    → numbered (one_origin file) (pcap_items file i (records.items_with offset ps stop)) ≡ number_all i ps
 unfolding numbered pcap_items write_fault
 numbered-packets file i offset [] stops.End = refl
 numbered-packets file i offset [] stops.Cut = refl
 numbered-packets file i offset [] (stops.Refused refusal) = refl
 numbered-packets file i offset (p ∷ ps) stop =
     ap (λ k. record { number = k; interface = i; units = p.units; captured = length p.frame; original = p.original; frame = p.frame }
-    ∷ numbered (insert_key is_name (one_name file) (file, 0)) (pcap_items file i (records.items_with (offset + packet_size p) ps stop))) (number-same file)
-    ∙ (ap (λ names. number_one i p ∷ numbered names (pcap_items file i (records.items_with (offset + packet_size p) ps stop))) (names-same file)
+    ∷ numbered (insert_key is_origin (one_origin file) (file, 0)) (pcap_items file i (records.items_with (offset + packet_size p) ps stop))) (number-same file)
+    ∙ (ap (λ origins. number_one i p ∷ numbered origins (pcap_items file i (records.items_with (offset + packet_size p) ps stop))) (origins-same file)
     ∙ ap (λ l. number_one i p ∷ l) (numbered-packets file i (offset + packet_size p) ps stop))
 
 -- and nothing is refused but what ended them
 pub refusal-packets : (file : ℕ) (i : Interface) (offset : ℕ) (ps : List Packet) (stop : Stop)
-    → refusal_in (one_name file) (pcap_items file i (records.items_with offset ps stop)) ≡ stop_refusal stop
+    → refusal_in (one_origin file) (pcap_items file i (records.items_with offset ps stop)) ≡ stop_refusal stop
 unfolding refusal_in pcap_items write_fault
 refusal-packets file i offset [] stops.End = refl
 refusal-packets file i offset [] stops.Cut = refl
 refusal-packets file i offset [] (stops.Refused refusal) = refl
 refusal-packets file i offset (p ∷ ps) stop =
-    ap (λ names. refusal_in names (pcap_items file i (records.items_with (offset + packet_size p) ps stop))) (names-same file)
+    ap (λ origins. refusal_in origins (pcap_items file i (records.items_with (offset + packet_size p) ps stop))) (origins-same file)
     ∙ refusal-packets file i (offset + packet_size p) ps stop
 
 pub refusal_of-packets : (file : ℕ) (i : Interface) (offset : ℕ) (ps : List Packet) (stop : Stop)

@@ -21,12 +21,12 @@ use Rattle.cap_write.proofs.Measured.{numbered-measured}
 use Rattle.cap_write.proofs.MergedAgain.{fits-numbered, IsNumbered-given, AllFit-given, all_described-given}
 use Rattle.cap_write.proofs.Renumbered.{numbered-again, refusal-again, refusal_of-again, InOrder-numbered, merged_again-law}
 use Rattle.cap_write.specs.Laws.{AllAlike, AllHave, PcapngAgain}
-use Rattle.cap_write.specs.Numbering.{Name, numbered, refusal_in}
-use Rattle.cap_write.specs.Texts.{first_names, packets_bytes, pcapng_bytes, merged_bytes}
+use Rattle.cap_write.specs.Numbering.{Origin, numbered, refusal_in}
+use Rattle.cap_write.specs.Texts.{first_origins, packets_bytes, pcapng_bytes, merged_bytes}
 
--- the interfaces of a file by their names
-abbrev of_instance : (ℕ → Interface) → Name → Interface
-of_instance given name = given name.1
+-- the interfaces of a file by their origins
+abbrev of_instance : (ℕ → Interface) → Origin → Interface
+of_instance given origin = given origin.1
 
 have_all : (file : ℕ) (given : ℕ → Interface) (items : List Item) → AllAlike file given items → AllByRecursion ItemFits items → AllHave (of_instance given) items
 have_all file given [] alike fit = tt
@@ -35,8 +35,8 @@ have_all file given (packet meta frame ∷ items) alike fit =
     (record { interface = alike.1; fits = fits-numbered meta frame fit.0 }, have_all file given items alike.2 fit.1)
 
 -- the same, the first of them known
-abbrev with_first : Interface → (ℕ → Interface) → Name → Interface
-with_first i given name = if name.1 == 0 then i else given name.1
+abbrev with_first : Interface → (ℕ → Interface) → Origin → Interface
+with_first i given origin = if origin.1 == 0 then i else given origin.1
 
 have_first : (file : ℕ) (i : Interface) (given : ℕ → Interface) (items : List Item) → AllAlike file given items → AllByRecursion (IsFirst i) items
     → AllByRecursion ItemFits items → AllHave (with_first i given) items
@@ -49,9 +49,9 @@ have_first file i given (packet meta frame ∷ items) alike first fit =
     by true is = first.0 (eqb-true meta.instance 0 is)
     by false is = alike.1
 
--- What is read again of some packets that were numbered after some names.
-record IsReadAgain (names others : List Name) (items again : List Item) : Type 0 where
-  packets : numbered others again ≡ numbered names items
+-- What is read again of some packets that were numbered after some origins.
+record IsReadAgain (origins others : List Origin) (items again : List Item) : Type 0 where
+  packets : numbered others again ≡ numbered origins items
   unrefused : refusal_in others again ≡ None
   complete : refusal_of again ≡ None
 
@@ -88,7 +88,7 @@ no_first order tail tail_again file file_again bytes none =
 
 behind_first : (order : Order) (tail tail_again : Tail) (file file_again : ℕ) (bytes : List ℕ) (i : Interface) → AreBytes bytes → file_first tail file bytes ≡ Some i
     → length (pcapng_bytes order file (Some i) (file_items tail file bytes)) ≤ 2 ^ 40
-    → IsReadAgain (first_names file (Some i)) (first_names file_again (Some i)) (file_items tail file bytes)
+    → IsReadAgain (first_origins file (Some i)) (first_origins file_again (Some i)) (file_items tail file bytes)
     (file_items tail_again file_again (pcapng_bytes order file (Some i) (file_items tail file bytes)))
     × (file_first tail_again file_again (pcapng_bytes order file (Some i) (file_items tail file bytes)) ≡ Some i)
 behind_first order tail tail_again file file_again bytes i are is limit =
@@ -98,18 +98,18 @@ behind_first order tail tail_again file file_again bytes i are is limit =
     let first = first-of tail file bytes i are is in
     let given = with_first i alike.0 in
     let have = have_first file i alike.0 items alike.1 first.packets fit in
-    let names = first_names file (Some i) in
-    let ns = numbered names items in
-    let in_order = InOrder-numbered names items in
+    let origins = first_origins file (Some i) in
+    let ns = numbered origins items in
+    let in_order = InOrder-numbered origins items in
     let place = 28 + length (interface_bytes order i) in
     let both = pcapng-again order tail_again file_again i ns first.fits.link first.fits.snaplen first.fits.offset
-    (IsNumbered-given given names items have) (AllFit-given given names items have) (all_described-given given names items have (omega arith)) limit in
+    (IsNumbered-given given origins items have) (AllFit-given given origins items have) (all_described-given given origins items have (omega arith)) limit in
     let read = both.0 in (
       record {
         packets =
-            ap (numbered (first_names file_again (Some i))) read
-            ∙ (numbered-again order file_again place 1 ns in_order ∙ numbered-measured names items (frames_fit-law tail file bytes));
-        unrefused = ap (refusal_in (first_names file_again (Some i))) read ∙ refusal-again order file_again place 1 ns in_order;
+            ap (numbered (first_origins file_again (Some i))) read
+            ∙ (numbered-again order file_again place 1 ns in_order ∙ numbered-measured origins items (frames_fit-law tail file bytes));
+        unrefused = ap (refusal_in (first_origins file_again (Some i))) read ∙ refusal-again order file_again place 1 ns in_order;
         complete = ap refusal_of read ∙ refusal_of-again order file_again place 1 ns;
       },
       both.1,
@@ -123,8 +123,8 @@ pcapng_again-law order tail tail_again file file_again bytes are = by (file_firs
         let text = pcapng_bytes order file first items in
         let again = file_items tail_again file_again text in
         length text ≤ 2 ^ 40
-        → (numbered (first_names file_again first) again ≡ numbered (first_names file first) items)
-        × (refusal_in (first_names file_again first) again ≡ None)
+        → (numbered (first_origins file_again first) again ≡ numbered (first_origins file first) items)
+        × (refusal_in (first_origins file_again first) again ≡ None)
         × (refusal_of again ≡ None)
         × (file_first tail_again file_again text ≡ first))
     by None is limit =

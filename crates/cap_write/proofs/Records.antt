@@ -13,7 +13,7 @@ use Rattle.cap_source.specs.Feed.{Feed}
 use Rattle.cap_source.specs.declared.packets.Meta.{Meta}
 use Rattle.cap_time.specs.declared.resolutions.Interface.{Interface}
 use Rattle.cap_time.specs.declared.stamps.Unit.{Unit as Fraction}
-use Rattle.cap_write.specs.Names.{HasUnits}
+use Rattle.cap_write.specs.Interfaces.{HasUnits}
 use Rattle.cap_write.specs.Numbering.{refusal_at}
 use Rattle.cap_write.specs.Pcap.{fraction_of, whole_time, time_fault, units_fault, record_fault, time_in, packet_record, records_bytes, records_refusal}
 use Rattle.cap_write.specs.Texts.{text_or}

@@ -17,19 +17,19 @@ use Rattle.cap_write.proofs.MergedAgain.{number-used, room_left, IsNumbered-give
 use Rattle.cap_write.proofs.Places.{position_or_len-none, position_or_len-some}
 use Rattle.cap_write.specs.Laws.{read_items, meta_again, instances, numbers, measured, MergedAgain}
 use Rattle.cap_source.specs.Feed.{refusal_of}
-use Rattle.cap_write.specs.Numbering.{Name, name_of, is_name, is_used, number_of, with_name, write_fault, Numbered, numbered_of, numbered_or, numbered, refusal_or, refusal_in}
+use Rattle.cap_write.specs.Numbering.{Origin, origin_of, is_origin, is_used, number_of, with_origin, write_fault, Numbered, numbered_of, numbered_or, numbered, refusal_or, refusal_in}
 use Rattle.cap_write.specs.Texts.{interface_part, packet_part, count_after, merged_bytes}
 
--- the names of that many interfaces of one file
-abbrev pub file_names : ℕ → ℕ → List Name
-file_names file zero = []
-file_names file (suc k) = file_names file k ++ (file, k) ∷ []
+-- the origins of that many interfaces of one file
+abbrev pub file_origins : ℕ → ℕ → List Origin
+file_origins file zero = []
+file_origins file (suc k) = file_origins file k ++ (file, k) ∷ []
 
-length-file_names : (file count : ℕ) → length (file_names file count) ≡ count
-length-file_names file zero = refl
-length-file_names file (suc k) = length-append (file_names file k) ((file, k) ∷ []) ∙ omega (arith, length-file_names file k)
+length-file_origins : (file count : ℕ) → length (file_origins file count) ≡ count
+length-file_origins file zero = refl
+length-file_origins file (suc k) = length-append (file_origins file k) ((file, k) ∷ []) ∙ omega (arith, length-file_origins file k)
 
-own_file : (file k m : ℕ) → is_name (file, k) (file, m) ≡ (k == m)
+own_file : (file k m : ℕ) → is_origin (file, k) (file, m) ≡ (k == m)
 own_file file k m = ap (λ b. b && (k == m)) (eq-eqb file file refl)
 
 least_by : (k m : ℕ) (here same : Bool) → (min k m == m) ≡ here → (k == m) ≡ same
@@ -39,23 +39,23 @@ least_by k m true false is e = omega (arith, eqb-true (min k m) m is, eqb-false 
 least_by k m false same is e = omega (arith, eqb-false (min k m) m is)
 
 -- where one of them stands
-place_of : (file k count : ℕ) → position_or_len (is_name (file, k)) (file_names file count) ≡ min k count
+place_of : (file k count : ℕ) → position_or_len (is_origin (file, k)) (file_origins file count) ≡ min k count
 place_of file k zero = omega arith
 place_of file k (suc m) =
-    let p = is_name (file, k) in
-    let names = file_names file m in
-    position_or_len_push p names (file, m)
-    ∙ (ap (λ l. cond (position_or_len p names == l) (l + cond (p (file, m)) 0 1) (position_or_len p names)) (length-file_names file m)
+    let p = is_origin (file, k) in
+    let origins = file_origins file m in
+    position_or_len_push p origins (file, m)
+    ∙ (ap (λ l. cond (position_or_len p origins == l) (l + cond (p (file, m)) 0 1) (position_or_len p origins)) (length-file_origins file m)
     ∙ (ap (λ x. cond (x == m) (m + cond (p (file, m)) 0 1) x) (place_of file k m)
     ∙ (ap (λ b. cond (min k m == m) (m + cond b 0 1) (min k m)) (own_file file k m)
     ∙ least_by k m (min k m == m) (k == m) refl refl)))
 
 -- whether it stands there
-used_of : (file k count : ℕ) (used : Bool) → list_any (is_name (file, k)) (file_names file count) ≡ used → nat_lt k count ≡ used
+used_of : (file k count : ℕ) (used : Bool) → list_any (is_origin (file, k)) (file_origins file count) ≡ used → nat_lt k count ≡ used
 used_of file k count true is =
-    lt-ltb k count (omega (arith, position_or_len-some (is_name (file, k)) (file_names file count) is, place_of file k count, length-file_names file count))
+    lt-ltb k count (omega (arith, position_or_len-some (is_origin (file, k)) (file_origins file count) is, place_of file k count, length-file_origins file count))
 used_of file k count false is =
-    not_below k count (omega (arith, position_or_len-none (is_name (file, k)) (file_names file count) is, place_of file k count, length-file_names file count))
+    not_below k count (omega (arith, position_or_len-none (is_origin (file, k)) (file_origins file count) is, place_of file k count, length-file_origins file count))
   where
     not_below : (a b : ℕ) → b ≤ a → nat_lt a b ≡ false
     not_below a b h = grind (arith, nat_tests)
@@ -68,20 +68,20 @@ InOrder count (n ∷ rest) = (n.number ≤ count) × ((n.number == count) ≡ tr
 one_more : (k : ℕ) → suc k ≡ k + 1
 one_more k = omega arith
 
--- the names after a packet that was read again
-names_behind : (file count : ℕ) (n : Numbered) → n.number ≤ count
-    → insert_key is_name (file_names file count) (file, n.number) ≡ file_names file (count_after count n)
-names_behind file count n few = by (list_any (is_name (file, n.number)) (file_names file count)) refl
+-- the origins after a packet that was read again
+origins_behind : (file count : ℕ) (n : Numbered) → n.number ≤ count
+    → insert_key is_origin (file_origins file count) (file, n.number) ≡ file_origins file (count_after count n)
+origins_behind file count n few = by (list_any (is_origin (file, n.number)) (file_origins file count)) refl
   where
-    by : (used : Bool) → list_any (is_name (file, n.number)) (file_names file count) ≡ used
-        → (if used then file_names file count else file_names file count ++ (file, n.number) ∷ []) ≡ file_names file (count_after count n)
+    by : (used : Bool) → list_any (is_origin (file, n.number)) (file_origins file count) ≡ used
+        → (if used then file_origins file count else file_origins file count ++ (file, n.number) ∷ []) ≡ file_origins file (count_after count n)
     by true is =
         let below = ltb-true n.number count (used_of file n.number count true is) in
-        ap (λ b. file_names file (if b then count + 1 else count)) (sym (ne_eqb n.number count (λ e. absurd (omega (arith, below, e)))))
+        ap (λ b. file_origins file (if b then count + 1 else count)) (sym (ne_eqb n.number count (λ e. absurd (omega (arith, below, e)))))
     by false is =
         let same : n.number ≡ count = omega (arith, ltb-false n.number count (used_of file n.number count false is), few) in
-        ap (λ k. file_names file count ++ (file, k) ∷ []) same
-        ∙ (ap (file_names file) (one_more count) ∙ ap (λ b. file_names file (if b then count + 1 else count)) (sym (eq-eqb n.number count same)))
+        ap (λ k. file_origins file count ++ (file, k) ∷ []) same
+        ∙ (ap (file_origins file) (one_more count) ∙ ap (λ b. file_origins file (if b then count + 1 else count)) (sym (eq-eqb n.number count same)))
 
 never : (b : Bool) → (if b && false then Some InterfaceLimit else None) ≡ None
 never true = refl
@@ -90,64 +90,64 @@ never false = refl
 few_left : (n : ℕ) → n < 1024 → nat_le 1024 n ≡ false
 few_left n h = grind (arith, nat_tests)
 
-number-most : (names : List Name) (meta : Meta) → number_of names meta ≤ length names
-number-most names meta = by (is_used names meta) refl
+number-most : (origins : List Origin) (meta : Meta) → number_of origins meta ≤ length origins
+number-most origins meta = by (is_used origins meta) refl
   where
-    by : (used : Bool) → is_used names meta ≡ used → number_of names meta ≤ length names
-    by true used = omega (arith, position_or_len-some (is_name (name_of meta)) names used)
-    by false used = omega (arith, position_or_len-none (is_name (name_of meta)) names used)
+    by : (used : Bool) → is_used origins meta ≡ used → number_of origins meta ≤ length origins
+    by true used = omega (arith, position_or_len-some (is_origin (origin_of meta)) origins used)
+    by false used = omega (arith, position_or_len-none (is_origin (origin_of meta)) origins used)
 
-next_room : (names : List Name) (meta : Meta) → write_fault names meta ≡ None → (number_of names meta == length names) ≡ true → length names < 1024
-next_room names meta none next = by (is_used names meta) refl
+next_room : (origins : List Origin) (meta : Meta) → write_fault origins meta ≡ None → (number_of origins meta == length origins) ≡ true → length origins < 1024
+next_room origins meta none next = by (is_used origins meta) refl
   where
-    by : (used : Bool) → is_used names meta ≡ used → length names < 1024
-    by true used = absurd (false≢true (sym (number-used names meta used) ∙ next))
-    by false used = room_left names meta none used
+    by : (used : Bool) → is_used origins meta ≡ used → length origins < 1024
+    by true used = absurd (false≢true (sym (number-used origins meta used) ∙ next))
+    by false used = room_left origins meta none used
 
 -- which isn't refused
 unrefused : (file place count : ℕ) (n : Numbered) → n.number ≤ count → ((n.number == count) ≡ true → count < 1024)
-    → write_fault (file_names file count) (meta_again file place n) ≡ None
+    → write_fault (file_origins file count) (meta_again file place n) ≡ None
 unfolding write_fault
-unrefused file place count n few room = by (list_any (is_name (file, n.number)) (file_names file count)) refl
+unrefused file place count n few room = by (list_any (is_origin (file, n.number)) (file_origins file count)) refl
   where
-    by : (used : Bool) → list_any (is_name (file, n.number)) (file_names file count) ≡ used
-        → (if nat_le 1024 (length (file_names file count)) && not (list_any (is_name (file, n.number)) (file_names file count)) then Some InterfaceLimit else None) ≡ None
-    by true is = ap (λ u. if nat_le 1024 (length (file_names file count)) && not u then Some InterfaceLimit else None) is ∙ never (nat_le 1024 (length (file_names file count)))
+    by : (used : Bool) → list_any (is_origin (file, n.number)) (file_origins file count) ≡ used
+        → (if nat_le 1024 (length (file_origins file count)) && not (list_any (is_origin (file, n.number)) (file_origins file count)) then Some InterfaceLimit else None) ≡ None
+    by true is = ap (λ u. if nat_le 1024 (length (file_origins file count)) && not u then Some InterfaceLimit else None) is ∙ never (nat_le 1024 (length (file_origins file count)))
     by false is =
         let same : n.number ≡ count = omega (arith, ltb-false n.number count (used_of file n.number count false is), few) in
         let left = room (eq-eqb n.number count same) in
-        ap (λ b. if b && not (list_any (is_name (file, n.number)) (file_names file count)) then Some InterfaceLimit else None)
-        (few_left (length (file_names file count)) (omega (arith, left, length-file_names file count)))
+        ap (λ b. if b && not (list_any (is_origin (file, n.number)) (file_origins file count)) then Some InterfaceLimit else None)
+        (few_left (length (file_origins file count)) (omega (arith, left, length-file_origins file count)))
 
 -- Packets that are read again have the numbers that they had, and as many captured bytes as they have, and none is refused.
 pub numbered-again : (order : Order) (file offset count : ℕ) (ns : List Numbered) → InOrder count ns
-    → numbered (file_names file count) (read_items order file offset count ns) ≡ map measured ns
+    → numbered (file_origins file count) (read_items order file offset count ns) ≡ map measured ns
 unfolding numbered read_items
 numbered-again order file offset count [] in_order = refl
 numbered-again order file offset count (n ∷ rest) in_order =
     let place = offset + length (interface_part order count n) in
     let next = place + length (packet_part order n) in
     let items = read_items order file next (count_after count n) rest in
-    let number : position_or_len (is_name (file, n.number)) (file_names file count) ≡ n.number =
+    let number : position_or_len (is_origin (file, n.number)) (file_origins file count) ≡ n.number =
     place_of file n.number count ∙ omega (arith, in_order.0) in
-    ap (λ f. numbered_or f (numbered_of (file_names file count) (meta_again file place n) n.frame) (numbered (with_name (file_names file count) (meta_again file place n)) items))
+    ap (λ f. numbered_or f (numbered_of (file_origins file count) (meta_again file place n) n.frame) (numbered (with_origin (file_origins file count) (meta_again file place n)) items))
     (unrefused file place count n in_order.0 in_order.1)
     ∙ (ap (λ k. record { number = k; interface = n.interface; units = n.units; captured = length n.frame; original = n.original; frame = n.frame }
-    ∷ numbered (with_name (file_names file count) (meta_again file place n)) items) number
-    ∙ (ap (λ names. measured n ∷ numbered names items) (names_behind file count n in_order.0)
+    ∷ numbered (with_origin (file_origins file count) (meta_again file place n)) items) number
+    ∙ (ap (λ origins. measured n ∷ numbered origins items) (origins_behind file count n in_order.0)
     ∙ ap (λ l. measured n ∷ l) (numbered-again order file next (count_after count n) rest in_order.2)))
 
 pub refusal-again : (order : Order) (file offset count : ℕ) (ns : List Numbered) → InOrder count ns
-    → refusal_in (file_names file count) (read_items order file offset count ns) ≡ None
+    → refusal_in (file_origins file count) (read_items order file offset count ns) ≡ None
 unfolding refusal_in read_items
 refusal-again order file offset count [] in_order = refl
 refusal-again order file offset count (n ∷ rest) in_order =
     let place = offset + length (interface_part order count n) in
     let next = place + length (packet_part order n) in
     let items = read_items order file next (count_after count n) rest in
-    ap (λ f. refusal_or f (meta_again file place n) (refusal_in (with_name (file_names file count) (meta_again file place n)) items))
+    ap (λ f. refusal_or f (meta_again file place n) (refusal_in (with_origin (file_origins file count) (meta_again file place n)) items))
     (unrefused file place count n in_order.0 in_order.1)
-    ∙ (ap (λ names. refusal_in names items) (names_behind file count n in_order.0)
+    ∙ (ap (λ origins. refusal_in origins items) (origins_behind file count n in_order.0)
     ∙ refusal-again order file next (count_after count n) rest in_order.2)
 
 pub refusal_of-again : (order : Order) (file offset count : ℕ) (ns : List Numbered) → refusal_of (read_items order file offset count ns) ≡ None
@@ -169,19 +169,19 @@ numbers-measured [] = refl
 numbers-measured (n ∷ rest) = ap (λ l. n.number ∷ l) (numbers-measured rest)
 
 -- what is numbered is in order
-pub InOrder-numbered : (names : List Name) (items : List Item) → InOrder (length names) (numbered names items)
+pub InOrder-numbered : (origins : List Origin) (items : List Item) → InOrder (length origins) (numbered origins items)
 unfolding numbered
-InOrder-numbered names [] = tt
-InOrder-numbered names (refused refusal ∷ items) = tt
-InOrder-numbered names (packet meta frame ∷ items) = by (write_fault names meta) refl (InOrder-numbered (with_name names meta) items)
+InOrder-numbered origins [] = tt
+InOrder-numbered origins (refused refusal ∷ items) = tt
+InOrder-numbered origins (packet meta frame ∷ items) = by (write_fault origins meta) refl (InOrder-numbered (with_origin origins meta) items)
   where
-    by : (fault : Option Rule) → write_fault names meta ≡ fault → InOrder (length (with_name names meta)) (numbered (with_name names meta) items)
-        → InOrder (length names) (numbered_or fault (numbered_of names meta frame) (numbered (with_name names meta) items))
+    by : (fault : Option Rule) → write_fault origins meta ≡ fault → InOrder (length (with_origin origins meta)) (numbered (with_origin origins meta) items)
+        → InOrder (length origins) (numbered_or fault (numbered_of origins meta frame) (numbered (with_origin origins meta) items))
     by (Some rule) is later = tt
     by None is later = (
-      number-most names meta,
-      next_room names meta is,
-      subst (λ k. InOrder k (numbered (with_name names meta) items)) (sym (count_after-is names meta frame)) later,
+      number-most origins meta,
+      next_room origins meta is,
+      subst (λ k. InOrder k (numbered (with_origin origins meta) items)) (sym (count_after-is origins meta frame)) later,
     )
 
 -- What is written of a list is read again as what was numbered of it.

@@ -13,8 +13,8 @@ use Rattle.cap_source.proofs.Walking.{Plan, GoesOn, GivesUp, Prints-whole, Print
 use Rattle.cap_source.specs.Feed.{Item, packet}
 use Rattle.cap_source.specs.declared.packets.Meta.{Meta}
 use Rattle.cap_write.proofs.Numbers.{write_fault-untimed}
-use Rattle.cap_write.specs.Names.{HasUnits}
-use Rattle.cap_write.specs.Numbering.{Name, refusal_at, refusal_by, write_fault, numbered_of}
+use Rattle.cap_write.specs.Interfaces.{HasUnits}
+use Rattle.cap_write.specs.Numbering.{Origin, refusal_at, refusal_by, write_fault, numbered_of}
 use Rattle.cap_write.specs.Texts.{text_or, numbered_bytes, one_bytes}
 
 -- where a packet is refused nothing is written
@@ -24,15 +24,15 @@ Prints-refused text meta rule fault held is =
     rw is ((refl, sym (append-nil held)))
 
 -- a packet without a time is refused
-pub Prints-untimed : (order : Order) (names : List Name) (meta : Meta) (frame held : List ℕ) (fault : Fault) → HasUnits meta (Err fault)
-    → Prints {A = Unit {0}} (one_bytes order names meta frame) (refusal_by meta (write_fault names meta)) held (Err fault) held
-Prints-untimed order names meta frame held (Refused refusal) h =
+pub Prints-untimed : (order : Order) (origins : List Origin) (meta : Meta) (frame held : List ℕ) (fault : Fault) → HasUnits meta (Err fault)
+    → Prints {A = Unit {0}} (one_bytes order origins meta frame) (refusal_by meta (write_fault origins meta)) held (Err fault) held
+Prints-untimed order origins meta frame held (Refused refusal) h =
     rw h.1
-    (Prints-refused (numbered_bytes order (length names) (numbered_of names meta frame)) meta NoTime (write_fault names meta) held
-    (write_fault-untimed names meta h.0))
-Prints-untimed order names meta frame held (Read file offset) h = absurd h
-Prints-untimed order names meta frame held Write h = absurd h
-Prints-untimed order names meta frame held Memory h = absurd h
+    (Prints-refused (numbered_bytes order (length origins) (numbered_of origins meta frame)) meta NoTime (write_fault origins meta) held
+    (write_fault-untimed origins meta h.0))
+Prints-untimed order origins meta frame held (Read file offset) h = absurd h
+Prints-untimed order origins meta frame held Write h = absurd h
+Prints-untimed order origins meta frame held Memory h = absurd h
 
 -- what is written of a feed's packets where one is refused, or isn't written whole
 pub Prints-one : (plan next : Plan) (fault : Fault) (text : List ℕ) (refusal : Option Refusal) (from mid : Writer) (held : List ℕ)

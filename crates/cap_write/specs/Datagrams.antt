@@ -6,7 +6,7 @@ use Rattle.cap_join.specs.declared.arrivals.Arrived.{Arrived}
 use Rattle.cap_join.specs.declared.arrivals.Arrived.TheVariants as as_
 use Rattle.cap_source.specs.Feed.{Item, packet, refused}
 use Rattle.cap_write.specs.Joined.{Complete, complete_of, datagram_bytes}
-use Rattle.cap_write.specs.Numbering.{Name, with_name}
+use Rattle.cap_write.specs.Numbering.{Origin, with_origin}
 
 -- A buffer has the bytes of the datagram, where there is one.
 abbrev pub IsFilled : Option Complete → Bool → List ℕ → Type 0
@@ -34,7 +34,7 @@ abbrev pub Stands : JoinerState → Type 0
 Stands joiner = (events : List Event) × StandsFor joiner events
 
 -- the interfaces that are described after some items, where those were before
-unfoldable pub names_behind : List Name → List Item → List Name
-names_behind names [] = names
-names_behind names (packet meta frame ∷ items) = names_behind (with_name names meta) items
-names_behind names (refused refusal ∷ items) = names
+unfoldable pub origins_behind : List Origin → List Item → List Origin
+origins_behind origins [] = origins
+origins_behind origins (packet meta frame ∷ items) = origins_behind (with_origin origins meta) items
+origins_behind origins (refused refusal ∷ items) = origins

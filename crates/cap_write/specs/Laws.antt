@@ -18,12 +18,12 @@ use Rattle.cap_time.specs.declared.resolutions.Interface.{Interface}
 use Rattle.cap_time.specs.Stamp.{seconds_of, stamp_in}
 use Rattle.cap_time.specs.Unit.{in_second}
 use Rattle.cap_time.specs.declared.stamps.Unit.{Unit as Fraction}
-use Rattle.cap_write.specs.Numbering.{Name, name_of, Numbered, numbered_of, numbered, refusal_in, refusal_at}
+use Rattle.cap_write.specs.Numbering.{Origin, origin_of, Numbered, numbered_of, numbered, refusal_in, refusal_at}
 use Rattle.cap_write.specs.Pcap.{fraction_of, pcap_bytes, pcap_refusal}
 use Rattle.cap_merge.specs.Clock.{clock_cmp}
 use Rattle.cap_merge.specs.Files.{run_of_files}
 use Rattle.cap_source.specs.Times.{meta_time}
-use Rattle.cap_write.specs.Texts.{interface_part, packet_part, count_after, first_names, pcapng_bytes, pcapng_refusal, merged_bytes}
+use Rattle.cap_write.specs.Texts.{interface_part, packet_part, count_after, first_origins, pcapng_bytes, pcapng_refusal, merged_bytes}
 
 -- The fields of a packet and of its interface fit in their widths, and that many bytes may be captured.
 pub record Fits (n : Numbered) : Type 0 where
@@ -163,12 +163,12 @@ SameBytes =
     length bytes ≤ 2 ^ 40 → length text ≤ 2 ^ 40
     → pcap_bytes header.order (file_first tail_again file_again text) (file_items tail_again file_again text) ≡ bytes)
 
--- An interface for each name, which the packets of a list have, and the fields of which fit, as theirs do.
-pub record HasFields (given : Name → Interface) (meta : Meta) (bytes : List ℕ) : Type 0 where
-  pub interface : meta.interface ≡ given (name_of meta)
+-- An interface for each origin, which the packets of a list have, and the fields of which fit, as theirs do.
+pub record HasFields (given : Origin → Interface) (meta : Meta) (bytes : List ℕ) : Type 0 where
+  pub interface : meta.interface ≡ given (origin_of meta)
   pub fits : Fits (numbered_of [] meta bytes)
 
-abbrev pub AllHave : (Name → Interface) → List Item → Type 0
+abbrev pub AllHave : (Origin → Interface) → List Item → Type 0
 AllHave given [] = ⊤
 AllHave given (packet meta frame ∷ items) = HasFields given meta frame × AllHave given items
 AllHave given (refused refusal ∷ items) = ⊤
@@ -193,7 +193,7 @@ measured n = record n { captured = length n.frame }
 -- packet's instance is its number there.
 abbrev pub MergedAgain : Type 0
 MergedAgain =
-    (order : Order) (tail : Tail) (file : ℕ) (given : Name → Interface) (items : List Item) → AllHave given items
+    (order : Order) (tail : Tail) (file : ℕ) (given : Origin → Interface) (items : List Item) → AllHave given items
     → (let text = merged_bytes order items in
     let again = file_items tail file text in
     length text ≤ 2 ^ 40
@@ -239,8 +239,8 @@ PcapngAgain =
     let text = pcapng_bytes order file first items in
     let again = file_items tail_again file_again text in
     length text ≤ 2 ^ 40
-    → (numbered (first_names file_again first) again ≡ numbered (first_names file first) items)
-    × (refusal_in (first_names file_again first) again ≡ None)
+    → (numbered (first_origins file_again first) again ≡ numbered (first_origins file first) items)
+    × (refusal_in (first_origins file_again first) again ≡ None)
     × (refusal_of again ≡ None)
     × (file_first tail_again file_again text ≡ first))
 
@@ -258,7 +258,7 @@ SamePackets (packet meta frame) (refused refusal) = ⊥
 SamePackets (refused refusal) again = ⊥
 
 -- The one interface of what is written as pcap of a file with that first interface: its link and snaplen, and the units in which
--- times are written, counted from 1970. draft-ietf-opsawg-pcap, 4.
+-- times are written, counted from 1970 (draft-ietf-opsawg-pcap, 4).
 abbrev pub written_first : Interface → Interface
 written_first first =
     record { link = first.link; snaplen = first.snaplen; resolution = resolution_of_unit (fraction_of first); offset = pos 0 }

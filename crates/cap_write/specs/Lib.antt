@@ -1,7 +1,7 @@
 pub mod Datagrams
 pub mod Joined
 pub mod Laws
-pub mod Names
+pub mod Interfaces
 pub mod Numbering
 pub mod Pcap
 pub mod Rounds

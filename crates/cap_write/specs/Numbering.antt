@@ -9,15 +9,15 @@ use Rattle.cap_source.specs.Feed.{Item, packet, refused}
 use Rattle.cap_source.specs.declared.packets.Meta.{Meta}
 use Rattle.cap_time.specs.declared.resolutions.Interface.{Interface}
 
--- An interface by its file's number and by how many interface blocks of the file stand before its own.
-abbrev pub Name : Type 0
-Name = ℕ × ℕ
+-- An interface's origin: the number of its file, and how many interface blocks of the file stand before its own.
+abbrev pub Origin : Type 0
+Origin = ℕ × ℕ
 
-abbrev pub name_of : Meta → Name
-name_of meta = (meta.file, meta.instance)
+abbrev pub origin_of : Meta → Origin
+origin_of meta = (meta.file, meta.instance)
 
-abbrev pub is_name : Name → Name → Bool
-is_name a b = (a.0 == b.0) && (a.1 == b.1)
+abbrev pub is_origin : Origin → Origin → Bool
+is_origin a b = (a.0 == b.0) && (a.1 == b.1)
 
 -- A packet as it is written: the number of its interface, the interface, its time in the interface's
 -- units, how many bytes were captured of it, as is told, and how many it had, and the captured bytes.
@@ -29,33 +29,33 @@ pub record Numbered : Type 0 where
   pub original : ℕ
   pub frame : List ℕ
 
--- whether an interface was used, where those of `names` were
-abbrev pub is_used : List Name → Meta → Bool
-is_used names meta = list_any (is_name (name_of meta)) names
+-- whether an interface was used, where those of `origins` were
+abbrev pub is_used : List Origin → Meta → Bool
+is_used origins meta = list_any (is_origin (origin_of meta)) origins
 
 -- Interfaces are numbered from 0 in the order of their first use: the number of a packet's, where those
--- of `names` were used before it, and those that are used then.
-abbrev pub number_of : List Name → Meta → ℕ
-number_of names meta = position_or_len (is_name (name_of meta)) names
+-- of `origins` were used before it, and those that are used then.
+abbrev pub number_of : List Origin → Meta → ℕ
+number_of origins meta = position_or_len (is_origin (origin_of meta)) origins
 
-abbrev pub with_name : List Name → Meta → List Name
-with_name names meta = insert_key is_name names (name_of meta)
+abbrev pub with_origin : List Origin → Meta → List Origin
+with_origin origins meta = insert_key is_origin origins (origin_of meta)
 
 -- whether a packet would need the 1,025th interface
-abbrev pub is_full : List Name → Meta → Bool
-is_full names meta = nat_le 1024 (length names) && not (is_used names meta)
+abbrev pub is_full : List Origin → Meta → Bool
+is_full origins meta = nat_le 1024 (length origins) && not (is_used origins meta)
 
 -- Why a packet isn't written, where those interfaces were used: it has no time, or its interface would be
 -- the 1,025th.
-unfoldable pub write_fault : List Name → Meta → Option Rule
-write_fault names meta =
+unfoldable pub write_fault : List Origin → Meta → Option Rule
+write_fault origins meta =
     if is_none meta.units then Some NoTime else
-    if is_full names meta then Some InterfaceLimit else None
+    if is_full origins meta then Some InterfaceLimit else None
 
-abbrev pub numbered_of : List Name → Meta → List ℕ → Numbered
-numbered_of names meta frame =
+abbrev pub numbered_of : List Origin → Meta → List ℕ → Numbered
+numbered_of origins meta frame =
     record {
-      number = number_of names meta;
+      number = number_of origins meta;
       interface = meta.interface;
       units = unwrap_or meta.units 0;
       captured = meta.captured;
@@ -69,11 +69,11 @@ abbrev pub numbered_or : Option Rule → Numbered → List Numbered → List Num
 numbered_or (Some rule) first rest = []
 numbered_or None first rest = first ∷ rest
 
-unfoldable pub numbered : List Name → List Item → List Numbered
-numbered names [] = []
-numbered names (packet meta frame ∷ items) =
-    numbered_or (write_fault names meta) (numbered_of names meta frame) (numbered (with_name names meta) items)
-numbered names (refused refusal ∷ items) = []
+unfoldable pub numbered : List Origin → List Item → List Numbered
+numbered origins [] = []
+numbered origins (packet meta frame ∷ items) =
+    numbered_or (write_fault origins meta) (numbered_of origins meta frame) (numbered (with_origin origins meta) items)
+numbered origins (refused refusal ∷ items) = []
 
 -- the refusal of a packet
 abbrev pub refusal_at : Meta → Rule → Refusal
@@ -87,8 +87,8 @@ abbrev pub refusal_or : Option Rule → Meta → Option Refusal → Option Refus
 refusal_or (Some rule) meta rest = Some (refusal_at meta rule)
 refusal_or None meta rest = rest
 
-unfoldable pub refusal_in : List Name → List Item → Option Refusal
-refusal_in names [] = None
-refusal_in names (packet meta frame ∷ items) =
-    refusal_or (write_fault names meta) meta (refusal_in (with_name names meta) items)
-refusal_in names (refused refusal ∷ items) = Some refusal
+unfoldable pub refusal_in : List Origin → List Item → Option Refusal
+refusal_in origins [] = None
+refusal_in origins (packet meta frame ∷ items) =
+    refusal_or (write_fault origins meta) meta (refusal_in (with_origin origins meta) items)
+refusal_in origins (refused refusal ∷ items) = Some refusal

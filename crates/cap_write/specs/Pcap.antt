@@ -22,7 +22,7 @@ use Rattle.cap_write.specs.Texts.{text_or}
 abbrev pub fraction_of : Interface → Fraction
 fraction_of first = if 1000000 % units_of first.resolution == 0 then Micro else Nano
 
--- the header that is written. draft-ietf-opsawg-pcap, 4.
+-- the header that is written (draft-ietf-opsawg-pcap, 4).
 abbrev pub header_of : Order → Interface → PcapHeader
 header_of order first =
     record { order = order; unit = fraction_of first; snaplen = first.snaplen; link = first.link }
@@ -59,7 +59,7 @@ time_in fraction interface (Some units) = whole_time fraction interface units
 abbrev pub written_time : Interface → Meta → Option (ℤ × ℕ)
 written_time first meta = time_in (fraction_of first) meta.interface meta.units
 
--- what is written for it. draft-ietf-opsawg-pcap, 5.
+-- what is written for it (draft-ietf-opsawg-pcap, 5).
 abbrev pub time_bytes : Order → Option (ℤ × ℕ) → ℕ → List ℕ → List ℕ
 time_bytes order None original frame = []
 time_bytes order (Some time) original frame = record_bytes order (nat_abs time.0) time.1 original frame

@@ -7,9 +7,9 @@ use Rattle.cap_blocks.specs.Grammar.{section_bytes, interface_bytes, packet_byte
 use Rattle.cap_source.specs.Feed.{Item}
 use Rattle.cap_source.specs.declared.packets.Meta.{Meta}
 use Rattle.cap_time.specs.declared.resolutions.Interface.{Interface}
-use Rattle.cap_write.specs.Numbering.{Name, Numbered, numbered_of, numbered, write_fault, refusal_in}
+use Rattle.cap_write.specs.Numbering.{Origin, Numbered, numbered_of, numbered, write_fault, refusal_in}
 
--- what is written for a packet, where `count` interfaces were described before it: its interface, if it
+-- what is written for a packet, where `count` interfaces were described before it: its interface, if that
 -- wasn't, and the packet
 abbrev pub interface_part : Order → ℕ → Numbered → List ℕ
 interface_part order count n = if n.number == count then interface_bytes order n.interface else []
@@ -36,14 +36,14 @@ abbrev pub text_or : Option Rule → List ℕ → List ℕ
 text_or (Some rule) text = []
 text_or None text = text
 
-abbrev pub one_bytes : Order → List Name → Meta → List ℕ → List ℕ
-one_bytes order names meta frame =
-    text_or (write_fault names meta) (numbered_bytes order (length names) (numbered_of names meta frame))
+abbrev pub one_bytes : Order → List Origin → Meta → List ℕ → List ℕ
+one_bytes order origins meta frame =
+    text_or (write_fault origins meta) (numbered_bytes order (length origins) (numbered_of origins meta frame))
 
 -- What is written for a list where those interfaces were described before. A written interface block or
 -- packet block has the form of `interface_bytes` or `packet_bytes`.
-abbrev pub text_behind : Order → List Name → List Item → List ℕ
-text_behind order names items = packets_bytes order (length names) (numbered names items)
+abbrev pub text_behind : Order → List Origin → List Item → List ℕ
+text_behind order origins items = packets_bytes order (length origins) (numbered origins items)
 
 -- what is written for a merged list: a section header, and each interface in front of its first packet
 abbrev pub merged_bytes : Order → List Item → List ℕ
@@ -54,9 +54,9 @@ merged_refusal items = refusal_in [] items
 
 -- What is written for one file as pcapng: its first interface, where it has one, stands right after the
 -- section header.
-abbrev pub first_names : ℕ → Option Interface → List Name
-first_names file None = []
-first_names file (Some interface) = (file, 0) ∷ []
+abbrev pub first_origins : ℕ → Option Interface → List Origin
+first_origins file None = []
+first_origins file (Some interface) = (file, 0) ∷ []
 
 abbrev pub first_bytes : Order → Option Interface → List ℕ
 first_bytes order None = []
@@ -67,7 +67,7 @@ front_bytes order first = section_bytes order ++ first_bytes order first
 
 abbrev pub pcapng_bytes : Order → ℕ → Option Interface → List Item → List ℕ
 pcapng_bytes order file first items =
-    front_bytes order first ++ text_behind order (first_names file first) items
+    front_bytes order first ++ text_behind order (first_origins file first) items
 
 abbrev pub pcapng_refusal : ℕ → Option Interface → List Item → Option Refusal
-pcapng_refusal file first items = refusal_in (first_names file first) items
+pcapng_refusal file first items = refusal_in (first_origins file first) items

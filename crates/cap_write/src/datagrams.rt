@@ -113,7 +113,7 @@ fn stamped_of(run: &RunPacket<'_>) -> Stamped
     }
 }
 
-// Takes the IPv4 packet that a packet of a run carries, and makes room hold the datagram that it completes, if it does.
+// Takes the IPv4 packet that a packet of a run carries, and puts the datagram that it completes, if it does, into the room.
 fn take_ipv4(joining: &mut Joining, run: &RunPacket<'_>, bytes: &[u8]) -> Result<bool, Fault>
     requires stands { Stands joining.old.joiner }
     requires place { joining.old.joiner.next ≤ run.now.place }
@@ -135,8 +135,8 @@ fn take_ipv4(joining: &mut Joining, run: &RunPacket<'_>, bytes: &[u8]) -> Result
     }
 }
 
-/// Takes a packet of a run, and makes `joining.packet` the datagram that it completes. Answers whether there is
-/// one: a whole datagram, or one whose last missing fragment this is, of which all data was captured and has
+/// Takes a packet of a run, and puts the datagram that it completes into `joining.packet`. Answers whether there
+/// is one: a whole datagram, or one whose last missing fragment this is, if all of its data was captured and has
 /// the form of its protocol. `Memory` comes if a growth was refused.
 #[tactic(auto, unfolding(crate::specs::Joined::completed, crate::specs::Joined::events_after))]
 pub fn take_packet(joining: &mut Joining, run: &RunPacket<'_>) -> Result<bool, Fault>

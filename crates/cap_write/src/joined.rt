@@ -8,14 +8,14 @@ ghost use Rattle.cap_merge.specs.Parts.{feed_of, run_of};
 ghost use Rattle.cap_merge.specs.View.{parts_of};
 ghost use Rattle.cap_source.specs.Feed.{Keeps};
 ghost use Rattle.cap_source.specs.Walk.{Walks};
-ghost use Rattle.cap_write.specs.Datagrams.{Stands, names_behind};
+ghost use Rattle.cap_write.specs.Datagrams.{Stands, origins_behind};
 ghost use Rattle.cap_write.specs.Joined.{datagram_meta, events_after, joined_items, joined_bytes, joined_refusal};
 ghost use Rattle.cap_write.specs.Numbering.{refusal_in};
 ghost use Rattle.cap_write.specs.RunPackets.{items_in};
 ghost use Rattle.cap_write.specs.Texts.{text_behind};
 
 use crate::datagrams::take_packet;
-use crate::names::{Names, units_of};
+use crate::interfaces::{Origins, units_of};
 use crate::packets::put_one;
 use crate::run_packets::{Joining, RunPacket};
 use cap_blocks::put_section;
@@ -29,7 +29,7 @@ use std::alloc::Global;
 /// LINKTYPE_RAW: no link header, an IPv4 or IPv6 packet.
 const RAW: u16 = 101;
 
-// What is told of a datagram of that many bytes as one packet, which that packet completed.
+// What is told of a datagram of that many bytes, written as one packet; that packet of the run completed it.
 fn datagram_meta(meta: &Meta, size: u32) -> Meta
     ensures { result ≡ datagram_meta meta.now size }
 {
@@ -53,50 +53,50 @@ fn datagram_meta(meta: &Meta, size: u32) -> Meta
 
 // Writes the datagram that a packet of a run completes, if it does.
 fn put_completed<W: Sink>(
-    names: &mut Names,
+    origins: &mut Origins,
     joining: &mut Joining,
     order: Order,
     run: &RunPacket<'_>,
     writer: &mut W,
 ) -> Result<(), Fault>
-    requires limit { length names.old.keys ≤ 1024 }
+    requires limit { length origins.old.keys ≤ 1024 }
     requires stands { Stands joining.old.joiner }
     requires place { joining.old.joiner.next ≤ run.now.place }
     ensures text { IsTrue (W.tells_held writer.old) → (events : List Event) → StandsFor joining.old.joiner events
-        → Prints (text_behind order names.old.keys (items_in run.now events))
-        (refusal_in names.old.keys (items_in run.now events))
+        → Prints (text_behind order origins.old.keys (items_in run.now events))
+        (refusal_in origins.old.keys (items_in run.now events))
         (W.held writer.old) result (W.held writer.new) }
-    ensures names { OnOk result ((events : List Event) → StandsFor joining.old.joiner events
-        → (names.new.keys ≡ names_behind names.old.keys (items_in run.now events))
-        × (refusal_in names.old.keys (items_in run.now events) ≡ None)) }
+    ensures origins { OnOk result ((events : List Event) → StandsFor joining.old.joiner events
+        → (origins.new.keys ≡ origins_behind origins.old.keys (items_in run.now events))
+        × (refusal_in origins.old.keys (items_in run.now events) ≡ None)) }
     ensures stands { OnOk result ((events : List Event) → StandsFor joining.old.joiner events
         → StandsFor joining.new.joiner (events_after run.now.place events run.now.clock run.now.meta.now run.now.frame.now)) }
     ensures next { OnOk result (joining.new.joiner.next ≤ run.now.place + 1) }
-    ensures limit { length names.new.keys ≤ 1024 }
+    ensures limit { length origins.new.keys ≤ 1024 }
     ensures writer { WriterKeeps (writer_of W.Sink writer.old) (is_write result) (writer_of W.Sink writer.new) }
     ensures read { IsRead result → ⊥ }
 {
     units_of(run.meta)?;
     if take_packet(joining, run)? {
         let meta = datagram_meta(run.meta, joining.packet.len() as u32);
-        put_one(names, order, &meta, joining.packet.as_slice(), writer)
+        put_one(origins, order, &meta, joining.packet.as_slice(), writer)
     } else {
         Ok(())
     }
 }
 
-// Writes the datagrams of a run, where the interfaces of `names` were described before.
+// Writes the datagrams of a run, where the interfaces of `origins` were described before.
 fn put_joined<F: PacketFeed, W: Sink>(
     alloc: Global,
     merged: &mut Merged<F>,
     order: Order,
-    names: &mut Names,
+    origins: &mut Origins,
     writer: &mut W,
 ) -> Result<(), Fault>
-    requires limit { length names.old.keys ≤ 1024 }
+    requires limit { length origins.old.keys ≤ 1024 }
     ensures text { IsTrue (feed_of (parts_of merged.old)).told → IsTrue (W.tells_held writer.old)
-        → Prints (text_behind order names.old.keys (joined_items 0 [] (run_of (parts_of merged.old))))
-        (refusal_in names.old.keys (joined_items 0 [] (run_of (parts_of merged.old))))
+        → Prints (text_behind order origins.old.keys (joined_items 0 [] (run_of (parts_of merged.old))))
+        (refusal_in origins.old.keys (joined_items 0 [] (run_of (parts_of merged.old))))
         (W.held writer.old) result (W.held writer.new) }
     ensures writer { WriterKeeps (writer_of W.Sink writer.old) (is_write result) (writer_of W.Sink writer.new) }
     ensures walks { Walks (feed_of (parts_of merged.old)) result (feed_of (parts_of merged.new)) }
@@ -116,24 +116,24 @@ fn put_joined<F: PacketFeed, W: Sink>(
             meta: &meta,
             frame: merged.frame(),
         };
-        put_completed(names, &mut joining, order, &run, writer)?;
+        put_completed(origins, &mut joining, order, &run, writer)?;
         merged.pass();
         place += 1;
     }
     Ok(())
 }
 
-/// Writes the datagrams of a run of packets as a pcapng file of one section in that order: each whole
-/// IPv4 datagram, and each that is joined of fragments (RFC 791, 3.2), as one packet without a link
-/// header, of the datagram's header without options and all of its data. It has the place, the time and
-/// the interface's number of the packet that completed it; the interface has link 101 and no snaplen.
-/// A datagram isn't written where some of its data wasn't captured, or doesn't have the form of UDP
+/// Writes the datagrams of a run of packets as a pcapng file (draft-ietf-opsawg-pcapng, 4) of one section in
+/// that byte order: each whole IPv4 datagram, and each that is joined of fragments (RFC 791, 3.2), as one packet
+/// without a link header, of the datagram's header without options and all of its data. It has the place, the
+/// time and the interface's number of the packet that completed it; the interface has link 101 and no snaplen.
+/// A datagram isn't written if some of its data wasn't captured, or if its data doesn't have the form of UDP
 /// or TCP; nor is a frame that isn't IPv4. Interfaces are numbered by first use.
 ///
 /// `Refused` comes at a packet that has no time (rule 17, no-time), whatever it holds, at one that
 /// completes a datagram whose interface would be the 1,025th (rule 13, interface-limit), and where the run
 /// ends in a refusal: what is written is the text of the datagrams before it. After `Read`, `Write` or
-/// `Memory` a prefix of the text is written. draft-ietf-opsawg-pcapng, 4.
+/// `Memory` a prefix of the text is written.
 pub fn write_joined<F: PacketFeed, W: Sink>(
     alloc: Global,
     merged: &mut Merged<F>,
@@ -148,6 +148,6 @@ pub fn write_joined<F: PacketFeed, W: Sink>(
     ensures keeps { Keeps (feed_of (parts_of merged.old)) (feed_of (parts_of merged.new)) }
 {
     put_section(writer, order)?;
-    let mut names = Names::new(alloc);
-    put_joined(alloc, merged, order, &mut names, writer)
+    let mut origins = Origins::new(alloc);
+    put_joined(alloc, merged, order, &mut origins, writer)
 }

@@ -2,10 +2,10 @@
 #![tactic(auto)]
 
 mod datagrams;
+mod interfaces;
 mod joined;
 pub mod laws;
 mod merged;
-mod names;
 mod packets;
 mod pcap;
 mod pcapng;

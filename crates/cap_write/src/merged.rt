@@ -6,19 +6,18 @@ ghost use Rattle.cap_source.specs.Feed.{Keeps};
 ghost use Rattle.cap_source.specs.Walk.{Walks};
 ghost use Rattle.cap_write.specs.Texts.{merged_bytes, merged_refusal};
 
-use crate::names::Names;
+use crate::interfaces::Origins;
 use crate::packets::put_packets;
 use cap_blocks::put_section;
 use cap_bytes::{Fault, Order, Sink};
 use cap_source::PacketFeed;
 use std::alloc::Global;
 
-/// Writes the packets of a feed as a pcapng file of one section in that order, each packet's interface
-/// in front of its first packet. Interfaces are numbered by first use. `Refused` comes at a packet that
-/// has no time (rule 17, no-time), at one whose interface would be the 1,025th (rule 13,
+/// Writes the packets of a feed as a pcapng file (draft-ietf-opsawg-pcapng, 4) of one section in that byte
+/// order, each interface in front of its first packet. Interfaces are numbered by first use. `Refused` comes
+/// at a packet that has no time (rule 17, no-time), at one whose interface would be the 1,025th (rule 13,
 /// interface-limit), and where the feed's packets end in a refusal: what is written is the text of the
 /// packets before it. After `Read`, `Write` or `Memory` a prefix of the text is written.
-/// draft-ietf-opsawg-pcapng, 4.
 pub fn write_merged<F: PacketFeed, W: Sink>(
     alloc: Global,
     feed: &mut F,
@@ -33,6 +32,6 @@ pub fn write_merged<F: PacketFeed, W: Sink>(
     ensures keeps { Keeps (F.feed feed.old) (F.feed feed.new) }
 {
     put_section(writer, order)?;
-    let mut names = Names::new(alloc);
-    put_packets(feed, order, &mut names, writer)
+    let mut origins = Origins::new(alloc);
+    put_packets(feed, order, &mut origins, writer)
 }

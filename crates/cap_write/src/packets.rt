@@ -5,10 +5,10 @@ ghost use Rattle.cap_bytes.specs.Printing.{Prints, IsRead, is_write};
 ghost use Rattle.cap_blocks.specs.Grammar.{interface_bytes, packet_bytes};
 ghost use Rattle.cap_source.specs.Feed.{Keeps};
 ghost use Rattle.cap_source.specs.Walk.{Walks};
-ghost use Rattle.cap_write.specs.Numbering.{number_of, with_name, refusal_in, refusal_by, write_fault};
+ghost use Rattle.cap_write.specs.Numbering.{number_of, with_origin, refusal_in, refusal_by, write_fault};
 ghost use Rattle.cap_write.specs.Texts.{text_behind, one_bytes};
 
-use crate::names::{Names, number_of, units_of};
+use crate::interfaces::{Origins, number_of, units_of};
 use cap_blocks::{put_interface, put_packet};
 use cap_bytes::{Fault, Order, Sink};
 use cap_source::{Meta, PacketFeed, next_packet};
@@ -69,26 +69,26 @@ fn put_numbered<W: Sink>(writer: &mut W, order: Order, packet: &Numbered<'_>) ->
 
 /// Writes a packet, or answers why it isn't written.
 pub fn put_one<W: Sink>(
-    names: &mut Names,
+    origins: &mut Origins,
     order: Order,
     meta: &Meta,
     frame: &[u8],
     writer: &mut W,
 ) -> Result<(), Fault>
     requires captured { length frame.now ≤ 262144 }
-    requires limit { length names.old.keys ≤ 1024 }
+    requires limit { length origins.old.keys ≤ 1024 }
     ensures text { IsTrue (W.tells_held writer.old)
-        → Prints (one_bytes order names.old.keys meta.now frame.now)
-        (refusal_by meta.now (write_fault names.old.keys meta.now))
+        → Prints (one_bytes order origins.old.keys meta.now frame.now)
+        (refusal_by meta.now (write_fault origins.old.keys meta.now))
         (W.held writer.old) result (W.held writer.new) }
-    ensures names { OnOk result ((names.new.keys ≡ with_name names.old.keys meta.now) × (write_fault names.old.keys meta.now ≡ None)) }
-    ensures limit { length names.new.keys ≤ 1024 }
+    ensures origins { OnOk result ((origins.new.keys ≡ with_origin origins.old.keys meta.now) × (write_fault origins.old.keys meta.now ≡ None)) }
+    ensures limit { length origins.new.keys ≤ 1024 }
     ensures writer { WriterKeeps (writer_of W.Sink writer.old) (is_write result) (writer_of W.Sink writer.new) }
     ensures read { IsRead result → ⊥ }
 {
     let units = units_of(meta)?;
-    let count = names.len();
-    let number = number_of(names, meta)?;
+    let count = origins.len();
+    let number = number_of(origins, meta)?;
     let packet = Numbered {
         meta,
         frame,
@@ -99,24 +99,24 @@ pub fn put_one<W: Sink>(
     put_numbered(writer, order, &packet)
 }
 
-/// Writes the packets of a feed, where the interfaces of `names` were described before.
+/// Writes the packets of a feed, where the interfaces of `origins` were described before.
 pub fn put_packets<F: PacketFeed, W: Sink>(
     feed: &mut F,
     order: Order,
-    names: &mut Names,
+    origins: &mut Origins,
     writer: &mut W,
 ) -> Result<(), Fault>
-    requires limit { length names.old.keys ≤ 1024 }
+    requires limit { length origins.old.keys ≤ 1024 }
     ensures text { IsTrue (F.feed feed.old).told → IsTrue (W.tells_held writer.old)
-        → Prints (text_behind order names.old.keys (F.feed feed.old).items)
-        (refusal_in names.old.keys (F.feed feed.old).items)
+        → Prints (text_behind order origins.old.keys (F.feed feed.old).items)
+        (refusal_in origins.old.keys (F.feed feed.old).items)
         (W.held writer.old) result (W.held writer.new) }
     ensures writer { WriterKeeps (writer_of W.Sink writer.old) (is_write result) (writer_of W.Sink writer.new) }
     ensures walks { Walks (F.feed feed.old) result (F.feed feed.new) }
     ensures keeps { Keeps (F.feed feed.old) (F.feed feed.new) }
 {
     while let Some(meta) = next_packet(feed)? {
-        put_one(names, order, &meta, feed.frame(), writer)?;
+        put_one(origins, order, &meta, feed.frame(), writer)?;
         feed.pass();
     }
     Ok(())

@@ -10,7 +10,7 @@ ghost use Rattle.cap_write.specs.Times.{HasTime, HasRecord, IsBare};
 ghost use Rattle.cap_write.specs.Texts.{text_or};
 ghost use Rattle.cap_write.specs.Numbering.{refusal_by};
 
-use crate::names::{refused, units_of};
+use crate::interfaces::{refused, units_of};
 use cap_bytes::{Fault, Order, Refusal, Rule, Sink, Source};
 use cap_pcap::{PcapHeader, put_header, put_record};
 use cap_source::{Capture, Head, Meta, PacketFeed, next_packet};
@@ -19,7 +19,7 @@ use cap_time::{Interface, Stamp, Unit};
 // How many microseconds there are in a second.
 const MICROSECONDS: u64 = 1_000_000;
 
-// A time as pcap writes it. draft-ietf-opsawg-pcap, 5.
+// A time as pcap writes it (draft-ietf-opsawg-pcap, 5).
 #[derive(Clone, Copy, Debug, PartialEq, Eq)]
 struct Time {
     seconds: u32,
@@ -161,15 +161,14 @@ fn refuse_bare<F: PacketFeed>(feed: &mut F, file: u32) -> Result<(), Fault>
     }
 }
 
-/// Writes a file as a pcap file in that order, with the link and the snaplen of its first interface, in
-/// microseconds where each of that interface's units is a whole number of them, else in nanoseconds.
-/// Nothing of the file was passed before. `Refused` comes, in this order, at a packet that has no time
-/// (rule 17, no-time), has another link (18, link-mixed), has a time that isn't whole in that fraction
-/// (19, inexact) or one whose seconds are below 0 or above 4,294,967,295 (20, time-range), and where the
-/// file's packets end in a refusal: what is written is the text of the packets before it. A file that
-/// describes no interface before its first packet is refused, by its own refusal or by rule 21,
-/// no-interface, and nothing is written. After `Read`, `Write` or `Memory` a prefix of the text is
-/// written. draft-ietf-opsawg-pcap, 4 and 5.
+/// Writes a file as a pcap file (draft-ietf-opsawg-pcap, 4 and 5) in that byte order, with the link and the
+/// snaplen of its first interface, in microseconds if each of that interface's units is a whole number of
+/// them, else in nanoseconds. Nothing of the file was passed before. `Refused` comes, in this order, at a
+/// packet that has no time (rule 17, no-time), has another link (18, link-mixed), has a time that isn't whole
+/// in that fraction (19, inexact) or one whose seconds are below 0 or above 4,294,967,295 (20, time-range),
+/// and where the file's packets end in a refusal: what is written is the text of the packets before it. A
+/// file that describes no interface before its first packet is refused, by its own refusal or by rule 21,
+/// no-interface, and nothing is written. After `Read`, `Write` or `Memory` a prefix of the text is written.
 pub fn to_pcap<R: Source, W: Sink>(
     capture: &mut Capture<R>,
     order: Order,

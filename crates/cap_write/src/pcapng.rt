@@ -5,10 +5,10 @@ ghost use Rattle.cap_bytes.specs.Printing.{Prints, is_write};
 ghost use Rattle.cap_source.specs.Captures.{feed_of, number_of, first_of};
 ghost use Rattle.cap_source.specs.Feed.{Keeps};
 ghost use Rattle.cap_source.specs.Walk.{Walks};
-ghost use Rattle.cap_write.specs.Names.{Holds};
-ghost use Rattle.cap_write.specs.Texts.{first_names, first_bytes, front_bytes, pcapng_bytes, pcapng_refusal};
+ghost use Rattle.cap_write.specs.Interfaces.{Holds};
+ghost use Rattle.cap_write.specs.Texts.{first_origins, first_bytes, front_bytes, pcapng_bytes, pcapng_refusal};
 
-use crate::names::Names;
+use crate::interfaces::Origins;
 use crate::packets::put_packets;
 use cap_blocks::{put_interface, put_section};
 use cap_bytes::{Fault, Order, Sink, Source};
@@ -24,16 +24,16 @@ struct Begun {
 }
 
 // The interfaces that are described before the first packet.
-fn first_names(alloc: Global, begun: Begun) -> Result<Names, Fault>
-    ensures names { Holds (λ names. names.keys) (first_names begun.file begun.first) result }
+fn first_origins(alloc: Global, begun: Begun) -> Result<Origins, Fault>
+    ensures origins { Holds (λ origins. origins.keys) (first_origins begun.file begun.first) result }
 {
-    let mut names = Names::new(alloc);
+    let mut origins = Origins::new(alloc);
     match begun.first {
-        Some(_) => match names.insert((begun.file, 0)) {
-            Ok(_) => Ok(names),
+        Some(_) => match origins.insert((begun.file, 0)) {
+            Ok(_) => Ok(origins),
             Err(_) => Err(Fault::Memory),
         },
-        None => Ok(names),
+        None => Ok(origins),
     }
 }
 
@@ -61,12 +61,12 @@ fn put_front<W: Sink>(writer: &mut W, order: Order, first: Option<Interface>) ->
     put_first(writer, order, first)
 }
 
-/// Writes a file as a pcapng file of one section in that order: its first interface, where one stands
-/// before the first packet, right after the section header, and each other interface in front of its
-/// first packet. Nothing of the file was passed before. `Refused` comes at a packet that has no time
+/// Writes a file as a pcapng file (draft-ietf-opsawg-pcapng, 4) of one section in that byte order: its first
+/// interface, if one stands before the first packet, right after the section header, and each other interface
+/// in front of its first packet. Nothing of the file was passed before. `Refused` comes at a packet that has no time
 /// (rule 17, no-time), at one whose interface would be the 1,025th (rule 13, interface-limit), and where
 /// the file's packets end in a refusal: what is written is the text of the packets before it. After
-/// `Read`, `Write` or `Memory` a prefix of the text is written. draft-ietf-opsawg-pcapng, 4.
+/// `Read`, `Write` or `Memory` a prefix of the text is written.
 pub fn to_pcapng<R: Source, W: Sink>(
     alloc: Global,
     capture: &mut Capture<R>,
@@ -102,7 +102,7 @@ fn put_pcapng<F: PacketFeed, W: Sink>(
     ensures walks { Walks (F.feed feed.old) result (F.feed feed.new) }
     ensures keeps { Keeps (F.feed feed.old) (F.feed feed.new) }
 {
-    let mut names = first_names(alloc, begun)?;
+    let mut origins = first_origins(alloc, begun)?;
     put_front(writer, order, begun.first)?;
-    put_packets(feed, order, &mut names, writer)
+    put_packets(feed, order, &mut origins, writer)
 }

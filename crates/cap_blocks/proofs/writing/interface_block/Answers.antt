@@ -4,23 +4,23 @@ use Rattle.cap_blocks.specs.Grammar.{offset_option}
 use Rattle.cap_blocks.proofs.Parts.{interface_bytes-pieces, length-offset_option, interface_total-most}
 use Rattle.cap_blocks.proofs.writing.interface_block.Goals as goal
 
-pub short-requires-5 : goal.short-requires-5
-short-requires-5 c =
+pub add_u16-requires-5 : goal.add_u16-requires-5
+add_u16-requires-5 c =
     let size = length-offset_option c.args.order c.seconds_of-seconds.result in
     let most = interface_total-most c.seconds_of-seconds.result in
-    omega (arith, ap length c.new-text.ensures)
+    omega (arith, ap length c.new-buffer.ensures)
 
-pub short-requires-6 : goal.short-requires-6
-short-requires-6 c =
+pub add_u16-requires-6 : goal.add_u16-requires-6
+add_u16-requires-6 c =
     let size = length-offset_option c.args.order c.seconds_of-seconds.result in
     let most = interface_total-most c.seconds_of-seconds.result in
-    omega (arith, ap length c.new-text.ensures)
+    omega (arith, ap length c.new-buffer.ensures)
 
-pub word-requires-4 : goal.word-requires-4
-word-requires-4 c =
+pub add_u32-requires-4 : goal.add_u32-requires-4
+add_u32-requires-4 c =
     let size = length-offset_option c.args.order c.seconds_of-seconds.result in
     let most = interface_total-most c.seconds_of-seconds.result in
-    omega (arith, ap length c.new-text.ensures)
+    omega (arith, ap length c.new-buffer.ensures)
 
 pub returns : goal.returns
 returns c =
@@ -28,7 +28,7 @@ returns c =
     let interface = c.args.interface.now in
     let seconds = c.seconds_of-seconds.result in
     let total = c.total_of-total.result in
-    let pieces : c.word-4.new.self
+    let pieces : c.add_u32-4.new.self
     ≡ ((((((((((([] ++ bytes_of order 4 1) ++ bytes_of order 4 total) ++ bytes_of order 2 interface.link) ++ bytes_of order 2 0)
     ++ bytes_of order 4 interface.snaplen) ++ bytes_of order 2 9) ++ bytes_of order 2 1)
     ++ (c.code.result ∷ 0 ∷ 0 ∷ 0 ∷ [])) ++ offset_option order seconds)

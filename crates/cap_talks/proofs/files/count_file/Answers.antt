@@ -2,9 +2,9 @@ use Rattle.std.proofs.Common.{◌≡◌, ◌∙◌, sym, ap, subst, Bool, IsTrue
 use Rattle.std.proofs.lemmas.Result.{err_from_is_err_and}
 use Rattle.cap_source.specs.Feed.{refusal_of}
 use Rattle.cap_source.specs.Captures.{feed_of}
-use Rattle.cap_talks.proofs.Counting.{fails-as}
-use Rattle.cap_talks.proofs.FileByFile.{faults-as}
-use Rattle.cap_talks.specs.Counting.{packets_of, counted}
+use Rattle.cap_talks.proofs.FileLemmas.Counting.{fails-as}
+use Rattle.cap_talks.proofs.FileLemmas.FileByFile.{faults-as}
+use Rattle.cap_talks.specs.Files.Counting.{packets_of, counted}
 use Rattle.cap_talks.specs.declared.files.Counted.{Counted}
 use Rattle.cap_talks.proofs.files.count_file.Goals as goal
 

@@ -6,9 +6,9 @@ use Rattle.std.specs.List.{list_all, list_any}
 use Rattle.std.specs.Prelude.{Vec}
 use Rattle.std.specs.declared.alloc.Global.{Global}
 use Rattle.cap_source.specs.ReadFaults.{FailsAs, FailsOf}
-use Rattle.cap_talks.specs.Reading.{CountsFile}
+use Rattle.cap_talks.specs.Files.Reading.{CountsFile}
 use Rattle.cap_talks.specs.declared.files.Counted.{Counted}
-use Rattle.cap_talks.proofs.FileByFile.{AreRead, all-at, read-none, read-more, read-all, read-fault, fails}
+use Rattle.cap_talks.proofs.FileLemmas.FileByFile.{AreRead, all-at, read-none, read-more, read-all, read-fault, fails}
 use Rattle.cap_talks.proofs.files.count_files.Goals as goal
 
 pub loop-source-init : goal.loop-source-init

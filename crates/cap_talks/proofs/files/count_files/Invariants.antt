@@ -1,6 +1,6 @@
 use Rattle.std.proofs.Common.{◌≡◌, ◌+◌, length, map, IsTrue}
 use Rattle.std.specs.List.{list_all}
-use Rattle.cap_talks.proofs.FileByFile.{AreRead}
+use Rattle.cap_talks.proofs.FileLemmas.FileByFile.{AreRead}
 use Rattle.cap_talks.proofs.files.count_files.Given as goal
 
 -- the files so far are read

@@ -1,7 +1,7 @@
 use Rattle.std.proofs.Common.{sym, ◌∙◌, refl, rules}
 use Rattle.std.proofs.lemmas.Result.{err_from_is_err_and}
 use Rattle.cap_source.proofs.Onward.{Keeps-trans, Walks-fault, Walks-end}
-use Rattle.cap_talks.proofs.Counting.{counted-none, counted-taken, counted-end, counted-fault}
+use Rattle.cap_talks.proofs.FileLemmas.Counting.{counted-none, counted-taken, counted-end, counted-fault}
 use Rattle.cap_talks.proofs.files.count_packets.Goals as goal
 
 pub loop-meta-init : goal.loop-meta-init

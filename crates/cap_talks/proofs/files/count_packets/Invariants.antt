@@ -1,4 +1,4 @@
-use Rattle.cap_talks.proofs.Counting.{IsCounted}
+use Rattle.cap_talks.proofs.FileLemmas.Counting.{IsCounted}
 use Rattle.cap_talks.proofs.files.count_packets.Given as goal
 
 -- the packets that were given are counted

@@ -1,9 +1,9 @@
 use Rattle.std.proofs.Common.{◌≡◌, ◌∙◌, map, subst, List, ℕ}
 use Rattle.std.proofs.lemmas.Result.{err_from_is_err_and}
 use Rattle.cap_bytes.specs.Printing.{Prints}
-use Rattle.cap_talks.proofs.FileByFile.{first-of-fault, first-of-written}
-use Rattle.cap_talks.specs.FileText.{info_text, first_refusal}
-use Rattle.cap_talks.proofs.Printing.{info-counted, tells-printed}
+use Rattle.cap_talks.proofs.FileLemmas.FileByFile.{first-of-fault, first-of-written}
+use Rattle.cap_talks.specs.Files.Lines.{info_text, first_refusal}
+use Rattle.cap_talks.proofs.FileLemmas.Printing.{info-counted, tells-printed}
 use Rattle.cap_talks.proofs.files.file_lines.Goals as goal
 
 pub returns-clause-text : goal.returns-clause-text

@@ -2,9 +2,9 @@ use Rattle.std.proofs.Common.{◌≡◌, ◌∙◌, ◌+◌, Some, refl, sym, ap
 use Rattle.std.proofs.lemmas.Result.{err_from_is_err_and}
 use Rattle.cap_bytes.proofs.Putting.{Putting-all}
 use Rattle.cap_bytes.specs.Device.{Writer}
-use Rattle.cap_talks.specs.FileText.{file_text}
-use Rattle.cap_talks.specs.Reading.{counted_texts}
-use Rattle.cap_talks.proofs.Printing.{lines-more, lines-front, texts-none}
+use Rattle.cap_talks.specs.Files.Lines.{file_text}
+use Rattle.cap_talks.specs.Files.Reading.{counted_texts}
+use Rattle.cap_talks.proofs.FileLemmas.Printing.{lines-more, lines-front, texts-none}
 use Rattle.cap_talks.proofs.files.put_each.Goals as goal
 
 pub returns-in_err-put_all-clause-text : goal.returns-in_err-put_all-clause-text

@@ -1,6 +1,6 @@
-use Rattle.cap_talks.proofs.FrameLaws.{frame_law}
-use Rattle.cap_talks.proofs.KeyLaws.{key_law}
-use Rattle.cap_talks.proofs.SumLaws.{sum_law}
+use Rattle.cap_talks.proofs.TalkLemmas.FrameLaws.{frame_law}
+use Rattle.cap_talks.proofs.TalkLemmas.KeyLaws.{key_law}
+use Rattle.cap_talks.proofs.TalkLemmas.SumLaws.{sum_law}
 use Rattle.cap_talks.proofs.laws.talk_laws.Goals as goal
 
 pub returns-clause-key : goal.returns-clause-key

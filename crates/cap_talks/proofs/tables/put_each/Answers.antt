@@ -5,8 +5,8 @@ use Rattle.cap_bytes.proofs.Putting.{Putting-all}
 use Rattle.cap_merge.specs.Parts.{feed_of}
 use Rattle.cap_merge.specs.View.{parts_of}
 use Rattle.cap_source.specs.Feed.{HasFile}
-use Rattle.cap_talks.specs.FileText.{file_text, lines_from}
-use Rattle.cap_talks.proofs.FileLines.{lines-more, lines-front, lines-none, is-numbered}
+use Rattle.cap_talks.specs.Files.Lines.{file_text, lines_from}
+use Rattle.cap_talks.proofs.FileLemmas.TableLines.{lines-more, lines-front, lines-none, is-numbered}
 use Rattle.cap_talks.proofs.tables.put_each.Goals as goal
 
 pub ending_of-requires-clause-file : goal.ending_of-requires-clause-file

@@ -3,7 +3,7 @@ use Rattle.std.specs.Prelude.{if◌then◌else◌}
 use Rattle.cap_bytes.proofs.Putting.{Putting}
 use Rattle.cap_merge.specs.Parts.{feed_of}
 use Rattle.cap_merge.specs.View.{parts_of}
-use Rattle.cap_talks.specs.FileText.{lines_from}
+use Rattle.cap_talks.specs.Files.Lines.{lines_from}
 use Rattle.cap_talks.proofs.tables.put_each.Given as goal
 
 -- the lines of the files so far are written

@@ -1,6 +1,6 @@
 use Rattle.std.proofs.Common.{◌≡◌, ◌∙◌, sym, ap}
 use Rattle.indexmap.specs.Layout.{set_value_at}
-use Rattle.cap_talks.specs.Rows.{or_empty, row_in, with_unit}
+use Rattle.cap_talks.specs.Talks.Rows.{or_empty, row_in, with_unit}
 use Rattle.cap_talks.proofs.talks.add_at.Goals as goal
 
 pub returns : goal.returns

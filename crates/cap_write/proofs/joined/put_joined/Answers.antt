@@ -15,10 +15,10 @@ returns-in_err-meta-clause-text g c = λ t w.
     let p = err_from_is_err_and c.from_residual.result c.from_residual.ensures.1 in
     let i = c.loop-joining.invariant in
     let mid = parts_of c.loop-joining.merged in
-    let names = c.loop-joining.names.keys in
+    let origins = c.loop-joining.origins.keys in
     let rest = feeding mid c.loop-joining.place i.events in
     rw (p.1, p.2)
-    (Prints-fault (plan_of c.args.order names) c.in_err-meta.field-0.0 _ _ _ _ rest rest (plan_of-is c.args.order names) (i.walk.text t) w (i.walk.refusal_same t)
+    (Prints-fault (plan_of c.args.order origins) c.in_err-meta.field-0.0 _ _ _ _ rest rest (plan_of-is c.args.order origins) (i.walk.text t) w (i.walk.refusal_same t)
     (shows-fault c.in_err-meta.field-0.0 mid (feed_of (parts_of c.next_of.new.merged)) c.loop-joining.place i.events (c.in_err-meta.ensures.items (i.walk.told t))))
 
 pub invariant_of-run-clause-last : goal.invariant_of-run-clause-last
@@ -37,7 +37,7 @@ returns-in_err-put_completed-clause-text g c = λ t w.
     let shows : ShowsItem (feed_of mid) (Ok (Some c.in-Some.meta)) (feed_of shown) = rw c.in-Some.is at (c.in_ok-meta.ensures.items (i.walk.told t)) in
     rw (p.1, p.2)
     (Joining-part c.args.order c.in_err-put_completed.field-0.0 (parts_of c.args.merged.now) mid shown
-    c.args.names.now.keys c.loop-joining.names.keys c.loop-joining.joining.joiner c.loop-joining.place _ _ _ _ (g.W.Sink.held c.put_completed.new.writer)
+    c.args.origins.now.keys c.loop-joining.origins.keys c.loop-joining.joining.joiner c.loop-joining.place _ _ _ _ (g.W.Sink.held c.put_completed.new.writer)
     c.in-Some.meta c.frame.result.now c.clock.result c.frame.ensures.frame i t w
     shows.1 (c.in_ok-meta.ensures.run (i.walk.told t)) (c.clock.ensures.run (c.next_of.ensures.keeps.told (i.walk.told t)))
     (λ events stands. c.in_err-put_completed.ensures.text (i.walk.writer_told w) events stands))
@@ -57,11 +57,11 @@ loop-joining-preserved g c =
     let shown = parts_of c.next_of.new.merged in
     let e = c.in_ok-put_completed.ensures in
     Joining-more c.args.order (parts_of c.args.merged.now) mid shown (parts_of c.pass.new.self)
-    c.args.names.now.keys c.loop-joining.names.keys c.put_completed.new.names.keys c.loop-joining.joining.joiner c.put_completed.new.joining.joiner c.loop-joining.place _ _ _ _ _ _
+    c.args.origins.now.keys c.loop-joining.origins.keys c.put_completed.new.origins.keys c.loop-joining.joining.joiner c.put_completed.new.joining.joiner c.loop-joining.place _ _ _ _ _ _
     c.in-Some.meta c.frame.result.now c.clock.result c.frame.ensures.frame i
     (rw c.in-Some.is at c.in_ok-meta.ensures.answer) c.in_ok-meta.ensures.keeps (λ t. rw c.in-Some.is at (c.in_ok-meta.ensures.items t)) (λ t. c.in_ok-meta.ensures.run t)
     (λ t. c.clock.ensures.run t) c.pass.ensures.keeps c.pass.ensures.passes (λ t. c.pass.ensures.run t)
-    e.limit e.next e.stands e.names
+    e.limit e.next e.stands e.origins
     (λ w events stands. (e.text w events stands).1) e.writer.told e.writer.cannot (search rules)
 
 pub returns-clause-text : goal.returns-clause-text
@@ -70,9 +70,9 @@ returns-clause-text g c = λ t w.
     let mid = parts_of c.loop-joining.merged in
     let shown = parts_of c.next_of.new.merged in
     let shows : ShowsItem (feed_of mid) (Ok None) (feed_of shown) = rw c.in_default.is at (c.in_ok-meta.ensures.items (i.walk.told t)) in
-    let names = c.loop-joining.names.keys in
+    let origins = c.loop-joining.origins.keys in
     let rest = feeding mid c.loop-joining.place i.events in
-    Prints-end (plan_of c.args.order names) _ _ _ _ rest rest (plan_of-is c.args.order names) (i.walk.text t) w (i.walk.refusal_same t)
+    Prints-end (plan_of c.args.order origins) _ _ _ _ rest rest (plan_of-is c.args.order origins) (i.walk.text t) w (i.walk.refusal_same t)
     (shows-end mid (feed_of shown) c.loop-joining.place i.events shows)
 
 pub returns-in_err-meta-clause-walks : goal.returns-in_err-meta-clause-walks

@@ -22,4 +22,4 @@ returns-clause-text g c = λ t w.
     let items = joined_items 0 [] (run_of (parts_of c.args.merged.now)) in
     Prints-behind (refusal_in [] items) (g.W.Sink.held c.args.writer.now) (g.W.Sink.held c.put_section.new.writer) (g.W.Sink.held c.put_joined.new.writer)
     (section_bytes c.args.order) (text_behind c.args.order [] items) c.put_joined.result (c.in_ok-put_section.ensures.bytes w)
-    (rw c.new-names.ensures.empty at (c.put_joined.ensures.text t (c.in_ok-put_section.ensures.writer.told w)))
+    (rw c.new-origins.ensures.empty at (c.put_joined.ensures.text t (c.in_ok-put_section.ensures.writer.told w)))

@@ -19,4 +19,4 @@ returns-clause-text g c = λ t w.
     let items = (g.F.PacketFeed.feed c.args.feed.now).items in
     Prints-behind (refusal_in [] items) (g.W.Sink.held c.args.writer.now) (g.W.Sink.held c.put_section.new.writer) (g.W.Sink.held c.put_packets.new.writer)
     (section_bytes c.args.order) (text_behind c.args.order [] items) c.put_packets.result (c.in_ok-put_section.ensures.bytes w)
-    (rw c.new-names.ensures.empty at (c.put_packets.ensures.text t (c.in_ok-put_section.ensures.writer.told w)))
+    (rw c.new-origins.ensures.empty at (c.put_packets.ensures.text t (c.in_ok-put_section.ensures.writer.told w)))

@@ -5,7 +5,7 @@ use Rattle.cap_source.proofs.Walking.{GoesOn, Walking-more, Prints-fault, Prints
 use Rattle.cap_source.specs.Walk.{ShowsItem}
 use Rattle.cap_write.proofs.Feeding.{plan_of, plan_of-is, plan_of-next, plan_of-refused}
 use Rattle.cap_write.proofs.Written.{Prints-one}
-use Rattle.cap_write.specs.Numbering.{numbered_of, with_name, write_fault}
+use Rattle.cap_write.specs.Numbering.{numbered_of, with_origin, write_fault}
 use Rattle.cap_write.specs.Texts.{numbered_bytes, one_bytes}
 use Rattle.cap_write.proofs.packets.put_packets.Goals as goal
 
@@ -13,9 +13,9 @@ pub returns-in_err-meta-clause-text : goal.returns-in_err-meta-clause-text
 returns-in_err-meta-clause-text g c = λ t w.
     let p = err_from_is_err_and c.from_residual.result c.from_residual.ensures.1 in
     let i = c.loop-meta.invariant.walk in
-    let names = c.loop-meta.names.keys in
-    rw (p.1, p.2) (Prints-fault (plan_of c.args.order names) c.in_err-meta.field-0.0 _ _ _ _
-    (g.F.PacketFeed.feed c.loop-meta.feed) (g.F.PacketFeed.feed c.next_packet.new.feed) (plan_of-is c.args.order names) (i.text t) w (i.refusal_same t)
+    let origins = c.loop-meta.origins.keys in
+    rw (p.1, p.2) (Prints-fault (plan_of c.args.order origins) c.in_err-meta.field-0.0 _ _ _ _
+    (g.F.PacketFeed.feed c.loop-meta.feed) (g.F.PacketFeed.feed c.next_packet.new.feed) (plan_of-is c.args.order origins) (i.text t) w (i.refusal_same t)
     (c.in_err-meta.ensures.items (i.told t)))
 
 pub returns-in_err-put_one-clause-text : goal.returns-in_err-put_one-clause-text
@@ -24,13 +24,13 @@ returns-in_err-put_one-clause-text g c = λ t w.
     let i = c.loop-meta.invariant.walk in
     let mid = g.F.PacketFeed.feed c.loop-meta.feed in
     let shown = g.F.PacketFeed.feed c.next_packet.new.feed in
-    let names = c.loop-meta.names.keys in
+    let origins = c.loop-meta.origins.keys in
     let shows : ShowsItem mid (Ok (Some c.in-Some.meta)) shown = rw c.in-Some.is at (c.in_ok-meta.ensures.items (i.told t)) in
     let meta = c.in-Some.meta in
     rw (p.1, p.2)
-    (Prints-one (plan_of c.args.order names) (plan_of c.args.order (with_name names meta)) c.in_err-put_one.field-0.0 _ _ _ _ _
-    meta shown.frame c.frame.result.now (λ f. numbered_bytes c.args.order (length names) (numbered_of names meta f)) (write_fault names meta) mid.items (drop 1 mid.items)
-    (plan_of-refused c.args.order names meta shown.frame) (plan_of-next c.args.order names meta shown.frame) shows.1 c.frame.ensures.frame
+    (Prints-one (plan_of c.args.order origins) (plan_of c.args.order (with_origin origins meta)) c.in_err-put_one.field-0.0 _ _ _ _ _
+    meta shown.frame c.frame.result.now (λ f. numbered_bytes c.args.order (length origins) (numbered_of origins meta f)) (write_fault origins meta) mid.items (drop 1 mid.items)
+    (plan_of-refused c.args.order origins meta shown.frame) (plan_of-next c.args.order origins meta shown.frame) shows.1 c.frame.ensures.frame
     (i.text t) w (i.refusal_same t) (c.in_err-put_one.ensures.text (i.writer_told w)))
 
 pub loop-meta-preserved : goal.loop-meta-preserved
@@ -38,13 +38,13 @@ loop-meta-preserved g c =
     let i = c.loop-meta.invariant in
     let mid = g.F.PacketFeed.feed c.loop-meta.feed in
     let shown = g.F.PacketFeed.feed c.next_packet.new.feed in
-    let names = c.loop-meta.names.keys in
+    let origins = c.loop-meta.origins.keys in
     let meta = c.in-Some.meta in
     let e = c.in_ok-put_one.ensures in
-    let line = one_bytes c.args.order names meta shown.frame in
-    let goes : GoesOn (plan_of c.args.order names) meta shown.frame line (plan_of c.args.order c.put_one.new.names.keys) =
-    subst (λ n. GoesOn (plan_of c.args.order names) meta shown.frame line (plan_of c.args.order n)) (sym e.names.0)
-    (plan_of-next c.args.order names meta shown.frame e.names.1) in
+    let line = one_bytes c.args.order origins meta shown.frame in
+    let goes : GoesOn (plan_of c.args.order origins) meta shown.frame line (plan_of c.args.order c.put_one.new.origins.keys) =
+    subst (λ n. GoesOn (plan_of c.args.order origins) meta shown.frame line (plan_of c.args.order n)) (sym e.origins.0)
+    (plan_of-next c.args.order origins meta shown.frame e.origins.1) in
     record {
       limit = e.limit;
       went =
@@ -63,9 +63,9 @@ returns-clause-text g c = λ t w.
     let i = c.loop-meta.invariant.walk in
     let mid = g.F.PacketFeed.feed c.loop-meta.feed in
     let shown = g.F.PacketFeed.feed c.next_packet.new.feed in
-    let names = c.loop-meta.names.keys in
+    let origins = c.loop-meta.origins.keys in
     let shows : ShowsItem mid (Ok None) shown = rw c.in_default.is at (c.in_ok-meta.ensures.items (i.told t)) in
-    Prints-end (plan_of c.args.order names) _ _ _ _ mid shown (plan_of-is c.args.order names) (i.text t) w (i.refusal_same t) shows
+    Prints-end (plan_of c.args.order origins) _ _ _ _ mid shown (plan_of-is c.args.order origins) (i.text t) w (i.refusal_same t) shows
 
 pub returns-in_err-meta-clause-walks : goal.returns-in_err-meta-clause-walks
 returns-in_err-meta-clause-walks g c =

@@ -1,5 +1,5 @@
 use Rattle.cap_bytes.proofs.Readers.{Stands-passed, GivesNext-stopped}
-use Rattle.cap_bytes.proofs.Sights.{none_from}
+use Rattle.cap_bytes.proofs.Parsing.{none_from}
 use Rattle.cap_blocks.specs.Reader.{GivesBlock, state_of, size_of, body_of}
 use Rattle.cap_blocks.specs.Split.{block_fault, LacksRoom}
 use Rattle.cap_blocks.proofs.readers.BlockReader.read_block.Goals as goal

@@ -1,5 +1,5 @@
 use Rattle.std.proofs.Common.{Some}
-use Rattle.cap_bytes.proofs.Sights.{none_from}
+use Rattle.cap_bytes.proofs.Parsing.{none_from}
 use Rattle.cap_pcap.specs.Reader.{HasHeader, state_of}
 use Rattle.cap_pcap.proofs.Reading.{unread, HasHeader-seen}
 use Rattle.cap_pcap.proofs.readers.PcapReader.read_header.Goals as goal

@@ -5,7 +5,7 @@ use Rattle.cap_bytes.proofs.Putting.{Prints-head, Prints-behind}
 use Rattle.cap_bytes.specs.Printing.{Prints}
 use Rattle.cap_merge.specs.Parts.{feed_of}
 use Rattle.cap_merge.specs.View.{parts_of}
-use Rattle.cap_talks.specs.FileText.{files_text, lines_from}
+use Rattle.cap_talks.specs.Files.Lines.{files_text, lines_from}
 use Rattle.cap_talks.specs.ReportText.{total_text, text_of}
 use Rattle.cap_talks.specs.Stepping.{next_taken}
 use Rattle.cap_talks.specs.Tallies.{tally_text}

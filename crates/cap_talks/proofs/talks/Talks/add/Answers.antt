@@ -1,8 +1,8 @@
 use Rattle.std.proofs.Common.{◌≡◌, ◌∙◌, ℕ, ◌+◌, List, sym, ap}
 use Rattle.cap_talks.specs.Talks.{Talk, rows_of}
-use Rattle.cap_talks.specs.Rows.{TalksState, StandsFor, talk_limit, with_talk, frames_in, bytes_in}
-use Rattle.cap_talks.proofs.RowSums.{on_ok, few-kept, frames_in-more, bytes_in-more}
-use Rattle.cap_talks.proofs.Talking.{rows-more}
+use Rattle.cap_talks.specs.Talks.Rows.{TalksState, StandsFor, talk_limit, with_talk, frames_in, bytes_in}
+use Rattle.cap_talks.proofs.TalkLemmas.RowSums.{on_ok, few-kept, frames_in-more, bytes_in-more}
+use Rattle.cap_talks.proofs.TalkLemmas.Talking.{rows-more}
 use Rattle.cap_talks.proofs.talks.Talks.add.Goals as goal
 
 pub invariant_of-self : goal.invariant_of-self

@@ -1,6 +1,6 @@
 use Rattle.std.proofs.Common.{rules, ◌≡◌, false, true, ℕ, ◌+◌, ◌≤◌, ◌∷◌, List, Some, Err, sym, ap, ◌∙◌, subst, arith}
 use Rattle.std.specs.Prelude.{OnOk, Result, Ok, Option}
-use Rattle.cap_talks.specs.Looking.{taken}
+use Rattle.cap_talks.specs.Looking.{taken_of}
 use Rattle.cap_talks.specs.Taken.{Taken}
 use Rattle.cap_talks.specs.Tallies.{TallyState, Stands, Looks}
 use Rattle.cap_talks.specs.CountedUnits.{is_limit_at}
@@ -16,10 +16,10 @@ taken_on old mid new x (Err e) f h = tt
 
 pub returns-then-is_waiting-clause-stands : goal.returns-then-is_waiting-clause-stands
 returns-then-is_waiting-clause-stands c =
-    taken_on c.args.self.now c.args.self.now c.take_waiting.new.self (taken c.args.clock c.args.meta.now c.args.frame.now) c.take_waiting.result (λ xs s. s) c.take_waiting.ensures.stands
+    taken_on c.args.self.now c.args.self.now c.take_waiting.new.self (taken_of c.args.packet.now) c.take_waiting.result (λ xs s. s) c.take_waiting.ensures.stands
 
 pub returns-then-branch-clause-stands : goal.returns-then-branch-clause-stands
 returns-then-branch-clause-stands c =
-    let x = taken c.args.clock c.args.meta.now c.args.frame.now in
+    let x = taken_of c.args.packet.now in
     taken_on c.args.self.now c.look_at.new.self c.take_waiting-then-branch.new.self x c.take_waiting-then-branch.result
     (subst (λ b. Looks c.args.self.now x b c.look_at.new.self) c.if-branch.true c.in_ok-look_at.ensures.looks) c.take_waiting-then-branch.ensures.stands

@@ -2,10 +2,10 @@ use Rattle.std.specs.Prelude.{if◌then◌else◌}
 use Rattle.std.proofs.Common.{rules, ◌≡◌, true, false, ℕ, ◌+◌, ◌≤◌, ◌*◌, ◌^◌, ◌++◌, Some, Err, sym, ap, ◌∙◌, subst, arith}
 use Rattle.std.proofs.lemmas.Result.{err_from_is_err_and}
 use Rattle.cap_join.specs.declared.datagrams.Datagram.{Datagram}
-use Rattle.cap_talks.specs.Rows.{StandsFor, frames_in}
+use Rattle.cap_talks.specs.Talks.Rows.{StandsFor, frames_in}
 use Rattle.cap_talks.specs.Talks.{frames_of, bytes_of}
-use Rattle.cap_talks.proofs.SumLaws.{sum_law}
-use Rattle.cap_talks.specs.Adding.{datagram_unit, datagram_class, is_over}
+use Rattle.cap_talks.proofs.TalkLemmas.SumLaws.{sum_law}
+use Rattle.cap_talks.specs.Talks.Adding.{datagram_unit, datagram_class, is_over}
 use Rattle.cap_talks.specs.Tallies.{TallyState, Fits, counted_one, with_group}
 use Rattle.cap_talks.specs.TallyView.{tally_view}
 use Rattle.cap_talks.specs.CountedUnits.{listed}

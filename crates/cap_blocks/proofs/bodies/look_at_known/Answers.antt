@@ -1,0 +1,33 @@
+use Rattle.std.proofs.lemmas.Result.{err_from_is_err_and}
+use Rattle.cap_bytes.proofs.Parsing.{FailsBy-need}
+use Rattle.cap_blocks.proofs.Faults.{total-known}
+use Rattle.cap_blocks.proofs.Behind.{IsHeader-same, SeesBody-known, SeesBody-cut}
+use Rattle.cap_blocks.proofs.bodies.look_at_known.Goals as goal
+
+pub need-requires : goal.need-requires
+need-requires g c = total-known c.args.block.kind c.args.block.total c.requires.header.allowed c.requires.known
+
+pub returns-in_err-need-clause-answer : goal.returns-in_err-need-clause-answer
+returns-in_err-need-clause-answer g c =
+    let p = err_from_is_err_and c.from_residual.result c.from_residual.ensures.1 in
+    rw (p.1, p.2)
+    (FailsBy-need c.args.block.total 524288 _ c.args.window.now c.need.new.self c.in_err-need.field-0.0
+    (total-known c.args.block.kind c.args.block.total c.requires.header.allowed c.requires.known) (λ few. (c.requires.known, few)) c.in_err-need.ensures.answer)
+
+pub returns-then-not-branch-clause-answer : goal.returns-then-not-branch-clause-answer
+returns-then-not-branch-clause-answer g c =
+    let n = rw c.if-not-branch.true at c.in_ok-need.ensures.answer in
+    SeesBody-cut c.args.block c.args.window.now c.need.new.self c.requires.header n
+
+pub body_rule-requires-clause-header : goal.body_rule-requires-clause-header
+body_rule-requires-clause-header g c =
+    let n = rw c.if-not-branch.false at c.in_ok-need.ensures.answer in
+    rw c.bytes.ensures
+    (IsHeader-same c.args.block c.args.window.now.offset c.args.block.offset c.args.window.now.shown c.need.new.self.shown c.requires.header
+    n.0.front c.requires.header.offset_is)
+
+pub returns-clause-answer : goal.returns-clause-answer
+returns-clause-answer g c =
+    let n = rw c.if-not-branch.false at c.in_ok-need.ensures.answer in
+    SeesBody-known c.args.block c.args.window.now c.need.new.self c.body_rule.result c.requires.header c.requires.known n
+    (rw c.bytes.ensures at c.body_rule.ensures)

@@ -1,0 +1,130 @@
+//! The header of a block: its first 12 bytes (draft-ietf-opsawg-pcapng, 3.1 and 4.1).
+ghost use Rattle.std.specs.Prelude.{◌≡◌, ◌+◌, ◌≤◌, ◌^◌, ◌&&◌, ◌==◌, None, is_some, length};
+ghost use Rattle.cap_blocks.specs.Parsing.{FindsOwnOrder, FindsOrder, ParsesHeader, LooksAtHeader, Stays};
+ghost use Rattle.cap_blocks.specs.Split.{is_section, is_ordered, first_fault};
+
+use crate::blocks::{Block, ORDER_MAGIC, SECTION, is_total};
+use cap_bytes::{FILE_LIMIT, Fault, Order, Refusal, Rule, Source, Stop, Tail, Window, u32_at};
+
+/// How many bytes stand round the body of a block; its first ones tell its order and its total length.
+pub const FRAME_SIZE: usize = 12;
+
+/// Whether some bytes begin with the kind of a section header, which reads the same in both orders.
+pub fn is_section(bytes: &[u8]) -> bool
+    requires { 4 ≤ length bytes.now }
+    ensures { result ≡ is_section bytes.now }
+{
+    u32_at(Order::Big, bytes, 0) == SECTION
+}
+
+// Whether the order magic of a section header reads in an order.
+fn is_ordered(order: Order, bytes: &[u8]) -> bool
+    requires { 12 ≤ length bytes.now }
+    ensures { result ≡ is_ordered order bytes.now }
+{
+    u32_at(order, bytes, 8) == ORDER_MAGIC
+}
+
+// What the first block of a file is refused by before it is looked at as a block.
+#[tactic(auto, unfolding(crate::specs::Split::first_fault))]
+fn first_rule(section: Option<Order>, bytes: &[u8]) -> Option<Rule>
+    ensures { result ≡ first_fault section bytes.now }
+{
+    if section.is_some() {
+        return None;
+    }
+    if bytes.len() < 4 {
+        return Some(Rule::Cut);
+    }
+    if is_section(bytes) {
+        None
+    } else {
+        Some(Rule::Magic)
+    }
+}
+
+// The order in which the order magic of a section header reads, if it does in either.
+fn own_order(bytes: &[u8]) -> Option<Order>
+    requires { 12 ≤ length bytes.now }
+    ensures { FindsOwnOrder bytes.now result }
+{
+    if is_ordered(Order::Big, bytes) {
+        return Some(Order::Big);
+    }
+    if is_ordered(Order::Little, bytes) {
+        return Some(Order::Little);
+    }
+    None
+}
+
+// The order of the block at the front, unless it is a section header without an order magic.
+fn order_of(section: Option<Order>, bytes: &[u8]) -> Option<Order>
+    requires head { 12 ≤ length bytes.now }
+    requires first { first_fault section bytes.now ≡ None }
+    ensures { FindsOrder section bytes.now result }
+{
+    match section {
+        Some(section) if !is_section(bytes) => Some(section),
+        _ => own_order(bytes),
+    }
+}
+
+/// The block that stands at the front of some bytes, which begin at `offset`, as far as its first 12
+/// bytes tell it. Where there is none, the first rule that they break; `Rule::Cut` where they are too
+/// few. The order is that of the section that is being read, if one is.
+pub fn header_of(section: Option<Order>, offset: u64, bytes: &[u8]) -> Result<Block, Rule>
+    requires { offset ≤ 2 ^ 40 }
+    ensures { ParsesHeader section offset bytes.now result }
+{
+    if let Some(rule) = first_rule(section, bytes) {
+        return Err(rule);
+    }
+    if bytes.len() < FRAME_SIZE {
+        return Err(Rule::Cut);
+    }
+    let Some(order) = order_of(section, bytes) else {
+        return Err(Rule::OrderMagic);
+    };
+    let kind = u32_at(order, bytes, 0);
+    let total = u32_at(order, bytes, 4);
+    if !is_total(kind, total) {
+        return Err(Rule::BlockLength);
+    }
+    if offset + u64::from(total) > FILE_LIMIT {
+        return Err(Rule::FileLimit);
+    }
+    Ok(Block {
+        kind,
+        offset,
+        total,
+        order,
+    })
+}
+
+// Whether the blocks end where these bytes are all that is left.
+fn is_end(section: Option<Order>, bytes: &[u8]) -> bool
+    ensures { result ≡ (is_some section && (length bytes.now == 0)) }
+{
+    section.is_some() && bytes.is_empty()
+}
+
+/// Looks for the header of a block at the front of a window, which shows it then.
+pub fn look_at_header<R: Source>(
+    window: &mut Window<R>,
+    section: Option<Order>,
+    tail: Tail,
+) -> Result<Result<Block, Stop>, Fault>
+    ensures answer { LooksAtHeader section tail window.old result window.new }
+    ensures stays { Stays window.old window.new }
+{
+    let file = window.file();
+    let offset = window.offset();
+    window.need(FRAME_SIZE)?;
+    if is_end(section, window.bytes()) {
+        return Ok(Err(Stop::End));
+    }
+    match header_of(section, offset, window.bytes()) {
+        Ok(block) => Ok(Ok(block)),
+        Err(rule) => Ok(Err(Stop::by(section.is_some(), tail, Refusal { file, offset, rule }))),
+    }
+}

@@ -1,0 +1,88 @@
+-- The lines of files, written one by one.
+use Rattle.std.proofs.Common.{◌≡◌, ◌<◌, ◌≤◌, ◌+◌, ℕ, zero, suc, List, [], ◌∷◌, ◌++◌, length, take, drop, get_or, IsTrue, IsOkUnless, refl, sym, ap, ◌∙◌, subst, arith, Option, Some, None, Result, Ok, Err, length-append, take_at, drop_at}
+use Rattle.cap_bytes.proofs.Putting.{Putting, Putting-more, Putting-front}
+use Rattle.cap_bytes.specs.Device.{Writer}
+use Rattle.cap_bytes.specs.Printing.{Prints, PrintsFront}
+use Rattle.cap_bytes.specs.declared.faults.Fault.{Fault}
+use Rattle.cap_bytes.specs.declared.faults.Fault.TheVariants.{Refused, Read, Write, Memory}
+use Rattle.cap_bytes.specs.declared.faults.Refusal.{Refusal}
+use Rattle.cap_bytes.specs.declared.faults.Tail.{Tail}
+use Rattle.cap_source.specs.Items.{file_items, file_ending}
+use Rattle.cap_talks.specs.Files.Counting.{packets_of, counted}
+use Rattle.cap_talks.specs.Files.Lines.{file_text, files_text, file_texts, info_text, first_refusal}
+use Rattle.cap_talks.specs.Files.Reading.{counted_texts, counted_files, CountsFiles}
+use Rattle.cap_talks.specs.Telling.{Tells}
+use Rattle.cap_talks.specs.declared.files.Counted.{Counted}
+
+-- the line of the file at a place, and those after it
+pub texts-at : (all : List Counted) (place file : ℕ) (it : Counted) → it ≡ get_or all place it → place < length all
+    → counted_texts file (drop place all) ≡ file_text file it.counts (Some it.ending) ++ counted_texts (file + 1) (drop (suc place) all)
+texts-at [] place file it is within = absurd (omega arith)
+texts-at (c ∷ all) zero file it is within = ap (λ (w : Counted). file_text file w.counts (Some w.ending) ++ counted_texts (file + 1) all) (sym is)
+texts-at (c ∷ all) (suc place) file it is within = texts-at all place file it is (omega arith)
+
+pub texts-none : (all : List Counted) (place file : ℕ) → length all ≤ place → counted_texts file (drop place all) ≡ []
+texts-none [] zero file past = refl
+texts-none [] (suc place) file past = refl
+texts-none (c ∷ all) zero file past = absurd (omega arith)
+texts-none (c ∷ all) (suc place) file past = texts-none all place file (omega arith)
+
+-- one line more is written
+pub lines-more : (from mid to : Writer) (all : List Counted) (place : ℕ) (it : Counted) (line : List ℕ) → it ≡ get_or all place it → place < length all
+    → line ≡ file_text (place + 1) it.counts (Some it.ending)
+    → Putting from mid (counted_texts 1 all) (counted_texts (place + 1) (drop place all))
+    → (IsTrue mid.told → to.held ≡ mid.held ++ line) → (IsTrue mid.told → IsTrue to.told) → (IsTrue to.can_fail → IsTrue mid.can_fail)
+    → Putting from to (counted_texts 1 all) (counted_texts (place + 1 + 1) (drop (place + 1) all))
+lines-more from mid to all place it line is within text p wrote told cannot =
+    let behind = counted_texts (place + 1 + 1) (drop (suc place) all) in
+    let split : counted_texts (place + 1) (drop place all) ≡ line ++ behind = texts-at all place (place + 1) it is within ∙ ap (λ l. l ++ behind) (sym text) in
+    let next : suc place ≡ place + 1 = omega arith in
+    subst (λ (n : ℕ). Putting from to (counted_texts 1 all) (counted_texts (place + 1 + 1) (drop n all))) next
+    (subst (Putting from to (counted_texts 1 all))
+    (ap (drop (length line)) split ∙ drop_at line behind (length line) refl)
+    (Putting-more from mid to (counted_texts 1 all) (counted_texts (place + 1) (drop place all)) (length line) p
+    (omega (arith, ap length split, length-append line behind))
+    (λ w. wrote w ∙ ap (λ l. mid.held ++ l) (sym (ap (take (length line)) split ∙ take_at line behind (length line) refl)))
+    told cannot))
+
+-- the writer fails in a line
+pub lines-front : (from mid : Writer) (held : List ℕ) (all : List Counted) (place : ℕ) (it : Counted) (line : List ℕ) (n : ℕ) → it ≡ get_or all place it → place < length all
+    → line ≡ file_text (place + 1) it.counts (Some it.ending)
+    → Putting from mid (counted_texts 1 all) (counted_texts (place + 1) (drop place all)) → IsTrue from.told → held ≡ mid.held ++ take n line
+    → PrintsFront (counted_texts 1 all) from.held held
+lines-front from mid held all place it line n is within text p t wrote =
+    let behind = counted_texts (place + 1 + 1) (drop (suc place) all) in
+    let split : counted_texts (place + 1) (drop place all) ≡ line ++ behind = texts-at all place (place + 1) it is within ∙ ap (λ l. l ++ behind) (sym text) in
+    Putting-front from mid held (counted_texts 1 all) line behind n (subst (Putting from mid (counted_texts 1 all)) split p) t wrote
+
+-- the lines of what was counted of files are those of the files
+pub texts-counted : (tail : Tail) (file : ℕ) (files : List (List ℕ)) → counted_texts file (counted_files tail file files) ≡ file_texts tail file files
+texts-counted tail file [] = refl
+texts-counted tail file (bytes ∷ files) =
+    ap (λ l. file_text file (counted (packets_of (file_items tail file bytes))) (Some (file_ending tail file bytes)) ++ l) (texts-counted tail (file + 1) files)
+
+files-counted : (tail : Tail) (file : ℕ) (files : List (List ℕ)) → length (counted_files tail file files) ≡ length files
+files-counted tail file [] = refl
+files-counted tail file (bytes ∷ files) = ap suc (files-counted tail (file + 1) files)
+
+pub info-counted : (tail : Tail) (files : List (List ℕ)) (all : List Counted) → all ≡ counted_files tail 1 files
+    → files_text (length all) ++ counted_texts 1 all ≡ info_text tail files
+info-counted tail files all is =
+    (λ i. files_text (length (is i)) ++ counted_texts 1 (is i)) ∙ (λ i. files_text (files-counted tail 1 files i) ++ texts-counted tail 1 files i)
+
+-- a text that is written after everything that can be refused
+pub tells-printed : (text : List ℕ) (refusal : Option Refusal) (old : List ℕ) (result : Result (Unit {0}) Fault) (new : List ℕ) → refusal ≡ None
+    → IsOkUnless result Write → Prints text None old result new → Tells text refusal old result new
+tells-printed text refusal old (Ok x) new none fault p = (none, p.1)
+tells-printed text refusal old (Err (Refused r)) new none fault p = absurd (cc)
+tells-printed text refusal old (Err (Read file offset)) new none fault p = absurd (cc)
+tells-printed text refusal old (Err Write) new none fault p = (none, p)
+tells-printed text refusal old (Err Memory) new none fault p = absurd (cc)
+
+-- nothing is written before the files were read
+pub tells-fault : (text : List ℕ) (tail : Tail) (files : List (List ℕ)) (held : List ℕ) (fault : Fault) → CountsFiles tail files (Err fault)
+    → Tells text (first_refusal tail 1 files) held (Err fault) held
+tells-fault text tail files held (Refused refusal) e = (e, refl)
+tells-fault text tail files held (Read file offset) e = refl
+tells-fault text tail files held Write e = absurd e
+tells-fault text tail files held Memory e = refl

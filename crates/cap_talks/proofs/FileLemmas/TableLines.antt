@@ -1,0 +1,86 @@
+-- The lines of the files of a table, written one by one.
+use Rattle.std.proofs.Common.{◌≡◌, ◌<◌, ◌≤◌, ◌+◌, ◌==◌, ◌||◌, ℕ, zero, suc, Bool, true, false, List, [], ◌∷◌, ◌++◌, length, map, take, drop, get_or, IsTrue, refl, sym, ap, ◌∙◌, subst, arith, Option, Some, None, length-append, take_at, drop_at, true≢false}
+use Rattle.std.specs.List.{flat_map, list_any, range_with_len}
+use Rattle.std.proofs.lemmas.Bool.Decides.{nat_tests}
+use Rattle.cap_bytes.proofs.Putting.{Putting, Putting-more, Putting-front}
+use Rattle.cap_bytes.specs.Device.{Writer}
+use Rattle.cap_bytes.specs.Printing.{PrintsFront}
+use Rattle.cap_source.specs.Feed.{HasFile}
+use Rattle.cap_source.specs.declared.feeds.Ending.{Ending}
+use Rattle.cap_talks.specs.Files.Counting.{counted}
+use Rattle.cap_talks.specs.Files.Lines.{file_text, ending_at, lines_from}
+use Rattle.cap_talks.specs.ReportText.{file_line, metas_of}
+use Rattle.cap_talks.specs.Taken.{Taken}
+use Rattle.cap_talks.specs.Files.Totals.{counts_from}
+use Rattle.cap_talks.specs.declared.files.counts.Counts.{Counts}
+
+-- the line of the file at a place, and those after it
+lines-at : (e : Option (ℕ → Ending)) (all : List Counts) (place file : ℕ) (it : Counts) → it ≡ get_or all place it → place < length all
+    → lines_from e file (drop place all) ≡ file_text file it (ending_at e file) ++ lines_from e (file + 1) (drop (suc place) all)
+lines-at e [] place file it is within = absurd (omega (arith, within))
+lines-at e (c ∷ all) zero file it is within = ap (λ (w : Counts). file_text file w (ending_at e file) ++ lines_from e (file + 1) all) (sym is)
+lines-at e (c ∷ all) (suc place) file it is within = lines-at e all place file it is (omega (arith, within))
+
+pub lines-none : (e : Option (ℕ → Ending)) (all : List Counts) (place file : ℕ) → length all ≤ place → lines_from e file (drop place all) ≡ []
+lines-none e [] zero file past = refl
+lines-none e [] (suc place) file past = refl
+lines-none e (c ∷ all) zero file past = absurd (omega (arith, past))
+lines-none e (c ∷ all) (suc place) file past = lines-none e all place file (omega (arith, past))
+
+split : (e : Option (ℕ → Ending)) (all : List Counts) (place : ℕ) (it : Counts) (line : List ℕ) → it ≡ get_or all place it → place < length all
+    → line ≡ file_text (place + 1) it (ending_at e (place + 1))
+    → lines_from e (place + 1) (drop place all) ≡ line ++ lines_from e (place + 1 + 1) (drop (suc place) all)
+split e all place it line is within text =
+    lines-at e all place (place + 1) it is within ∙ ap (λ l. l ++ lines_from e (place + 1 + 1) (drop (suc place) all)) (sym text)
+
+-- one line more is written
+pub lines-more : (e : Option (ℕ → Ending)) (from mid to : Writer) (all : List Counts) (place : ℕ) (it : Counts) (line : List ℕ) → it ≡ get_or all place it → place < length all
+    → line ≡ file_text (place + 1) it (ending_at e (place + 1))
+    → Putting from mid (lines_from e 1 all) (lines_from e (place + 1) (drop place all))
+    → (IsTrue mid.told → to.held ≡ mid.held ++ line) → (IsTrue mid.told → IsTrue to.told) → (IsTrue to.can_fail → IsTrue mid.can_fail)
+    → Putting from to (lines_from e 1 all) (lines_from e (place + 1 + 1) (drop (place + 1) all))
+lines-more e from mid to all place it line is within text p wrote told cannot =
+    let after = lines_from e (place + 1 + 1) (drop (suc place) all) in
+    let parts = split e all place it line is within text in
+    let next : suc place ≡ place + 1 = omega arith in
+    subst (λ (n : ℕ). Putting from to (lines_from e 1 all) (lines_from e (place + 1 + 1) (drop n all))) next
+    (subst (Putting from to (lines_from e 1 all))
+    (ap (drop (length line)) parts ∙ drop_at line after (length line) refl)
+    (Putting-more from mid to (lines_from e 1 all) (lines_from e (place + 1) (drop place all)) (length line) p
+    (omega (arith, ap length parts, length-append line after))
+    (λ w. wrote w ∙ ap (λ l. mid.held ++ l) (sym (ap (take (length line)) parts ∙ take_at line after (length line) refl)))
+    told cannot))
+
+-- the writer fails in a line
+pub lines-front : (e : Option (ℕ → Ending)) (from mid : Writer) (held : List ℕ) (all : List Counts) (place : ℕ) (it : Counts) (line : List ℕ) (n : ℕ) → it ≡ get_or all place it → place < length all
+    → line ≡ file_text (place + 1) it (ending_at e (place + 1))
+    → Putting from mid (lines_from e 1 all) (lines_from e (place + 1) (drop place all)) → IsTrue from.told → held ≡ mid.held ++ take n line
+    → PrintsFront (lines_from e 1 all) from.held held
+lines-front e from mid held all place it line n is within text p t wrote =
+    Putting-front from mid held (lines_from e 1 all) line (lines_from e (place + 1 + 1) (drop (suc place) all)) n
+    (subst (Putting from mid (lines_from e 1 all)) (split e all place it line is within text) p) t wrote
+
+-- a file of that number is one of them
+pub is-numbered : (first count place : ℕ) → place < count → HasFile (range_with_len first count) (first + place)
+is-numbered first zero place within = absurd (omega (arith, within))
+is-numbered first (suc count) zero within = by (first == first + 0) own
+  where
+    own : (first == first + 0) ≡ true
+    own = grind (arith, nat_tests)
+
+    by : (b : Bool) → b ≡ true → IsTrue (b || list_any (λ f. f == first + 0) (range_with_len (first + 1) count))
+    by true e = refl
+    by false e = absurd (true≢false (sym e))
+is-numbered first (suc count) (suc place) within = by (first == first + suc place) (subst (HasFile (range_with_len (first + 1) count)) next (is-numbered (first + 1) count place (omega (arith, within))))
+  where
+    next : first + 1 + place ≡ first + suc place
+    next = omega arith
+
+    by : (b : Bool) → HasFile (range_with_len (first + 1) count) (first + suc place) → IsTrue (b || list_any (λ f. f == first + suc place) (range_with_len (first + 1) count))
+    by true h = refl
+    by false h = h
+
+-- the lines of what is counted of each file are those of the report
+pub lines-counted : (e : Option (ℕ → Ending)) (xs : List Taken) (first count : ℕ) → lines_from e first (counts_from first count xs) ≡ flat_map (file_line e xs) (range_with_len first count)
+lines-counted e xs first zero = refl
+lines-counted e xs first (suc count) = ap (λ l. file_text first (counted (metas_of first xs)) (ending_at e first) ++ l) (lines-counted e xs (first + 1) count)

@@ -1,0 +1,8 @@
+-- Lemmas of what is told of conversations.
+pub mod FrameOrder
+pub mod FrameLaws
+pub mod Talking
+pub mod RowSums
+pub mod KeyLaws
+pub mod SumLaws
+pub mod Printing

@@ -1,0 +1,57 @@
+-- The frames that give the printed times are the first in their order.
+use Rattle.std.proofs.Common.{◌≡◌, ◌<◌, Bool, true, false, cond, List, [], ◌∷◌, length, refl, sym, ap, subst, ◌∙◌, true≢false, arith, Contains, Ordering, Less, Equal, Greater, Option, Some, None}
+use Rattle.std.specs.Cmp.{IsTotalOrder}
+use Rattle.std.specs.List.{AllByRecursion}
+use Rattle.std.specs.Ordering.{is_lt, ordering_reverse}
+use Rattle.std.proofs.lemmas.List.Elements.{Contains-get_or, Contains-append_right}
+use Rattle.cap_talks.specs.declared.talks.units.TimedFrame.{TimedFrame}
+use Rattle.cap_talks.proofs.Chosen.{chosen, not_trans}
+use Rattle.cap_talks.proofs.TalkLemmas.FrameOrder.{by_time_total, by_time_down_total, earlier_is, later_is}
+use Rattle.cap_talks.specs.Talks.Laws.{with_frame, firsts, lasts, IsFirstIn, FrameLaw}
+use Rattle.cap_talks.specs.Talks.{by_time, by_time_down, earlier_frame, later_frame, least_frame, greatest_frame}
+use Rattle.cap_talks.specs.declared.talks.units.CountedUnit.{CountedUnit}
+
+all-map : {X : Type 0} {P Q : X → Type 0} → ((x : X) → P x → Q x) → (xs : List X) → AllByRecursion P xs → AllByRecursion Q xs
+all-map f [] h = h
+all-map f (x ∷ xs) h = (f x h.0, all-map f xs h.1)
+
+not_below_itself : (r : Ordering) → r ≡ ordering_reverse r → is_lt r ≡ false
+not_below_itself Less e = absurd (clash e)
+  where
+    clash : Less ≡ Greater → ⊥
+    clash e = cc
+not_below_itself Equal e = refl
+not_below_itself Greater e = refl
+
+not_turned : (r s : Ordering) → r ≡ ordering_reverse s → is_lt s ≡ true → is_lt r ≡ false
+not_turned r Less e h = ap is_lt e
+not_turned r Equal e h = absurd (true≢false (sym h))
+not_turned r Greater e h = absurd (true≢false (sym h))
+
+module _ (cmp : TimedFrame → TimedFrame → Ordering) (total : IsTotalOrder cmp) where
+  here : (x : TimedFrame) (fs : List TimedFrame) → Contains (x ∷ fs) x
+  here x fs = Contains-get_or (x ∷ fs) 0 x (omega arith)
+
+  itself : (x : TimedFrame) → is_lt (cmp x x) ≡ false
+  itself x = not_below_itself (cmp x x) (total.antisymm x x)
+
+  -- one frame more, or none
+  first-more : (a : Option TimedFrame) (fs : List TimedFrame) (r : Option TimedFrame) → IsFirstIn cmp fs r → IsFirstIn cmp (with_frame a fs) (chosen cmp a r)
+  first-more None fs r h = h
+  first-more (Some x) fs None h = (here x fs, (itself x, subst (λ l. AllByRecursion (λ o. is_lt (cmp o x) ≡ false) l) (sym h) tt))
+  first-more (Some x) fs (Some y) h = by (is_lt (cmp y x)) refl
+    where
+      by : (t : Bool) → is_lt (cmp y x) ≡ t → IsFirstIn cmp (x ∷ fs) (cond t (Some y) (Some x))
+      by true is = (Contains-append_right (x ∷ []) fs y h.0, (not_turned (cmp x y) (cmp y x) (total.antisymm x y) is, h.1))
+      by false is = (here x fs, (itself x, all-map (λ o n. not_trans cmp total o y x n is) fs h.1))
+
+pub frame_law : (units : List CountedUnit) → FrameLaw units
+frame_law [] = record { first = refl; last = refl }
+frame_law (u ∷ units) =
+    let rest = frame_law units in
+    record {
+      first = subst (IsFirstIn by_time (with_frame u.first (firsts units))) (sym (earlier_is u.first (least_frame units)))
+          (first-more by_time by_time_total u.first (firsts units) (least_frame units) rest.first);
+      last = subst (IsFirstIn by_time_down (with_frame u.last (lasts units))) (sym (later_is u.last (greatest_frame units)))
+          (first-more by_time_down by_time_down_total u.last (lasts units) (greatest_frame units) rest.last);
+    }

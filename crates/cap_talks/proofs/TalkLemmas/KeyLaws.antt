@@ -1,0 +1,133 @@
+-- When two units are of one conversation.
+use Rattle.std.proofs.Common.{◌≡◌, ℕ, Bool, true, false, cond, not, ◌&&◌, ◌||◌, refl, sym, ap, subst, ◌∙◌, true≢false, Ordering, Less, Equal, Greater, Option, Some, None}
+use Rattle.std.specs.Prelude.{◌==◌, if◌then◌else◌}
+use Rattle.std.specs.Cmp.{IsTotalOrder}
+use Rattle.std.specs.Ordering.{is_lt, is_gt, nat_cmp, ordering_reverse}
+use Rattle.std.specs.Option.{option_cmp}
+use Rattle.std.specs.Cmp.Lexicographic.{options_total}
+use Rattle.std.proofs.lemmas.Cmp.{then_total, on_total, nat_cmp_total}
+use Rattle.std.proofs.lemmas.Map.Lookups.{CmpEqualImpliesEq, exact_unsigned, exact_pairs}
+use Rattle.cap_talks.proofs.TalkLemmas.Talking.{same_end-self, and_true}
+use Rattle.cap_talks.specs.Talks.Keys.{same_end-is, and_left, and_right}
+use Rattle.cap_talks.specs.Talks.Laws.{KeyLaw, goes_along, goes_back}
+use Rattle.cap_talks.specs.Talks.{is_forward, key_of, same_end, same_talk}
+use Rattle.cap_talks.specs.Talks.Units.{end_cmp}
+use Rattle.cap_talks.specs.declared.talks.rows.TalkKey.{TalkKey}
+use Rattle.cap_talks.specs.declared.talks.units.CountedUnit.{CountedUnit}
+use Rattle.cap_talks.specs.declared.talks.units.End.{End}
+
+end_total : IsTotalOrder end_cmp
+end_total = then_total (on_total (λ e. e.address) nat_cmp_total) (on_total (λ e. e.port) (options_total nat_cmp_total))
+
+exact_ports : CmpEqualImpliesEq (option_cmp nat_cmp)
+exact_ports None None h = refl
+exact_ports None (Some b) h = absurd (clash h)
+  where
+    clash : Less ≡ Equal → ⊥
+    clash e = cc
+exact_ports (Some a) None h = absurd (clash h)
+  where
+    clash : Greater ≡ Equal → ⊥
+    clash e = cc
+exact_ports (Some a) (Some b) h = ap Some (exact_unsigned a b h)
+
+-- ends that compare alike are one
+exact_ends : CmpEqualImpliesEq end_cmp
+exact_ends a b h =
+    ap (λ (p : ℕ × Option ℕ). record { address = p.0; port = p.1 })
+    (exact_pairs nat_cmp (option_cmp nat_cmp) exact_unsigned exact_ports (a.address, a.port) (b.address, b.port) h)
+
+not_both : (r s : Ordering) → r ≡ ordering_reverse s → is_gt r ≡ false → is_gt s ≡ false → r ≡ Equal
+not_both r Less e h k = absurd (true≢false (ap is_gt (sym e) ∙ h))
+not_both r Equal e h k = e
+not_both r Greater e h k = absurd (true≢false k)
+
+both_greater : (r s : Ordering) → r ≡ ordering_reverse s → is_gt r ≡ true → is_gt s ≡ true → ⊥
+both_greater r Less e h k = true≢false (sym k)
+both_greater r Equal e h k = true≢false (sym k)
+both_greater r Greater e h k = true≢false (sym h ∙ ap is_gt e)
+
+upto_of : (b : Bool) → not b ≡ true → b ≡ false
+upto_of true h = absurd (true≢false (sym h))
+upto_of false h = refl
+
+above_of : (b : Bool) → not b ≡ false → b ≡ true
+above_of true h = refl
+above_of false h = absurd (true≢false h)
+
+left_absorbs : (x y : Bool) → (y ≡ true → x ≡ true) → (x || y) ≡ x
+left_absorbs true y h = refl
+left_absorbs false true h = sym (h refl)
+left_absorbs false false h = refl
+
+right_absorbs : (x y : Bool) → (x ≡ true → y ≡ true) → (x || y) ≡ y
+right_absorbs true y h = sym (h refl)
+right_absorbs false y h = refl
+
+and_turned : (x y : Bool) → (x && y) ≡ (y && x)
+and_turned true true = refl
+and_turned true false = refl
+and_turned false true = refl
+and_turned false false = refl
+
+same_of : (a b : End) → a ≡ b → same_end a b ≡ true
+same_of a b e = sym (ap (same_end a) e) ∙ same_end-self a
+
+pub key_law : KeyLaw
+key_law a b = by (is_forward a) (is_forward b) refl refl
+  where
+    p : Bool
+    p = a.protocol == b.protocol
+
+    ss : Bool
+    ss = same_end a.source b.source
+
+    dd : Bool
+    dd = same_end a.destination b.destination
+
+    sd : Bool
+    sd = same_end a.source b.destination
+
+    ds : Bool
+    ds = same_end a.destination b.source
+
+    -- units that go the same way between the same ends go both forward, or both backward
+    alike : (ss && dd) ≡ true → is_forward a ≡ is_forward b
+    alike h =
+        let s = same_end-is a.source b.source (and_left ss dd h) in
+        let d = same_end-is a.destination b.destination (and_right ss dd h) in
+        λ i. not (is_gt (end_cmp (s i) (d i)))
+
+    -- the ends of b as those of a, where it goes back
+    turned : (sd && ds) ≡ true → is_gt (end_cmp b.source b.destination) ≡ is_gt (end_cmp a.destination a.source)
+    turned h =
+        let s = same_end-is a.source b.destination (and_left sd ds h) in
+        let d = same_end-is a.destination b.source (and_right sd ds h) in
+        λ i. is_gt (end_cmp (sym d i) (sym s i))
+
+    -- both go forward, and one goes back: from an end to itself
+    to_itself : is_forward a ≡ true → is_forward b ≡ true → (sd && ds) ≡ true → (ss && dd) ≡ true
+    to_itself x y h =
+        let s = same_end-is a.source b.destination (and_left sd ds h) in
+        let d = same_end-is a.destination b.source (and_right sd ds h) in
+        let one : a.source ≡ a.destination =
+        exact_ends a.source a.destination
+        (not_both (end_cmp a.source a.destination) (end_cmp a.destination a.source) (end_total.antisymm a.source a.destination)
+        (upto_of (is_gt (end_cmp a.source a.destination)) x) (sym (turned h) ∙ upto_of (is_gt (end_cmp b.source b.destination)) y)) in
+        and_true ss dd (same_of a.source b.source (one ∙ d)) (same_of a.destination b.destination (sym one ∙ s))
+
+    never : is_forward a ≡ false → is_forward b ≡ false → (sd && ds) ≡ true → (dd && ss) ≡ true
+    never x y h =
+        absurd (both_greater (end_cmp a.source a.destination) (end_cmp a.destination a.source) (end_total.antisymm a.source a.destination)
+        (above_of (is_gt (end_cmp a.source a.destination)) x) (sym (turned h) ∙ above_of (is_gt (end_cmp b.source b.destination)) y))
+
+    by : (x y : Bool) → is_forward a ≡ x → is_forward b ≡ y
+        → same_talk (cond x (record { protocol = a.protocol; lesser = a.source; greater = a.destination }) (record { protocol = a.protocol; lesser = a.destination; greater = a.source }))
+        (cond y (record { protocol = b.protocol; lesser = b.source; greater = b.destination }) (record { protocol = b.protocol; lesser = b.destination; greater = b.source }))
+        ≡ (p && ((ss && dd) || (sd && ds)))
+    by true true x y = ap (λ t. p && t) (sym (left_absorbs (ss && dd) (sd && ds) (to_itself x y)))
+    by true false x y = ap (λ t. p && t) (sym (right_absorbs (ss && dd) (sd && ds) (λ h. absurd (true≢false (sym x ∙ alike h ∙ y)))))
+    by false true x y =
+        ap (λ t. p && t) (and_turned ds sd ∙ sym (right_absorbs (ss && dd) (sd && ds) (λ h. absurd (true≢false (sym y ∙ sym (alike h) ∙ x)))))
+    by false false x y =
+        ap (λ t. p && t) (and_turned dd ss ∙ sym (left_absorbs (ss && dd) (sd && ds) (λ h. and_turned ss dd ∙ never x y h)))

@@ -1,0 +1,26 @@
+-- All rows together count each unit once.
+use Rattle.std.proofs.Common.{◌≡◌, ℕ, ◌+◌, List, [], ◌∷◌, ◌++◌, refl, sym, ap, subst, ◌∙◌, append_assoc, append-nil}
+use Rattle.cap_talks.proofs.TalkLemmas.RowSums.{frames_in-more, bytes_in-more}
+use Rattle.cap_talks.proofs.TalkLemmas.Talking.{rows-more, frames-more, bytes-more}
+use Rattle.cap_talks.specs.Talks.Rows.{frames_in, bytes_in}
+use Rattle.cap_talks.specs.Talks.{frames_of, bytes_of, rows_of}
+use Rattle.cap_talks.specs.Talks.Laws.{SumLaw}
+use Rattle.cap_talks.specs.declared.talks.units.CountedUnit.{CountedUnit}
+
+sums-none : SumLaw []
+unfolding rows_of
+sums-none = record { frames = refl; bytes = refl }
+
+-- one unit more
+sums-more : (units : List CountedUnit) (u : CountedUnit) → SumLaw units → SumLaw (units ++ u ∷ [])
+sums-more units u s = record {
+  frames = sym (ap frames_in (rows-more units u)) ∙ frames_in-more (rows_of units) u ∙ ap (λ n. n + u.frames) s.frames ∙ sym (frames-more units u);
+  bytes = sym (ap bytes_in (rows-more units u)) ∙ bytes_in-more (rows_of units) u ∙ ap (λ n. n + u.bytes) s.bytes ∙ sym (bytes-more units u);
+}
+
+sums-behind : (units rest : List CountedUnit) → SumLaw units → SumLaw (units ++ rest)
+sums-behind units [] s = subst SumLaw (sym (append-nil units)) s
+sums-behind units (u ∷ rest) s = subst SumLaw (append_assoc units (u ∷ []) rest) (sums-behind (units ++ u ∷ []) rest (sums-more units u s))
+
+pub sum_law : (units : List CountedUnit) → SumLaw units
+sum_law units = sums-behind [] units sums-none

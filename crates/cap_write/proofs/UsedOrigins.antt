@@ -1,0 +1,172 @@
+-- The numbers of origins by their first use, in one list and in the lists of several groups.
+use Rattle.std.proofs.Common.{◌≡◌, ℕ, zero, suc, ◌+◌, ◌<◌, ◌≤◌, Bool, true, false, cond, List, [], ◌∷◌, ◌++◌, refl, sym, ap, ◌∙◌, subst, arith, inl, inr}
+use Rattle.std.specs.Prelude.{◌&&◌, ◌||◌, ◌==◌, ◌≢◌, ◌⊎◌, not}
+use Rattle.std.specs.List.{list_any, position_or_len}
+use Rattle.std.proofs.lemmas.Bool.{true≢false}
+use Rattle.std.proofs.lemmas.Bool.Decides.{nat_tests}
+use Rattle.cap_source.specs.Feed.{Item, packet, refused}
+use Rattle.cap_source.specs.declared.packets.Meta.{Meta}
+use Rattle.cap_write.specs.Numbering.{Origin, origin_of, is_origin, is_used, number_of, with_origin}
+use Rattle.cap_write.proofs.Renaming.{IsOneToOne}
+
+-- ---- origins
+
+pub same_number : (n : ℕ) → (n == n) ≡ true
+same_number n = grind (arith, nat_tests)
+
+pub other_number : (m n : ℕ) → m ≢ n → (m == n) ≡ false
+other_number m n h = grind (arith, nat_tests)
+
+equal_numbers : (m n : ℕ) → (m == n) ≡ true → m ≡ n
+equal_numbers m n h = grind (arith, nat_tests)
+
+next_numbers : (m n : ℕ) → (suc m == suc n) ≡ (m == n)
+next_numbers m n = grind (arith, nat_tests)
+
+both_true : (a b : Bool) → (a && b) ≡ true → (a ≡ true) × (b ≡ true)
+both_true true b e = (refl, e)
+both_true false b e = absurd (true≢false (sym e))
+
+-- origins that are equal are the same
+pub is_origin-same : (a b : Origin) → is_origin a b ≡ true → a ≡ b
+is_origin-same a b e =
+    let h = both_true (a.0 == b.0) (a.1 == b.1) e in
+    λ i. (equal_numbers a.0 b.0 h.0 i, equal_numbers a.1 b.1 h.1 i)
+
+pub is_origin-itself : (a : Origin) → is_origin a a ≡ true
+is_origin-itself a = λ i. same_number a.0 i && same_number a.1 i
+
+-- ---- numbers in a list
+
+-- The origin's first place in the list.
+abbrev pub IsNumberIn : List Origin → Origin → ℕ → Type 0
+IsNumberIn [] a n = ⊥
+IsNumberIn (b ∷ bs) a zero = is_origin a b ≡ true
+IsNumberIn (b ∷ bs) a (suc n) = (is_origin a b ≡ false) × IsNumberIn bs a n
+
+pub number-more : (xs ys : List Origin) (a : Origin) (n : ℕ) → IsNumberIn xs a n → IsNumberIn (xs ++ ys) a n
+number-more [] ys a n h = absurd h
+number-more (x ∷ xs) ys a zero h = h
+number-more (x ∷ xs) ys a (suc n) h = (h.0, number-more xs ys a n h.1)
+
+-- origins with a number are equal where their numbers are
+pub numbers-decide : (xs : List Origin) (a c : Origin) (m n : ℕ) → IsNumberIn xs a m → IsNumberIn xs c n → (m == n) ≡ is_origin a c
+numbers-decide [] a c m n h k = absurd h
+numbers-decide (x ∷ xs) a c zero zero h k =
+    let same : a ≡ c = is_origin-same a x h ∙ sym (is_origin-same c x k) in
+    same_number 0 ∙ sym (ap (λ w. is_origin a w) (sym same) ∙ is_origin-itself a)
+numbers-decide (x ∷ xs) a c zero (suc n) h k =
+    let differ : 0 ≢ suc n = omega arith in
+    other_number 0 (suc n) differ ∙ sym (ap (λ w. is_origin w c) (is_origin-same a x h) ∙ turned x c ∙ k.0)
+  where
+    turned : (p q : Origin) → is_origin p q ≡ is_origin q p
+    turned p q = λ i. turn p.0 q.0 i && turn p.1 q.1 i
+      where
+        turn : (m n : ℕ) → (m == n) ≡ (n == m)
+        turn m n = grind (arith, nat_tests)
+numbers-decide (x ∷ xs) a c (suc m) zero h k =
+    let differ : suc m ≢ 0 = omega arith in
+    other_number (suc m) 0 differ ∙ sym (ap (λ w. is_origin a w) (is_origin-same c x k) ∙ h.0)
+numbers-decide (x ∷ xs) a c (suc m) (suc n) h k = next_numbers m n ∙ numbers-decide xs a c m n h.1 k.1
+
+-- ---- the origins after a list
+
+-- the origins used before some items and in them
+abbrev pub all_origins : List Origin → List Item → List Origin
+all_origins origins [] = origins
+all_origins origins (packet meta frame ∷ items) = all_origins (with_origin origins meta) items
+all_origins origins (refused refusal ∷ items) = all_origins origins items
+
+kept_origin : (ns : List Origin) (m : Meta) (a : Origin) (n : ℕ) (b : Bool) → IsNumberIn ns a n → IsNumberIn (cond b ns (ns ++ (origin_of m ∷ []))) a n
+kept_origin ns m a n true h = h
+kept_origin ns m a n false h = number-more ns (origin_of m ∷ []) a n h
+
+pub number-kept : (ns : List Origin) (xs : List Item) (a : Origin) (n : ℕ) → IsNumberIn ns a n → IsNumberIn (all_origins ns xs) a n
+number-kept ns [] a n h = h
+number-kept ns (packet m f ∷ xs) a n h = number-kept (with_origin ns m) xs a n (kept_origin ns m a n (is_used ns m) h)
+number-kept ns (refused r ∷ xs) a n h = number-kept ns xs a n h
+
+-- an origin that stands in the list has the first place, and another the next one
+found : (ns : List Origin) (a : Origin) → list_any (is_origin a) ns ≡ true → IsNumberIn ns a (position_or_len (is_origin a) ns)
+found [] a e = absurd (true≢false (sym e))
+found (n ∷ ns) a e = here (is_origin a n) refl e (found ns a)
+  where
+    here : (b : Bool) → is_origin a n ≡ b → (b || list_any (is_origin a) ns) ≡ true
+        → (list_any (is_origin a) ns ≡ true → IsNumberIn ns a (position_or_len (is_origin a) ns))
+        → IsNumberIn (n ∷ ns) a (cond (not b) (1 + position_or_len (is_origin a) ns) 0)
+    here true h k deeper = h
+    here false h k deeper =
+        let one : suc (position_or_len (is_origin a) ns) ≡ 1 + position_or_len (is_origin a) ns = omega arith in
+        subst (λ (w : ℕ). IsNumberIn (n ∷ ns) a w) one (next (position_or_len (is_origin a) ns) (h, deeper k))
+      where
+        next : (w : ℕ) → (is_origin a n ≡ false) × IsNumberIn ns a w → IsNumberIn (n ∷ ns) a (suc w)
+        next w both = both
+
+lacking : (ns : List Origin) (a : Origin) → list_any (is_origin a) ns ≡ false → IsNumberIn (ns ++ (a ∷ [])) a (position_or_len (is_origin a) ns)
+lacking [] a e = is_origin-itself a
+lacking (n ∷ ns) a e = here (is_origin a n) refl e (lacking ns a)
+  where
+    here : (b : Bool) → is_origin a n ≡ b → (b || list_any (is_origin a) ns) ≡ false
+        → (list_any (is_origin a) ns ≡ false → IsNumberIn (ns ++ (a ∷ [])) a (position_or_len (is_origin a) ns))
+        → IsNumberIn ((n ∷ ns) ++ (a ∷ [])) a (cond (not b) (1 + position_or_len (is_origin a) ns) 0)
+    here true h k deeper = absurd (true≢false k)
+    here false h k deeper =
+        let one : suc (position_or_len (is_origin a) ns) ≡ 1 + position_or_len (is_origin a) ns = omega arith in
+        subst (λ (w : ℕ). IsNumberIn ((n ∷ ns) ++ (a ∷ [])) a w) one (next (position_or_len (is_origin a) ns) (h, deeper k))
+      where
+        next : (w : ℕ) → (is_origin a n ≡ false) × IsNumberIn (ns ++ (a ∷ [])) a w → IsNumberIn ((n ∷ ns) ++ (a ∷ [])) a (suc w)
+        next w both = both
+
+-- a packet's interface has its number in the origins after the packet
+pub number-given : (ns : List Origin) (m : Meta) → IsNumberIn (with_origin ns m) (origin_of m) (number_of ns m)
+number-given ns m = by (is_used ns m) refl
+  where
+    by : (b : Bool) → is_used ns m ≡ b → IsNumberIn (cond b ns (ns ++ (origin_of m ∷ []))) (origin_of m) (number_of ns m)
+    by true e = found ns (origin_of m) e
+    by false e = lacking ns (origin_of m) e
+
+-- ---- groups
+
+-- The origins of a group of that many files, by their numbers.
+pub record GroupOrigins : Type 0 where
+  pub count : ℕ
+  pub origins : List Origin
+
+-- Files from a number on are a group, which is the file of another number: an origin of one of them, and its number there.
+pub record IsOfGroup (file place : ℕ) (g : GroupOrigins) (a b : Origin) : Type 0 where
+  pub from : file ≤ a.0
+  pub below : a.0 < file + g.count
+  pub group : b.0 ≡ place
+  pub number : IsNumberIn g.origins a b.1
+
+-- the same in one of some groups
+abbrev pub IsOfGroups : ℕ → ℕ → List GroupOrigins → Origin → Origin → Type 0
+IsOfGroups file place [] a b = ⊥
+IsOfGroups file place (g ∷ gs) a b = IsOfGroup file place g a b ⊎ IsOfGroups (file + g.count) (suc place) gs a b
+
+bounds : (file place : ℕ) (gs : List GroupOrigins) (a b : Origin) → IsOfGroups file place gs a b → (file ≤ a.0) × (place ≤ b.0)
+bounds file place [] a b h = absurd h
+bounds file place (g ∷ gs) a b (inl h) = (h.from, omega (arith, h.group))
+bounds file place (g ∷ gs) a b (inr h) =
+    let behind = bounds (file + g.count) (suc place) gs a b h in
+    (omega (arith, behind.0), omega (arith, behind.1))
+
+other_origins : (a b : Origin) → a.0 ≢ b.0 → is_origin a b ≡ false
+other_origins a b h = ap (λ t. t && (a.1 == b.1)) (other_number a.0 b.0 h)
+
+-- Different origins have different numbers, or are of different groups.
+pub groups-apart : (file place : ℕ) (gs : List GroupOrigins) → IsOneToOne (IsOfGroups file place gs)
+groups-apart file place [] a b c d h k = absurd h
+groups-apart file place (g ∷ gs) a b c d (inl h) (inl k) =
+    ap (λ t. t && (b.1 == d.1)) (ap (λ n. n == d.0) (h.group ∙ sym k.group) ∙ same_number d.0) ∙ numbers-decide g.origins a c b.1 d.1 h.number k.number
+groups-apart file place (g ∷ gs) a b c d (inl h) (inr k) =
+    let behind = bounds (file + g.count) (suc place) gs c d k in
+    let left : b.0 ≢ d.0 = omega (arith, h.group, behind.1) in
+    let right : a.0 ≢ c.0 = omega (arith, h.below, behind.0) in
+    other_origins b d left ∙ sym (other_origins a c right)
+groups-apart file place (g ∷ gs) a b c d (inr h) (inl k) =
+    let behind = bounds (file + g.count) (suc place) gs a b h in
+    let left : b.0 ≢ d.0 = omega (arith, k.group, behind.1) in
+    let right : a.0 ≢ c.0 = omega (arith, k.below, behind.0) in
+    other_origins b d left ∙ sym (other_origins a c right)
+groups-apart file place (g ∷ gs) a b c d (inr h) (inr k) = groups-apart (file + g.count) (suc place) gs a b c d h k
