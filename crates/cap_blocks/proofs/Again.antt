@@ -1,6 +1,5 @@
 -- What is written is read again.
-use Rattle.std.proofs.Common.{◌≡◌, ℕ, ◌+◌, ◌-◌, ◌/◌, ◌%◌, ◌^◌, ◌≤◌, ◌<◌, ◌==◌, Bool, true, false, List, [], ◌∷◌, ◌++◌, length, take, drop, replicate, Option, Some, None, Ok, refl, subst, sym, ◌∙◌, ap, arith, append_assoc, append-nil, length-append}
-use Rattle.std.proofs.lemmas.Bool.Decides.{nat_tests}
+use Rattle.std.proofs.Common.{◌≡◌, ℕ, ◌+◌, ◌-◌, ◌/◌, ◌%◌, ◌^◌, ◌≤◌, ◌<◌, ◌==◌, Bool, true, List, [], ◌∷◌, ◌++◌, length, take, drop, replicate, Option, Some, Ok, refl, subst, sym, ◌∙◌, ap, arith, append_assoc, append-nil, length-append}
 use Rattle.std.proofs.lemmas.List.{take_at, drop_at, length-replicate}
 use Rattle.std.specs.Int.{w64, cast_unsigned}
 use Rattle.cap_bytes.specs.Number.{number, bytes_of}
@@ -21,9 +20,7 @@ use Rattle.cap_blocks.proofs.Parts.{length-section_body, length-interface_body, 
 -- a number that stands at a place of some bytes
 field : (order : Order) (n x : ℕ) (front rest bytes : List ℕ) (place : ℕ) → bytes ≡ front ++ (bytes_of order n x ++ rest)
     → length front ≡ place → x < 256 ^ n → number order n (drop place bytes) ≡ x
-field order n x front rest bytes place is at few =
-    ap (λ l. number order n (drop place l)) is
-    ∙ (ap (number order n) (drop_at front (bytes_of order n x ++ rest) place at) ∙ number-bytes_of order n x rest few)
+field order n x front rest bytes place is at few = grind (arith, number, drop_at, number-bytes_of)
 
 first_field : (order : Order) (n x : ℕ) (rest bytes : List ℕ) → bytes ≡ bytes_of order n x ++ rest → x < 256 ^ n → number order n bytes ≡ x
 first_field order n x rest bytes is few = ap (number order n) is ∙ number-bytes_of order n x rest few
@@ -63,55 +60,34 @@ body_first k t body rest = simp append_assoc
 
 kind_literal : (order p : Order) → number p 4 (bytes_of order 4 section_kind) ≡ section_kind
 unfolding number bytes_of
-kind_literal Big Big = refl
-kind_literal Big Little = refl
-kind_literal Little Big = refl
-kind_literal Little Little = refl
+kind_literal order p = grind arith
 
 interface_literal : (order p : Order) → number p 4 (bytes_of order 4 interface_kind) ≡ section_kind → ⊥
 unfolding number bytes_of
-interface_literal Big Big h = absurd (omega (arith, h))
-interface_literal Big Little h = absurd (omega (arith, h))
-interface_literal Little Big h = absurd (omega (arith, h))
-interface_literal Little Little h = absurd (omega (arith, h))
+interface_literal order p h = grind arith
 
 packet_literal : (order p : Order) → number p 4 (bytes_of order 4 enhanced_kind) ≡ section_kind → ⊥
 unfolding number bytes_of
-packet_literal Big Big h = absurd (omega (arith, h))
-packet_literal Big Little h = absurd (omega (arith, h))
-packet_literal Little Big h = absurd (omega (arith, h))
-packet_literal Little Little h = absurd (omega (arith, h))
+packet_literal order p h = grind arith
 
 magic_literal : (order : Order) → number Big 4 (bytes_of order 4 order_magic) ≡ order_magic → number Little 4 (bytes_of order 4 order_magic) ≡ order_magic → ⊥
 unfolding number bytes_of
-magic_literal Big big little = absurd (omega (arith, little))
-magic_literal Little big little = absurd (omega (arith, big))
+magic_literal order big little = grind arith
 
 -- a text that is put in front of others
 text_kind : (order p : Order) (kind : ℕ) (body rest : List ℕ) → number p 4 (block_bytes order kind body ++ rest) ≡ number p 4 (bytes_of order 4 kind)
 unfolding block_bytes
-text_kind order p kind body rest =
-    let k = bytes_of order 4 kind in
-    let t = bytes_of order 4 (12 + length body) in
-    let size = length-bytes_of order 4 kind in
-    ap (number p 4) (kind_first k t body rest) ∙ number-append p 4 k (t ++ (body ++ (t ++ rest))) (omega arith)
+text_kind order p kind body rest = grind (arith, length-bytes_of, number, kind_first, number-append)
 
 text_body : (order : Order) (kind : ℕ) (body rest : List ℕ)
     → drop 8 (block_bytes order kind body ++ rest) ≡ body ++ (bytes_of order 4 (12 + length body) ++ rest)
 unfolding block_bytes
-text_body order kind body rest =
-    let k = bytes_of order 4 kind in
-    let t = bytes_of order 4 (12 + length body) in
-    let front : length (k ++ t) ≡ 8 = omega (arith, length-append k t, length-bytes_of order 4 kind, length-bytes_of order 4 (12 + length body)) in
-    ap (drop 8) (body_first k t body rest) ∙ drop_at (k ++ t) (body ++ (t ++ rest)) 8 front
+text_body order kind body rest = search (length-append, length-bytes_of, body_first, drop_at)
 
 -- a text of another kind, and one of a section header
 plain_other : (order : Order) (kind : ℕ) (body rest : List ℕ) → ((p : Order) → number p 4 (bytes_of order 4 kind) ≡ section_kind → ⊥)
     → Plain (block_bytes order kind body ++ rest)
-plain_other order kind body rest other = record {
-  kinds = λ p q is. absurd (other p (sym (text_kind order p kind body rest) ∙ is));
-  magics = λ is big little. other Big (sym (text_kind order Big kind body rest) ∙ is);
-}
+plain_other order kind body rest other = grind (arith, text_kind)
 
 -- a section header
 four : (a b c d : List ℕ) → ((a ++ b) ++ c) ++ d ≡ a ++ (b ++ (c ++ d))
@@ -143,25 +119,14 @@ unfolding is_total
 total_section n is = rw is refl
 
 magic_front : (order p : Order) (rest : List ℕ) → number p 4 (section_body order ++ rest) ≡ number p 4 (bytes_of order 4 order_magic)
-magic_front order p rest =
-    let a = bytes_of order 4 order_magic in
-    let b = bytes_of order 2 1 in
-    let c = bytes_of order 2 0 in
-    let d = bytes_of order 8 0xFFFF_FFFF_FFFF_FFFF in
-    let size = length-bytes_of order 4 order_magic in
-    ap (number p 4) (magic_first a b c d rest) ∙ number-append p 4 a (b ++ (c ++ (d ++ rest))) (omega arith)
+magic_front order p rest = grind (arith, length-bytes_of, number, magic_first, number-append)
 
 magic_bytes : (order p : Order) (rest : List ℕ)
     → number p 4 (drop 8 (block_bytes order section_kind (section_body order) ++ rest)) ≡ number p 4 (bytes_of order 4 order_magic)
-magic_bytes order p rest =
-    ap (number p 4) (text_body order section_kind (section_body order) rest)
-    ∙ magic_front order p (bytes_of order 4 (12 + length (section_body order)) ++ rest)
+magic_bytes order p rest = search (number, text_body, magic_front)
 
 plain_section : (order : Order) (rest : List ℕ) → Plain (block_bytes order section_kind (section_body order) ++ rest)
-plain_section order rest = record {
-  kinds = λ p q is. text_kind order q section_kind (section_body order) rest ∙ kind_literal order q;
-  magics = λ is big little. magic_literal order (sym (magic_bytes order Big rest) ∙ big) (sym (magic_bytes order Little rest) ∙ little);
-}
+plain_section order rest = grind (arith, text_kind, kind_literal, magic_literal, magic_bytes)
 
 -- a text that spells a block is read, whatever follows
 IsRead-text : (section : Option Order) (order : Order) (kind : ℕ) (body : List ℕ) → MayFollow section (record { order = order; kind = kind; body = body })
@@ -184,8 +149,7 @@ IsRead-text section order kind body follows s fits = record {
 }
 
 follows_section : (section : Option Order) (order : Order) (body : List ℕ) → MayFollow section (record { order = order; kind = section_kind; body = body })
-follows_section None order body = refl
-follows_section (Some section) order body = λ other. absurd (other refl)
+follows_section section order body = grind arith
 
 pub section_again-law : SectionAgain
 section_again-law section order =
@@ -224,33 +188,20 @@ options_of-text order code value rest some few small =
     rw (code_is, length_is, value_is, rest_is) at more
 
 options_of-last : (order : Order) → options_of order (option_bytes order 0 []) ≡ []
-options_of-last order =
-    options_of-end order (option_bytes order 0 [])
-    (first_field order 2 0 (bytes_of order 2 0 ++ ([] ++ [])) (option_bytes order 0 []) (simp append_assoc) (omega arith))
+options_of-last order = grind (arith, options_of-end, first_field, append_assoc)
 
 options_of-offset : (order : Order) (seconds : ℕ) (zero : Bool) → (seconds == 0) ≡ zero
     → options_of order (offset_option order seconds ++ option_bytes order 0 []) ≡ offset_items order seconds
-options_of-offset order seconds true is = rw is (options_of-last order)
-options_of-offset order seconds false is =
-    let size = length-bytes_of order 8 seconds in
-    rw is (options_of-text order 14 (bytes_of order 8 seconds) (option_bytes order 0 []) (omega arith) (omega arith) (omega arith)
-    ∙ ap (λ l. Ok (14, bytes_of order 8 seconds) ∷ l) (options_of-last order))
+options_of-offset order seconds zero is = grind (arith, options_of-last, length-bytes_of, options_of-text)
 
 interface_options-read : (order : Order) (interface : Interface)
     → options_of order (interface_options order interface)
     ≡ Ok (9, code_of interface.resolution ∷ []) ∷ offset_items order (cast_unsigned w64 interface.offset)
-interface_options-read order interface =
-    let seconds = cast_unsigned w64 interface.offset in
-    let first = option_bytes order 9 (code_of interface.resolution ∷ []) in
-    ap (options_of order) (append_assoc first (offset_option order seconds) (option_bytes order 0 []))
-    ∙ (options_of-text order 9 (code_of interface.resolution ∷ []) (offset_option order seconds ++ option_bytes order 0 [])
-    (omega arith) (omega arith) (omega arith)
-    ∙ ap (λ l. Ok (9, code_of interface.resolution ∷ []) ∷ l) (options_of-offset order seconds (seconds == 0) refl))
+interface_options-read order interface = grind (arith, append_assoc, options_of-text, options_of-offset)
 
 total_interface : (n seconds : ℕ) (zero : Bool) → (seconds == 0) ≡ zero → n ≡ interface_total seconds → (is_total interface_kind n ≡ true) × (n < 256 ^ 4)
 unfolding is_total
-total_interface n seconds true zero is = let e = rw zero at is in (rw e refl, omega arith)
-total_interface n seconds false zero is = let e = rw zero at is in (rw e refl, omega arith)
+total_interface n seconds zero' zero is = grind arith
 
 pub interface_again-law : InterfaceAgain
 interface_again-law order interface link snaplen =
@@ -276,11 +227,7 @@ interface_again-law order interface link snaplen =
 
 total_packet : (n size : ℕ) → n ≤ 262144 → size ≡ 32 + padded n → (is_total enhanced_kind size ≡ true) × (size < 256 ^ 4)
 unfolding is_total
-total_packet n size few is =
-    let e : size % 4 ≡ 0 = omega arith in
-    let f : 32 ≤ size = omega arith in
-    let g : size ≤ 524288 = omega arith in
-    (grind (arith, nat_tests), omega arith)
+total_packet n size few is = grind arith
 
 seven_high : (a b c d e f g : List ℕ) → (((((a ++ b) ++ c) ++ d) ++ e) ++ f) ++ g ≡ a ++ (b ++ (c ++ (d ++ (e ++ (f ++ g)))))
 seven_high a b c d e f g = simp append_assoc

@@ -1,19 +1,16 @@
 -- What the body of a block is refused by, and its total length after it.
-use Rattle.std.proofs.Common.{◌≡◌, ℕ, ◌-◌, ◌≤◌, ◌<◌, ◌==◌, not, List, ◌++◌, length, take, drop, Option, Some, None, IsSome, Bool, true, false, IsTrue, Ok, Err, refl, sym, ◌∙◌, ap, subst, arith, drop-drop, length-append, length-drop, nat_lt}
+use Rattle.std.proofs.Common.{◌≡◌, ℕ, ◌-◌, ◌≤◌, ◌<◌, ◌==◌, not, List, ◌++◌, length, take, drop, Option, Some, None, IsSome, Bool, true, false, IsTrue, Ok, refl, sym, ◌∙◌, ap, subst, arith, drop-drop, length-append, length-drop, nat_lt}
 use Rattle.std.proofs.lemmas.Bool.Decides.{nat_tests}
 use Rattle.std.proofs.lemmas.List.{take-append-drop, drop-append-le}
 use Rattle.cap_bytes.specs.Number.{number}
-use Rattle.cap_bytes.specs.Parsing.{Fails}
-use Rattle.cap_bytes.specs.Window.{State, Needs, Skips, Drops, DropsAll, Passes, FailsAt, coming}
-use Rattle.cap_bytes.proofs.Parsing.{all_shown, Goes-trans, if_none, if_some}
-use Rattle.cap_bytes.specs.declared.faults.Fault.{Fault}
-use Rattle.cap_bytes.specs.declared.faults.Fault.TheVariants.{Refused, Read, Write, Memory}
+use Rattle.cap_bytes.specs.Window.{State, Needs, Drops, DropsAll, Passes, coming}
+use Rattle.cap_bytes.proofs.Parsing.{all_shown, Goes-trans}
 use Rattle.cap_bytes.specs.declared.faults.Rule.{Rule}
 use Rattle.cap_bytes.specs.declared.faults.Rule.TheVariants.{Cut, BlockTrailer, Version}
 use Rattle.cap_bytes.specs.declared.numbers.Order.{Order}
 use Rattle.cap_bytes.proofs.Spelling.{number-append, number-drop_append}
 use Rattle.cap_blocks.specs.Grammar.{section_kind, is_known, is_version}
-use Rattle.cap_blocks.specs.Parsing.{IsHeader, SeesBody, SkipsBody}
+use Rattle.cap_blocks.specs.Parsing.{IsHeader, SeesBody}
 use Rattle.cap_blocks.specs.Split.{kind_at, total_at, has_other_version, body_fault}
 use Rattle.cap_blocks.specs.declared.blocks.Block.{Block}
 use Rattle.cap_blocks.proofs.Faults.{total-section}
@@ -36,28 +33,19 @@ same a b h = grind (arith, nat_tests)
 pub body_fault-trailer : (order : Order) (bytes : List ℕ) → total_at order bytes ≤ length bytes
     → (number order 4 (drop (total_at order bytes - 4) bytes) ≡ total_at order bytes → ⊥) → body_fault order bytes ≡ Some BlockTrailer
 unfolding body_fault
-body_fault-trailer order bytes whole other =
-    let e = there (length bytes) (total_at order bytes) whole in
-    let f = differs _ _ other in
-    rw (e, f) refl
+body_fault-trailer order bytes whole other = search (there, differs)
 
 pub body_fault-version : (order : Order) (bytes : List ℕ) → total_at order bytes ≤ length bytes
     → number order 4 (drop (total_at order bytes - 4) bytes) ≡ total_at order bytes
     → has_other_version order bytes ≡ true → body_fault order bytes ≡ Some Version
 unfolding body_fault
-body_fault-version order bytes whole trailer version =
-    let e = there (length bytes) (total_at order bytes) whole in
-    let f = same _ _ trailer in
-    rw (e, f, version) refl
+body_fault-version order bytes whole trailer version = grind arith
 
 pub body_fault-whole : (order : Order) (bytes : List ℕ) → total_at order bytes ≤ length bytes
     → number order 4 (drop (total_at order bytes - 4) bytes) ≡ total_at order bytes
     → has_other_version order bytes ≡ false → body_fault order bytes ≡ None
 unfolding body_fault
-body_fault-whole order bytes whole trailer version =
-    let e = there (length bytes) (total_at order bytes) whole in
-    let f = same _ _ trailer in
-    rw (e, f, version) refl
+body_fault-whole order bytes whole trailer version = grind arith
 
 -- which blocks have another version
 pub no_version : (order : Order) (bytes : List ℕ) → (kind_at order bytes ≡ section_kind → ⊥) → has_other_version order bytes ≡ false
@@ -75,8 +63,7 @@ version_same : (here : Bool) (order : Order) (xs zs : List ℕ) → (kind_at ord
     → (here ≡ true → number order 2 (drop 12 zs) ≡ number order 2 (drop 12 xs))
     → (here ≡ true → number order 2 (drop 14 zs) ≡ number order 2 (drop 14 xs))
     → has_other_version order zs ≡ has_other_version order xs
-version_same true order xs zs is kind major minor = rw (kind, major refl, minor refl) refl
-version_same false order xs zs is kind major minor = rw (kind, is) refl
+version_same here order xs zs is kind major minor = grind arith
 
 pub body_fault-append : (order : Order) (xs ys : List ℕ) → 12 ≤ total_at order xs → total_at order xs ≤ length xs
     → (kind_at order xs ≡ section_kind → 28 ≤ total_at order xs) → body_fault order (xs ++ ys) ≡ body_fault order xs
@@ -95,17 +82,7 @@ body_fault-append order xs ys least whole section =
 
 -- the first 12 bytes of a block are those of a longer list
 pub IsHeader-append : (block : Block) (offset : ℕ) (xs ys : List ℕ) → IsHeader block offset xs → IsHeader block offset (xs ++ ys)
-IsHeader-append block offset xs ys f =
-    let head = f.head in
-    record {
-      head = omega (arith, length-append xs ys);
-      offset_is = f.offset_is;
-      kind = f.kind ∙ sym (number-append block.order 4 xs ys (omega arith));
-      total = f.total ∙ sym (number-drop_append block.order 4 4 xs ys (omega arith));
-      allowed = f.allowed;
-      least = f.least;
-      limit = f.limit;
-    }
+IsHeader-append block offset xs ys f = grind (arith, length-append, number-append, number-drop_append)
 
 pub IsHeader-same : (block : Block) (offset later : ℕ) (xs zs : List ℕ) → IsHeader block offset xs → take (length xs) zs ≡ xs → later ≡ offset
     → IsHeader block later zs
@@ -151,23 +128,12 @@ skipped_kind block old f = (IsHeader-append block old.offset old.shown old.unrea
 -- the input ends in the part that is skipped
 pub SeesBody-ended : (block : Block) (old new : State) → IsHeader block old.offset old.shown → DropsAll (block.total - 4) old new
     → SeesBody block (Some Cut) old new
-SeesBody-ended block old new f d = record {
-  goes = d.goes;
-  told_fault = λ t. body_fault-cut block.order (coming old) (omega (arith, skipped_total block old f, d.offset t, d.fewer));
-  left = λ none. absurd (cc);
-}
+SeesBody-ended block old new f d = grind (arith, body_fault-cut, skipped_total)
 
 -- the input ends in its trailer
 pub SeesBody-short : (block : Block) (old mid new : State) → IsHeader block old.offset old.shown → Drops (block.total - 4) old mid
     → (IsTrue old.told → IsTrue mid.told) → Needs 4 mid (Ok false) new → SeesBody block (Some Cut) old new
-SeesBody-short block old mid new f d told n = record {
-  goes = Goes-trans old mid new d.goes n.0.goes;
-  told_fault = λ t.
-      let rest = ap length (sym (d.coming_dropped t) ∙ all_shown mid new n.0 n.2 (told t)) in
-      body_fault-cut block.order (coming old)
-      (omega (arith, skipped_total block old f, rest, length-drop (block.total - 4) (coming old), n.1, f.least));
-  left = λ none. absurd (cc);
-}
+SeesBody-short block old mid new f d told n = grind (arith, Goes-trans, all_shown, body_fault-cut, skipped_total, length-drop)
 
 -- its trailer is shown
 trailer_shown : (block : Block) (old mid new : State) → IsHeader block old.offset old.shown → Drops (block.total - 4) old mid
@@ -184,14 +150,7 @@ trailer_shown block old mid new f d told n t =
 pub SeesBody-other : (block : Block) (old mid new : State) → IsHeader block old.offset old.shown → Drops (block.total - 4) old mid
     → (IsTrue old.told → IsTrue mid.told) → Needs 4 mid (Ok true) new → (number block.order 4 new.shown ≡ block.total → ⊥)
     → SeesBody block (Some BlockTrailer) old new
-SeesBody-other block old mid new f d told n other = record {
-  goes = Goes-trans old mid new d.goes n.0.goes;
-  told_fault = λ t.
-      let e = trailer_shown block old mid new f d told n t in
-      body_fault-trailer block.order (coming old) e.0
-      (λ is. other (sym e.1 ∙ (is ∙ sym (skipped_total block old f))));
-  left = λ none. absurd (cc);
-}
+SeesBody-other block old mid new f d told n other = grind (arith, Goes-trans, trailer_shown, body_fault-trailer, skipped_total)
 
 pub SeesBody-skipped : (block : Block) (old mid new last : State) → IsHeader block old.offset old.shown → is_known block.kind ≡ false
     → Drops (block.total - 4) old mid → (IsTrue old.told → IsTrue mid.told) → Needs 4 mid (Ok true) new → number block.order 4 new.shown ≡ block.total
@@ -214,23 +173,3 @@ SeesBody-skipped block old mid new last f unknown d told n trailer p = record {
 
 some_is : (o : Option ℕ) (n : ℕ) → o ≡ Some n → IsSome o
 some_is o n e = rw e refl
-
--- a read fails in a block that is skipped
-pub SkipsBody-fault : (block : Block) (n : ℕ) (old new : State) (fault : Fault) → 12 ≤ old.room
-    → Skips n old (Err fault) new → SkipsBody block old (Err fault) new
-SkipsBody-fault block n old new (Read file offset) room (b, later) = (some_is new.broken offset b.after, b.failed, b.can_fail)
-SkipsBody-fault block n old new Memory room h = absurd (omega (arith, h.1))
-SkipsBody-fault block n old new Write room h = absurd h
-SkipsBody-fault block n old new (Refused refusal) room h = absurd h
-
--- it is told with the block's own offset
-pub Fails-told : (block : Block) (old mid new : State) (file : ℕ) (fault : Fault) → block.offset ≡ old.offset → old.broken ≡ None
-    → SkipsBody block old (Err fault) mid → mid.file ≡ old.file → FailsAt block.offset mid new → file ≡ new.file → Fails old file block.offset new
-Fails-told block old mid new file fault at whole s same f is = record {
-  file_is = is ∙ (f.file ∙ same);
-  again = if_some old.broken (λ first. block.offset ≡ first) whole;
-  first = if_none old.broken (block.offset ≡ old.offset) whole at;
-  after = f.broken;
-  failed = f.failed ∙ s.1;
-  can_fail = s.2;
-}

@@ -1,12 +1,11 @@
 -- When the bytes at a place are refused.
-use Rattle.std.proofs.Common.{◌≡◌, ℕ, ◌+◌, ◌^◌, ◌≤◌, ◌<◌, List, ◌++◌, length, drop, Option, Some, None, is_some, true, false, not, refl, arith, length-append, ◌&&◌, nat_lt}
+use Rattle.std.proofs.Common.{◌≡◌, ℕ, ◌+◌, ◌^◌, ◌≤◌, ◌<◌, List, ◌++◌, length, drop, Option, Some, None, is_some, true, false, not, refl, arith, length-append, ◌&&◌}
 use Rattle.std.proofs.lemmas.Bool.Decides.{nat_tests}
 use Rattle.cap_bytes.specs.Number.{number}
 use Rattle.cap_bytes.specs.declared.faults.Rule.{Rule}
 use Rattle.cap_bytes.specs.declared.faults.Rule.TheVariants.{Cut, BlockLength, OrderMagic, FileLimit}
 use Rattle.cap_bytes.specs.declared.faults.Tail.{Tail}
 use Rattle.cap_bytes.specs.declared.numbers.Order.{Order}
-use Rattle.cap_bytes.specs.declared.numbers.Order.TheVariants.{Big}
 use Rattle.cap_bytes.proofs.Items.{stop_where-whole, no_fault}
 use Rattle.cap_bytes.proofs.Spelling.{number-append, number-drop_append}
 use Rattle.cap_blocks.specs.Grammar.{section_kind, is_total, is_known}
@@ -56,19 +55,11 @@ fields_fault-limit order offset bytes head ordered allowed past = rw (ordered, a
 
 pub fields_fault-fits : (order : Order) (offset : ℕ) (bytes : List ℕ) → FieldsFit order offset bytes → fields_fault order offset bytes ≡ None
 unfolding fields_fault
-fields_fault-fits order offset bytes f =
-    let head = f.head in
-    let limit = f.limit in
-    rw (f.ordered, f.allowed) (grind (arith, nat_tests))
+fields_fault-fits order offset bytes f = grind arith
 
 pub FieldsFit-from_none : (order : Order) (offset : ℕ) (bytes : List ℕ) → fields_fault order offset bytes ≡ None → FieldsFit order offset bytes
 unfolding fields_fault
-FieldsFit-from_none order offset bytes h = record {
-  head = grind (arith, nat_tests);
-  ordered = grind (arith, nat_tests);
-  allowed = grind (arith, nat_tests);
-  limit = grind (arith, nat_tests);
-}
+FieldsFit-from_none order offset bytes h = grind arith
 
 -- the conditions of a first block come before those of its first 12 bytes
 pub header_fault-fields : (section : Option Order) (offset : ℕ) (bytes : List ℕ) → first_fault section bytes ≡ None
@@ -82,30 +73,21 @@ first_fault-section bytes h = grind (arith, nat_tests)
 
 -- where neither of two conditions is met
 pub or_else-none : (a b : Option Rule) → or_else a b ≡ None → (a ≡ None) × (b ≡ None)
-or_else-none None b h = (refl, h)
-or_else-none (Some rule) b h = absurd (cc)
+or_else-none a b h = grind arith
 
 pub FieldsFit-from_header : (section : Option Order) (offset : ℕ) (bytes : List ℕ) → header_fault section offset bytes ≡ None
     → FieldsFit (order_at section bytes) offset bytes
-FieldsFit-from_header section offset bytes h =
-    FieldsFit-from_none (order_at section bytes) offset bytes
-    (or_else-none (first_fault section bytes) (fields_fault (order_at section bytes) offset bytes) h).1
-
--- there are as many
-lt-ltb-false : (n : ℕ) → 12 ≤ n → nat_lt n 12 ≡ false
-lt-ltb-false n h = grind (arith, nat_tests)
+FieldsFit-from_header section offset bytes h = grind (arith, FieldsFit-from_none, or_else-none)
 
 -- The first 12 bytes tell all of that.
 order_same : (section : Option Order) (xs zs : List ℕ) → ((order : Order) → number order 4 zs ≡ number order 4 xs)
     → ((order : Order) → number order 4 (drop 8 zs) ≡ number order 4 (drop 8 xs)) → order_at section zs ≡ order_at section xs
-order_same None xs zs kind magic = rw (magic Big) refl
-order_same (Some section) xs zs kind magic = rw (kind Big, magic Big) refl
+order_same section xs zs kind magic = grind arith
 
 first_same : (section : Option Order) (xs zs : List ℕ) → 12 ≤ length xs → 12 ≤ length zs
     → ((order : Order) → number order 4 zs ≡ number order 4 xs) → first_fault section zs ≡ first_fault section xs
 unfolding first_fault
-first_same None xs zs long longer kind = rw (kind Big) (grind (arith, nat_tests))
-first_same (Some section) xs zs long longer kind = refl
+first_same section xs zs long longer kind = grind (arith, nat_tests)
 
 head_same : (order : Order) (offset : ℕ) (xs zs : List ℕ) → 12 ≤ length xs → 12 ≤ length zs
     → ((order : Order) → number order 4 zs ≡ number order 4 xs)
@@ -113,10 +95,7 @@ head_same : (order : Order) (offset : ℕ) (xs zs : List ℕ) → 12 ≤ length 
     → ((order : Order) → number order 4 (drop 8 zs) ≡ number order 4 (drop 8 xs))
     → fields_fault order offset zs ≡ fields_fault order offset xs
 unfolding fields_fault
-head_same order offset xs zs long longer kind total magic =
-    let e = lt-ltb-false (length xs) long in
-    let f = lt-ltb-false (length zs) longer in
-    rw (kind Big, kind order, total order, magic order, e, f) refl
+head_same order offset xs zs long longer kind total magic = grind arith
 
 pub order_at-append : (section : Option Order) (xs ys : List ℕ) → 12 ≤ length xs → order_at section (xs ++ ys) ≡ order_at section xs
 order_at-append section xs ys h =
@@ -138,12 +117,7 @@ header_fault-append section offset xs ys h =
 pub block_at-append : (section : Option Order) (offset : ℕ) (xs ys : List ℕ) → 12 ≤ length xs
     → block_at section offset (xs ++ ys) ≡ block_at section offset xs
 unfolding block_at
-block_at-append section offset xs ys h =
-    rw (
-      order_at-append section xs ys h,
-      number-append (order_at section xs) 4 xs ys (omega arith),
-      number-drop_append (order_at section xs) 4 4 xs ys (omega arith),
-    ) refl
+block_at-append section offset xs ys h = grind (arith, order_at-append, number-append, number-drop_append)
 
 -- what ends the blocks, by the condition that is met
 pub block_fault-header : (section : Option Order) (offset : ℕ) (bytes : List ℕ) (rule : Rule) → header_fault section offset bytes ≡ Some rule
@@ -159,13 +133,11 @@ block_fault-body section offset bytes fault none is = rw (none, is) refl
 -- nothing ends the blocks where a whole one stands
 pub stop_at-whole : (section : Option Order) (tail : Tail) (file offset : ℕ) (bytes : List ℕ) → 0 < length bytes
     → block_fault section offset bytes ≡ None → stop_at section tail file offset bytes ≡ None
-stop_at-whole section tail file offset bytes some is =
-    stop_where-whole (is_some section) tail file offset bytes (block_fault section offset bytes) some is
+stop_at-whole section tail file offset bytes some is = search (stop_where-whole, is_some)
 
 pub block_fault-from_none : (section : Option Order) (tail : Tail) (file offset : ℕ) (bytes : List ℕ)
     → stop_at section tail file offset bytes ≡ None → block_fault section offset bytes ≡ None
-block_fault-from_none section tail file offset bytes h =
-    no_fault (is_some section) tail file offset bytes (block_fault section offset bytes) h
+block_fault-from_none section tail file offset bytes h = search (no_fault, is_some)
 
 pub faults-from_none : (section : Option Order) (offset : ℕ) (bytes : List ℕ) → block_fault section offset bytes ≡ None
     → (header_fault section offset bytes ≡ None) × (body_fault (order_at section bytes) bytes ≡ None)

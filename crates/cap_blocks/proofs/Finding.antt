@@ -1,5 +1,5 @@
 -- A look at a block's header, and then one at its body.
-use Rattle.std.proofs.Common.{◌≡◌, ℕ, ◌+◌, ◌<◌, List, length, drop, Option, Some, None, is_some, Bool, true, false, IsTrue, Err, inr, refl, sym, ◌∙◌, ap, subst, arith, length-append}
+use Rattle.std.proofs.Common.{◌≡◌, ℕ, ◌<◌, List, length, Option, Some, None, is_some, Bool, IsTrue, Err, inr, refl, sym, ◌∙◌, ap, subst, arith}
 use Rattle.cap_bytes.specs.Items.{stop_by}
 use Rattle.cap_bytes.specs.Parsing.{SeesStop, FailsBy}
 use Rattle.cap_bytes.specs.Window.{State, coming}
@@ -22,13 +22,11 @@ order_told section offset bytes block is = ap (λ (b : Block). b.order) is
 
 Leaves-later : (known : Bool) (total : ℕ) (a b c : State) → b.offset ≡ a.offset → (IsTrue a.told → IsTrue b.told)
     → (IsTrue a.told → coming b ≡ coming a) → Leaves known total b c → Leaves known total a c
-Leaves-later true total a b c at told bytes l = (l.0 ∙ at, l.1, λ t. l.2 (told t) ∙ bytes t)
-Leaves-later false total a b c at told bytes l = (l.0 ∙ ap (λ n. n + total) at, λ t. l.1 (told t) ∙ ap (drop total) (bytes t))
+Leaves-later known total a b c at told bytes l = grind arith
 
 -- some bytes are to come
 some_come : (section : Option Order) (block : Block) (a b : State) → SeesHeader section block a b → IsTrue a.told → 0 < length (coming a)
-some_come section block a b f t =
-    omega (arith, ap length (f.shows.coming_same t), length-append b.shown b.unread, f.header.head)
+some_come section block a b f t = grind arith
 
 -- what the body is refused by, if by anything
 body_told : (section : Option Order) (block : Block) (fault : Option Rule) (a b c : State) → SeesHeader section block a b

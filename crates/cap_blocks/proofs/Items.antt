@@ -8,15 +8,11 @@ use Rattle.cap_bytes.specs.declared.stops.Stop.{Stop}
 use Rattle.cap_bytes.specs.declared.stops.Stop.TheVariants as stops
 use Rattle.cap_bytes.proofs.Items as items
 use Rattle.cap_bytes.proofs.Items.{Advances, stop_where-end, stop_where-fault}
-use Rattle.cap_blocks.specs.Split.{block_fault, order_at, kind_at, total_at, block_at, body_at, stop_at, blocks, items_from}
+use Rattle.cap_blocks.specs.Split.{block_fault, order_at, total_at, block_at, body_at, stop_at, blocks, items_from}
 use Rattle.cap_blocks.proofs.Faults.{FieldsFit-from_stop_at, total-least}
 
 advances : Advances blocks
-advances section tail file offset bytes is =
-    let f = FieldsFit-from_stop_at section tail file offset bytes is in
-    let least = total-least (kind_at (order_at section bytes) bytes) (total_at (order_at section bytes) bytes) f.allowed in
-    let head = f.head in
-    (omega arith, omega arith)
+advances section tail file offset bytes is = grind (arith, FieldsFit-from_stop_at, total-least)
 
 -- Where something ends the blocks, that is the one item.
 pub items_from-stop : (section : Option Order) (tail : Tail) (file offset : ℕ) (bytes : List ℕ) (stop : Stop)
@@ -26,16 +22,13 @@ items_from-stop section tail file offset bytes stop is = items.items_in-stop blo
 -- At no bytes after a whole block they end.
 pub items_from-none : (section : Option Order) (tail : Tail) (file offset : ℕ) → IsSome section
     → items_from section tail file offset [] ≡ stopped stops.End ∷ []
-items_from-none section tail file offset some =
-    items_from-stop section tail file offset [] stops.End (stop_where-end (is_some section) tail file offset (block_fault section offset []) some)
+items_from-none section tail file offset some = search (items_from-stop, stop_where-end, is_some)
 
 -- At a fault they end by it.
 pub items_from-fault : (section : Option Order) (tail : Tail) (file offset : ℕ) (bytes : List ℕ) (rule : Rule)
     → (is_some section && (length bytes == 0)) ≡ false → block_fault section offset bytes ≡ Some rule
     → items_from section tail file offset bytes ≡ stopped (stop_by (is_some section) tail file offset rule) ∷ []
-items_from-fault section tail file offset bytes rule some fault =
-    items_from-stop section tail file offset bytes (stop_by (is_some section) tail file offset rule)
-    (stop_where-fault (is_some section) tail file offset bytes (block_fault section offset bytes) rule some fault)
+items_from-fault section tail file offset bytes rule some fault = search (items_from-stop, is_some, stop_where-fault)
 
 -- A block is the first item, and those of the bytes after it follow, in its order.
 pub items_from-block : (section : Option Order) (tail : Tail) (file offset : ℕ) (bytes : List ℕ)

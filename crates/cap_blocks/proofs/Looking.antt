@@ -1,5 +1,6 @@
 -- What a window shows of a block.
-use Rattle.std.proofs.Common.{◌≡◌, ℕ, ◌==◌, ◌&&◌, List, [], ◌∷◌, length, Option, Some, None, is_some, IsSome, Bool, true, false, Ok, refl, sym, ◌∙◌, ap, arith}
+use Rattle.std.proofs.lemmas.Grind.{common_steps}
+use Rattle.std.proofs.Common.{◌≡◌, ℕ, ◌==◌, ◌&&◌, List, [], length, Option, Some, None, is_some, IsSome, Bool, true, false, Ok, sym, ◌∙◌, ap, arith}
 use Rattle.std.proofs.lemmas.Bool.Decides.{nat_tests}
 use Rattle.cap_bytes.specs.Items.{stop_by}
 use Rattle.cap_bytes.specs.Parsing.{SeesStop}
@@ -17,37 +18,18 @@ use Rattle.cap_blocks.proofs.Faults.{total-least, FieldsFit-from_header, header_
 -- a section header's order is its own
 pub FindsOrder-own : (section : Option Order) (bytes : List ℕ) (found : Option Order) → order_at section bytes ≡ own_order bytes
     → is_section bytes ≡ true → FindsOwnOrder bytes found → FindsOrder section bytes found
-FindsOrder-own section bytes (Some order) same head own = (own.0 ∙ sym same, rw (same, head, own.1) refl)
-FindsOrder-own section bytes None same head own = rw (same, head, own) refl
+FindsOrder-own section bytes found same head own = grind arith
 
 -- a block as its first 12 bytes tell it
 pub IsHeader-at : (section : Option Order) (offset : ℕ) (bytes : List ℕ) → header_fault section offset bytes ≡ None
     → IsHeader (block_at section offset bytes) offset bytes
 unfolding block_at
-IsHeader-at section offset bytes none =
-    let f = FieldsFit-from_header section offset bytes none in
-    record {
-      head = f.head;
-      offset_is = refl;
-      kind = refl;
-      total = refl;
-      allowed = f.allowed;
-      least = total-least _ _ f.allowed;
-      limit = f.limit;
-    }
+IsHeader-at section offset bytes none = grind (arith, FieldsFit-from_header, total-least)
 
 -- the first 12 bytes of a block are shown
 pub SeesHeader-parsed : (there : Bool) (section : Option Order) (old new : State) (block : Block) → Needs 12 old (Ok there) new → Keeps old new
     → header_fault section old.offset new.shown ≡ None → block ≡ block_at section old.offset new.shown → SeesHeader section block old new
-SeesHeader-parsed true section old new block n k none is = record {
-  shows = n.0;
-  header = rw is (IsHeader-at section old.offset new.shown none);
-  room = omega (arith, n.1, k.shown_held, k.held_room);
-  none = λ t. ap (header_fault section old.offset) (sym (n.0.coming_same t)) ∙ (header_fault-append section old.offset new.shown new.unread n.1 ∙ none);
-  block_is = λ t. is ∙ sym (ap (block_at section old.offset) (sym (n.0.coming_same t)) ∙ block_at-append section old.offset new.shown new.unread n.1);
-}
-SeesHeader-parsed false section old new block n k none is =
-    absurd (omega (arith, (FieldsFit-from_header section old.offset new.shown none).head, n.1))
+SeesHeader-parsed there section old new block n k none is = grind (arith, IsHeader-at, header_fault-append, block_at-append, FieldsFit-from_header)
 
 -- no block is there, since its first 12 bytes are refused
 pub SeesStop-header : (there : Bool) (section : Option Order) (tail : Tail) (old new : State) (rule : Rule) → Needs 12 old (Ok there) new
@@ -64,14 +46,9 @@ SeesStop-header false section tail old new rule n some fault =
 
 -- no block is there, since nothing is
 ends_now : (section : Option Order) (xs : List ℕ) → (is_some section && (length xs == 0)) ≡ true → IsSome section × (xs ≡ [])
-ends_now None xs h = absurd (cc)
-ends_now (Some section) [] h = (refl, refl)
-ends_now (Some section) (x ∷ xs) h = absurd (grind (arith, nat_tests))
+ends_now section xs h = grind (arith, common_steps, nat_tests)
 
 pub SeesStop-none : (there : Bool) (section : Option Order) (tail : Tail) (old new : State) → Needs 12 old (Ok there) new
     → (is_some section && (length new.shown == 0)) ≡ true
     → SeesStop (is_some section) (block_fault section old.offset (coming old)) tail stops.End old new
-SeesStop-none true section tail old new n ends = absurd (omega (arith, n.1, ap length (ends_now section new.shown ends).1))
-SeesStop-none false section tail old new n ends =
-    let e = ends_now section new.shown ends in
-    SeesStop-end (is_some section) _ tail old new n.0.goes e.0 (λ t. all_shown old new n.0 n.2 t ∙ e.1)
+SeesStop-none there section tail old new n ends = grind (arith, ends_now, SeesStop-end, is_some, all_shown)

@@ -1,5 +1,5 @@
 -- The options of some bytes, case by case.
-use Rattle.std.proofs.Common.{◌≡◌, ◌≢◌, ◌==◌, ℕ, zero, suc, ◌+◌, ◌-◌, ◌<◌, ◌≤◌, nat_lt, if◌then◌else◌, List, [], ◌∷◌, length, take, drop, Ok, Err, refl, ap, ◌∙◌, arith, length-drop, lt-ltb}
+use Rattle.std.proofs.Common.{◌≡◌, ◌≢◌, ◌==◌, ℕ, zero, suc, ◌+◌, ◌<◌, ◌≤◌, nat_lt, if◌then◌else◌, List, [], ◌∷◌, length, take, drop, Ok, Err, refl, ◌∙◌, arith, length-drop, lt-ltb}
 use Rattle.std.proofs.lemmas.Bool.Decides.{nat_tests}
 use Rattle.cap_bytes.specs.declared.faults.Rule.TheVariants.{OptionEnd}
 use Rattle.cap_bytes.specs.declared.numbers.Order.{Order}
@@ -19,11 +19,7 @@ unfolding options_by
 options_by-enough zero zero order bytes p q = refl
 options_by-enough zero (suc m) order bytes p q = let short : length bytes < 4 = omega arith in rw (lt-ltb (length bytes) 4 short) refl
 options_by-enough (suc n) zero order bytes p q = let short : length bytes < 4 = omega arith in rw (lt-ltb (length bytes) 4 short) refl
-options_by-enough (suc n) (suc m) order bytes p q =
-    let rest = drop (4 + padded (length_at order bytes)) bytes in
-    let size : length rest ≡ length bytes - (4 + padded (length_at order bytes)) = length-drop (4 + padded (length_at order bytes)) bytes in
-    ap (chosen (length bytes) (code_at order bytes) (length_at order bytes) (Ok (code_at order bytes, take (length_at order bytes) (drop 4 bytes))))
-    (options_by-enough n m order rest (omega arith) (omega arith))
+options_by-enough (suc n) (suc m) order bytes p q = grind (arith, options_by-enough n m order, length-drop, chosen)
 
 -- the options by the first one
 options_of-chosen : (order : Order) (bytes : List ℕ)
@@ -31,12 +27,7 @@ options_of-chosen : (order : Order) (bytes : List ℕ)
     ≡ chosen (length bytes) (code_at order bytes) (length_at order bytes) (Ok (code_at order bytes, take (length_at order bytes) (drop 4 bytes)))
     (options_of order (drop (4 + padded (length_at order bytes)) bytes))
 unfolding options_by options_of
-options_of-chosen order bytes =
-    let rest = drop (4 + padded (length_at order bytes)) bytes in
-    let size : length rest ≡ length bytes - (4 + padded (length_at order bytes)) = length-drop (4 + padded (length_at order bytes)) bytes in
-    options_by-enough (length bytes) (suc (length bytes)) order bytes (omega arith) (omega arith)
-    ∙ ap (chosen (length bytes) (code_at order bytes) (length_at order bytes) (Ok (code_at order bytes, take (length_at order bytes) (drop 4 bytes))))
-    (options_by-enough (length bytes) (length rest) order rest (omega arith) (omega arith))
+options_of-chosen order bytes = grind (arith, length-drop, options_by-enough, chosen)
 
 -- which of them is chosen
 chosen-short : (size code length : ℕ) (first : OptionItem) (rest : List OptionItem) → size < 4 → chosen size code length first rest ≡ []

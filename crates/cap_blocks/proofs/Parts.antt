@@ -1,5 +1,5 @@
 -- Texts that are put together in pieces.
-use Rattle.std.proofs.Common.{◌≡◌, ℕ, ◌+◌, ◌≤◌, List, [], ◌∷◌, ◌++◌, length, refl, sym, ◌∙◌, ap, arith, append_assoc, length-append}
+use Rattle.std.proofs.Common.{◌≡◌, ℕ, ◌+◌, ◌≤◌, List, [], ◌∷◌, ◌++◌, length, refl, sym, ◌∙◌, arith, append_assoc, length-append}
 use Rattle.std.proofs.lemmas.Bool.Decides.{nat_tests}
 use Rattle.std.proofs.lemmas.List.{length-replicate}
 use Rattle.std.specs.Int.{w64, cast_unsigned}
@@ -22,10 +22,7 @@ pub length-section_body : (order : Order) → length (section_body order) ≡ 16
 length-section_body order = simp (length-append, length-bytes_of)
 
 pub length-offset_option : (order : Order) (seconds : ℕ) → length (offset_option order seconds) + 32 ≡ interface_total seconds
-length-offset_option order seconds =
-    let eight = length-bytes_of order 8 seconds in
-    let some : length (option_bytes order 14 (bytes_of order 8 seconds)) ≡ 12 = simp (length-append, length-bytes_of) in
-    grind (arith, nat_tests)
+length-offset_option order seconds = grind (arith, length-bytes_of, length-append)
 
 pub interface_total-most : (seconds : ℕ) → interface_total seconds ≤ 44
 interface_total-most seconds = grind (arith, nat_tests)
@@ -39,22 +36,18 @@ length_around order link snaplen code offset = simp (length-append, length-bytes
 
 pub length-interface_body : (order : Order) (interface : Interface)
     → 12 + length (interface_body order interface) ≡ interface_total (cast_unsigned w64 interface.offset)
-length-interface_body order interface =
-    ap (λ n. 12 + n) (length_around order interface.link interface.snaplen (code_of interface.resolution) (offset_option order (cast_unsigned w64 interface.offset)))
-    ∙ (omega (arith, length-offset_option order (cast_unsigned w64 interface.offset)))
+length-interface_body order interface = grind (arith, length_around, length-offset_option)
 
 pub length-packet_body : (order : Order) (interface units original : ℕ) (bytes : List ℕ)
     → 12 + length (packet_body order interface units original bytes) ≡ 32 + padded (length bytes)
-length-packet_body order interface units original bytes =
-    simp (length-append, length-bytes_of, length-replicate) (omega arith)
+length-packet_body order interface units original bytes = grind (arith, length-append, length-bytes_of, length-replicate)
 
 -- a section header, piece by piece
 pub section_bytes-pieces : (order : Order)
     → (((((([] ++ bytes_of order 4 section_kind) ++ bytes_of order 4 28) ++ bytes_of order 4 order_magic) ++ bytes_of order 2 1)
     ++ bytes_of order 2 0) ++ bytes_of order 8 0xFFFF_FFFF_FFFF_FFFF) ++ bytes_of order 4 28
     ≡ section_bytes order
-section_bytes-pieces order =
-    rw (block_bytes-sized order section_kind 28 (section_body order) (ap (λ n. 12 + n) (length-section_body order))) (simp append_assoc)
+section_bytes-pieces order = grind (arith, block_bytes-sized, length-section_body, append_assoc)
 
 -- an interface block, piece by piece
 pub interface_bytes-pieces : (order : Order) (interface : Interface) (total : ℕ) → total ≡ interface_total (cast_unsigned w64 interface.offset)

@@ -8,7 +8,7 @@ use Rattle.cap_bytes.specs.declared.numbers.Order.TheVariants.{Big, Little}
 use Rattle.cap_bytes.proofs.Spelling.{number-take, number-drop_take}
 use Rattle.cap_blocks.specs.Grammar.{section_kind, order_magic, is_total, is_version, SpellsSection, SpellsBlock}
 use Rattle.cap_blocks.specs.Split.{kind_at, total_at, is_section, is_ordered, own_order, order_at, first_fault, header_fault, body_fault, has_other_version, block_fault, body_in, body_at, Piece, piece_size, MayFollow, Begins, AreBytes}
-use Rattle.cap_blocks.proofs.Behind.{same, differs, there, body_fault-whole, no_version, version_is}
+use Rattle.cap_blocks.proofs.Behind.{same, differs, there, body_fault-whole}
 use Rattle.cap_blocks.proofs.Bytes.{kind_same, magic_one, AreBytes-drop}
 use Rattle.cap_blocks.proofs.Faults.{FieldsFit, FieldsFit-from_header, fields_fault-fits, header_fault-fields, block_fault-body, faults-from_none, first_fault-section, total-least, total-section, or_else-none}
 
@@ -27,10 +27,7 @@ body_none : (order : Order) (bytes : List ℕ) (short trailer other : Bool) → 
     → (number order 4 (drop (total_at order bytes - 4) bytes) == total_at order bytes) ≡ trailer → has_other_version order bytes ≡ other
     → body_fault order bytes ≡ None → (short ≡ false) × (trailer ≡ true) × (other ≡ false)
 unfolding body_fault
-body_none order bytes true trailer other s t o h = let e = rw s at h in absurd (cc)
-body_none order bytes false false other s t o h = let e = rw (s, t) at h in absurd (cc)
-body_none order bytes false true true s t o h = let e = rw (s, t, o) at h in absurd (cc)
-body_none order bytes false true false s t o h = (refl, refl, refl)
+body_none order bytes short trailer other s t o h = grind arith
 
 pub BodyFits-from_none : (order : Order) (bytes : List ℕ) → body_fault order bytes ≡ None → BodyFits order bytes
 BodyFits-from_none order bytes h =
@@ -69,15 +66,12 @@ other_told : (order : Order) (bytes : List ℕ) → Plain bytes → kind_at orde
 other_told order bytes fits other = differs _ _ (λ is. other (fits.kinds Big order is))
 
 ordered_of : (section ordered : Bool) → section ≡ true → (section && not ordered) ≡ false → ordered ≡ true
-ordered_of true true is h = refl
-ordered_of true false is h = absurd (cc)
-ordered_of false ordered is h = absurd (cc)
+ordered_of section ordered is h = grind arith
 
 -- a version that is read
 version_of : (order : Order) (bytes : List ℕ) (read : Bool) → kind_at order bytes ≡ section_kind
     → is_version (number order 2 (drop 12 bytes)) (number order 2 (drop 14 bytes)) ≡ read → has_other_version order bytes ≡ false → read ≡ true
-version_of order bytes true is read h = refl
-version_of order bytes false is read h = let e = version_is order bytes false is read in absurd (cc)
+version_of order bytes read' is read h = grind arith
 
 -- a section header that isn't refused has an order magic and a version
 SpellsSection-at : (order : Order) (offset total : ℕ) (bytes : List ℕ) → Plain bytes → FieldsFit order offset bytes → BodyFits order bytes
@@ -121,8 +115,7 @@ SpellsBlock-at order offset bytes fits f r =
     }
 
 order_kept : (section : Order) (bytes : List ℕ) (here : Bool) → is_section bytes ≡ here → (is_section bytes ≡ true → ⊥) → order_at (Some section) bytes ≡ section
-order_kept section bytes true is other = absurd (other is)
-order_kept section bytes false is other = rw is refl
+order_kept section bytes here is other = grind arith
 
 -- the piece may stand there
 follows_at : (section : Option Order) (bytes : List ℕ) → Plain bytes → first_fault section bytes ≡ None → MayFollow section (piece_at section bytes)
@@ -160,18 +153,13 @@ pub record Reads (section : Option Order) (offset : ℕ) (piece : Piece) (bytes 
 
 -- the order magic tells the order
 own_is : (order : Order) (bytes : List ℕ) → Plain bytes → number Big 4 bytes ≡ section_kind → number order 4 (drop 8 bytes) ≡ order_magic → own_order bytes ≡ order
-own_is Big bytes fits kind is = let e = same _ _ is in rw e refl
-own_is Little bytes fits kind is =
-    let e = differs _ _ (λ big. fits.magics kind big is) in rw e refl
+own_is order bytes fits kind is = grind arith
 
 order_follows : (section : Option Order) (order : Order) (kind : ℕ) (body bytes : List ℕ) (here : Bool) → (kind == section_kind) ≡ here
     → Plain bytes → MayFollow section (record { order = order; kind = kind; body = body }) → kind_at order bytes ≡ kind
     → (kind ≡ section_kind → number order 4 (drop 8 bytes) ≡ order_magic) → order_at section bytes ≡ order
 order_follows None order kind body bytes here is fits follows told magic = own_is order bytes fits (fits.kinds order Big (told ∙ follows)) (magic follows)
-order_follows (Some section) order kind body bytes true is fits follows told magic =
-    let section_is : kind ≡ section_kind = grind (arith, nat_tests) in
-    let e = section_told order bytes fits (told ∙ section_is) in
-    rw e (own_is order bytes fits (fits.kinds order Big (told ∙ section_is)) (magic section_is))
+order_follows (Some section) order kind body bytes true is fits follows told magic = grind (arith, section_told, own_is)
 order_follows (Some section) order kind body bytes false is fits follows told magic =
     let other : kind ≢ section_kind = grind (arith, nat_tests) in
     let e = other_told order bytes fits (λ k. other (sym told ∙ k)) in
@@ -180,19 +168,11 @@ order_follows (Some section) order kind body bytes false is fits follows told ma
 first_none : (section : Option Order) (piece : Piece) (bytes : List ℕ) → Plain bytes → MayFollow section piece
     → kind_at piece.order bytes ≡ piece.kind → 12 ≤ length bytes → first_fault section bytes ≡ None
 unfolding first_fault
-first_none None piece bytes fits follows told head =
-    let e = section_told piece.order bytes fits (told ∙ follows) in
-    let f = there (length bytes) 4 (omega arith) in
-    rw (e, f) refl
-first_none (Some section) piece bytes fits follows told head = refl
+first_none section piece bytes fits follows told head = grind (arith, section_told, there)
 
 ordered_none : (order : Order) (bytes : List ℕ) (here : Bool) → (kind_at order bytes == section_kind) ≡ here → Plain bytes
     → (kind_at order bytes ≡ section_kind → number order 4 (drop 8 bytes) ≡ order_magic) → (is_section bytes && not (is_ordered order bytes)) ≡ false
-ordered_none order bytes true is fits magic =
-    let section_is : kind_at order bytes ≡ section_kind = grind (arith, nat_tests) in
-    let e = section_told order bytes fits section_is in
-    let f = same _ _ (magic section_is) in
-    rw (e, f) refl
+ordered_none order bytes true is fits magic = grind arith
 ordered_none order bytes false is fits magic =
     let other : kind_at order bytes ≢ section_kind = grind (arith, nat_tests) in
     let e = other_told order bytes fits other in
@@ -201,23 +181,13 @@ ordered_none order bytes false is fits magic =
 version_none : (order : Order) (bytes : List ℕ) (here : Bool) → (kind_at order bytes == section_kind) ≡ here
     → (kind_at order bytes ≡ section_kind → is_version (number order 2 (drop 12 bytes)) (number order 2 (drop 14 bytes)) ≡ true)
     → has_other_version order bytes ≡ false
-version_none order bytes true is version =
-    let section_is : kind_at order bytes ≡ section_kind = grind (arith, nat_tests) in
-    version_is order bytes true section_is (version section_is)
-version_none order bytes false is version = no_version order bytes (grind (arith, nat_tests))
+version_none order bytes here is version = grind arith
 
 -- the version and the order magic of a section header, which stand in its body
 magic_in : (order : Order) (size : ℕ) (body bytes : List ℕ) → length body ≡ size → 12 + size ≤ length bytes → 16 ≤ size
     → take size (drop 8 bytes) ≡ body → SpellsSection order body
     → (number order 4 (drop 8 bytes) ≡ order_magic) × (is_version (number order 2 (drop 12 bytes)) (number order 2 (drop 14 bytes)) ≡ true)
-magic_in order size body bytes len whole least is s =
-    let left = length-drop 8 bytes in
-    let magic = number-take order 4 size (drop 8 bytes) (omega arith) in
-    let major = number-drop_take order 2 4 size (drop 8 bytes) (omega arith) (omega arith) ∙ ap (number order 2) (drop-drop 4 8 bytes) in
-    let minor = number-drop_take order 2 6 size (drop 8 bytes) (omega arith) (omega arith) ∙ ap (number order 2) (drop-drop 6 8 bytes) in (
-      sym magic ∙ (ap (number order 4) is ∙ s.magic),
-      rw (← major, ← minor, is) s.version,
-    )
+magic_in order size body bytes len whole least is s = grind (arith, length-drop, number-take, number-drop_take, drop-drop)
 
 -- all of it
 pub Reads-spelled : (section : Option Order) (offset : ℕ) (piece : Piece) (bytes : List ℕ) → Plain bytes → Begins section offset piece bytes

@@ -1,4 +1,5 @@
 -- A file splits in one way, and its items are those of the split.
+use Rattle.std.proofs.lemmas.Grind.{common_steps}
 use Rattle.std.proofs.Common.{◌≡◌, ℕ, zero, suc, IsSome, false, length-drop, ◌+◌, ◌≤◌, ◌<◌, ◌==◌, ◌&&◌, List, [], ◌∷◌, ◌++◌, length, take, drop, Option, Some, None, is_some, refl, sym, ◌∙◌, ap, subst, arith}
 use Rattle.std.proofs.lemmas.Bool.Decides.{nat_tests}
 use Rattle.std.proofs.lemmas.List.{take_at, drop_at}
@@ -31,8 +32,7 @@ piece_one section offset p q bytes fits a b =
 moved : (offset : ℕ) (bytes : List ℕ) (p q : Piece) (qs : List Piece) (s : List ℕ) → p ≡ q
     → Splits (Some q.order) (offset + piece_size q) (drop (piece_size q) bytes) qs s
     → Splits (Some p.order) (offset + piece_size p) (drop (piece_size p) bytes) qs s
-moved offset bytes p q qs s same rest =
-    subst (λ (x : Piece). Splits (Some x.order) (offset + piece_size x) (drop (piece_size x) bytes) qs s) (sym same) rest
+moved offset bytes p q qs s same rest = grind arith
 
 pub one_split-law : OneSplit
 one_split-law section offset bytes [] [] r s fits a b = (refl, sym a.0 ∙ b.0)
@@ -87,10 +87,7 @@ pub items_from-reads : (section : Option Order) (tail : Tail) (file offset : ℕ
     → items_from section tail file offset bytes
     ≡ given (block_of offset piece) piece.body
     ∷ items_from (Some piece.order) tail file (offset + piece_size piece) (drop (piece_size piece) bytes)
-items_from-reads section tail file offset piece bytes r =
-    let none = stop_at-whole section tail file offset bytes (omega (arith, r.whole)) r.none in
-    let e = items_from-block section tail file offset bytes none in
-    rw (block_read section offset piece bytes r, r.order_is, r.total_is, r.body_is) at e
+items_from-reads section tail file offset piece bytes r = grind (arith, stop_at-whole, items_from-block, block_read)
 
 pub block_read-law : BlockRead
 block_read-law section tail file offset piece bytes fits b =
@@ -111,10 +108,7 @@ begins_goes section tail file offset bytes p fits b =
 ends : (section : Option Order) (tail : Tail) (file offset : ℕ) (bytes : List ℕ) (stop : Option Stop) → stop_at section tail file offset bytes ≡ stop
     → AreBytes bytes → ((piece : Piece) → Begins section offset piece bytes → ⊥)
     → (s : Stop) × (stop_at section tail file offset bytes ≡ Some s) × (items_from section tail file offset bytes ≡ stopped s ∷ [])
-ends section tail file offset bytes (Some stop) is fits none = (stop, is, items_from-stop section tail file offset bytes stop is)
-ends section tail file offset bytes None is fits none =
-    let there = block_there-law section tail file offset bytes fits is in
-    absurd (none there.0 there.1)
+ends section tail file offset bytes stop is fits none = grind (arith, items_from-stop, block_there-law)
 
 pub split_items-law : SplitItems
 split_items-law section tail file offset bytes [] rest fits split =
@@ -133,8 +127,7 @@ split_by : (section : Option Order) (offset : ℕ) (bytes : List ℕ) (stop : Op
     → ((order : Order) (later : ℕ) (rest : List ℕ) → AreBytes rest → length rest < length bytes
     → (ps : List Piece) × (r : List ℕ) × Splits (Some order) later rest ps r)
     → (pieces : List Piece) × (rest : List ℕ) × Splits section offset bytes pieces rest
-split_by section offset bytes (Some stop) is fits behind =
-    ([], bytes, (refl, λ p b. let goes = begins_goes section Refuse 0 offset bytes p fits b in cc))
+split_by section offset bytes (Some stop) is fits behind = grind (arith, begins_goes)
 split_by section offset bytes None is fits behind =
     let there = block_there-law section Refuse 0 offset bytes fits is in
     let size = piece_size there.0 in
@@ -154,9 +147,7 @@ every_split-law section offset bytes fits = every (suc (length bytes)) section o
 
 -- the items at a fault, and at a block
 no_end : (section : Option Order) (bytes : List ℕ) → (IsSome section → bytes ≡ [] → ⊥) → (is_some section && (length bytes == 0)) ≡ false
-no_end None bytes some = refl
-no_end (Some section) [] some = absurd (some refl refl)
-no_end (Some section) (x ∷ xs) some = grind (arith, nat_tests)
+no_end section bytes some = grind (arith, common_steps, nat_tests)
 
 pub items_at_fault-law : ItemsAtFault
 items_at_fault-law section tail file offset bytes rule some fault =

@@ -1,3 +1,4 @@
+use Rattle.std.proofs.Common.{arith}
 use Rattle.std.proofs.lemmas.Result.{err_from_is_err_and}
 use Rattle.cap_bytes.proofs.Parsing.{FailsBy-need}
 use Rattle.cap_blocks.proofs.Faults.{total-known}
@@ -8,11 +9,7 @@ pub need-requires : goal.need-requires
 need-requires g c = total-known c.args.block.kind c.args.block.total c.requires.header.allowed c.requires.known
 
 pub returns-in_err-need-clause-answer : goal.returns-in_err-need-clause-answer
-returns-in_err-need-clause-answer g c =
-    let p = err_from_is_err_and c.from_residual.result c.from_residual.ensures.1 in
-    rw (p.1, p.2)
-    (FailsBy-need c.args.block.total 524288 _ c.args.window.now c.need.new.self c.in_err-need.field-0.0
-    (total-known c.args.block.kind c.args.block.total c.requires.header.allowed c.requires.known) (λ few. (c.requires.known, few)) c.in_err-need.ensures.answer)
+returns-in_err-need-clause-answer g c = grind (arith, err_from_is_err_and, FailsBy-need, total-known)
 
 pub returns-then-not-branch-clause-answer : goal.returns-then-not-branch-clause-answer
 returns-then-not-branch-clause-answer g c =

@@ -1,14 +1,9 @@
-use Rattle.std.proofs.Common.{◌∙◌, sym}
-use Rattle.std.proofs.lemmas.Result.{err_from_is_err_and}
-use Rattle.cap_blocks.proofs.Behind.{SkipsBody-fault, SeesBody-ended, SeesBody-short, SeesBody-other, SeesBody-skipped}
+use Rattle.std.proofs.Common.{arith, ◌∙◌, sym}
+use Rattle.cap_blocks.proofs.Behind.{SeesBody-ended, SeesBody-short, SeesBody-other, SeesBody-skipped}
 use Rattle.cap_blocks.proofs.bodies.skip_body.Goals as goal
 
 pub returns-in_err-skip-clause-answer : goal.returns-in_err-skip-clause-answer
-returns-in_err-skip-clause-answer g c =
-    let p = err_from_is_err_and c.from_residual.result c.from_residual.ensures.1 in
-    rw p.1
-    (SkipsBody-fault c.args.block _ c.args.window.now c.skip.new.self c.in_err-skip.field-0.0 c.requires.room
-    c.in_err-skip.ensures.answer)
+returns-in_err-skip-clause-answer g c = grind arith
 
 pub returns-then-not-branch-clause-answer : goal.returns-then-not-branch-clause-answer
 returns-then-not-branch-clause-answer g c =

@@ -1,43 +1,20 @@
-use Rattle.std.proofs.Common.{◌∙◌, sym, refl, arith}
+use Rattle.std.proofs.Common.{arith}
 use Rattle.cap_blocks.specs.Split.{block_at}
 use Rattle.cap_blocks.proofs.Faults.{header_fault-fields, fields_fault-short, fields_fault-unordered, fields_fault-length, fields_fault-limit, fields_fault-fits}
 use Rattle.cap_blocks.proofs.headers.header_of.Goals as goal
 
 pub returns-then-bytes-lt-FRAME_SIZE : goal.returns-then-bytes-lt-FRAME_SIZE
-returns-then-bytes-lt-FRAME_SIZE c =
-    header_fault-fields c.args.section c.args.offset c.args.bytes.now (sym c.first_rule.ensures ∙ c.in_default.is)
-    ∙ fields_fault-short _ c.args.offset c.args.bytes.now c.if-bytes-lt-FRAME_SIZE.true
+returns-then-bytes-lt-FRAME_SIZE c = grind (arith, header_fault-fields, fields_fault-short)
 
 pub returns-in_default-order_of : goal.returns-in_default-order_of
-returns-in_default-order_of c =
-    header_fault-fields c.args.section c.args.offset c.args.bytes.now (sym c.first_rule.ensures ∙ c.in_default.is)
-    ∙ fields_fault-unordered _ c.args.offset c.args.bytes.now c.if-bytes-lt-FRAME_SIZE.false (rw c.in_default-order_of.is at c.order_of.ensures)
+returns-in_default-order_of c = grind (arith, header_fault-fields, fields_fault-unordered)
 
 pub returns-then-not-is_total : goal.returns-then-not-is_total
-returns-then-not-is_total c =
-    let e = rw c.in-Some-order_of.is at c.order_of.ensures in
-    header_fault-fields c.args.section c.args.offset c.args.bytes.now (sym c.first_rule.ensures ∙ c.in_default.is)
-    ∙ fields_fault-length _ c.args.offset c.args.bytes.now c.if-bytes-lt-FRAME_SIZE.false e.1
-    (rw (← e.0, ← c.u32_at-kind.ensures, ← c.u32_at-total.ensures) (sym c.is_total.ensures ∙ c.if-not-is_total.true))
+returns-then-not-is_total c = grind (arith, header_fault-fields, fields_fault-length)
 
 pub returns-then-offset-from-gt-FILE_LIMIT : goal.returns-then-offset-from-gt-FILE_LIMIT
-returns-then-offset-from-gt-FILE_LIMIT c =
-    let e = rw c.in-Some-order_of.is at c.order_of.ensures in
-    header_fault-fields c.args.section c.args.offset c.args.bytes.now (sym c.first_rule.ensures ∙ c.in_default.is)
-    ∙ fields_fault-limit _ c.args.offset c.args.bytes.now c.if-bytes-lt-FRAME_SIZE.false e.1
-    (rw (← e.0, ← c.u32_at-kind.ensures, ← c.u32_at-total.ensures) (sym c.is_total.ensures ∙ c.if-not-is_total.false))
-    (rw (← e.0, ← c.u32_at-total.ensures) (omega arith))
+returns-then-offset-from-gt-FILE_LIMIT c = grind (arith, header_fault-fields, fields_fault-limit)
 
 pub returns : goal.returns
 unfolding block_at
-returns c =
-    let e = rw c.in-Some-order_of.is at c.order_of.ensures in (
-      header_fault-fields c.args.section c.args.offset c.args.bytes.now (sym c.first_rule.ensures ∙ c.in_default.is)
-          ∙ fields_fault-fits _ c.args.offset c.args.bytes.now (record {
-            head = c.if-bytes-lt-FRAME_SIZE.false;
-            ordered = e.1;
-            allowed = rw (← e.0, ← c.u32_at-kind.ensures, ← c.u32_at-total.ensures) (sym c.is_total.ensures ∙ c.if-not-is_total.false);
-            limit = rw (← e.0, ← c.u32_at-total.ensures) (omega arith);
-          }),
-      rw (c.u32_at-kind.ensures, c.u32_at-total.ensures, e.0) refl,
-    )
+returns c = grind (arith, header_fault-fields, fields_fault-fits)

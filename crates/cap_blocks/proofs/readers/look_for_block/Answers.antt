@@ -1,3 +1,4 @@
+use Rattle.std.proofs.Common.{arith}
 use Rattle.std.proofs.lemmas.Result.{err_from_is_err_and}
 use Rattle.cap_blocks.proofs.Finding.{SeesBlock-both, SeesStop-body, FailsBy-body}
 use Rattle.cap_blocks.proofs.readers.look_for_block.Goals as goal
@@ -18,9 +19,4 @@ returns-in-Some-clause-answer g c =
     header c.in_ok-block.ensures.stays.told body)
 
 pub returns-in_err-look_at_body-clause-answer : goal.returns-in_err-look_at_body-clause-answer
-returns-in_err-look_at_body-clause-answer g c =
-    let p = err_from_is_err_and c.from_residual-in_err-look_at_body.result c.from_residual-in_err-look_at_body.ensures.1 in
-    let header = rw c.in-Ok.is at c.in_ok-block.ensures.answer in
-    rw (p.1, p.2)
-    (FailsBy-body c.args.section c.in-Ok.block c.args.window.now c.look_at_header.new.window c.look_at_body.new.window
-    c.in_err-look_at_body.field-0.0 header c.in_ok-block.ensures.stays c.in_err-look_at_body.ensures.answer)
+returns-in_err-look_at_body-clause-answer g c = grind (arith, err_from_is_err_and, FailsBy-body)

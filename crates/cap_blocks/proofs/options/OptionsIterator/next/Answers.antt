@@ -1,5 +1,4 @@
-use Rattle.std.proofs.Common.{◌≡◌, ◌≢◌, ◌+◌, ◌<◌, ◌∙◌, ap, sym, refl, List, length, drop, drop-drop, arith, [], Err, ◌∷◌, take}
-use Rattle.cap_bytes.specs.declared.faults.Rule.TheVariants.{OptionEnd}
+use Rattle.std.proofs.Common.{◌≡◌, ◌≢◌, ◌+◌, ◌<◌, ◌∙◌, ap, sym, refl, List, length, drop, drop-drop, arith, ◌∷◌, take}
 use Rattle.cap_blocks.specs.OptionList.{OptionItem, code_at, length_at, padded}
 use Rattle.cap_blocks.proofs.OptionLaws.{options_of-short, options_of-end, options_of-overrun, options_of-more}
 use Rattle.cap_blocks.proofs.options.OptionsIterator.next.Goals as goal
@@ -9,20 +8,13 @@ fewer : (item : OptionItem) (old new : List OptionItem) → old ≡ item ∷ new
 fewer item old new first = omega (arith, ap length first)
 
 pub returns-then-self-lt4-clause-steps : goal.returns-then-self-lt4-clause-steps
-returns-then-self-lt4-clause-steps c =
-    let e = options_of-short c.args.self.now.order c.args.self.now.rest.now c.if-self-lt4.true in (e, e)
+returns-then-self-lt4-clause-steps c = search (options_of-short)
 
 pub returns-then-code-eq0-clause-steps : goal.returns-then-code-eq0-clause-steps
-returns-then-code-eq0-clause-steps c = (
-  options_of-end c.args.self.now.order c.args.self.now.rest.now (cc),
-  options_of-short c.args.self.now.order [] (omega arith),
-)
+returns-then-code-eq0-clause-steps c = grind (arith, options_of-end, options_of-short)
 
 pub returns-then-behind-length-clause-steps : goal.returns-then-behind-length-clause-steps
-returns-then-behind-length-clause-steps c =
-    let some : code_at c.args.self.now.order c.args.self.now.rest.now ≢ 0 = λ zero. c.if-code-eq0.false (c.u16_at-code.ensures ∙ zero) in
-    options_of-overrun c.args.self.now.order c.args.self.now.rest.now c.if-self-lt4.false some (omega arith)
-    ∙ ap (λ l. Err OptionEnd ∷ l) (sym (options_of-short c.args.self.now.order [] (omega arith)))
+returns-then-behind-length-clause-steps c = grind (arith, options_of-overrun, options_of-short)
 
 pub returns-then-behind-length-clause-goes : goal.returns-then-behind-length-clause-goes
 returns-then-behind-length-clause-goes c = record {
