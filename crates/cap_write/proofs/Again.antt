@@ -1,5 +1,5 @@
 -- Written pcapng files, read again.
-use Rattle.std.proofs.Common.{◌≡◌, ◌==◌, ℕ, ◌+◌, ◌^◌, ◌≤◌, ◌<◌, slice_get, List, [], ◌∷◌, ◌++◌, length, Bool, true, false, Option, Some, Result, Ok, refl, sym, ap, ◌∙◌, subst, arith, append_assoc, length-append, if◌then◌else◌}
+use Rattle.std.proofs.Common.{◌≡◌, ◌==◌, ℕ, ◌+◌, ◌^◌, ◌≤◌, ◌<◌, slice_get, List, [], ◌∷◌, ◌++◌, length, Bool, true, false, Option, Some, Result, Ok, refl, ap, ◌∙◌, arith, append_assoc, length-append, if◌then◌else◌}
 use Rattle.std.proofs.Math.Seq.{get_or-append_seam}
 use Rattle.std.proofs.lemmas.Bool.{eqb-true}
 use Rattle.std.proofs.lemmas.Option.{slice_get-get_or, slice_get_within}
@@ -46,8 +46,7 @@ interface_blocks : (order : Order) (tail : Tail) (file offset : ℕ) (i : Interf
     → blocks.items_from (Some order) tail file offset (interface_bytes order i ++ rest)
     ≡ pieces.given (block_of offset (record { order = order; kind = interface_kind; body = interface_body order i })) (interface_body order i)
     ∷ blocks.items_from (Some order) tail file (offset + length (interface_bytes order i)) rest
-interface_blocks order tail file offset i rest link snaplen limit =
-    (interface_again-law order i link snaplen).0.items tail file offset rest limit
+interface_blocks order tail file offset i rest link snaplen limit = grind (arith, interface_again-law)
 
 -- A written interface is passed, and comes after those before it.
 pub items_in-interface : (order : Order) (tail : Tail) (file offset : ℕ) (progress : Progress) (i : Interface) (rest : List ℕ)
@@ -67,24 +66,13 @@ pub first_in-interface : (order : Order) (tail : Tail) (file offset : ℕ) (prog
     → offset + length (interface_bytes order i) ≤ 2 ^ 40
     → first_in progress (blocks.items_from (Some order) tail file offset (interface_bytes order i ++ rest))
     ≡ first_in (after progress (contents.Interface i)) (blocks.items_from (Some order) tail file (offset + length (interface_bytes order i)) rest)
-first_in-interface order tail file offset progress i rest few link snaplen fits limit =
-    ap (first_in progress) (interface_blocks order tail file offset i rest link snaplen limit)
-    ∙ first_in-given progress (block_of offset (record { order = order; kind = interface_kind; body = interface_body order i })) (interface_body order i)
-    (blocks.items_from (Some order) tail file (offset + length (interface_bytes order i)) rest) (Ok (contents.Interface i))
-    (content_in-interface progress.interfaces order i few link snaplen fits)
+first_in-interface order tail file offset progress i rest few link snaplen fits limit = grind (arith, interface_blocks, first_in-given, block_of, content_in-interface)
 
 pub first_in-packet : (order : Order) (tail : Tail) (file offset : ℕ) (progress : Progress) (n : Numbered) (rest : List ℕ)
     → slice_get progress.interfaces n.number ≡ Some n.interface → n.number < 2 ^ 32 → Fits n
     → offset + length (packet_part order n) ≤ 2 ^ 40
     → first_in progress (blocks.items_from (Some order) tail file offset (packet_part order n ++ rest)) ≡ progress.first
-first_in-packet order tail file offset progress n rest known few fits limit =
-    let body = packet_body order n.number n.units n.original n.frame in
-    let again = packet_again-law order n.number n.units n.original n.frame few fits.units fits.original fits.frame in
-    let p = packet_of n.number n.interface n.units (length n.frame) n.original in
-    ap (first_in progress) (again.0.items tail file offset rest limit)
-    ∙ first_in-given progress (block_of offset (record { order = order; kind = enhanced_kind; body = body })) body
-    (blocks.items_from (Some order) tail file (offset + length (packet_part order n)) rest) (Ok (contents.Packet p))
-    (content_in-packet progress.interfaces order n known few fits)
+first_in-packet order tail file offset progress n rest known few fits limit = grind (arith, packet_again-law, packet_of, first_in-given, block_of, content_in-packet)
 
 none_before : (k : ℕ) → 0 + k ≡ k
 none_before k = omega arith
@@ -133,9 +121,7 @@ read_items-known : (order : Order) (file offset count : ℕ) (n : Numbered) (res
     → read_items order file offset count (n ∷ rest)
     ≡ packet (meta_again file offset n) n.frame ∷ read_items order file (offset + length (packet_part order n)) count rest
 unfolding read_items
-read_items-known order file offset count n rest is =
-    rw is (ap (λ (place : ℕ). packet (meta_again file place n) n.frame ∷ read_items order file (place + length (packet_part order n)) count rest)
-    (omega arith))
+read_items-known order file offset count n rest is = grind arith
 
 read_items-new : (order : Order) (file offset count : ℕ) (n : Numbered) (rest : List Numbered) → (n.number == count) ≡ true
     → read_items order file offset count (n ∷ rest)
@@ -162,17 +148,7 @@ again-known : (order : Order) (tail : Tail) (file : ℕ) (interfaces : List Inte
     → (offset + length (packet_part order n) + length (packets_bytes order (length interfaces) rest) ≤ 2 ^ 40
     → IsReadAgain order tail file interfaces first (offset + length (packet_part order n)) rest)
     → IsReadAgain order tail file interfaces first offset (n ∷ rest)
-again-known order tail file interfaces first offset n rest is known few fits limit later =
-    let count = length interfaces in
-    let progress = reached interfaces first in
-    let behind = packets_bytes order count rest in
-    let text = packets_bytes-known order count n rest is in
-    let size : length (packets_bytes order count (n ∷ rest)) ≡ length (packet_part order n) + length behind =
-    ap length text ∙ length-append (packet_part order n) behind in
-    ap (λ t. items_in file progress (blocks.items_from (Some order) tail file offset t)) text
-    ∙ (items_in-packet order tail file offset progress n behind known few fits refl refl (omega (arith, limit, size))
-    ∙ (ap (λ l. packet (meta_again file offset n) n.frame ∷ l) (later (omega (arith, limit, size)))
-    ∙ sym (read_items-known order file offset count n rest is)))
+again-known order tail file interfaces first offset n rest is known few fits limit later = grind (arith, reached, packets_bytes-known, length-append, items_in, items_in-packet, packet, meta_again, read_items-known)
 
 again-new : (order : Order) (tail : Tail) (file : ℕ) (interfaces : List Interface) (first : Option Interface) (offset : ℕ) (n : Numbered) (rest : List Numbered)
     → (n.number == length interfaces) ≡ true → n.number ≡ length interfaces → length interfaces < 1024 → Fits n
@@ -180,37 +156,12 @@ again-new : (order : Order) (tail : Tail) (file : ℕ) (interfaces : List Interf
     → (offset + length (interface_bytes order n.interface) + length (packet_part order n) + length (packets_bytes order (length (interfaces ++ n.interface ∷ [])) rest) ≤ 2 ^ 40
     → IsReadAgain order tail file (interfaces ++ n.interface ∷ []) (Some (first_or first n.interface)) (offset + length (interface_bytes order n.interface) + length (packet_part order n)) rest)
     → IsReadAgain order tail file interfaces first offset (n ∷ rest)
-again-new order tail file interfaces first offset n rest is same few fits limit later =
-    let i = n.interface in
-    let count = length interfaces in
-    let more = interfaces ++ i ∷ [] in
-    let next = reached more (Some (first_or first i)) in
-    let one : length more ≡ count + 1 = length-append interfaces (i ∷ []) in
-    let behind = packets_bytes order (count + 1) rest in
-    let text = packets_bytes-new order count n rest is in
-    let size : length (packets_bytes order count (n ∷ rest)) ≡ length (interface_bytes order i) + (length (packet_part order n) + length behind) =
-    ap length text ∙ (length-append (interface_bytes order i) (packet_part order n ++ behind) ∙ ap (λ k. length (interface_bytes order i) + k) (length-append (packet_part order n) behind)) in
-    let at = offset + length (interface_bytes order i) in
-    let place = at + length (packet_part order n) in
-    let same_behind : length (packets_bytes order (length more) rest) ≡ length behind = ap (λ k. length (packets_bytes order k rest)) one in
-    ap (λ t. items_in file (reached interfaces first) (blocks.items_from (Some order) tail file offset t)) text
-    ∙ (items_in-interface order tail file offset (reached interfaces first) i (packet_part order n ++ behind) few fits.link fits.snaplen fits.offset (omega (arith, limit, size))
-    ∙ (items_in-packet order tail file at next n behind (ap (slice_get more) same ∙ slice_get-push interfaces i) (omega (arith, same, few)) fits refl refl (omega (arith, limit, size))
-    ∙ (ap (λ l. packet (meta_again file at n) n.frame ∷ l)
-    (ap (λ k. items_in file next (blocks.items_from (Some order) tail file place (packets_bytes order k rest))) (sym one)
-    ∙ (later (omega (arith, limit, size, same_behind))
-    ∙ ap (λ k. read_items order file place k rest) one))
-    ∙ sym (read_items-new order file offset count n rest is))))
+again-new order tail file interfaces first offset n rest is same few fits limit later = grind (arith, reached, length-append, packets_bytes-new, items_in, items_in-interface, items_in-packet, slice_get, slice_get-push, packet, meta_again, read_items, read_items-new)
 
 -- At least as many are described after some packets.
 pub all_described-more : (interfaces : List Interface) (ns : List Numbered) → length interfaces ≤ length (all_described interfaces ns)
 all_described-more interfaces [] = omega arith
-all_described-more interfaces (n ∷ rest) =
-    omega (arith, described-more interfaces n (n.number == length interfaces) refl, all_described-more (described interfaces n) rest)
-  where
-    described-more : (interfaces : List Interface) (n : Numbered) (new : Bool) → (n.number == length interfaces) ≡ new → length interfaces ≤ length (described interfaces n)
-    described-more interfaces n true is = rw is (omega (arith, length-append interfaces (n.interface ∷ [])))
-    described-more interfaces n false is = rw is (omega arith)
+all_described-more interfaces (n ∷ rest) = grind (arith, all_described-more (described interfaces n) rest, length-append)
 
 -- Written packets are read again.
 pub items_in-written : (order : Order) (tail : Tail) (file : ℕ) (interfaces : List Interface) (first : Option Interface) (offset : ℕ) (ns : List Numbered)
@@ -218,8 +169,7 @@ pub items_in-written : (order : Order) (tail : Tail) (file : ℕ) (interfaces : 
     → offset + length (packets_bytes order (length interfaces) ns) ≤ 2 ^ 40
     → IsReadAgain order tail file interfaces first offset ns
 unfolding packets_bytes read_items items_in
-items_in-written order tail file interfaces first offset [] numbered fit few limit =
-    ap (items_in file (reached interfaces first)) (items_from-none (Some order) tail file offset refl)
+items_in-written order tail file interfaces first offset [] numbered fit few limit = search (items_in, reached, items_from-none)
 items_in-written order tail file interfaces first offset (n ∷ rest) numbered fit few limit =
     by (n.number == length interfaces) refl
     (λ interfaces first offset numbered fit few limit. items_in-written order tail file interfaces first offset rest numbered fit few limit)
@@ -230,22 +180,8 @@ items_in-written order tail file interfaces first offset (n ∷ rest) numbered f
         → offset + length (packets_bytes order (length interfaces) rest) ≤ 2 ^ 40
         → IsReadAgain order tail file interfaces first offset rest)
         → IsReadAgain order tail file interfaces first offset (n ∷ rest)
-    by true is later =
-        let more = interfaces ++ n.interface ∷ [] in
-        let next : described interfaces n ≡ more = ap (λ b. if b then more else interfaces) is in
-        again-new order tail file interfaces first offset n rest is (eqb-true n.number (length interfaces) is)
-        (omega (arith, few, ap (λ l. length (all_described l rest)) next, all_described-more more rest, length-append interfaces (n.interface ∷ [])))
-        fit.0 limit
-        (later more (Some (first_or first n.interface)) (offset + length (interface_bytes order n.interface) + length (packet_part order n))
-        (subst (λ l. IsNumbered l rest) next numbered.1) fit.1 (subst (λ l. length (all_described l rest) ≤ 1024) next few))
-    by false is later =
-        let next : described interfaces n ≡ interfaces = ap (λ b. if b then interfaces ++ n.interface ∷ [] else interfaces) is in
-        let known = numbered.0 is in
-        again-known order tail file interfaces first offset n rest is known
-        (omega (arith, slice_get_within interfaces n.number n.interface known, few, ap (λ l. length (all_described l rest)) next, all_described-more interfaces rest))
-        fit.0 limit
-        (later interfaces first (offset + length (packet_part order n))
-        (subst (λ l. IsNumbered l rest) next numbered.1) fit.1 (subst (λ l. length (all_described l rest) ≤ 1024) next few))
+    by true is later = grind (arith, again-new, eqb-true, all_described, all_described-more, length-append)
+    by false is later = grind (arith, again-known, slice_get_within, all_described, all_described-more)
 
 -- The first interface, where one stands before some written packets, is the same after them.
 pub first_in-written : (order : Order) (tail : Tail) (file : ℕ) (interfaces : List Interface) (first : Interface) (offset : ℕ) (ns : List Numbered)
@@ -253,25 +189,12 @@ pub first_in-written : (order : Order) (tail : Tail) (file : ℕ) (interfaces : 
     → offset + length (packets_bytes order (length interfaces) ns) ≤ 2 ^ 40
     → first_in (reached interfaces (Some first)) (blocks.items_from (Some order) tail file offset (packets_bytes order (length interfaces) ns)) ≡ Some first
 unfolding packets_bytes first_in
-first_in-written order tail file interfaces first offset [] numbered fit few limit =
-    ap (first_in (reached interfaces (Some first))) (items_from-none (Some order) tail file offset refl)
+first_in-written order tail file interfaces first offset [] numbered fit few limit = search (reached, items_from-none)
 first_in-written order tail file interfaces first offset (n ∷ rest) numbered fit few limit = by (n.number == length interfaces) refl
   where
     by : (new : Bool) → (n.number == length interfaces) ≡ new
         → first_in (reached interfaces (Some first)) (blocks.items_from (Some order) tail file offset (packets_bytes order (length interfaces) (n ∷ rest))) ≡ Some first
-    by true is =
-        let i = n.interface in
-        let more = interfaces ++ i ∷ [] in
-        let next : described interfaces n ≡ more = ap (λ b. if b then more else interfaces) is in
-        let text = packets_bytes-new order (length interfaces) n rest is in
-        let behind = packets_bytes order (length interfaces + 1) rest in
-        let size = ap length text ∙ (length-append (interface_bytes order i) (packet_part order n ++ behind) ∙ ap (λ k. length (interface_bytes order i) + k) (length-append (packet_part order n) behind)) in
-        let same = eqb-true n.number (length interfaces) is in
-        let room : length interfaces < 1024 = omega (arith, few, ap (λ l. length (all_described l rest)) next, all_described-more more rest, length-append interfaces (i ∷ [])) in
-        ap (λ t. first_in (reached interfaces (Some first)) (blocks.items_from (Some order) tail file offset t)) text
-        ∙ (first_in-interface order tail file offset (reached interfaces (Some first)) i (packet_part order n ++ behind) room fit.0.link fit.0.snaplen fit.0.offset (omega (arith, limit, size))
-        ∙ first_in-packet order tail file (offset + length (interface_bytes order i)) (reached more (Some first)) n behind
-        (ap (slice_get more) same ∙ slice_get-push interfaces i) (omega (arith, same, room)) fit.0 (omega (arith, limit, size)))
+    by true is = grind (arith, packets_bytes-new, length-append, eqb-true, all_described, all_described-more, reached, first_in-interface, first_in-packet, slice_get, slice_get-push)
     by false is =
         let next : described interfaces n ≡ interfaces = ap (λ b. if b then interfaces ++ n.interface ∷ [] else interfaces) is in
         let known = numbered.0 is in

@@ -1,6 +1,6 @@
 -- Written pcapng blocks, read back.
 use Rattle.std.proofs.Common.{◌≡◌, ◌==◌, ℕ, ℤ, pos, ◌+◌, ◌*◌, ◌^◌, ◌≤◌, ◌<◌, nat_lt, slice_get, List, [], ◌∷◌, length, drop, Bool, true, false, Some, None, unwrap_or, Ok, Err, refl, sym, ap, ◌∙◌, arith, append-nil, if◌then◌else◌}
-use Rattle.std.proofs.lemmas.Bool.{eq-eqb, eqb-true}
+use Rattle.std.proofs.lemmas.Bool.{eq-eqb}
 use Rattle.std.proofs.lemmas.Bool.Decides.{nat_tests}
 use Rattle.std.proofs.lemmas.Int.{to_z-of_z}
 use Rattle.std.proofs.Math.Facts.{Fits-lt-pow, Fits-of_z}
@@ -9,15 +9,14 @@ use Rattle.std.specs.Int.{w64, cast_signed, cast_unsigned}
 use Rattle.cap_blocks.proofs.Again.{interface_again-law, packet_again-law}
 use Rattle.cap_blocks.proofs.Parts.{length-packet_body}
 use Rattle.cap_blocks.specs.Grammar.{interface_kind, enhanced_kind, section_kind, interface_body, packet_body}
-use Rattle.cap_blocks.specs.OptionList.{OptionItem}
 use Rattle.cap_bytes.proofs.Spelling.{number-bytes_of, length-bytes_of}
 use Rattle.cap_bytes.specs.Number.{number, bytes_of}
 use Rattle.cap_bytes.specs.declared.faults.Rule.TheVariants as rules
 use Rattle.cap_bytes.specs.declared.numbers.Order.{Order}
 use Rattle.cap_source.proofs.Options.{interface_read}
 use Rattle.cap_source.proofs.Resolutions.{from_code_is}
-use Rattle.cap_source.specs.Clocks.{resolution_of, offset_in, no_clock, ok_or, with_resolution, with_offset, then_read, option_read, options_read, interface_by, interface_in}
-use Rattle.cap_source.specs.Contents.{fitting, timed_in, of_interface, of_body, content_in}
+use Rattle.cap_source.specs.Clocks.{resolution_of, offset_in, no_clock, ok_or, with_resolution, option_read, options_read, interface_by, interface_in}
+use Rattle.cap_source.specs.Contents.{fitting, timed_in, content_in}
 use Rattle.cap_source.specs.declared.contents.Content.TheVariants as contents
 use Rattle.cap_source.specs.declared.contents.Packet.{Packet}
 use Rattle.cap_time.specs.Resolution.{code_of}
@@ -51,18 +50,12 @@ options_read-written : (order : Order) (r : Resolution) (offset : ℤ) (zero : B
     → options_read order no_clock (Ok (9, code_of r ∷ []) ∷ (if zero then [] else Ok (14, bytes_of order 8 (cast_unsigned w64 offset)) ∷ []))
     ≡ Ok (record { resolution = Some r; offset = if zero then None else Some offset })
 unfolding options_read option_read
-options_read-written order r offset true fits is =
-    ap (λ c. then_read c (λ next. options_read order next [])) (option_read-resolution order r)
-options_read-written order r offset false fits is =
-    let item : OptionItem = Ok (14, bytes_of order 8 (cast_unsigned w64 offset)) in
-    ap (λ c. then_read c (λ next. options_read order next (item ∷ []))) (option_read-resolution order r)
-    ∙ ap (λ o. then_read (with_offset (record { resolution = Some r; offset = None }) o) (λ next. options_read order next [])) (offset_in-written order offset fits)
+options_read-written order r offset true fits is = search (option_read-resolution)
+options_read-written order r offset false fits is = search (option_read-resolution, offset_in-written)
 
 -- an offset that isn't written is 0
 unwritten : (offset : ℤ) (zero : Bool) → FitsSigned w64 offset → (cast_unsigned w64 offset == 0) ≡ zero → unwrap_or (if zero then None else Some offset) (pos 0) ≡ offset
-unwritten offset true fits is =
-    sym (ap (cast_signed w64) (eqb-true (cast_unsigned w64 offset) 0 is)) ∙ to_z-of_z w64 offset fits
-unwritten offset false fits is = refl
+unwritten offset zero fits is = grind arith
 
 with_fields : (i : Interface) (link snaplen : ℕ) (offset : ℤ) → link ≡ i.link → snaplen ≡ i.snaplen → offset ≡ i.offset
     → record { link = link; snaplen = snaplen; resolution = i.resolution; offset = offset } ≡ i
@@ -87,9 +80,7 @@ interface_in-written before order i few link snaplen fits =
 -- A packet with these fields is one that is read: within the limit, and within its body.
 fitting-whole : (p : Packet) (size : ℕ) → p.captured ≤ 262144 → p.place + p.captured ≤ size → fitting p size ≡ Ok p
 unfolding fitting
-fitting-whole p size few within =
-    ap (λ b. if b then Err rules.PacketLong else if nat_lt size (p.place + p.captured) then Err rules.Captured else Ok p) (not_above p.captured 262144 few)
-    ∙ ap (λ b. if b then Err rules.Captured else Ok p) (not_above (p.place + p.captured) size within)
+fitting-whole p size few within = grind arith
 
 -- a packet by its fields
 abbrev pub packet_of : ℕ → Interface → ℕ → ℕ → ℕ → Packet
@@ -103,14 +94,7 @@ timed_in-fields : (interfaces : List Interface) (order : Order) (body : List ℕ
     → captured ≤ 262144 → 20 + captured ≤ length body
     → timed_in interfaces k order body ≡ Ok (packet_of k i units captured original)
 unfolding timed_in
-timed_in-fields interfaces order body k units captured original i known u c o few within =
-    ap (λ x. of_interface x (λ interface.
-    fitting (packet_of k interface (number order 4 (drop 4 body) * 2 ^ 32 + number order 4 (drop 8 body)) (number order 4 (drop 12 body)) (number order 4 (drop 16 body))) (length body)))
-    known
-    ∙ (ap (λ x. fitting (packet_of k i x (number order 4 (drop 12 body)) (number order 4 (drop 16 body))) (length body)) u
-    ∙ (ap (λ x. fitting (packet_of k i units x (number order 4 (drop 16 body))) (length body)) c
-    ∙ (ap (λ x. fitting (packet_of k i units captured x) (length body)) o
-    ∙ fitting-whole (packet_of k i units captured original) (length body) few within)))
+timed_in-fields interfaces order body k units captured original i known u c o few within = grind (arith, drop, fitting-whole)
 
 -- the packet of a written packet block
 pub timed_in-written : (interfaces : List Interface) (order : Order) (n : Numbered) → slice_get interfaces n.number ≡ Some n.interface → n.number < 2 ^ 32 → Fits n
@@ -131,12 +115,10 @@ content_in-section interfaces order body = refl
 pub content_in-interface : (interfaces : List Interface) (order : Order) (i : Interface) → length interfaces < 1024 → i.link < 2 ^ 16 → i.snaplen < 2 ^ 32 → FitsSigned w64 i.offset
     → content_in interfaces interface_kind order (interface_body order i) ≡ Ok (contents.Interface i)
 unfolding content_in
-content_in-interface interfaces order i few link snaplen fits =
-    ap (of_body contents.Interface) (interface_in-written (length interfaces) order i few link snaplen fits)
+content_in-interface interfaces order i few link snaplen fits = search (interface_in-written)
 
 pub content_in-packet : (interfaces : List Interface) (order : Order) (n : Numbered) → slice_get interfaces n.number ≡ Some n.interface → n.number < 2 ^ 32 → Fits n
     → content_in interfaces enhanced_kind order (packet_body order n.number n.units n.original n.frame)
     ≡ Ok (contents.Packet (packet_of n.number n.interface n.units (length n.frame) n.original))
 unfolding content_in
-content_in-packet interfaces order n known few fits =
-    ap (of_body contents.Packet) (timed_in-written interfaces order n known few fits)
+content_in-packet interfaces order n known few fits = search (timed_in-written)

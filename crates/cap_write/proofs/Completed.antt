@@ -1,19 +1,16 @@
 -- The datagram that a packet completes is the one that the joiner answers.
-use Rattle.std.proofs.Common.{◌≡◌, ℕ, Bool, true, false, List, [], ◌∷◌, ◌++◌, length, Option, Some, None, is_some, option_and_then, if◌then◌else◌, refl, sym, ap, ◌∙◌, subst, append-nil}
+use Rattle.std.proofs.Common.{arith, ◌≡◌, ℕ, Bool, true, false, List, [], ◌∷◌, ◌++◌, length, Option, Some, None, if◌then◌else◌, refl, sym, ap, ◌∙◌, subst, append-nil}
 use Rattle.std.specs.Prelude.{OnOk, IfOk, Result, Ok, Err}
 use Rattle.cap_bytes.specs.Printing.{Prints}
 use Rattle.cap_bytes.specs.declared.faults.Fault.{Fault}
-use Rattle.cap_bytes.specs.declared.faults.Fault.TheVariants.{Refused, Read, Write, Memory}
 use Rattle.cap_bytes.specs.declared.faults.Rule.{Rule}
 use Rattle.cap_bytes.specs.declared.numbers.Order.{Order}
 use Rattle.cap_ip.specs.Header.{HeaderFields}
 use Rattle.cap_ip.specs.Read.{Reading, found, bad, cut}
 use Rattle.cap_ip.specs.declared.headers.Fragment.{Fragment}
 use Rattle.cap_join.specs.Arrivals.{IsArrived, IsDatagram, IsFragmentOf, IsWhole}
-use Rattle.cap_join.specs.ByteMap.{header_of, data_of}
-use Rattle.cap_join.specs.Fragments.{Piece, piece_of}
-use Rattle.cap_join.specs.History.{Event, joined_pieces, state_of}
-use Rattle.cap_join.specs.Joiners.{open_limit}
+use Rattle.cap_join.specs.Fragments.{Piece}
+use Rattle.cap_join.specs.History.{Event}
 use Rattle.cap_join.specs.declared.arrivals.Arrived.{Arrived}
 use Rattle.cap_join.specs.declared.arrivals.Arrived.TheVariants as as_
 use Rattle.cap_join.specs.declared.datagrams.Stamped.{Stamped}
@@ -24,34 +21,20 @@ use Rattle.cap_write.proofs.Feeding.{plan_of-is, plan_of-next, plan_of-refused}
 use Rattle.cap_write.proofs.Written.{Prints-untimed}
 use Rattle.cap_write.specs.Interfaces.{HasUnits}
 use Rattle.cap_write.specs.Datagrams.{IsFilled, answered, origins_behind}
-use Rattle.cap_write.specs.Joined.{Complete, complete_of, joined_of, completed_by, completed_in, completed, datagram_meta, datagram_items, items_of_packet}
-use Rattle.cap_write.specs.Numbering.{Origin, with_origin, write_fault, refusal_by, refusal_in, refusal_or, numbered_of}
+use Rattle.cap_write.specs.Joined.{Complete, complete_of, joined_of, completed_by, completed_in, completed, datagram_meta, items_of_packet}
+use Rattle.cap_write.specs.Numbering.{Origin, with_origin, write_fault, refusal_by, refusal_in, numbered_of}
 use Rattle.cap_write.specs.Texts.{text_behind, one_bytes, text_or, numbered_bytes}
 
 answered-pieces : (ps : List Piece) (arrived : Arrived) → IsFragmentOf ps arrived → answered arrived ≡ joined_of ps
 unfolding joined_of
-answered-pieces ps as_.Bad h = absurd h
-answered-pieces ps as_.Cut h = absurd h
-answered-pieces ps (as_.Whole header bytes) h = absurd h
-answered-pieces ps as_.Kept h =
-    sym (ap (λ b. if b then option_and_then (λ x. complete_of x (data_of ps) (length (data_of ps))) (header_of ps) else None) h)
-answered-pieces ps (as_.Joined d) h =
-    ap (λ l. complete_of d.header l (length l)) h.1.payload
-    ∙ sym (ap (λ b. if b then option_and_then (λ x. complete_of x (data_of ps) (length (data_of ps))) (header_of ps) else None) h.0
-    ∙ ap (option_and_then (λ x. complete_of x (data_of ps) (length (data_of ps)))) h.1.header)
+answered-pieces ps arrived h = grind arith
 
 answered-whole : (header : HeaderFields) (captured : List ℕ) (arrived : Arrived) → IsWhole header captured arrived → answered arrived ≡ complete_of header captured header.data_length
-answered-whole header captured as_.Bad h = absurd h
-answered-whole header captured as_.Cut h = absurd h
-answered-whole header captured (as_.Whole head bytes) h = λ i. complete_of (h.0 i) (h.1 i) (h.0 i).data_length
-answered-whole header captured as_.Kept h = absurd h
-answered-whole header captured (as_.Joined d) h = absurd h
+answered-whole header captured arrived h = grind arith
 
 answered-datagram : (o : Option Fragment) (header : HeaderFields) (captured : List ℕ) (clock : Option Stamp) (stamped : Stamped) (events : List Event) (arrived : Arrived)
     → IsDatagram o header captured clock stamped events arrived → answered arrived ≡ completed_by o header captured clock stamped events
-answered-datagram None header captured clock stamped events arrived h = answered-whole header captured arrived h
-answered-datagram (Some f) header captured clock stamped events arrived h =
-    answered-pieces (joined_pieces clock (piece_of header captured stamped) (state_of open_limit events)) arrived h
+answered-datagram o header captured clock stamped events arrived h = grind (arith, answered-whole, answered-pieces)
 
 pub answered-is : (r : Reading) (arrived : Arrived) (clock : Option Stamp) (stamped : Stamped) (events : List Event)
     → IsArrived r clock stamped events arrived → answered arrived ≡ completed_in r clock stamped events
@@ -80,44 +63,28 @@ text-one order origins meta frame = by (write_fault origins meta) refl
 
 pub refusal-one : (origins : List Origin) (meta : Meta) (frame : List ℕ) → refusal_in origins (packet meta frame ∷ []) ≡ refusal_by meta (write_fault origins meta)
 unfolding refusal_in
-refusal-one origins meta frame = by (write_fault origins meta)
-  where
-    by : (fault : Option Rule) → refusal_or fault meta None ≡ refusal_by meta fault
-    by (Some rule) = refl
-    by None = refl
+refusal-one origins meta frame = grind arith
 
 -- what is to be written of a packet, by what the buffer has
-filled_by : (meta : Meta) (d : Option Complete) (some : Bool) (bytes : List ℕ) → IsFilled d some bytes
-    → datagram_items meta d ≡ (if some then packet (datagram_meta meta (length bytes)) bytes ∷ [] else [])
-filled_by meta None some bytes h = sym (ap (λ b. if b then packet (datagram_meta meta (length bytes)) bytes ∷ [] else []) h)
-filled_by meta (Some d) some bytes h =
-    ap (λ l. packet (datagram_meta meta (length l)) l ∷ []) (sym h.1)
-    ∙ sym (ap (λ b. if b then packet (datagram_meta meta (length bytes)) bytes ∷ [] else []) h.0)
-
 pub items-timed : (place : ℕ) (events : List Event) (clock : Option Stamp) (meta : Meta) (frame : List ℕ) (units : ℕ) (some : Bool) (bytes : List ℕ)
     → meta.units ≡ Some units → IsFilled (completed place events clock meta frame) some bytes
     → items_of_packet place events clock meta frame ≡ (if some then packet (datagram_meta meta (length bytes)) bytes ∷ [] else [])
 unfolding items_of_packet
-items-timed place events clock meta frame units some bytes is h =
-    ap (λ u. if is_some u then datagram_items meta (completed place events clock meta frame) else packet meta frame ∷ []) is
-    ∙ filled_by meta (completed place events clock meta frame) some bytes h
+items-timed place events clock meta frame units some bytes is h = grind arith
 
 pub items-untimed : (place : ℕ) (events : List Event) (clock : Option Stamp) (meta : Meta) (frame : List ℕ) → meta.units ≡ None
     → items_of_packet place events clock meta frame ≡ packet meta frame ∷ []
 unfolding items_of_packet
-items-untimed place events clock meta frame is =
-    ap (λ u. if is_some u then datagram_items meta (completed place events clock meta frame) else packet meta frame ∷ []) is
+items-untimed place events clock meta frame is = cc
 
 -- what an answer says of every list of events
 pub filled-all : {E : Type 0} (result : Result Bool E) (d : Option Complete) (of : List Event → Option Complete) (P : List Event → Type 0) (bytes : List ℕ)
     → ((events : List Event) → P events → d ≡ of events) → IfOk result (λ some. IsFilled d some bytes)
     → IfOk result (λ some. (events : List Event) → P events → IsFilled (of events) some bytes)
-filled-all (Ok some) d of P bytes same h = λ events s. subst (λ x. IsFilled x some bytes) (same events s) h
-filled-all (Err e) d of P bytes same h = tt
+filled-all result d of P bytes same h = grind arith
 
 pub OnOk-map : {E A : Type 0} (result : Result A E) (P Q : Type 0) → (P → Q) → OnOk result P → OnOk result Q
-OnOk-map (Ok x) P Q f h = f h
-OnOk-map (Err e) P Q f h = tt
+OnOk-map result P Q f h = grind arith
 
 -- the items of a packet that isn't timed
 abbrev PrintsItems : Order → List Origin → List Item → List ℕ → Result (Unit {0}) Fault → List ℕ → Type 0
@@ -126,16 +93,11 @@ PrintsItems order origins items held result new = Prints {A = Unit {0}} (text_be
 Prints-packet : (order : Order) (origins : List Origin) (meta : Meta) (frame held new : List ℕ) (result : Result (Unit {0}) Fault)
     → Prints {A = Unit {0}} (one_bytes order origins meta frame) (refusal_by meta (write_fault origins meta)) held result new
     → PrintsItems order origins (packet meta frame ∷ []) held result new
-Prints-packet order origins meta frame held new result h =
-    subst (λ t. Prints {A = Unit {0}} t (refusal_in origins (packet meta frame ∷ [])) held result new) (sym (text-one order origins meta frame))
-    (subst (λ r. Prints {A = Unit {0}} (one_bytes order origins meta frame) r held result new) (sym (refusal-one origins meta frame)) h)
+Prints-packet order origins meta frame held new result h = search (packet, text-one, refusal-one)
 
 -- a packet without a time is refused
 no-time : (meta : Meta) (fault : Fault) → HasUnits meta (Err fault) → meta.units ≡ None
-no-time meta (Refused r) h = h.0
-no-time meta (Read file offset) h = absurd h
-no-time meta Write h = absurd h
-no-time meta Memory h = absurd h
+no-time meta fault h = grind arith
 
 pub Prints-no-time : (order : Order) (origins : List Origin) (place : ℕ) (events : List Event) (clock : Option Stamp) (meta : Meta) (frame held : List ℕ) (fault : Fault)
     → HasUnits meta (Err fault) → PrintsItems order origins (items_of_packet place events clock meta frame) held (Err fault) held
@@ -157,8 +119,7 @@ pub Prints-datagram : (order : Order) (origins : List Origin) (items : List Item
     → items ≡ packet written lent ∷ []
     → Prints {A = Unit {0}} (one_bytes order origins written lent) (refusal_by written (write_fault origins written)) held result new
     → PrintsItems order origins items held result new
-Prints-datagram order origins items written lent held new result is h =
-    subst (λ l. PrintsItems order origins l held result new) (sym is) (Prints-packet order origins written lent held new result h)
+Prints-datagram order origins items written lent held new result is h = grind (arith, Prints-packet)
 
 origins-one : (origins : List Origin) (written : Meta) (lent : List ℕ) → origins_behind origins (packet written lent ∷ []) ≡ with_origin origins written
 unfolding origins_behind
@@ -167,10 +128,7 @@ origins-one origins written lent = refl
 pub named-datagram : (origins origins_new : List Origin) (items : List Item) (written : Meta) (lent : List ℕ) → items ≡ packet written lent ∷ []
     → (origins_new ≡ with_origin origins written) × (write_fault origins written ≡ None)
     → (origins_new ≡ origins_behind origins items) × (refusal_in origins items ≡ None)
-named-datagram origins origins_new items written lent is h = (
-  h.0 ∙ (sym (origins-one origins written lent) ∙ ap (origins_behind origins) (sym is)),
-  ap (refusal_in origins) is ∙ (refusal-one origins written lent ∙ ap (refusal_by written) h.1),
-)
+named-datagram origins origins_new items written lent is h = grind (arith, origins-one, origins_behind, refusal-one, refusal_by)
 
 -- a packet that completes none
 pub items-none : (place : ℕ) (events : List Event) (clock : Option Stamp) (meta : Meta) (frame : List ℕ) (units : ℕ) (some : Bool) (bytes : List ℕ)

@@ -1,5 +1,5 @@
 -- Whole written pcapng files, read again.
-use Rattle.std.proofs.Common.{◌≡◌, ℕ, ◌+◌, ◌≤◌, ◌<◌, ◌&&◌, ◌^◌, nat_le, List, [], ◌∷◌, ◌++◌, length, true, Some, None, Ok, refl, ap, ◌∙◌, arith, append_assoc, length-append, if◌then◌else◌}
+use Rattle.std.proofs.Common.{◌≡◌, ℕ, ◌+◌, ◌≤◌, ◌<◌, ◌^◌, nat_le, List, [], ◌∷◌, ◌++◌, length, true, Some, None, Ok, ap, ◌∙◌, arith, append_assoc, length-append, if◌then◌else◌}
 use Rattle.std.proofs.lemmas.Bool.{eq-eqb}
 use Rattle.std.proofs.lemmas.Bool.Decides.{nat_tests}
 use Rattle.cap_blocks.proofs.Again.{section_again-law}
@@ -12,8 +12,8 @@ use Rattle.cap_bytes.proofs.Spelling.{number-append, length-bytes_of}
 use Rattle.cap_bytes.specs.Number.{number, bytes_of}
 use Rattle.cap_bytes.specs.declared.faults.Tail.{Tail}
 use Rattle.cap_bytes.specs.declared.numbers.Order.{Order}
-use Rattle.cap_bytes.specs.declared.numbers.Order.TheVariants.{Big, Little}
-use Rattle.cap_source.specs.Items.{fresh, is_pcapng, items_in, first_in, items_from, file_items, first_from, file_first, pcap_items, interface_of, unless_refused}
+use Rattle.cap_bytes.specs.declared.numbers.Order.TheVariants.{Big}
+use Rattle.cap_source.specs.Items.{fresh, is_pcapng, items_in, first_in, items_from, file_items, first_from, file_first, interface_of, unless_refused}
 use Rattle.cap_pcap.specs.Split as records
 use Rattle.cap_source.specs.declared.contents.Content.TheVariants as contents
 use Rattle.cap_time.specs.declared.resolutions.Interface.{Interface}
@@ -27,37 +27,26 @@ use Rattle.std.specs.Int.{w64}
 
 kind_front : (order : Order) → number Big 4 (bytes_of order 4 section_kind) ≡ section_kind
 unfolding number bytes_of
-kind_front Big = refl
-kind_front Little = refl
+kind_front order = grind arith
 
 four_parts : (a b c d e : List ℕ) → (((a ++ b) ++ c) ++ d) ++ e ≡ a ++ (b ++ (c ++ (d ++ e)))
 four_parts a b c d e = simp append_assoc
 
 section_front : (order : Order) (rest : List ℕ) → number Big 4 (section_bytes order ++ rest) ≡ section_kind
 unfolding block_bytes
-section_front order rest =
-    let kind = bytes_of order 4 section_kind in
-    let total = bytes_of order 4 (12 + length (section_body order)) in
-    ap (number Big 4) (four_parts kind total (section_body order) total rest)
-    ∙ (number-append Big 4 kind (total ++ (section_body order ++ (total ++ rest))) (omega (arith, length-bytes_of order 4 section_kind))
-    ∙ kind_front order)
+section_front order rest = grind (arith, four_parts, number-append, length-bytes_of, kind_front)
 
 -- how long a section header is
 pub length-section_bytes : (order : Order) → length (section_bytes order) ≡ 28
 unfolding block_bytes
-length-section_bytes order =
-    let n = 12 + length (section_body order) in
-    simp (length-append, length-bytes_of, length-section_body) refl
+length-section_bytes order = search (length-append, length-bytes_of, length-section_body)
 
 long_enough : (n : ℕ) → 28 ≤ n → nat_le 4 n ≡ true
 long_enough n h = grind (arith, nat_tests)
 
 -- a text that begins with a section header is a pcapng file
 is_pcapng-text : (order : Order) (rest : List ℕ) → is_pcapng (section_bytes order ++ rest) ≡ true
-is_pcapng-text order rest =
-    ap (λ b. b && is_section (section_bytes order ++ rest))
-    (long_enough (length (section_bytes order ++ rest)) (omega (arith, length-append (section_bytes order) rest, length-section_bytes order)))
-    ∙ eq-eqb (number Big 4 (section_bytes order ++ rest)) section_kind (section_front order rest)
+is_pcapng-text order rest = grind (arith, long_enough, length-append, length-section_bytes, eq-eqb, section_front)
 
 -- after a section header nothing is described
 behind_section : (order : Order) (tail : Tail) (file : ℕ) (rest : List ℕ)
@@ -74,12 +63,7 @@ pub items-behind_section : (order : Order) (tail : Tail) (file : ℕ) (rest : Li
     → file_items tail file (section_bytes order ++ rest)
     ≡ items_in file (reached [] None) (blocks.items_from (Some order) tail file 28 rest)
 unfolding items_from
-items-behind_section order tail file rest =
-    let bytes = section_bytes order ++ rest in
-    ap (λ b. if b then items_in file fresh (blocks.items_from None tail file 0 bytes)
-    else pcap_items file (interface_of (records.header_at bytes)) (records.file_items tail file 0 bytes)) (is_pcapng-text order rest)
-    ∙ (behind_section order tail file rest
-    ∙ ap (λ n. items_in file (reached [] None) (blocks.items_from (Some order) tail file n rest)) (omega (arith, length-section_bytes order)))
+items-behind_section order tail file rest = search (items_in, fresh, is_pcapng-text, behind_section, reached, length-section_bytes)
 
 pub first-behind_section : (order : Order) (tail : Tail) (file : ℕ) (rest : List ℕ)
     → file_first tail file (section_bytes order ++ rest)
@@ -100,10 +84,7 @@ first-behind_section order tail file rest =
 pub merged-again : (order : Order) (tail : Tail) (file : ℕ) (ns : List Numbered) → IsNumbered [] ns → AllFit ns → length (all_described [] ns) ≤ 1024
     → length (section_bytes order ++ packets_bytes order 0 ns) ≤ 2 ^ 40
     → file_items tail file (section_bytes order ++ packets_bytes order 0 ns) ≡ read_items order file 28 0 ns
-merged-again order tail file ns numbered fit few limit =
-    items-behind_section order tail file (packets_bytes order 0 ns)
-    ∙ items_in-written order tail file [] None 28 ns numbered fit few
-    (omega (arith, limit, length-append (section_bytes order) (packets_bytes order 0 ns), length-section_bytes order))
+merged-again order tail file ns numbered fit few limit = grind (arith, items-behind_section, items_in-written, length-append, length-section_bytes)
 
 -- A file that is written after its first interface is read again, and so is that interface.
 pub pcapng-again : (order : Order) (tail : Tail) (file : ℕ) (i : Interface) (ns : List Numbered) → i.link < 2 ^ 16 → i.snaplen < 2 ^ 32 → FitsSigned w64 i.offset
@@ -111,19 +92,4 @@ pub pcapng-again : (order : Order) (tail : Tail) (file : ℕ) (i : Interface) (n
     → length (front_bytes order (Some i) ++ packets_bytes order 1 ns) ≤ 2 ^ 40
     → (file_items tail file (front_bytes order (Some i) ++ packets_bytes order 1 ns) ≡ read_items order file (28 + length (interface_bytes order i)) 1 ns)
     × (file_first tail file (front_bytes order (Some i) ++ packets_bytes order 1 ns) ≡ Some i)
-pcapng-again order tail file i ns link snaplen fits numbered fit few limit =
-    let behind = packets_bytes order 1 ns in
-    let rest = interface_bytes order i ++ behind in
-    let whole : front_bytes order (Some i) ++ behind ≡ section_bytes order ++ rest = append_assoc (section_bytes order) (interface_bytes order i) behind in
-    let size = ap length whole ∙ (length-append (section_bytes order) rest ∙ ap (λ k. length (section_bytes order) + k) (length-append (interface_bytes order i) behind)) in
-    let place = 28 + length (interface_bytes order i) in
-    let fits_all : place + length behind ≤ 2 ^ 40 = omega (arith, limit, size, length-section_bytes order) in (
-      ap (file_items tail file) whole
-          ∙ (items-behind_section order tail file rest
-          ∙ (items_in-interface order tail file 28 (reached [] None) i behind (omega arith) link snaplen fits (omega (arith, limit, size, length-section_bytes order))
-          ∙ items_in-written order tail file (i ∷ []) (Some i) place ns numbered fit few fits_all)),
-      ap (file_first tail file) whole
-          ∙ (first-behind_section order tail file rest
-          ∙ (first_in-interface order tail file 28 (reached [] None) i behind (omega arith) link snaplen fits (omega (arith, limit, size, length-section_bytes order))
-          ∙ first_in-written order tail file (i ∷ []) i place ns numbered fit few fits_all)),
-    )
+pcapng-again order tail file i ns link snaplen fits numbered fit few limit = grind (arith, append_assoc, length-append, length-section_bytes, items-behind_section, items_in-interface, reached, items_in-written, first-behind_section, first_in-interface, first_in-written)

@@ -1,6 +1,8 @@
 -- The first interface of a file is that of the packets of instance 0, and its fields fit in their widths. Of a file without one no packet
 -- is written.
-use Rattle.std.proofs.Common.{◌≡◌, ℕ, suc, ◌+◌, List, [], ◌∷◌, ◌++◌, length, drop, slice_get, Bool, true, false, Option, Some, None, Result, Ok, Err, IfOk, IfSome, refl, sym, ap, ◌∙◌, subst, arith, if◌then◌else◌}
+use Rattle.std.proofs.lemmas.Bool.Decides.{nat_tests}
+use Rattle.std.proofs.lemmas.Grind.{common_steps}
+use Rattle.std.proofs.Common.{◌≡◌, ℕ, suc, ◌+◌, List, [], ◌∷◌, ◌++◌, length, slice_get, Bool, true, false, Option, Some, None, Result, IfOk, IfSome, refl, ap, subst, arith, if◌then◌else◌}
 use Rattle.std.specs.List.{AllByRecursion}
 use Rattle.cap_blocks.specs.Split as blocks
 use Rattle.cap_blocks.specs.Split.{AreBytes}
@@ -19,7 +21,6 @@ use Rattle.cap_source.specs.Feed.{Item, packet, refused}
 use Rattle.cap_source.specs.Fields.{FitsInterface}
 use Rattle.cap_source.specs.Items.{Progress, fresh, behind, first_or, first_in, first_from, unless_item, unless_refused, items_at, items_in, items_of_stop, items_from, is_pcapng, pcap_items, interface_of, file_items, file_first}
 use Rattle.cap_source.specs.declared.contents.Content.{Content}
-use Rattle.cap_source.specs.declared.contents.Content.TheVariants as contents
 use Rattle.cap_source.specs.declared.contents.Packet.{Packet}
 use Rattle.cap_time.specs.declared.resolutions.Interface.{Interface}
 use Rattle.cap_write.proofs.Instances.{HasNumber, IsAny, content-of}
@@ -38,8 +39,7 @@ KnowsFirst progress = progress.base ≡ 0 → progress.first ≡ slice_get progr
 
 section_ends : (base : ℕ) (interfaces : List Interface) (first : Option Interface) → (base ≡ 0 → first ≡ slice_get interfaces 0)
     → base + length interfaces ≡ 0 → first ≡ None
-section_ends base [] first knows zero = knows (omega (arith, zero))
-section_ends base (j ∷ interfaces) first knows zero = absurd (omega (arith, zero))
+section_ends base interfaces first knows zero = grind (arith, common_steps, nat_tests)
 
 interface_comes : (interfaces : List Interface) (first : Option Interface) (j : Interface) → first ≡ slice_get interfaces 0
     → Some (first_or first j) ≡ slice_get (interfaces ++ j ∷ []) 0
@@ -47,11 +47,7 @@ interface_comes [] first j is = ap (λ f. Some (first_or f j)) is
 interface_comes (k ∷ interfaces) first j is = ap (λ f. Some (first_or f j)) is
 
 knows-behind : (progress : Progress) (content : Result Content Rule) → KnowsFirst progress → KnowsFirst (behind progress content)
-knows-behind progress (Ok contents.Section) knows = section_ends progress.base progress.interfaces progress.first knows
-knows-behind progress (Ok (contents.Interface j)) knows = λ zero. interface_comes progress.interfaces progress.first j (knows zero)
-knows-behind progress (Ok (contents.Packet p)) knows = knows
-knows-behind progress (Ok contents.Other) knows = knows
-knows-behind progress (Err rule) knows = knows
+knows-behind progress content knows = grind (arith, common_steps, nat_tests, section_ends, interface_comes)
 
 same_interface : (i j : Interface) → Some i ≡ Some j → i ≡ j
 same_interface i j e = cc
@@ -59,26 +55,16 @@ same_interface i j e = cc
 -- the packet of a block, where the first interface was read before
 own_interface : (progress : Progress) (p : Packet) (i : Interface) → HasNumber progress.interfaces p → KnowsFirst progress → progress.first ≡ Some i
     → progress.base + p.number ≡ 0 → p.interface ≡ i
-own_interface progress p i of knows is zero =
-    let base : progress.base ≡ 0 = omega (arith, zero) in
-    let number : p.number ≡ 0 = omega (arith, zero) in
-    same_interface p.interface i (sym (subst (λ k. slice_get progress.interfaces k ≡ Some p.interface) number of) ∙ (sym (knows base) ∙ is))
+own_interface progress p i of knows is zero = grind arith
 
 stop-first : (i : Interface) (stop : Stop) → AllByRecursion (IsFirst i) (items_of_stop stop)
-stop-first i stops.End = tt
-stop-first i stops.Cut = tt
-stop-first i (stops.Refused refusal) = (tt, tt)
+stop-first i stop = grind arith
 
 block-known : (file : ℕ) (i : Interface) (progress : Progress) (block : Block) (body : List ℕ) (content : Result Content Rule) (items : List Item)
     → IfOk content (OfContent IsAny (HasNumber progress.interfaces)) → KnowsFirst progress → progress.first ≡ Some i
     → (KnowsFirst (behind progress content) → (behind progress content).first ≡ Some i → AllByRecursion (IsFirst i) items)
     → AllByRecursion (IsFirst i) (items_at file progress block body content items)
-block-known file i progress block body (Ok contents.Section) items of knows is rest = rest (knows-behind progress (Ok contents.Section) knows) is
-block-known file i progress block body (Ok (contents.Interface j)) items of knows is rest =
-    rest (knows-behind progress (Ok (contents.Interface j)) knows) (ap (λ f. Some (first_or f j)) is)
-block-known file i progress block body (Ok (contents.Packet p)) items of knows is rest = (own_interface progress p i of knows is, rest knows is)
-block-known file i progress block body (Ok contents.Other) items of knows is rest = rest knows is
-block-known file i progress block body (Err rule) items of knows is rest = (tt, tt)
+block-known file i progress block body content items of knows is rest = grind (arith, knows-behind, own_interface)
 
 -- after the first interface
 blocks-known : (file : ℕ) (i : Interface) (progress : Progress) (items : List (pieces.Item Block)) → KnowsFirst progress → progress.first ≡ Some i
@@ -97,12 +83,7 @@ block-first : (file : ℕ) (i : Interface) (progress : Progress) (block : Block)
     → (KnowsFirst (behind progress content) → first ≡ Some i → AllByRecursion (IsFirst i) items)
     → (KnowsFirst (behind progress content) → (behind progress content).first ≡ Some i → AllByRecursion (IsFirst i) items)
     → AllByRecursion (IsFirst i) (items_at file progress block body content items)
-block-first file i progress block body (Ok contents.Section) first items of knows is later known = later (knows-behind progress (Ok contents.Section) knows) is
-block-first file i progress block body (Ok (contents.Interface j)) first items of knows is later known =
-    later (knows-behind progress (Ok (contents.Interface j)) knows) is
-block-first file i progress block body (Ok (contents.Packet p)) first items of knows is later known = (own_interface progress p i of knows is, known knows is)
-block-first file i progress block body (Ok contents.Other) first items of knows is later known = later knows is
-block-first file i progress block body (Err rule) first items of knows is later known = (tt, tt)
+block-first file i progress block body content first items of knows is later known = grind (arith, knows-behind, own_interface)
 
 -- before it
 blocks-first : (file : ℕ) (i : Interface) (progress : Progress) (items : List (pieces.Item Block)) → KnowsFirst progress → first_in progress items ≡ Some i
@@ -129,19 +110,13 @@ records-first file i (pieces.given r frame ∷ rest) = (λ zero. refl, records-f
 -- ---- its fields
 
 first_or-fits : (first : Option Interface) (j : Interface) → IfSome first FitsInterface → FitsInterface j → FitsInterface (first_or first j)
-first_or-fits None j fits new = new
-first_or-fits (Some i) j fits new = fits
+first_or-fits first j fits new = grind arith
 
 block-first_fits : (progress : Progress) (content : Result Content Rule) (first : Option Interface) → IfOk content (OfContent FitsInterface FitsPacket)
     → AllByRecursion FitsInterface progress.interfaces → IfSome progress.first FitsInterface
     → (AllByRecursion FitsInterface (behind progress content).interfaces → IfSome (behind progress content).first FitsInterface → IfSome first FitsInterface)
     → IfSome (unless_item content progress.first first) FitsInterface
-block-first_fits progress (Ok contents.Section) first of all fits later = later tt fits
-block-first_fits progress (Ok (contents.Interface j)) first of all fits later =
-    later (one_more progress.interfaces j all of) (first_or-fits progress.first j fits of)
-block-first_fits progress (Ok (contents.Packet p)) first of all fits later = fits
-block-first_fits progress (Ok contents.Other) first of all fits later = later all fits
-block-first_fits progress (Err rule) first of all fits later = fits
+block-first_fits progress content first of all fits later = grind (arith, one_more, first_or-fits)
 
 blocks-first_fits : (progress : Progress) (items : List (pieces.Item Block)) → AllByRecursion FitsInterface progress.interfaces → IfSome progress.first FitsInterface
     → AllByRecursion IsOfBytes items → IfSome (first_in progress items) FitsInterface
@@ -169,10 +144,7 @@ of_blocks file i items are is = record {
 
 of_records : (file : ℕ) (i own : Interface) (fault : Option Rule) (items : List (pieces.Item Record)) → FitsInterface own → unless_refused fault own ≡ Some i
     → IsFirstOf (pcap_items file own items) i
-of_records file i own (Some rule) items fits is = absurd (none_some i is)
-  where
-    none_some : (i : Interface) → None ≡ Some i → ⊥
-    none_some i e = cc
+of_records file i own (Some rule) items fits is = cc
 of_records file i own None items fits is =
     let same = same_interface own i is in
     record {
@@ -191,8 +163,7 @@ first-of tail file bytes i are is = by (is_pcapng bytes) is
         → IsFirstOf (if pcapng then items_in file fresh (blocks.items_from None tail file 0 bytes)
         else pcap_items file (interface_of (records.header_at bytes)) (records.file_items tail file 0 bytes)) i
     by true is = of_blocks file i (blocks.items_from None tail file 0 bytes) (blocks-bytes (suc (length bytes)) None tail file 0 bytes are) is
-    by false is =
-        of_records file i (interface_of (records.header_at bytes)) (records.header_fault 0 bytes) (records.file_items tail file 0 bytes) (header-fits bytes are) is
+    by false is = search (of_records, header-fits)
 
 -- ---- a file without one
 
@@ -213,17 +184,11 @@ none-before progress (pieces.given block body ∷ rest) none =
   where
     by : (content : Result Content Rule) → unless_item content progress.first (first_in (behind progress content) rest) ≡ None
         → (first_in (behind progress content) rest ≡ None → (behind progress content).first ≡ None) → progress.first ≡ None
-    by (Ok contents.Section) none before = before none
-    by (Ok (contents.Interface j)) none before = absurd (some-none (first_or progress.first j) (before none))
-    by (Ok (contents.Packet p)) none before = none
-    by (Ok contents.Other) none before = before none
-    by (Err rule) none before = none
+    by content none before = grind arith
 
 stop-unwritten : (stop : Stop) → numbered [] (items_of_stop stop) ≡ []
 unfolding numbered
-stop-unwritten stops.End = refl
-stop-unwritten stops.Cut = refl
-stop-unwritten (stops.Refused refusal) = refl
+stop-unwritten stop = grind arith
 
 block-unwritten : (file : ℕ) (progress : Progress) (block : Block) (body : List ℕ) (content : Result Content Rule) (first : Option Interface) (items : List Item)
     → IfOk content (OfContent IsAny (HasNumber progress.interfaces)) → progress.interfaces ≡ [] → unless_item content progress.first first ≡ None
@@ -231,13 +196,7 @@ block-unwritten : (file : ℕ) (progress : Progress) (block : Block) (body : Lis
     → ((behind progress content).interfaces ≡ [] → first ≡ None → numbered [] items ≡ [])
     → numbered [] (items_at file progress block body content items) ≡ []
 unfolding numbered
-block-unwritten file progress block body (Ok contents.Section) first items of empty none before rest = rest refl none
-block-unwritten file progress block body (Ok (contents.Interface j)) first items of empty none before rest =
-    absurd (some-none (first_or progress.first j) (before none))
-block-unwritten file progress block body (Ok (contents.Packet p)) first items of empty none before rest =
-    absurd (none-some p.interface (subst (λ l. slice_get l p.number ≡ Some p.interface) empty of))
-block-unwritten file progress block body (Ok contents.Other) first items of empty none before rest = rest empty none
-block-unwritten file progress block body (Err rule) first items of empty none before rest = refl
+block-unwritten file progress block body content first items of empty none before rest = grind arith
 
 blocks-unwritten : (file : ℕ) (progress : Progress) (items : List (pieces.Item Block)) → progress.interfaces ≡ [] → first_in progress items ≡ None
     → numbered [] (items_in file progress items) ≡ []
@@ -254,21 +213,8 @@ blocks-unwritten file progress (pieces.given block body ∷ rest) empty none =
 records-unwritten : (tail : Tail) (file : ℕ) (bytes : List ℕ) (own : Interface) → unless_refused (records.header_fault 0 bytes) own ≡ None
     → numbered [] (pcap_items file own (records.file_items tail file 0 bytes)) ≡ []
 unfolding numbered pcap_items records.file_items
-records-unwritten tail file bytes own none = by (records.header_fault 0 bytes) none
-  where
-    by : (fault : Option Rule) → unless_refused fault own ≡ None
-        → numbered [] (pcap_items file own (records.refused_or fault file 0 (records.items_from (records.header_at bytes) tail file 24 (drop 24 bytes)))) ≡ []
-    by (Some rule) none = refl
-    by None none = absurd (some-none own none)
+records-unwritten tail file bytes own none = grind arith
 
 pub first-none : (tail : Tail) (file : ℕ) (bytes : List ℕ) → file_first tail file bytes ≡ None → numbered [] (file_items tail file bytes) ≡ []
 unfolding items_from first_from
-first-none tail file bytes none = by (is_pcapng bytes) none
-  where
-    by : (pcapng : Bool)
-        → (if pcapng then first_in fresh (blocks.items_from None tail file 0 bytes)
-        else unless_refused (records.header_fault 0 bytes) (interface_of (records.header_at bytes))) ≡ None
-        → numbered [] (if pcapng then items_in file fresh (blocks.items_from None tail file 0 bytes)
-        else pcap_items file (interface_of (records.header_at bytes)) (records.file_items tail file 0 bytes)) ≡ []
-    by true none = blocks-unwritten file fresh (blocks.items_from None tail file 0 bytes) refl none
-    by false none = records-unwritten tail file bytes (interface_of (records.header_at bytes)) none
+first-none tail file bytes none = grind (arith, fresh, items_in, blocks-unwritten, records-unwritten)

@@ -1,5 +1,5 @@
 -- Merging in rounds writes what merging at once writes.
-use Rattle.std.proofs.Common.{◌≡◌, ℕ, suc, ◌+◌, ◌<◌, ◌≤◌, Bool, true, false, cond, List, [], ◌∷◌, ◌++◌, length, refl, sym, ap, ◌∙◌, subst, arith, inl, inr, Option, Some, None, is_none}
+use Rattle.std.proofs.Common.{rules, ◌≡◌, ℕ, suc, ◌+◌, ◌<◌, ◌≤◌, Bool, List, [], ◌∷◌, ◌++◌, length, refl, sym, ap, ◌∙◌, subst, arith, inl, inr, Option, Some, None, is_none}
 use Rattle.std.specs.Prelude.{map, ⊤, ◌&&◌, ◌==◌, unwrap_or, if◌then◌else◌}
 use Rattle.std.specs.List.{AllZip, AllByRecursion, flat_map}
 use Rattle.std.specs.Option.{option_map}
@@ -9,7 +9,7 @@ use Rattle.cap_bytes.specs.declared.faults.Rule.{Rule}
 use Rattle.cap_bytes.specs.declared.faults.Rule.TheVariants.{NoTime, InterfaceLimit}
 use Rattle.cap_source.specs.Feed.{Item, packet, refused}
 use Rattle.cap_source.specs.declared.packets.Meta.{Meta}
-use Rattle.cap_write.specs.Numbering.{Origin, origin_of, Numbered, with_origin, is_full, number_of, write_fault, numbered_of, numbered_or, numbered, refusal_or, refusal_in}
+use Rattle.cap_write.specs.Numbering.{Origin, Numbered, with_origin, is_full, write_fault, numbered_of, numbered_or, numbered, refusal_or, refusal_in}
 use Rattle.cap_merge.specs.Run.{Clocked, opened, merged, through_first}
 use Rattle.cap_merge.specs.Parts.{item_time, is_refusal}
 use Rattle.cap_write.specs.Rounds.{in_file, numbered_files, run_of, merged_packets, IsItemOf, IsMergeOf, FileRoundsLaw, RoundsLaw, file_of, ClockLaw}
@@ -17,7 +17,7 @@ use Rattle.cap_merge.proofs.Rounds.{files_in}
 use Rattle.cap_merge.proofs.Rounds as merged_rounds
 use Rattle.cap_merge.proofs.RunLaws as run_laws
 use Rattle.cap_write.proofs.Renaming.{IsOneToOne, Renamed, renamed-implied, numbered-renamed, refusal-renamed}
-use Rattle.cap_write.proofs.UsedOrigins.{IsNumberIn, all_origins, number-given, number-kept, GroupOrigins, IsOfGroup, IsOfGroups, groups-apart}
+use Rattle.cap_write.proofs.UsedOrigins.{all_origins, number-given, number-kept, GroupOrigins, IsOfGroup, IsOfGroups, groups-apart}
 use Rattle.cap_write.proofs.Alike.{merge_of, merge-alike, merge-all}
 
 pub clock-law : ClockLaw
@@ -27,12 +27,7 @@ clock-law files before after x e = run_laws.clock-law item_time is_refusal files
 
 through_items : (xs : List (Clocked Item)) → map (λ x. x.item) (through_first (λ x. is_refusal x.item) xs) ≡ through_first is_refusal (map (λ x. x.item) xs)
 through_items [] = refl
-through_items (x ∷ xs) = ap (λ ys. x.item ∷ ys) (more (is_refusal x.item) (through_items xs))
-  where
-    more : (b : Bool) → map (λ y. y.item) (through_first (λ y. is_refusal y.item) xs) ≡ through_first is_refusal (map (λ y. y.item) xs)
-        → map (λ y. y.item) (cond b [] (through_first (λ y. is_refusal y.item) xs)) ≡ cond b [] (through_first is_refusal (map (λ y. y.item) xs))
-    more true e = refl
-    more false e = e
+through_items (x ∷ xs) = grind (arith, through_items xs)
 
 -- what comes after a refusal isn't written
 numbered_through : (ns : List Origin) (xs : List Item) → numbered ns (through_first is_refusal xs) ≡ numbered ns xs
@@ -61,10 +56,7 @@ refusal_is files = ap (refusal_in []) (run_is files) ∙ refusal_through [] (mer
 
 -- another origin of an interface leaves the time
 pub same_time : (R : Origin → Origin → Type 0) (x y : Item) → Renamed R x y → item_time y ≡ item_time x
-same_time R (packet m f) (packet n g) h = λ i. option_map (λ units. Rattle.cap_time.specs.Stamp.stamp_in units (h.0.interface i)) (h.0.units i)
-same_time R (packet m f) (refused s) h = absurd h
-same_time R (refused r) (packet n g) h = absurd h
-same_time R (refused r) (refused s) h = refl
+same_time R x y h = grind arith
 
 -- The file's number is another, as far from the first.
 record IsMoved (p q : ℕ) (a b : Origin) : Type 0 where
@@ -78,9 +70,7 @@ moved_apart : (p q : ℕ) → IsOneToOne (IsMoved p q)
 moved_apart p q a b c d h k = λ i. same_tests a.0 b.0 c.0 d.0 p q h.file k.file i && (h.instance i == k.instance i)
 
 item_moved : (p q n m : ℕ) → m + p ≡ n + q → (x : Item) → Renamed (IsMoved p q) (in_file n x) (in_file m x)
-item_moved p q n m e (packet meta frame) =
-    (record { origin = record { file = e; instance = refl }; interface = refl; units = refl; captured = refl; original = refl }, refl)
-item_moved p q n m e (refused refusal) = refl
+item_moved p q n m e x = grind arith
 
 items_moved : (p q n m : ℕ) → m + p ≡ n + q → (xs : List Item) → AllZip (Renamed (IsMoved p q)) (map (in_file n) xs) (map (in_file m) xs)
 items_moved p q n m e [] = tt
@@ -101,8 +91,7 @@ packets_moved m files =
     ∙ sym (packets_are files)
 
 no_rule : (o : Option Refusal) → option_map (λ f. f.rule) o ≡ None → o ≡ None
-no_rule None e = refl
-no_rule (Some r) e = absurd (cc)
+no_rule o e = grind arith
 
 accepted_moved : (m : ℕ) (files : List (List Item)) → refusal_in [] (run_of files) ≡ None → refusal_in [] (merge_of item_time (numbered_files m files)) ≡ None
 accepted_moved m files e =
@@ -118,8 +107,7 @@ InFiles first past (packet m f) = (first ≤ m.file) × (m.file < past)
 InFiles first past (refused r) = ⊤
 
 item_in : (n first past : ℕ) → first ≤ n → n < past → (x : Item) → InFiles first past (in_file n x)
-item_in n first past l h (packet m f) = (l, h)
-item_in n first past l h (refused r) = tt
+item_in n first past l h x = grind arith
 
 items_in : (n first past : ℕ) → first ≤ n → n < past → (xs : List Item) → AllByRecursion (InFiles first past) (map (in_file n) xs)
 items_in n first past l h [] = tt
@@ -130,8 +118,7 @@ all_in n first past [] l h = tt
 all_in n first past (f ∷ fs) l h = (items_in n first past l (omega arith) f, all_in (suc n) first past fs (omega arith) (omega arith))
 
 timed : (units : Option ℕ) (full : Bool) → (if is_none units then Some NoTime else if full then Some InterfaceLimit else None) ≡ None → Some (unwrap_or units 0) ≡ units
-timed None full e = absurd (cc)
-timed (Some n) full e = refl
+timed units full e = grind arith
 
 timed_by : (ns : List Origin) (m : Meta) → write_fault ns m ≡ None → Some (unwrap_or m.units 0) ≡ m.units
 unfolding write_fault
@@ -141,22 +128,7 @@ timed_by ns m e = timed m.units (is_full ns m) e
 group_item : (file place count : ℕ) (ns : List Origin) (m : Meta) (f : List ℕ) (xs : List Item) (y : Item)
     → write_fault ns m ≡ None → IsItemOf (numbered_of ns m f) y → InFiles file (file + count) (packet m f)
     → Renamed (IsOfGroup file place (record { count = count; origins = all_origins (with_origin ns m) xs })) (packet m f) (in_file place y)
-group_item file place count ns m f xs (packet n g) e w h = (
-  record {
-    origin = record {
-      from = h.0;
-      below = h.1;
-      group = refl;
-      number = subst (λ (k : ℕ). IsNumberIn (all_origins (with_origin ns m) xs) (origin_of m) k) (sym w.instance) (number-kept (with_origin ns m) xs (origin_of m) (number_of ns m) (number-given ns m));
-    };
-    interface = w.interface;
-    units = w.units ∙ timed_by ns m e;
-    captured = w.captured;
-    original = w.original;
-  },
-  w.frame,
-)
-group_item file place count ns m f xs (refused r) e w h = absurd w
+group_item file place count ns m f xs y e w h = grind (arith, all_origins, number-kept, number-given, timed_by)
 
 group_next : (file place count : ℕ) (ns : List Origin) (m : Meta) (f : List ℕ) (xs ys : List Item) (fault : Option Rule)
     → write_fault ns m ≡ fault → refusal_or fault m (refusal_in (with_origin ns m) xs) ≡ None
@@ -186,10 +158,7 @@ origins_of file files = record { count = length files; origins = all_origins [] 
 group_alike : (file place : ℕ) (files : List (List Item)) (items : List Item) → IsMergeOf files items
     → AllZip (Renamed (IsOfGroup file place (origins_of file files))) (merge_of item_time (numbered_files file files)) (map (in_file place) items)
 unfolding origins_of
-group_alike file place files items h =
-    group_items file place (length files) [] (merge_of item_time (numbered_files file files)) items (accepted_moved file files h.accepted)
-    (subst (λ (ns : List Numbered). AllZip IsItemOf ns items) (sym (packets_moved file files)) h.packets)
-    (merge-all (InFiles file (file + length files)) item_time (numbered_files file files) (all_in file file (file + length files) files (omega arith) (omega arith)))
+group_alike file place files items h = search (rules, group_items, merge_of, accepted_moved, packets_moved, merge-all, all_in)
 
 -- ---- all groups
 
@@ -203,18 +172,13 @@ all_origins_of file [] = []
 all_origins_of file (g ∷ gs) = origins_of file g ∷ all_origins_of (file + length g) gs
 
 numbered_both : (file : ℕ) (fs gs : List (List Item)) → numbered_files file (fs ++ gs) ≡ numbered_files file fs ++ numbered_files (file + length fs) gs
-numbered_both file [] gs =
-    let e : file ≡ file + 0 = omega arith in
-    ap (λ n. numbered_files n gs) e
-numbered_both file (f ∷ fs) gs =
-    let e : suc file + length fs ≡ file + suc (length fs) = omega arith in
-    ap (λ r. map (in_file file) f ∷ r) (numbered_both (suc file) fs gs ∙ ap (λ n. numbered_files (suc file) fs ++ numbered_files n gs) e)
+numbered_both file [] gs = grind arith
+numbered_both file (f ∷ fs) gs = grind (arith, numbered_both (suc file) fs gs)
 
 grouped_files : (file : ℕ) (gs : List (List (List Item))) → files_in (grouped file gs) ≡ numbered_files file (flat_map (λ g. g) gs)
 unfolding grouped
 grouped_files file [] = refl
-grouped_files file (g ∷ gs) =
-    ap (λ r. numbered_files file g ++ r) (grouped_files (file + length g) gs) ∙ sym (numbered_both file g (flat_map (λ h. h) gs))
+grouped_files file (g ∷ gs) = search (grouped_files (file + length g) gs, numbered_both)
 
 zip_implied : (R S : Origin → Origin → Type 0) → ((a b : Origin) → R a b → S a b) → (xs ys : List Item) → AllZip (Renamed R) xs ys → AllZip (Renamed S) xs ys
 zip_implied R S f [] [] h = tt

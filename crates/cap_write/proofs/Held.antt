@@ -1,7 +1,6 @@
 -- What is written for the packets of a pcap file, read again.
-use Rattle.std.proofs.Common.{◌≡◌, ℕ, ◌+◌, ◌*◌, ◌/◌, ◌%◌, ◌^◌, ◌≤◌, ◌<◌, List, [], ◌∷◌, ◌++◌, length, Bool, true, false, refl, ap, ◌∙◌, subst, arith, length-append, if◌then◌else◌}
-use Rattle.std.proofs.Math.Nat.{mod-add-div, mul_comm, add_comm}
-use Rattle.std.proofs.lemmas.Bool.{ltb-true, lt-ltb}
+use Rattle.std.proofs.Common.{◌≡◌, ℕ, ◌+◌, ◌*◌, ◌/◌, ◌%◌, ◌^◌, ◌≤◌, ◌<◌, List, [], ◌∷◌, length, Bool, refl, subst, arith, length-append, if◌then◌else◌}
+use Rattle.std.proofs.lemmas.Bool.{ltb-true}
 use Rattle.std.specs.Prelude.{FitsSigned}
 use Rattle.std.specs.Int.{w64}
 use Rattle.cap_bytes.specs.declared.faults.Tail.{Tail}
@@ -9,16 +8,14 @@ use Rattle.cap_bytes.specs.declared.numbers.Order.{Order}
 use Rattle.cap_pcap.proofs.Again.{record_again-law}
 use Rattle.cap_pcap.proofs.Items.{items_from-none}
 use Rattle.cap_pcap.proofs.Splitting.{record_read-law, length-spelled}
-use Rattle.cap_pcap.specs.Grammar.{Packet, packet_size, SpellsRecord, record_bytes}
-use Rattle.cap_bytes.specs.Items.{given}
-use Rattle.cap_pcap.specs.Split.{items_with, items_from, record_of}
+use Rattle.cap_pcap.specs.Grammar.{Packet, SpellsRecord, record_bytes}
+use Rattle.cap_pcap.specs.Split.{items_with, items_from}
 use Rattle.cap_pcap.specs.declared.headers.PcapHeader.{PcapHeader}
 use Rattle.cap_bytes.specs.declared.stops.Stop.TheVariants as stops
 use Rattle.cap_source.proofs.Fields.{AllHeld}
 use Rattle.cap_time.specs.Unit.{in_second}
 use Rattle.cap_time.specs.declared.resolutions.Interface.{Interface}
 use Rattle.cap_time.specs.declared.stamps.Unit.{Unit as Fraction}
-use Rattle.cap_time.specs.declared.stamps.Unit.TheVariants.{Micro, Nano}
 use Rattle.cap_write.proofs.Out.{fits, early}
 use Rattle.cap_write.proofs.Packed.{number_all}
 use Rattle.cap_write.specs.Laws.{AllFit, records_form, AllWritten}
@@ -26,17 +23,14 @@ use Rattle.cap_write.specs.Laws.{AllFit, records_form, AllWritten}
 -- their fields fit, as they are numbered
 pub AllFit-held : (i : Interface) (ps : List Packet) → i.link < 2 ^ 16 → i.snaplen < 2 ^ 32 → FitsSigned w64 i.offset → AllHeld ps → AllFit (number_all i ps)
 AllFit-held i [] link snaplen offset held = tt
-AllFit-held i (p ∷ ps) link snaplen offset held =
-    (record { link = link; snaplen = snaplen; offset = offset; units = held.0; original = held.1; frame = held.2 }, AllFit-held i ps link snaplen offset held.3)
+AllFit-held i (p ∷ ps) link snaplen offset held = grind (arith, AllFit-held i ps link snaplen offset held.3)
 
 -- A packet is read again where its seconds fit.
 same_units : (d : ℕ) (p : Packet) → record { units = p.units / d * d + p.units % d; original = p.original; frame = p.frame } ≡ p
-same_units d p = ap (λ (u : ℕ). record { units = u; original = p.original; frame = p.frame })
-    (ap (λ n. n + p.units % d) (mul_comm (p.units / d) d) ∙ (add_comm (d * (p.units / d)) (p.units % d) ∙ mod-add-div p.units d))
+same_units d p = grind arith
 
 below_second : (unit : Fraction) (u : ℕ) → u % in_second unit < 2 ^ 32
-below_second Micro u = omega arith
-below_second Nano u = omega arith
+below_second unit u = grind arith
 
 spelled-again : (order : Order) (unit : Fraction) (p : Packet) → p.units / in_second unit < 2 ^ 32 → p.original < 2 ^ 32 → length p.frame ≤ 262144
     → SpellsRecord order unit p (record_bytes order (p.units / in_second unit) (p.units % in_second unit) p.original p.frame)
@@ -59,23 +53,11 @@ records-again h tail file offset (p ∷ ps) held limit =
         → offset + length (records_form h.order h.unit (if fits h.unit p then p ∷ early h.unit ps else [])) ≤ 2 ^ 40
         → items_from h tail file offset (records_form h.order h.unit (if fits h.unit p then p ∷ early h.unit ps else []))
         ≡ items_with offset (if fits h.unit p then p ∷ early h.unit ps else []) stops.End
-    by true is later few =
-        let text = record_bytes h.order (p.units / in_second h.unit) (p.units % in_second h.unit) p.original p.frame in
-        let rest = records_form h.order h.unit (early h.unit ps) in
-        let s = spelled-again h.order h.unit p (ltb-true (p.units / in_second h.unit) (2 ^ 32) is) held.1 held.2 in
-        let size = length-spelled h.order h.unit p text s in
-        let room : offset + length (text ++ rest) ≤ 2 ^ 40 =
-        subst (λ b. offset + length (records_form h.order h.unit (if b then p ∷ early h.unit ps else [])) ≤ 2 ^ 40) is few in
-        rw is
-        (record_read-law h tail file offset p text rest s (omega (arith, room, length-append text rest))
-        ∙ (ap (λ n. given (record_of offset p) p.frame ∷ items_from h tail file (offset + n) rest) size
-        ∙ ap (λ l. given (record_of offset p) p.frame ∷ l) (later (offset + packet_size p) (omega (arith, room, length-append text rest, size)))))
-    by false is later few = rw is (items_from-none h tail file offset)
+    by b is later few = grind (arith, records_form, spelled-again, ltb-true, length-spelled, record_read-law, length-append, items_from-none)
 
 -- Packets in the written form are held, and all their seconds fit.
 units_written : (unit : Fraction) (u : ℕ) → u / in_second unit < 2 ^ 32 → u < 2 ^ 64
-units_written Micro u h = omega arith
-units_written Nano u h = omega arith
+units_written unit u h = grind arith
 
 pub held-written : (unit : Fraction) (ps : List Packet) → AllWritten unit ps → AllHeld ps
 held-written unit [] w = tt
@@ -83,6 +65,4 @@ held-written unit (p ∷ ps) w = (units_written unit p.units w.0, w.1, w.2, held
 
 pub early-written : (unit : Fraction) (ps : List Packet) → AllWritten unit ps → early unit ps ≡ ps
 early-written unit [] w = refl
-early-written unit (p ∷ ps) w =
-    ap (λ b. if b then p ∷ early unit ps else []) (lt-ltb (p.units / in_second unit) (2 ^ 32) w.0)
-    ∙ ap (λ l. p ∷ l) (early-written unit ps w.3)
+early-written unit (p ∷ ps) w = grind (arith, early-written unit ps w.3)

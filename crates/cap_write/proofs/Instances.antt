@@ -1,5 +1,5 @@
 -- The packets of one instance of a file have one interface.
-use Rattle.std.proofs.Common.{◌≡◌, ℕ, ◌+◌, slice_get, get_or, List, [], ◌∷◌, ◌++◌, length, Bool, true, false, Some, None, Result, Ok, Err, IfOk, refl, sym, ap, ◌∙◌, arith, append_assoc, append-nil, length-append, if◌then◌else◌}
+use Rattle.std.proofs.Common.{◌≡◌, ℕ, ◌+◌, slice_get, get_or, List, [], ◌∷◌, ◌++◌, length, Bool, true, false, Some, None, Result, Ok, Err, IfOk, refl, arith, append_assoc, append-nil, length-append, if◌then◌else◌}
 use Rattle.std.proofs.Math.ListN.{get_or-append}
 use Rattle.std.proofs.lemmas.List.{get_or-append-add}
 use Rattle.std.proofs.lemmas.Option.{get_or_from_slice_get, slice_get_within}
@@ -13,7 +13,6 @@ use Rattle.cap_bytes.specs.declared.numbers.Order.{Order}
 use Rattle.cap_pcap.specs.Split as records
 use Rattle.cap_pcap.specs.declared.records.Record.{Record}
 use Rattle.cap_source.proofs.Saying.{OfContent, content-holds}
-use Rattle.cap_source.specs.Clocks.{interface_in}
 use Rattle.cap_source.specs.Contents.{content_in}
 use Rattle.cap_source.specs.Feed.{Item}
 use Rattle.cap_source.specs.Items.{Progress, fresh, behind, items_at, items_in, items_of_stop, items_from, is_pcapng, pcap_items, interface_of}
@@ -32,14 +31,11 @@ abbrev pub IsAny : Interface → Type 0
 IsAny i = Unit {0}
 
 is_any : (r : Result Interface Rule) → IfOk r IsAny
-is_any (Ok i) = tt
-is_any (Err rule) = tt
+is_any r = grind arith
 
 pub content-of : (interfaces : List Interface) (kind : ℕ) (order : Order) (body : List ℕ)
     → IfOk (content_in interfaces kind order body) (OfContent IsAny (HasNumber interfaces))
-content-of interfaces kind order body =
-    content-holds IsAny (HasNumber interfaces) interfaces kind order body (is_any (interface_in (length interfaces) order body)) (λ k i is few. is)
-    (λ i is few. is)
+content-of interfaces kind order body = search (content-holds, is_any)
 
 -- the interfaces that are still to come of a file
 abbrev added : Result Content Rule → List Interface → List Interface
@@ -61,38 +57,17 @@ nth all k = get_or all k (interface_of (records.header_at []))
 
 nth-of : (past interfaces later all : List Interface) (k : ℕ) (i : Interface) → slice_get interfaces k ≡ Some i → (past ++ interfaces) ++ later ≡ all
     → i ≡ nth all (length past + k)
-nth-of past interfaces later all k i is whole =
-    let d = interface_of (records.header_at []) in
-    let within = slice_get_within interfaces k i is in
-    sym (get_or_from_slice_get interfaces k i d is)
-    ∙ (sym (get_or-append-add past interfaces k d)
-    ∙ (sym (get_or-append (past ++ interfaces) later d (length past + k) (omega (arith, within, length-append past interfaces)))
-    ∙ ap (λ l. get_or l (length past + k) d) whole))
+nth-of past interfaces later all k i is whole = grind (arith, slice_get_within, get_or_from_slice_get, get_or-append-add, get_or-append, length-append, get_or)
 
 stop-alike : (file : ℕ) (given : ℕ → Interface) (stop : Stop) → AllAlike file given (items_of_stop stop)
-stop-alike file given stops.End = tt
-stop-alike file given stops.Cut = tt
-stop-alike file given (stops.Refused refusal) = tt
+stop-alike file given stop = grind arith
 
 block-alike : (file : ℕ) (all past : List Interface) (progress : Progress) (block : Block) (body : List ℕ) (content : Result Content Rule) (later : List Interface) (items : List Item)
     → IfOk content (OfContent IsAny (HasNumber progress.interfaces)) → length past ≡ progress.base
     → (past ++ progress.interfaces) ++ added content later ≡ all
     → ((past : List Interface) → length past ≡ (behind progress content).base → (past ++ (behind progress content).interfaces) ++ later ≡ all → AllAlike file (nth all) items)
     → AllAlike file (nth all) (items_at file progress block body content items)
-block-alike file all past progress block body (Ok contents.Section) later items of base whole rest =
-    rest (past ++ progress.interfaces) (length-append past progress.interfaces ∙ ap (λ n. n + length progress.interfaces) base)
-    (ap (λ l. l ++ later) (append-nil (past ++ progress.interfaces)) ∙ whole)
-block-alike file all past progress block body (Ok (contents.Interface i)) later items of base whole rest =
-    rest past base
-    (ap (λ l. l ++ later) (sym (append_assoc past progress.interfaces (i ∷ [])))
-    ∙ (append_assoc (past ++ progress.interfaces) (i ∷ []) later ∙ whole))
-block-alike file all past progress block body (Ok (contents.Packet p)) later items of base whole rest = (
-  refl,
-  nth-of past progress.interfaces later all p.number p.interface of whole ∙ ap (λ n. nth all (n + p.number)) base,
-  rest past base whole,
-)
-block-alike file all past progress block body (Ok contents.Other) later items of base whole rest = rest past base whole
-block-alike file all past progress block body (Err rule) later items of base whole rest = tt
+block-alike file all past progress block body content later items of base whole rest = grind (arith, length-append, append-nil, append_assoc, nth-of)
 
 blocks-alike : (file : ℕ) (all past : List Interface) (progress : Progress) (items : List (pieces.Item Block)) → length past ≡ progress.base
     → (past ++ progress.interfaces) ++ future progress items ≡ all → AllAlike file (nth all) (items_in file progress items)

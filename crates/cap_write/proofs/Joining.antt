@@ -4,7 +4,6 @@ use Rattle.cap_bytes.proofs.Putting.{Putting}
 use Rattle.cap_bytes.specs.Device.{Writer}
 use Rattle.cap_bytes.specs.Printing.{Prints}
 use Rattle.cap_bytes.specs.declared.faults.Fault.{Fault}
-use Rattle.cap_bytes.specs.declared.faults.Fault.TheVariants.{Refused, Read, Write, Memory}
 use Rattle.cap_bytes.specs.declared.faults.Refusal.{Refusal}
 use Rattle.cap_bytes.specs.declared.faults.Rule.{Rule}
 use Rattle.cap_bytes.specs.declared.numbers.Order.{Order}
@@ -20,7 +19,7 @@ use Rattle.cap_source.specs.declared.packets.Meta.{Meta}
 use Rattle.cap_time.specs.declared.stamps.Stamp.{Stamp}
 use Rattle.cap_write.proofs.Feeding.{plan_of, plan_of-is, plan_of-next, plan_of-refused}
 use Rattle.cap_write.specs.Datagrams.{origins_behind}
-use Rattle.cap_write.specs.Joined.{items_of_packet, events_after, items_here, events_here, joined_items}
+use Rattle.cap_write.specs.Joined.{items_of_packet, events_after, joined_items}
 use Rattle.cap_write.specs.Numbering.{Origin, with_origin, write_fault, refusal_at, refusal_in, numbered}
 use Rattle.cap_write.specs.Texts.{text_behind, packets_bytes, one_bytes}
 
@@ -80,8 +79,7 @@ stopped-text order origins (packet meta frame ∷ items) rest r some = by (write
         let next = plan_of-next order origins meta frame is in
         let both = go (sym (next.refusal items) ∙ some) in
         (next.text (items ++ rest) ∙ (ap (λ l. one_bytes order origins meta frame ++ l) both.0 ∙ sym (next.text items)), next.refusal (items ++ rest) ∙ both.1)
-stopped-text order origins (refused q ∷ items) rest r some =
-    (text-first order origins q (items ++ rest) ∙ sym (text-first order origins q items), refusal-first origins q (items ++ rest) ∙ (sym (refusal-first origins q items) ∙ some))
+stopped-text order origins (refused q ∷ items) rest r some = grind (arith, text-first, refusal-first)
 
 -- what is written where some of the items to come aren't written whole
 pub Prints-part : (order : Order) (fault : Fault) (text : List ℕ) (refusal : Option Refusal) (from mid : Writer) (held : List ℕ) (origins : List Origin) (all items rest : List Item)
@@ -110,17 +108,12 @@ items-of-run ps = refl
 
 first-of-run : (xs : List (Clocked Item)) (clock : Option Stamp) (i : Item) (rest : List Item) → BeginsAt clock xs → map (λ x. x.item) xs ≡ i ∷ rest
     → xs ≡ record { clock = clock; item = i } ∷ drop 1 xs
-first-of-run [] clock i rest b e = absurd b
-first-of-run (x ∷ xs) clock i rest b e =
-    let same : x.item ≡ i = cc in
-    λ j. record { clock = b j; item = same j } ∷ xs
+first-of-run xs clock i rest b e = grind arith
 
 run-first : (mid shown new : List Part) (meta : Meta) (frame : List ℕ) (clock : Option Stamp)
     → (feed_of mid).items ≡ packet meta frame ∷ drop 1 (feed_of mid).items → run_of shown ≡ run_of mid → BeginsAt clock (run_of shown) → run_of new ≡ drop 1 (run_of shown)
     → run_of mid ≡ record { clock = clock; item = packet meta frame } ∷ run_of new
-run-first mid shown new meta frame clock head same begins dropped =
-    first-of-run (run_of mid) clock (packet meta frame) (drop 1 (feed_of mid).items) (subst (BeginsAt clock) same begins) (sym (items-of-run mid) ∙ head)
-    ∙ ap (λ l. record { clock = clock; item = packet meta frame } ∷ l) (sym (dropped ∙ ap (drop 1) same))
+run-first mid shown new meta frame clock head same begins dropped = grind (arith, first-of-run, drop, items-of-run)
 
 -- what is to be written of it
 pub joined-first : (mid shown new : List Part) (meta : Meta) (frame : List ℕ) (clock : Option Stamp) (place : ℕ) (events : List Event)
@@ -136,9 +129,7 @@ pub joined-at-first : (mid shown : List Part) (meta : Meta) (frame : List ℕ) (
     → joined_items place events (run_of mid)
     ≡ items_of_packet place events clock meta frame ++ joined_items (place + 1) (events_after place events clock meta frame) (drop 1 (run_of mid))
 unfolding joined_items
-joined-at-first mid shown meta frame clock place events head same begins =
-    ap (joined_items place events)
-    (first-of-run (run_of mid) clock (packet meta frame) (drop 1 (feed_of mid).items) (subst (BeginsAt clock) same begins) (sym (items-of-run mid) ∙ head))
+joined-at-first mid shown meta frame clock place events head same begins = grind (arith, first-of-run, drop, items-of-run)
 
 -- what is to be written of a run as of a feed
 abbrev pub feeding : List Part → ℕ → List Event → Feed
@@ -201,40 +192,22 @@ Joining-more order old mid shown new origins_old origins origins_new joiner join
 joined-none : (xs : List (Clocked Item)) (place : ℕ) (events : List Event) → map (λ x. x.item) xs ≡ [] → joined_items place events xs ≡ []
 unfolding joined_items
 joined-none [] place events e = refl
-joined-none (x ∷ xs) place events e = absurd (clash e)
-  where
-    clash : x.item ∷ map (λ y. y.item) xs ≡ [] → ⊥
-    clash e = cc
+joined-none (x ∷ xs) place events e = cc
 
 joined-refused : (xs : List (Clocked Item)) (place : ℕ) (events : List Event) (r : Refusal) → map (λ x. x.item) xs ≡ refused r ∷ []
     → joined_items place events xs ≡ refused r ∷ []
 unfolding joined_items
-joined-refused [] place events r e = absurd (clash e)
-  where
-    clash : [] ≡ refused r ∷ [] → ⊥
-    clash e = cc
-joined-refused (x ∷ xs) place events r e =
-    let same : x.item ≡ refused r = cc in
-    let none : map (λ y. y.item) xs ≡ [] = cc in
-    joined-at x.clock x.item same ∙ ap (λ l. refused r ∷ l) (joined-none xs (place + 1) events none)
-  where
-    joined-at : (clock : Option Stamp) (i : Item) → i ≡ refused r
-        → items_here place events clock i ++ joined_items (place + 1) (events_here place events clock i) xs ≡ refused r ∷ joined_items (place + 1) events xs
-    joined-at clock i same = ap (λ w. items_here place events clock w ++ joined_items (place + 1) (events_here place events clock w) xs) same
+joined-refused [] place events r e = cc
+joined-refused (x ∷ xs) place events r e = grind (arith, joined-none)
 
 -- What a call for the next packet answers that tells none, it tells of what is to be written too.
 pub shows-fault : (fault : Fault) (mid : List Part) (shown : Feed) (place : ℕ) (events : List Event) → ShowsItem (feed_of mid) (Err fault) shown
     → ShowsItem (feeding mid place events) (Err fault) (feeding mid place events)
-shows-fault (Refused r) mid shown place events shows =
-    (record { items = refl; endings = λ file. refl }, joined-refused (run_of mid) place events r (sym (items-of-run mid) ∙ shows.1))
-shows-fault (Read file offset) mid shown place events shows = tt
-shows-fault Write mid shown place events shows = absurd shows
-shows-fault Memory mid shown place events shows = record { items = refl; endings = λ file. refl }
+shows-fault fault mid shown place events shows = grind (arith, joined-refused, items-of-run)
 
 pub shows-end : (mid : List Part) (shown : Feed) (place : ℕ) (events : List Event) → ShowsItem (feed_of mid) (Ok None) shown
     → ShowsItem (feeding mid place events) (Ok None) (feeding mid place events)
-shows-end mid shown place events shows =
-    (record { items = refl; endings = λ file. refl }, joined-none (run_of mid) place events (sym (items-of-run mid) ∙ shows.1))
+shows-end mid shown place events shows = grind (arith, joined-none, items-of-run)
 
 -- what is written where a packet's datagram isn't written whole, or is refused
 pub Joining-part : (order : Order) (fault : Fault) (old mid shown : List Part) (origins_old origins : List Origin) (joiner : JoinerState) (place : ℕ) (fo fm : Bool) (from m : Writer) (held : List ℕ)

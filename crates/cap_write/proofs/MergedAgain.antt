@@ -1,58 +1,38 @@
 -- A merged file, read again.
-use Rattle.std.proofs.Common.{◌≡◌, ◌==◌, ◌&&◌, ◌||◌, ℕ, suc, ◌+◌, ◌≤◌, ◌<◌, map, nat_le, not, cond, slice_get, List, [], ◌∷◌, ◌++◌, length, Bool, true, false, Option, Some, None, is_none, is_some, refl, sym, ap, ◌∙◌, subst, arith, length-append, if◌then◌else◌}
-use Rattle.std.proofs.lemmas.Bool.{eq-eqb, eqb-true, ne_eqb, false≢true, leb-false}
+use Rattle.std.proofs.Common.{◌≡◌, ◌==◌, ◌&&◌, ℕ, suc, ◌+◌, ◌≤◌, ◌<◌, map, nat_le, not, slice_get, List, [], ◌∷◌, ◌++◌, length, Bool, true, false, Option, Some, None, is_none, refl, sym, ap, ◌∙◌, subst, arith, length-append, if◌then◌else◌}
+use Rattle.std.proofs.lemmas.Bool.{eq-eqb, ne_eqb, false≢true}
 use Rattle.std.specs.List.{list_any, position_or_len}
 use Rattle.cap_bytes.specs.declared.faults.Rule.{Rule}
 use Rattle.cap_bytes.specs.declared.faults.Rule.TheVariants.{NoTime, InterfaceLimit}
 use Rattle.cap_source.specs.Feed.{Item, packet, refused}
-use Rattle.cap_source.specs.Fields.{FitsMeta}
 use Rattle.cap_source.specs.declared.packets.Meta.{Meta}
 use Rattle.cap_time.specs.declared.resolutions.Interface.{Interface}
 use Rattle.cap_write.proofs.Places.{position_or_len-none, position_or_len-some}
-use Rattle.cap_write.specs.Laws.{Fits, AllFit, AllHave, IsNumbered, described, all_described}
+use Rattle.cap_write.specs.Laws.{AllFit, AllHave, IsNumbered, described, all_described}
 use Rattle.cap_write.specs.Numbering.{Origin, origin_of, is_origin, is_used, number_of, with_origin, is_full, write_fault, numbered_of, numbered_or, numbered}
 
 -- origins are equal where they are told to be
 abbrev pair : ℕ → ℕ → Origin
 pair x y = (x, y)
 
-pair_is : (a b c d : ℕ) → a ≡ c → b ≡ d → pair a b ≡ pair c d
-pair_is a b c d e f = rw (e, f) refl
-
 both : (x y : Bool) → (x && y) ≡ true → (x ≡ true) × (y ≡ true)
-both true y h = (refl, h)
-both false y h = absurd (false≢true h)
+both x y h = grind arith
 
 is_origin-same : (a b : Origin) → is_origin a b ≡ true → a ≡ b
-is_origin-same a b h =
-    let e = both (a.0 == b.0) (a.1 == b.1) h in
-    pair_is a.0 a.1 b.0 b.1 (eqb-true a.0 b.0 e.0) (eqb-true a.1 b.1 e.1)
+is_origin-same a b h = grind arith
 
 -- the interfaces of some origins
 abbrev pub given_all : (Origin → Interface) → List Origin → List Interface
 given_all given origins = map given origins
 
 further : (i : Interface) (is : List Interface) (k : ℕ) → slice_get (i ∷ is) (1 + k) ≡ slice_get is k
-further i is k = ap (slice_get (i ∷ is)) (one_more k)
-  where
-    one_more : (k : ℕ) → 1 + k ≡ suc k
-    one_more k = omega arith
+further i is k = grind arith
 
 -- an origin that was used stands at its place
 at_place : (given : Origin → Interface) (a : Origin) (origins : List Origin) → list_any (is_origin a) origins ≡ true
     → slice_get (given_all given origins) (position_or_len (is_origin a) origins) ≡ Some (given a)
 at_place given a [] h = absurd (false≢true h)
-at_place given a (b ∷ origins) h = by (is_origin a b) refl h (λ g. at_place given a origins g)
-  where
-    by : (same : Bool) → is_origin a b ≡ same → (same || list_any (is_origin a) origins) ≡ true
-        → (list_any (is_origin a) origins ≡ true → slice_get (given_all given origins) (position_or_len (is_origin a) origins) ≡ Some (given a))
-        → slice_get (given_all given (b ∷ origins)) (position_or_len (is_origin a) (b ∷ origins)) ≡ Some (given a)
-    by true e g later =
-        ap (λ s. slice_get (given_all given (b ∷ origins)) (cond (not s) (1 + position_or_len (is_origin a) origins) 0)) e
-        ∙ ap (λ x. Some (given x)) (sym (is_origin-same a b e))
-    by false e g later =
-        ap (λ s. slice_get (given_all given (b ∷ origins)) (cond (not s) (1 + position_or_len (is_origin a) origins) 0)) e
-        ∙ (further (given b) (given_all given origins) (position_or_len (is_origin a) origins) ∙ later g)
+at_place given a (b ∷ origins) h = grind (arith, at_place given a origins)
 
 length-given : (given : Origin → Interface) (origins : List Origin) → length (given_all given origins) ≡ length origins
 length-given given [] = refl
@@ -64,36 +44,19 @@ given_all-push given (b ∷ origins) a = ap (λ l. given b ∷ l) (given_all-pus
 
 -- how a packet comes after the origins that were used: its interface was used, or takes the next number
 pub number-used : (origins : List Origin) (meta : Meta) → is_used origins meta ≡ true → (number_of origins meta == length origins) ≡ false
-number-used origins meta used =
-    let few = position_or_len-some (is_origin (origin_of meta)) origins used in
-    ne_eqb (number_of origins meta) (length origins) (λ e. absurd (omega (arith, few, e)))
+number-used origins meta used = grind (arith, position_or_len-some, ne_eqb)
 
 pub number-next : (origins : List Origin) (meta : Meta) → is_used origins meta ≡ false → (number_of origins meta == length origins) ≡ true
 number-next origins meta used = eq-eqb (number_of origins meta) (length origins) (position_or_len-none (is_origin (origin_of meta)) origins used)
 
 described-given : (given : Origin → Interface) (origins : List Origin) (meta : Meta) (frame : List ℕ) → meta.interface ≡ given (origin_of meta)
     → described (given_all given origins) (numbered_of origins meta frame) ≡ given_all given (with_origin origins meta)
-described-given given origins meta frame interface = by (is_used origins meta) refl
-  where
-    by : (used : Bool) → is_used origins meta ≡ used
-        → described (given_all given origins) (numbered_of origins meta frame) ≡ given_all given (if used then origins else origins ++ origin_of meta ∷ [])
-    by true used =
-        ap (λ k. if number_of origins meta == k then given_all given origins ++ meta.interface ∷ [] else given_all given origins) (length-given given origins)
-        ∙ ap (λ b. if b then given_all given origins ++ meta.interface ∷ [] else given_all given origins) (number-used origins meta used)
-    by false used =
-        ap (λ k. if number_of origins meta == k then given_all given origins ++ meta.interface ∷ [] else given_all given origins) (length-given given origins)
-        ∙ (ap (λ b. if b then given_all given origins ++ meta.interface ∷ [] else given_all given origins) (number-next origins meta used)
-        ∙ (ap (λ i. given_all given origins ++ i ∷ []) interface ∙ sym (given_all-push given origins (origin_of meta))))
+described-given given origins meta frame interface = grind (arith, length-given, number-used, number-next, given_all-push)
 
 known-given : (given : Origin → Interface) (origins : List Origin) (meta : Meta) → meta.interface ≡ given (origin_of meta)
     → (number_of origins meta == length (given_all given origins)) ≡ false
     → slice_get (given_all given origins) (number_of origins meta) ≡ Some meta.interface
-known-given given origins meta interface other = by (is_used origins meta) refl
-  where
-    by : (used : Bool) → is_used origins meta ≡ used → slice_get (given_all given origins) (number_of origins meta) ≡ Some meta.interface
-    by true used = at_place given (origin_of meta) origins used ∙ ap Some (sym interface)
-    by false used =
-        absurd (false≢true (sym other ∙ (ap (λ k. number_of origins meta == k) (length-given given origins) ∙ number-next origins meta used)))
+known-given given origins meta interface other = grind (arith, slice_get, at_place, false≢true, length-given, number-next)
 
 -- packets are numbered after the interfaces of the origins that were used
 pub IsNumbered-given : (given : Origin → Interface) (origins : List Origin) (items : List Item) → AllHave given items
@@ -107,58 +70,25 @@ IsNumbered-given given origins (packet meta frame ∷ items) have =
     by : (fault : Option Rule) → IsNumbered (given_all given (with_origin origins meta)) (numbered (with_origin origins meta) items)
         → IsNumbered (given_all given origins) (numbered_or fault (numbered_of origins meta frame) (numbered (with_origin origins meta) items))
     by (Some rule) later = tt
-    by None later = (
-      known-given given origins meta have.0.interface,
-      subst (λ l. IsNumbered l (numbered (with_origin origins meta) items)) (sym (described-given given origins meta frame have.0.interface)) later,
-    )
-
--- the fields of a file's packet fit, as it is numbered
-pub fits-numbered : (meta : Meta) (frame : List ℕ) → FitsMeta meta frame → Fits (numbered_of [] meta frame)
-fits-numbered meta frame fits = record {
-  link = fits.interface.link;
-  snaplen = fits.interface.snaplen;
-  offset = fits.interface.offset;
-  units = fits.units;
-  original = fits.original;
-  frame = omega (arith, fits.frame.captured, fits.frame.limit);
-}
+    by None later = search (known-given, described-given)
 
 -- their fields fit
 pub AllFit-given : (given : Origin → Interface) (origins : List Origin) (items : List Item) → AllHave given items → AllFit (numbered origins items)
 unfolding numbered
 AllFit-given given origins [] have = tt
 AllFit-given given origins (refused refusal ∷ items) have = tt
-AllFit-given given origins (packet meta frame ∷ items) have =
-    by (write_fault origins meta) (AllFit-given given (with_origin origins meta) items have.1)
-  where
-    by : (fault : Option Rule) → AllFit (numbered (with_origin origins meta) items)
-        → AllFit (numbered_or fault (numbered_of origins meta frame) (numbered (with_origin origins meta) items))
-    by (Some rule) later = tt
-    by None later = (
-      record {
-        link = have.0.fits.link;
-        snaplen = have.0.fits.snaplen;
-        offset = have.0.fits.offset;
-        units = have.0.fits.units;
-        original = have.0.fits.original;
-        frame = have.0.fits.frame;
-      },
-      later,
-    )
+AllFit-given given origins (packet meta frame ∷ items) have = grind (arith, AllFit-given given (with_origin origins meta) items have.1)
 
 -- a packet that isn't refused leaves room for its interface
 full_by : (untimed full : Bool) → (if untimed then Some NoTime else if full then Some InterfaceLimit else None) ≡ None → full ≡ false
-full_by true full is = absurd (false≢true (sym (ap is_some is)))
-full_by false true is = absurd (false≢true (sym (ap is_some is)))
-full_by false false is = refl
+full_by untimed full is = grind arith
 
 not_full : (origins : List Origin) (meta : Meta) → write_fault origins meta ≡ None → is_full origins meta ≡ false
 unfolding write_fault
 not_full origins meta is = full_by (is_none meta.units) (is_full origins meta) is
 
 room_by : (count : ℕ) (full : Bool) → nat_le 1024 count ≡ full → (full && true) ≡ false → count < 1024
-room_by count true is h = absurd (false≢true (sym h))
-room_by count false is h = leb-false 1024 count is
+room_by count full is h = grind arith
 
 pub room_left : (origins : List Origin) (meta : Meta) → write_fault origins meta ≡ None → is_used origins meta ≡ false → length origins < 1024
 room_left origins meta none used =
@@ -166,11 +96,7 @@ room_left origins meta none used =
     (ap (λ u. nat_le 1024 (length origins) && not u) (sym used) ∙ not_full origins meta none)
 
 with_origin-room : (origins : List Origin) (meta : Meta) → write_fault origins meta ≡ None → length origins ≤ 1024 → length (with_origin origins meta) ≤ 1024
-with_origin-room origins meta none few = by (is_used origins meta) refl
-  where
-    by : (used : Bool) → is_used origins meta ≡ used → length (if used then origins else origins ++ origin_of meta ∷ []) ≤ 1024
-    by true used = few
-    by false used = omega (arith, room_left origins meta none used, length-append origins (origin_of meta ∷ []))
+with_origin-room origins meta none few = grind (arith, room_left, length-append)
 
 -- at most 1,024 interfaces are described
 pub all_described-given : (given : Origin → Interface) (origins : List Origin) (items : List Item) → AllHave given items → length origins ≤ 1024

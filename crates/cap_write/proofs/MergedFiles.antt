@@ -1,6 +1,5 @@
 -- The run of any files, written and read again.
-use Rattle.std.proofs.Common.{◌==◌, ℕ, ◌+◌, ◌≤◌, map, List, [], ◌∷◌, Bool, true, false, sym, ap, ◌∙◌, arith, if◌then◌else◌}
-use Rattle.std.proofs.lemmas.Bool.{eq-eqb, ne_eqb}
+use Rattle.std.proofs.Common.{◌==◌, ℕ, ◌+◌, ◌≤◌, map, List, [], ◌∷◌, Bool, ◌∙◌, arith, if◌then◌else◌}
 use Rattle.std.specs.List.{AllByRecursion}
 use Rattle.cap_blocks.specs.Split.{AreBytes}
 use Rattle.cap_bytes.specs.declared.faults.Tail.{Tail}
@@ -15,10 +14,9 @@ use Rattle.cap_time.specs.declared.resolutions.Interface.{Interface}
 use Rattle.cap_write.proofs.Alike.{merge-all}
 use Rattle.cap_write.proofs.Instances.{one_interface-law}
 use Rattle.cap_write.proofs.Measured.{numbered-measured}
-use Rattle.cap_write.proofs.MergedAgain.{fits-numbered}
 use Rattle.cap_write.proofs.Renumbered.{merged_again-law}
 use Rattle.cap_write.specs.Laws.{AllAlike, HasFields, AllHave, MergeLaw}
-use Rattle.cap_write.specs.Numbering.{Origin, origin_of}
+use Rattle.cap_write.specs.Numbering.{Origin}
 use Rattle.cap_merge.specs.Files.{items_of_files, run_of_files}
 
 -- A packet has the interface of its origin, its fields fit, and its file has at least that number.
@@ -39,36 +37,13 @@ of_one : (tail : Tail) (file : ℕ) (bytes : List ℕ) (files : List (List ℕ))
 unfolding given_from
 of_one tail file bytes files [] alike fit = tt
 of_one tail file bytes files (refused refusal ∷ items) alike fit = (tt, of_one tail file bytes files items alike fit.1)
-of_one tail file bytes files (packet meta frame ∷ items) alike fit = (
-  (
-    omega (arith, alike.0),
-    record {
-      interface =
-          alike.1
-          ∙ sym (ap (λ b. if b then (one_interface-law tail file bytes).0 meta.instance else given_from tail (file + 1) files (origin_of meta))
-          (eq-eqb meta.file file alike.0));
-      fits = fits-numbered meta frame fit.0;
-    },
-  ),
-  of_one tail file bytes files items alike.2 fit.1,
-)
+of_one tail file bytes files (packet meta frame ∷ items) alike fit = grind (arith, of_one tail file bytes files items alike.2 fit.1)
 
 -- and those after it
 raised : (tail : Tail) (file : ℕ) (bytes : List ℕ) (files : List (List ℕ)) (x : Item)
     → IsOfFile (file + 1) (given_from tail (file + 1) files) x → IsOfFile file (given_from tail file (bytes ∷ files)) x
 unfolding given_from
-raised tail file bytes files (refused refusal) is = tt
-raised tail file bytes files (packet meta frame) is =
-    let least = is.0 in (
-      omega (arith, least),
-      record {
-        interface =
-            is.1.interface
-            ∙ sym (ap (λ b. if b then (one_interface-law tail file bytes).0 meta.instance else given_from tail (file + 1) files (origin_of meta))
-            (ne_eqb meta.file file (λ e. absurd (omega (arith, least, e)))));
-        fits = is.1.fits;
-      },
-    )
+raised tail file bytes files x is = grind arith
 
 each : {A : Type 0} (P Q : A → Type 0) → ((x : A) → P x → Q x) → (xs : List A) → AllByRecursion P xs → AllByRecursion Q xs
 each P Q f [] h = tt
@@ -88,12 +63,7 @@ of_all tail file (bytes ∷ files) are = (
 front : (Q : Item → Type 0) (ends : Clocked Item → Bool) (xs : List (Clocked Item)) → AllByRecursion Q (map (λ x. x.item) xs)
     → AllByRecursion Q (map (λ x. x.item) (through_first ends xs))
 front Q ends [] h = tt
-front Q ends (x ∷ xs) h = (h.0, by (ends x) (front Q ends xs h.1))
-  where
-    by : (end : Bool) → AllByRecursion Q (map (λ x. x.item) (through_first ends xs))
-        → AllByRecursion Q (map (λ x. x.item) (if end then [] else through_first ends xs))
-    by true later = tt
-    by false later = later
+front Q ends (x ∷ xs) h = grind (arith, front Q ends xs h.1)
 
 all_have : (least : ℕ) (given : Origin → Interface) (items : List Item) → AllByRecursion (IsOfFile least given) items → AllHave given items
 all_have least given [] h = tt

@@ -1,31 +1,21 @@
 -- What refuses a packet, and what doesn't.
-use Rattle.std.proofs.Common.{◌≡◌, ℕ, List, Bool, true, false, Option, Some, None, IsSome, is_none, refl, ap, subst, ◌∙◌, if◌then◌else◌}
-use Rattle.std.proofs.lemmas.Bool.{false≢true}
+use Rattle.std.proofs.Common.{◌≡◌, ℕ, List, true, false, Option, Some, None, IsSome, is_none, if◌then◌else◌}
 use Rattle.cap_bytes.specs.declared.faults.Rule.{Rule}
 use Rattle.cap_bytes.specs.declared.faults.Rule.TheVariants.{NoTime, InterfaceLimit}
 use Rattle.cap_source.specs.declared.packets.Meta.{Meta}
 use Rattle.cap_write.specs.Numbering.{Origin, is_full, write_fault}
 
-by_full : (units : Option ℕ) (full : Bool) → IsSome units
-    → (if is_none units then Some NoTime else if full then Some InterfaceLimit else None)
-    ≡ (if full then Some InterfaceLimit else None)
-by_full (Some n) full known = refl
-by_full None full known = absurd (false≢true known)
-
 -- the second is that of the number of interfaces
 pub write_fault-full : (origins : List Origin) (meta : Meta) → IsSome meta.units → is_full origins meta ≡ true → write_fault origins meta ≡ Some InterfaceLimit
 unfolding write_fault
-write_fault-full origins meta known full =
-    by_full meta.units (is_full origins meta) known ∙ ap (λ b. if b then Some InterfaceLimit else None) full
+write_fault-full origins meta known full = cc
 
 pub write_fault-none : (origins : List Origin) (meta : Meta) → IsSome meta.units → is_full origins meta ≡ false → write_fault origins meta ≡ None
 unfolding write_fault
-write_fault-none origins meta known full =
-    by_full meta.units (is_full origins meta) known ∙ ap (λ b. if b then Some InterfaceLimit else None) full
+write_fault-none origins meta known full = cc
 
 by_none : (units : Option ℕ) (rest : Option Rule) → units ≡ None → (if is_none units then Some NoTime else rest) ≡ Some NoTime
-by_none None rest is = refl
-by_none (Some n) rest is = absurd (false≢true (subst IsSome is refl))
+by_none units rest is = cc
 
 -- the first is that of a packet without a time
 pub write_fault-untimed : (origins : List Origin) (meta : Meta) → meta.units ≡ None → write_fault origins meta ≡ Some NoTime

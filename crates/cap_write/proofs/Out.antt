@@ -1,6 +1,5 @@
 -- A pcap file that was written as pcapng, written as pcap again.
-use Rattle.std.proofs.Common.{◌≡◌, ◌==◌, ℕ, pos, ◌+◌, ◌/◌, ◌%◌, ◌^◌, ◌+ℤ◌, nat_lt, not, List, [], ◌∷◌, ◌++◌, length, Bool, true, false, Option, Some, None, refl, sym, ap, ◌∙◌, arith, if◌then◌else◌}
-use Rattle.std.specs.Prelude.{int_lt}
+use Rattle.std.proofs.Common.{◌≡◌, ℕ, pos, ◌+◌, ◌/◌, ◌^◌, nat_lt, not, List, [], ◌∷◌, ◌++◌, length, Bool, Option, Some, None, refl, sym, ap, ◌∙◌, arith, if◌then◌else◌}
 use Rattle.std.proofs.lemmas.Bool.{eq-eqb}
 use Rattle.cap_bytes.specs.declared.faults.Refusal.{Refusal}
 use Rattle.cap_bytes.specs.declared.faults.Rule.TheVariants.{TimeRange}
@@ -11,7 +10,7 @@ use Rattle.cap_pcap.specs.declared.headers.PcapHeader.{PcapHeader}
 use Rattle.cap_bytes.specs.declared.stops.Stop.{Stop}
 use Rattle.cap_bytes.specs.declared.stops.Stop.TheVariants as stops
 use Rattle.cap_source.specs.Feed.{Item, packet}
-use Rattle.cap_source.specs.Items.{pcap_items, interface_of, meta_of}
+use Rattle.cap_source.specs.Items.{pcap_items, interface_of}
 use Rattle.cap_source.specs.declared.packets.Meta.{Meta}
 use Rattle.cap_time.specs.Stamp.{stamp_in}
 use Rattle.cap_time.specs.Unit.{in_second}
@@ -22,7 +21,7 @@ use Rattle.cap_write.proofs.Records.{fault_by-timed}
 use Rattle.cap_write.proofs.Trips.{units_of-unit, fraction_of-header, whole_time-header, in_range-pos}
 use Rattle.cap_write.specs.Laws.{kept, record_form, records_form, is_late, timely, late_in, read_items, meta_again}
 use Rattle.cap_write.specs.Numbering.{refusal_at, refusal_or}
-use Rattle.cap_write.specs.Pcap.{fraction_of, whole_time, time_fault, record_fault, time_in, time_bytes, packet_record, records_bytes, records_refusal}
+use Rattle.cap_write.specs.Pcap.{record_fault, packet_record, records_bytes, records_refusal}
 use Rattle.cap_write.specs.Texts.{interface_part, packet_part, count_after, text_or}
 
 -- whether the seconds of a time fit
@@ -38,31 +37,18 @@ early unit (p ∷ ps) = if fits unit p then p ∷ early unit ps else []
 fault-read : (h : PcapHeader) (meta : Meta) (p : Packet) → meta.interface ≡ interface_of h → meta.units ≡ Some p.units
     → record_fault (interface_of h) meta ≡ (if fits h.unit p then None else Some TimeRange)
 unfolding record_fault
-fault-read h meta p interface units =
-    fault_by-timed meta.units p.units (meta.interface.link == h.link) (fraction_of (interface_of h)) meta.interface units
-    (eq-eqb meta.interface.link h.link (ap (λ i. i.link) interface))
-    ∙ (ap (λ i. time_fault (whole_time (fraction_of (interface_of h)) i p.units)) interface
-    ∙ (ap (λ f. time_fault (whole_time f (interface_of h) p.units)) (fraction_of-header h)
-    ∙ (ap time_fault (whole_time-header h p.units)
-    ∙ ap (λ b. if b then None else Some TimeRange) (in_range-pos (p.units / in_second h.unit)))))
+fault-read h meta p interface units = grind (arith, fault_by-timed, eq-eqb, fraction_of-header, whole_time-header, in_range-pos)
 
 line-read : (order : Order) (h : PcapHeader) (meta : Meta) (p : Packet) → meta.interface ≡ interface_of h → meta.units ≡ Some p.units → meta.original ≡ p.original
     → packet_record order (interface_of h) meta p.frame ≡ record_form order h.unit p
-line-read order h meta p interface units original =
-    ap (λ u. time_bytes order (time_in (fraction_of (interface_of h)) meta.interface u) meta.original p.frame) units
-    ∙ (ap (λ i. time_bytes order (whole_time (fraction_of (interface_of h)) i p.units) meta.original p.frame) interface
-    ∙ (ap (λ f. time_bytes order (whole_time f (interface_of h) p.units) meta.original p.frame) (fraction_of-header h)
-    ∙ (ap (λ t. time_bytes order t meta.original p.frame) (whole_time-header h p.units)
-    ∙ ap (λ o. time_bytes order (Some (pos (p.units / in_second h.unit), p.units % in_second h.unit)) o p.frame) original)))
+line-read order h meta p interface units original = grind (arith, fraction_of-header, whole_time-header, pos)
 
 text_by : (b : Bool) (line rest : List ℕ) → text_or (if b then None else Some TimeRange) (line ++ rest) ≡ (if b then line ++ rest else [])
-text_by true line rest = refl
-text_by false line rest = refl
+text_by b line rest = grind arith
 
 join_by : (b : Bool) (order : Order) (unit : Fraction) (p : Packet) (ps : List Packet)
     → (if b then record_form order unit p ++ records_form order unit ps else []) ≡ records_form order unit (if b then p ∷ ps else [])
-join_by true order unit p ps = refl
-join_by false order unit p ps = refl
+join_by b order unit p ps = grind arith
 
 -- what is written of the packets that were read again
 pub records_bytes-read : (back : Order) (h : PcapHeader) (order : Order) (file offset count : ℕ) (ps : List Packet)
@@ -84,17 +70,11 @@ records_bytes-read back h order file offset count (p ∷ ps) =
 -- a time is late where its seconds don't fit
 is_late-header : (h : PcapHeader) (units : ℕ) → is_late (interface_of h) (Some units) ≡ not (nat_lt (units / in_second h.unit) (2 ^ 32))
 unfolding stamp_in
-is_late-header h units =
-    ap (λ d. not (int_lt (pos 0 +ℤ pos (units / d)) (pos (2 ^ 32)))) (units_of-unit h.unit)
-    ∙ ap (λ s. not (nat_lt s (2 ^ 32))) (plus_none (units / in_second h.unit))
-  where
-    plus_none : (n : ℕ) → 0 + n ≡ n
-    plus_none n = omega arith
+is_late-header h units = grind (arith, pos, units_of-unit, nat_lt)
 
 refusal_by_late : (b : Bool) (meta : Meta) (rest : Option Refusal)
     → refusal_or (if b then None else Some TimeRange) meta rest ≡ (if not b then Some (refusal_at meta TimeRange) else rest)
-refusal_by_late true meta rest = refl
-refusal_by_late false meta rest = refl
+refusal_by_late b meta rest = grind arith
 
 -- and refused
 pub records_refusal-read : (h : PcapHeader) (order : Order) (file offset count : ℕ) (ps : List Packet)
@@ -116,8 +96,7 @@ keep_by : (b : Bool) (i : Interface) (p : Packet) (ps : List Packet) (meta : Met
     → kept items ≡ keep_all i ps
     → kept (if not b then [] else packet meta p.frame ∷ items) ≡ keep_all i (if b then p ∷ ps else [])
 unfolding kept
-keep_by true i p ps meta items one rest = rw (one, rest) refl
-keep_by false i p ps meta items one rest = refl
+keep_by b i p ps meta items one rest = grind arith
 
 -- the packets before the first that is late
 pub timely-packets : (h : PcapHeader) (file offset : ℕ) (ps : List Packet) (stop : Stop)
@@ -126,8 +105,4 @@ unfolding timely pcap_items kept
 timely-packets h file offset [] stops.End = refl
 timely-packets h file offset [] stops.Cut = refl
 timely-packets h file offset [] (stops.Refused refusal) = refl
-timely-packets h file offset (p ∷ ps) stop =
-    let items = timely (pcap_items file (interface_of h) (records.items_with (offset + packet_size p) ps stop)) in
-    let meta = meta_of file (interface_of h) (records.record_of offset p) in
-    ap (λ b. kept (if b then [] else packet meta p.frame ∷ items)) (is_late-header h p.units)
-    ∙ keep_by (fits h.unit p) (interface_of h) p (early h.unit ps) meta items refl (timely-packets h file (offset + packet_size p) ps stop)
+timely-packets h file offset (p ∷ ps) stop = search (timely-packets h file (offset + packet_size p) ps stop, timely, kept, is_late-header, keep_by)

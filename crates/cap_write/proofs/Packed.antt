@@ -1,5 +1,5 @@
 -- The packets of a pcap file, as they are numbered, read again and kept.
-use Rattle.std.proofs.Common.{◌≡◌, ℕ, ◌+◌, ◌&&◌, ◌||◌, not, cond, List, [], ◌∷◌, ◌++◌, length, true, false, Option, Some, None, refl, ap, ◌∙◌, if◌then◌else◌}
+use Rattle.std.proofs.Common.{arith, ◌≡◌, ℕ, ◌+◌, List, [], ◌∷◌, length, Option, Some, None, refl, ap}
 use Rattle.cap_bytes.specs.declared.faults.Refusal.{Refusal}
 use Rattle.cap_bytes.specs.declared.numbers.Order.{Order}
 use Rattle.cap_pcap.specs.Grammar.{Packet, packet_size}
@@ -10,11 +10,8 @@ use Rattle.cap_source.specs.Items.{pcap_items}
 use Rattle.cap_time.specs.declared.resolutions.Interface.{Interface}
 use Rattle.cap_write.specs.Laws.{Kept, kept, read_items, IsNumbered, all_described}
 use Rattle.cap_source.specs.Feed.{refusal_of}
-use Rattle.cap_write.specs.Numbering.{Origin, is_origin, Numbered, numbered, refusal_in, write_fault}
+use Rattle.cap_write.specs.Numbering.{Origin, Numbered, numbered, refusal_in, write_fault}
 use Rattle.cap_write.specs.Texts.{interface_part, packet_part, count_after}
-use Rattle.indexmap.specs.IndexSet.{insert_key}
-use Rattle.std.proofs.lemmas.Bool.{eq-eqb}
-use Rattle.std.specs.List.{position_or_len}
 
 -- the packets of a pcap file as they are numbered after its one interface, and as they are kept
 abbrev pub number_one : Interface → Packet → Numbered
@@ -39,13 +36,6 @@ stop_refusal stops.End = None
 stop_refusal stops.Cut = None
 stop_refusal (stops.Refused refusal) = Some refusal
 
--- the one interface keeps its number, 0
-number-same : (file : ℕ) → position_or_len (is_origin (file, 0)) (one_origin file) ≡ 0
-number-same file = ap (λ b. cond (not (b && true)) (1 + 0) 0) (eq-eqb file file refl)
-
-origins-same : (file : ℕ) → insert_key is_origin (one_origin file) (file, 0) ≡ one_origin file
-origins-same file = ap (λ b. if (b && true) || false then one_origin file else one_origin file ++ (file, 0) ∷ []) (eq-eqb file file refl)
-
 -- what is written of them is all
 pub numbered-packets : (file : ℕ) (i : Interface) (offset : ℕ) (ps : List Packet) (stop : Stop)
     → numbered (one_origin file) (pcap_items file i (records.items_with offset ps stop)) ≡ number_all i ps
@@ -53,11 +43,7 @@ unfolding numbered pcap_items write_fault
 numbered-packets file i offset [] stops.End = refl
 numbered-packets file i offset [] stops.Cut = refl
 numbered-packets file i offset [] (stops.Refused refusal) = refl
-numbered-packets file i offset (p ∷ ps) stop =
-    ap (λ k. record { number = k; interface = i; units = p.units; captured = length p.frame; original = p.original; frame = p.frame }
-    ∷ numbered (insert_key is_origin (one_origin file) (file, 0)) (pcap_items file i (records.items_with (offset + packet_size p) ps stop))) (number-same file)
-    ∙ (ap (λ origins. number_one i p ∷ numbered origins (pcap_items file i (records.items_with (offset + packet_size p) ps stop))) (origins-same file)
-    ∙ ap (λ l. number_one i p ∷ l) (numbered-packets file i (offset + packet_size p) ps stop))
+numbered-packets file i offset (p ∷ ps) stop = grind (arith, numbered-packets file i (offset + packet_size p) ps stop)
 
 -- and nothing is refused but what ended them
 pub refusal-packets : (file : ℕ) (i : Interface) (offset : ℕ) (ps : List Packet) (stop : Stop)
@@ -66,9 +52,7 @@ unfolding refusal_in pcap_items write_fault
 refusal-packets file i offset [] stops.End = refl
 refusal-packets file i offset [] stops.Cut = refl
 refusal-packets file i offset [] (stops.Refused refusal) = refl
-refusal-packets file i offset (p ∷ ps) stop =
-    ap (λ origins. refusal_in origins (pcap_items file i (records.items_with (offset + packet_size p) ps stop))) (origins-same file)
-    ∙ refusal-packets file i (offset + packet_size p) ps stop
+refusal-packets file i offset (p ∷ ps) stop = grind (arith, refusal-packets file i (offset + packet_size p) ps stop)
 
 pub refusal_of-packets : (file : ℕ) (i : Interface) (offset : ℕ) (ps : List Packet) (stop : Stop)
     → refusal_of (pcap_items file i (records.items_with offset ps stop)) ≡ stop_refusal stop

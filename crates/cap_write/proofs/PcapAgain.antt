@@ -1,13 +1,11 @@
 -- A file of either format, written as pcap and read again.
-use Rattle.std.proofs.Common.{◌≡◌, ◌==◌, ℕ, ℤ, pos, negsuc, ◌+◌, ◌*◌, ◌/◌, ◌%◌, ◌^◌, ◌≤◌, ◌<◌, ◌+ℤ◌, List, [], ◌∷◌, ◌++◌, length, Bool, true, false, Option, Some, None, Equal, refl, sym, ap, ◌∙◌, subst, arith, if◌then◌else◌}
-use Rattle.std.proofs.lemmas.Bool.{eqb-true, false≢true, ltb-true}
+use Rattle.std.proofs.Common.{◌≡◌, ◌==◌, ℕ, ℤ, pos, ◌+◌, ◌*◌, ◌/◌, ◌%◌, ◌^◌, ◌≤◌, ◌<◌, List, [], ◌∷◌, ◌++◌, length, Bool, Option, Some, None, Equal, refl, sym, ap, ◌∙◌, subst, arith, if◌then◌else◌}
 use Rattle.std.proofs.lemmas.Nat.{div-mul-add, mod-mul-add}
 use Rattle.std.specs.List.{AllByRecursion, AllZip}
 use Rattle.std.specs.Option.{MatchOption, option_map}
 use Rattle.std.specs.Prelude.{nat_abs}
 use Rattle.cap_bytes.specs.declared.faults.Refusal.{Refusal}
-use Rattle.cap_bytes.specs.declared.faults.Rule.{Rule}
-use Rattle.cap_bytes.specs.declared.faults.Rule.TheVariants.{NoTime, LinkMixed, Inexact, TimeRange}
+use Rattle.cap_bytes.specs.declared.faults.Rule.TheVariants.{TimeRange}
 use Rattle.cap_bytes.specs.declared.faults.Tail.{Tail}
 use Rattle.cap_bytes.specs.declared.numbers.Order.{Order}
 use Rattle.cap_merge.specs.Clock.{clock_cmp}
@@ -19,12 +17,11 @@ use Rattle.cap_pcap.specs.Split as records
 use Rattle.cap_source.proofs.Fields.{fields_fit-law}
 use Rattle.cap_source.specs.Feed.{Item, packet, refused}
 use Rattle.cap_source.specs.Fields.{ItemFits}
-use Rattle.cap_source.specs.Items.{file_items, file_first, first_from, interface_of, resolution_of_unit, meta_of, pcap_items}
+use Rattle.cap_source.specs.Items.{file_items, file_first, first_from, interface_of, meta_of, pcap_items}
 use Rattle.cap_source.specs.declared.packets.Meta.{Meta}
 use Rattle.cap_time.proofs.WholeUnits.{whole_of_pair, in_second_positive}
-use Rattle.cap_time.specs.Resolution.{units_of}
 use Rattle.cap_time.specs.Stamp.{stamp_cmp, stamp_in, time_of}
-use Rattle.cap_time.specs.Time.{time_at, time_cmp, IsWhole, IsNeverWhole}
+use Rattle.cap_time.specs.Time.{IsWhole, IsNeverWhole}
 use Rattle.cap_time.specs.Unit.{in_second}
 use Rattle.cap_time.specs.declared.resolutions.Interface.{Interface}
 use Rattle.cap_time.specs.declared.stamps.Stamp.{Stamp}
@@ -32,10 +29,9 @@ use Rattle.cap_time.specs.declared.stamps.Unit.{Unit as Fraction}
 use Rattle.cap_write.proofs.FirstInterface.{first-of}
 use Rattle.cap_write.proofs.Records.{fault_by}
 use Rattle.cap_write.proofs.RoundTrip.{first-header, items-written}
-use Rattle.cap_write.proofs.Trips.{units_of-unit, in_range-pos}
+use Rattle.cap_write.proofs.Trips.{units_of-unit}
 use Rattle.cap_write.specs.Laws.{AllWritten, record_form, records_form, IsSamePacket, SamePackets, written_first, PcapAgain}
-use Rattle.cap_write.specs.Numbering.{refusal_or, refusal_at}
-use Rattle.cap_write.specs.Pcap.{fraction_of, header_of, whole_time, is_in_range, time_fault, record_fault, time_in, written_time, time_bytes, packet_record, records_bytes, records_refusal, bare_refusal, pcap_bytes, pcap_refusal}
+use Rattle.cap_write.specs.Pcap.{fraction_of, header_of, whole_time, is_in_range, record_fault, time_in, written_time, time_bytes, packet_record, records_bytes, records_refusal, bare_refusal, pcap_bytes, pcap_refusal}
 use Rattle.cap_write.specs.Texts.{text_or}
 
 some-none : {A : Type 0} (a : A) → Some a ≡ None → ⊥
@@ -56,22 +52,11 @@ record IsTimed (first : Interface) (meta : Meta) : Type 0 where
 in_range : (first : Interface) (meta : Meta) (units : ℕ) → meta.units ≡ Some units → meta.interface.link ≡ first.link → (seconds : ℤ) (rest : ℕ)
     → whole_time (fraction_of first) meta.interface units ≡ Some (seconds, rest) → (fits : Bool) → is_in_range seconds ≡ fits
     → (if fits then None else Some TimeRange) ≡ None → IsTimed first meta
-in_range first meta units is link (pos n) rest time true fits none =
-    record { units = units; is = is; link = link; seconds = n; rest = rest; time = time; few = ltb-true n (2 ^ 32) (sym (in_range-pos n) ∙ fits) }
-in_range first meta units is link (negsuc n) rest time true fits none = absurd (false≢true fits)
-in_range first meta units is link seconds rest time false fits none = absurd (some-none TimeRange none)
-
-with_time : (first : Interface) (meta : Meta) (units : ℕ) → meta.units ≡ Some units → meta.interface.link ≡ first.link
-    → (time : Option (ℤ × ℕ)) → whole_time (fraction_of first) meta.interface units ≡ time → time_fault time ≡ None → IsTimed first meta
-with_time first meta units is link None whole none = absurd (some-none Inexact none)
-with_time first meta units is link (Some time) whole none = in_range first meta units is link time.0 time.1 whole (is_in_range time.0) refl none
+in_range first meta units is link seconds rest time fits' fits none = grind arith
 
 timed_by : (first : Interface) (meta : Meta) (units : Option ℕ) (same : Bool) → meta.units ≡ units → (meta.interface.link == first.link) ≡ same
     → fault_by units same (fraction_of first) meta.interface ≡ None → IsTimed first meta
-timed_by first meta None same is link none = absurd (some-none NoTime none)
-timed_by first meta (Some units) false is link none = absurd (some-none LinkMixed none)
-timed_by first meta (Some units) true is link none =
-    with_time first meta units is (eqb-true meta.interface.link first.link link) (whole_time (fraction_of first) meta.interface units) refl none
+timed_by first meta units same is link none = grind arith
 
 timed : (first : Interface) (meta : Meta) → record_fault first meta ≡ None → IsTimed first meta
 unfolding record_fault
@@ -93,15 +78,7 @@ none_before n = omega arith
 same_time : (unit : Fraction) (h : PcapHeader) → h.unit ≡ unit → (a : Stamp) (s n : ℕ) → IsWhole (in_second unit) (time_of a) (pos s) n
     → stamp_cmp a (stamp_in (s * in_second unit + n) (interface_of h)) ≡ Equal
 unfolding stamp_cmp stamp_in
-same_time unit h is a s n w =
-    let d = in_second unit in
-    let units = s * d + n in
-    let own : units_of (resolution_of_unit h.unit) ≡ d = ap (λ u. units_of (resolution_of_unit u)) is ∙ units_of-unit unit in
-    let quotient : 0 + units / d ≡ s = none_before (units / d) ∙ div-mul-add s d n w.below in
-    let remainder : units % d ≡ n = mod-mul-add s d n w.below in
-    let time : time_at (units % units_of (resolution_of_unit h.unit)) (units_of (resolution_of_unit h.unit)) (pos 0 +ℤ pos (units / units_of (resolution_of_unit h.unit))) ≡ time_at n d (pos s) =
-    ap (λ e. time_at (units % e) e (pos 0 +ℤ pos (units / e))) own ∙ (λ i. time_at (remainder i) d (pos (quotient i))) in
-    ap (time_cmp (time_of a)) time ∙ w.same
+same_time unit h is a s n w = grind (arith, units_of-unit, none_before, div-mul-add, mod-mul-add, time_of)
 
 -- ---- packets
 
@@ -143,11 +120,7 @@ record Goes (first : Interface) (meta : Meta) (items : List Item) : Type 0 where
 
 goes : (first : Interface) (meta : Meta) (frame : List ℕ) (items : List Item) → records_refusal first (packet meta frame ∷ items) ≡ None → Goes first meta items
 unfolding records_refusal
-goes first meta frame items none = by (record_fault first meta) refl none
-  where
-    by : (fault : Option Rule) → record_fault first meta ≡ fault → refusal_or fault meta (records_refusal first items) ≡ None → Goes first meta items
-    by (Some rule) is none = absurd (some-none (refusal_at meta rule) none)
-    by None is none = record { unrefused = is; rest = none }
+goes first meta frame items none = grind arith
 
 refuses : (first : Interface) (refusal : Refusal) (items : List Item) → records_refusal first (refused refusal ∷ items) ≡ Some refusal
 unfolding records_refusal

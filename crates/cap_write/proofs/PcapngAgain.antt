@@ -1,6 +1,5 @@
 -- A file of either format, written as pcapng and read again.
-use Rattle.std.proofs.Common.{◌≡◌, ◌==◌, ℕ, ◌+◌, ◌≤◌, ◌^◌, List, [], ◌∷◌, ◌++◌, length, Bool, true, false, Option, Some, None, refl, sym, ap, ◌∙◌, subst, arith, append-nil, if◌then◌else◌}
-use Rattle.std.proofs.lemmas.Bool.{eqb-true}
+use Rattle.std.proofs.Common.{◌≡◌, ◌==◌, ℕ, ◌+◌, ◌≤◌, ◌^◌, List, [], ◌∷◌, ◌++◌, length, Option, Some, None, refl, sym, ap, ◌∙◌, subst, arith, append-nil, if◌then◌else◌}
 use Rattle.std.specs.List.{AllByRecursion}
 use Rattle.cap_blocks.specs.Split.{AreBytes}
 use Rattle.cap_blocks.specs.Grammar.{section_bytes, interface_bytes}
@@ -18,7 +17,7 @@ use Rattle.cap_write.proofs.Files.{pcapng-again, first-behind_section}
 use Rattle.cap_write.proofs.FirstInterface.{IsFirst, first-of, first-none}
 use Rattle.cap_write.proofs.Instances.{one_interface-law}
 use Rattle.cap_write.proofs.Measured.{numbered-measured}
-use Rattle.cap_write.proofs.MergedAgain.{fits-numbered, IsNumbered-given, AllFit-given, all_described-given}
+use Rattle.cap_write.proofs.MergedAgain.{IsNumbered-given, AllFit-given, all_described-given}
 use Rattle.cap_write.proofs.Renumbered.{numbered-again, refusal-again, refusal_of-again, InOrder-numbered, merged_again-law}
 use Rattle.cap_write.specs.Laws.{AllAlike, AllHave, PcapngAgain}
 use Rattle.cap_write.specs.Numbering.{Origin, numbered, refusal_in}
@@ -31,8 +30,7 @@ of_instance given origin = given origin.1
 have_all : (file : ℕ) (given : ℕ → Interface) (items : List Item) → AllAlike file given items → AllByRecursion ItemFits items → AllHave (of_instance given) items
 have_all file given [] alike fit = tt
 have_all file given (refused refusal ∷ items) alike fit = tt
-have_all file given (packet meta frame ∷ items) alike fit =
-    (record { interface = alike.1; fits = fits-numbered meta frame fit.0 }, have_all file given items alike.2 fit.1)
+have_all file given (packet meta frame ∷ items) alike fit = grind (arith, have_all file given items alike.2 fit.1)
 
 -- the same, the first of them known
 abbrev with_first : Interface → (ℕ → Interface) → Origin → Interface
@@ -42,12 +40,7 @@ have_first : (file : ℕ) (i : Interface) (given : ℕ → Interface) (items : L
     → AllByRecursion ItemFits items → AllHave (with_first i given) items
 have_first file i given [] alike first fit = tt
 have_first file i given (refused refusal ∷ items) alike first fit = tt
-have_first file i given (packet meta frame ∷ items) alike first fit =
-    (record { interface = by (meta.instance == 0) refl; fits = fits-numbered meta frame fit.0 }, have_first file i given items alike.2 first.1 fit.1)
-  where
-    by : (zero : Bool) → (meta.instance == 0) ≡ zero → meta.interface ≡ (if zero then i else given meta.instance)
-    by true is = first.0 (eqb-true meta.instance 0 is)
-    by false is = alike.1
+have_first file i given (packet meta frame ∷ items) alike first fit = grind (arith, have_first file i given items alike.2 first.1 fit.1)
 
 -- What is read again of some packets that were numbered after some origins.
 record IsReadAgain (origins others : List Origin) (items again : List Item) : Type 0 where
@@ -74,15 +67,12 @@ without_first order tail tail_again file file_again bytes are limit =
 -- after a section header alone there is no interface
 first-section : (order : Order) (tail : Tail) (file : ℕ) → file_first tail file (section_bytes order ++ []) ≡ None
 unfolding first_in
-first-section order tail file =
-    first-behind_section order tail file [] ∙ ap (first_in (reached [] None)) (items_from-none (Some order) tail file 28 refl)
+first-section order tail file = search (first-behind_section, reached, items_from-none)
 
 no_first : (order : Order) (tail tail_again : Tail) (file file_again : ℕ) (bytes : List ℕ) → file_first tail file bytes ≡ None
     → file_first tail_again file_again (pcapng_bytes order file None (file_items tail file bytes)) ≡ None
 unfolding packets_bytes
-no_first order tail tail_again file file_again bytes none =
-    ap (λ ns. file_first tail_again file_again ((section_bytes order ++ []) ++ packets_bytes order 0 ns)) (first-none tail file bytes none)
-    ∙ (ap (file_first tail_again file_again) (append-nil (section_bytes order ++ [])) ∙ first-section order tail_again file_again)
+no_first order tail tail_again file file_again bytes none = grind (arith, first-none, append-nil, first-section)
 
 -- ---- one with an interface
 

@@ -1,5 +1,5 @@
 -- The place of the first element that passes a test, and whether one does.
-use Rattle.std.proofs.Common.{◌≡◌, ◌+◌, ◌<◌, List, [], ◌∷◌, length, Bool, true, false, not, cond, ◌||◌, refl, sym, ap, ◌∙◌, arith}
+use Rattle.std.proofs.Common.{◌≡◌, ◌<◌, List, [], ◌∷◌, length, Bool, true, false, refl, arith}
 use Rattle.std.proofs.lemmas.Bool.{false≢true}
 use Rattle.std.specs.List.{list_any, position_or_len}
 
@@ -7,19 +7,9 @@ module _ {X : Type 0} (p : X → Bool) where
   -- where none passes it is the length
   pub position_or_len-none : (xs : List X) → list_any p xs ≡ false → position_or_len p xs ≡ length xs
   position_or_len-none [] h = refl
-  position_or_len-none (x ∷ xs) h = by (p x) refl h (λ g. position_or_len-none xs g)
-    where
-      by : (b : Bool) → p x ≡ b → b || list_any p xs ≡ false → (list_any p xs ≡ false → position_or_len p xs ≡ length xs)
-          → position_or_len p (x ∷ xs) ≡ length (x ∷ xs)
-      by true e g rest = absurd (false≢true (sym g))
-      by false e g rest = ap (λ b. cond (not b) (1 + position_or_len p xs) 0) e ∙ omega (arith, rest g)
+  position_or_len-none (x ∷ xs) h = grind (arith, position_or_len-none xs)
 
   -- where one passes it is below the length
   pub position_or_len-some : (xs : List X) → list_any p xs ≡ true → position_or_len p xs < length xs
   position_or_len-some [] h = absurd (false≢true h)
-  position_or_len-some (x ∷ xs) h = by (p x) refl h (λ g. position_or_len-some xs g)
-    where
-      by : (b : Bool) → p x ≡ b → b || list_any p xs ≡ true → (list_any p xs ≡ true → position_or_len p xs < length xs)
-          → position_or_len p (x ∷ xs) < length (x ∷ xs)
-      by true e g rest = omega (arith, ap (λ b. cond (not b) (1 + position_or_len p xs) 0) e)
-      by false e g rest = omega (arith, ap (λ b. cond (not b) (1 + position_or_len p xs) 0) e, rest g)
+  position_or_len-some (x ∷ xs) h = grind (arith, position_or_len-some xs)

@@ -1,9 +1,8 @@
 -- The packets of a feed, written one by one in the form of pcap.
-use Rattle.std.proofs.Common.{◌≡◌, ℕ, ◌==◌, not, List, Bool, true, false, Option, Some, None, is_none, Result, Ok, Err, refl, ap, ◌∙◌, if◌then◌else◌}
-use Rattle.std.proofs.lemmas.Bool.{eq-eqb, ne_eqb}
+use Rattle.std.proofs.Common.{arith, ◌≡◌, ℕ, not, List, Bool, true, Option, Some, None, is_none, Result, Err, if◌then◌else◌}
 use Rattle.cap_bytes.specs.Device.{Writer}
 use Rattle.cap_bytes.specs.declared.faults.Fault.{Fault}
-use Rattle.cap_bytes.specs.declared.faults.Fault.TheVariants.{Refused, Read, Write, Memory}
+use Rattle.cap_bytes.specs.declared.faults.Fault.TheVariants.{Refused}
 use Rattle.cap_bytes.specs.declared.faults.Rule.{Rule}
 use Rattle.cap_bytes.specs.declared.faults.Rule.TheVariants.{NoTime, LinkMixed}
 use Rattle.cap_bytes.specs.declared.numbers.Order.{Order}
@@ -15,7 +14,7 @@ use Rattle.cap_time.specs.declared.resolutions.Interface.{Interface}
 use Rattle.cap_time.specs.declared.stamps.Unit.{Unit as Fraction}
 use Rattle.cap_write.specs.Interfaces.{HasUnits}
 use Rattle.cap_write.specs.Numbering.{refusal_at}
-use Rattle.cap_write.specs.Pcap.{fraction_of, whole_time, time_fault, units_fault, record_fault, time_in, packet_record, records_bytes, records_refusal}
+use Rattle.cap_write.specs.Pcap.{fraction_of, whole_time, time_fault, units_fault, record_fault, packet_record, records_bytes, records_refusal}
 use Rattle.cap_write.specs.Texts.{text_or}
 use Rattle.cap_write.specs.Times.{HasTime, HasRecord}
 use Rattle.cap_write.specs.declared.pcap.Time.{Time}
@@ -24,58 +23,26 @@ abbrev pub fault_by : Option ℕ → Bool → Fraction → Interface → Option 
 fault_by units same fraction interface =
     if is_none units then Some NoTime else if not same then Some LinkMixed else units_fault fraction interface units
 
-fault_by-untimed : (units : Option ℕ) (same : Bool) (fraction : Fraction) (interface : Interface) → units ≡ None
-    → fault_by units same fraction interface ≡ Some NoTime
-fault_by-untimed units same fraction interface is = ap (λ u. fault_by u same fraction interface) is
-
-fault_by-mixed : (units : Option ℕ) (n : ℕ) (same : Bool) (fraction : Fraction) (interface : Interface) → units ≡ Some n → same ≡ false
-    → fault_by units same fraction interface ≡ Some LinkMixed
-fault_by-mixed units n same fraction interface is other =
-    ap (λ u. fault_by u same fraction interface) is ∙ ap (λ s. fault_by (Some n) s fraction interface) other
-
 pub fault_by-timed : (units : Option ℕ) (n : ℕ) (same : Bool) (fraction : Fraction) (interface : Interface) → units ≡ Some n → same ≡ true
     → fault_by units same fraction interface ≡ time_fault (whole_time fraction interface n)
-fault_by-timed units n same fraction interface is one =
-    ap (λ u. fault_by u same fraction interface) is ∙ ap (λ s. fault_by (Some n) s fraction interface) one
+fault_by-timed units n same fraction interface is one = cc
 
 -- a packet without a time
 pub HasRecord-untimed : (first : Interface) (meta : Meta) (fault : Fault) → HasUnits meta (Err fault) → HasRecord first meta (Err fault)
 unfolding record_fault
-HasRecord-untimed first meta (Refused refusal) h =
-    (NoTime, fault_by-untimed meta.units (meta.interface.link == first.link) (fraction_of first) meta.interface h.0, h.1)
-HasRecord-untimed first meta (Read file offset) h = absurd h
-HasRecord-untimed first meta Write h = absurd h
-HasRecord-untimed first meta Memory h = absurd h
+HasRecord-untimed first meta fault h = grind arith
 
 -- a packet of another link
 pub HasRecord-mixed : (first : Interface) (meta : Meta) (units : ℕ) (fault : Fault) → meta.units ≡ Some units → (meta.interface.link ≡ first.link → ⊥)
     → fault ≡ Refused (refusal_at meta LinkMixed) → HasRecord first meta (Err fault)
 unfolding record_fault
-HasRecord-mixed first meta units fault is other told =
-    rw told
-    ((
-      LinkMixed,
-      fault_by-mixed meta.units units (meta.interface.link == first.link) (fraction_of first) meta.interface is
-          (ne_eqb meta.interface.link first.link other),
-      refl,
-    ))
+HasRecord-mixed first meta units fault is other told = grind arith
 
 -- a packet whose time is written, or isn't
 pub HasRecord-timed : (first : Interface) (meta : Meta) (units : ℕ) (result : Result Time Fault) → meta.units ≡ Some units → meta.interface.link ≡ first.link
     → HasTime (fraction_of first) meta units result → HasRecord first meta result
 unfolding record_fault
-HasRecord-timed first meta units (Ok time) is one h = (
-  fault_by-timed meta.units units (meta.interface.link == first.link) (fraction_of first) meta.interface is (eq-eqb meta.interface.link first.link one) ∙ h.1,
-  ap (time_in (fraction_of first) meta.interface) is ∙ h.0,
-)
-HasRecord-timed first meta units (Err (Refused refusal)) is one h = (
-  h.0,
-  fault_by-timed meta.units units (meta.interface.link == first.link) (fraction_of first) meta.interface is (eq-eqb meta.interface.link first.link one) ∙ h.1,
-  h.2,
-)
-HasRecord-timed first meta units (Err (Read file offset)) is one h = absurd h
-HasRecord-timed first meta units (Err Write) is one h = absurd h
-HasRecord-timed first meta units (Err Memory) is one h = absurd h
+HasRecord-timed first meta units result is one h = grind arith
 
 -- what is to be written after that header
 abbrev pub plan_of : Order → Interface → Plan
@@ -83,20 +50,17 @@ plan_of order first = record { text = records_bytes order first; refusal = recor
 
 pub plan_of-is : (order : Order) (first : Interface) → IsPlan (plan_of order first)
 unfolding records_bytes records_refusal
-plan_of-is order first =
-    record { text_none = refl; text_refused = λ r. refl; refusal_none = refl; refusal_refused = λ r. refl }
+plan_of-is order first = grind arith
 
 pub plan_of-next : (order : Order) (first : Interface) (meta : Meta) (frame : List ℕ) → record_fault first meta ≡ None
     → GoesOn (plan_of order first) meta frame (text_or (record_fault first meta) (packet_record order first meta frame)) (plan_of order first)
 unfolding records_bytes records_refusal
-plan_of-next order first meta frame none =
-    record { text = λ items. rw none refl; refusal = λ items. rw none refl }
+plan_of-next order first meta frame none = grind arith
 
 pub plan_of-refused : (order : Order) (first : Interface) (meta : Meta) (frame : List ℕ) (rule : Rule) → record_fault first meta ≡ Some rule
     → GivesUp (plan_of order first) meta frame (refusal_at meta rule)
 unfolding records_bytes records_refusal
-plan_of-refused order first meta frame rule is =
-    record { text = λ items. rw is refl; refusal = λ items. rw is refl }
+plan_of-refused order first meta frame rule is = grind arith
 
 -- The packets so far of a feed that was `old` are written by a writer that was `from`.
 pub record Recording (order : Order) (first : Interface) (old new : Feed) (failed_old failed_new : Bool) (from to : Writer) : Type 0 where

@@ -1,6 +1,6 @@
 -- The packets of a written file, numbered again.
-use Rattle.std.proofs.Common.{◌≡◌, ◌==◌, ◌&&◌, ℕ, zero, suc, ◌+◌, ◌≤◌, ◌<◌, map, min, nat_le, nat_lt, not, cond, List, [], ◌∷◌, ◌++◌, length, Bool, true, false, Option, Some, None, refl, sym, ap, ◌∙◌, subst, arith, length-append, if◌then◌else◌}
-use Rattle.std.proofs.lemmas.Bool.{eq-eqb, eqb-true, eqb-false, ne_eqb, false≢true, lt-ltb, ltb-true, ltb-false}
+use Rattle.std.proofs.Common.{rules, ◌≡◌, ◌==◌, ◌&&◌, ℕ, zero, suc, ◌+◌, ◌≤◌, ◌<◌, map, min, nat_le, nat_lt, not, List, [], ◌∷◌, ◌++◌, length, Bool, true, false, Option, Some, None, refl, sym, ap, ◌∙◌, arith, length-append, if◌then◌else◌}
+use Rattle.std.proofs.lemmas.Bool.{eq-eqb, ne_eqb, false≢true, lt-ltb, ltb-true, ltb-false}
 use Rattle.std.proofs.lemmas.Bool.Decides.{nat_tests}
 use Rattle.std.proofs.lemmas.List.Folds.{position_or_len_push}
 use Rattle.std.specs.List.{list_any, position_or_len}
@@ -17,7 +17,7 @@ use Rattle.cap_write.proofs.MergedAgain.{number-used, room_left, IsNumbered-give
 use Rattle.cap_write.proofs.Places.{position_or_len-none, position_or_len-some}
 use Rattle.cap_write.specs.Laws.{read_items, meta_again, instances, numbers, measured, MergedAgain}
 use Rattle.cap_source.specs.Feed.{refusal_of}
-use Rattle.cap_write.specs.Numbering.{Origin, origin_of, is_origin, is_used, number_of, with_origin, write_fault, Numbered, numbered_of, numbered_or, numbered, refusal_or, refusal_in}
+use Rattle.cap_write.specs.Numbering.{Origin, is_origin, number_of, with_origin, write_fault, Numbered, numbered_of, numbered_or, numbered, refusal_or, refusal_in}
 use Rattle.cap_write.specs.Texts.{interface_part, packet_part, count_after, merged_bytes}
 
 -- the origins of that many interfaces of one file
@@ -34,26 +34,16 @@ own_file file k m = ap (λ b. b && (k == m)) (eq-eqb file file refl)
 
 least_by : (k m : ℕ) (here same : Bool) → (min k m == m) ≡ here → (k == m) ≡ same
     → (if here then m + (if same then 0 else 1) else min k m) ≡ min k (suc m)
-least_by k m true true is e = omega (arith, eqb-true (min k m) m is, eqb-true k m e)
-least_by k m true false is e = omega (arith, eqb-true (min k m) m is, eqb-false k m e)
-least_by k m false same is e = omega (arith, eqb-false (min k m) m is)
+least_by k m here same is e = grind arith
 
 -- where one of them stands
 place_of : (file k count : ℕ) → position_or_len (is_origin (file, k)) (file_origins file count) ≡ min k count
 place_of file k zero = omega arith
-place_of file k (suc m) =
-    let p = is_origin (file, k) in
-    let origins = file_origins file m in
-    position_or_len_push p origins (file, m)
-    ∙ (ap (λ l. cond (position_or_len p origins == l) (l + cond (p (file, m)) 0 1) (position_or_len p origins)) (length-file_origins file m)
-    ∙ (ap (λ x. cond (x == m) (m + cond (p (file, m)) 0 1) x) (place_of file k m)
-    ∙ (ap (λ b. cond (min k m == m) (m + cond b 0 1) (min k m)) (own_file file k m)
-    ∙ least_by k m (min k m == m) (k == m) refl refl)))
+place_of file k (suc m) = grind (arith, place_of file k m, position_or_len_push, length-file_origins, min, own_file, least_by)
 
 -- whether it stands there
 used_of : (file k count : ℕ) (used : Bool) → list_any (is_origin (file, k)) (file_origins file count) ≡ used → nat_lt k count ≡ used
-used_of file k count true is =
-    lt-ltb k count (omega (arith, position_or_len-some (is_origin (file, k)) (file_origins file count) is, place_of file k count, length-file_origins file count))
+used_of file k count true is = search (rules, lt-ltb, position_or_len-some, place_of, length-file_origins)
 used_of file k count false is =
     not_below k count (omega (arith, position_or_len-none (is_origin (file, k)) (file_origins file count) is, place_of file k count, length-file_origins file count))
   where
@@ -84,25 +74,16 @@ origins_behind file count n few = by (list_any (is_origin (file, n.number)) (fil
         ∙ (ap (file_origins file) (one_more count) ∙ ap (λ b. file_origins file (if b then count + 1 else count)) (sym (eq-eqb n.number count same)))
 
 never : (b : Bool) → (if b && false then Some InterfaceLimit else None) ≡ None
-never true = refl
-never false = refl
+never b = grind arith
 
 few_left : (n : ℕ) → n < 1024 → nat_le 1024 n ≡ false
 few_left n h = grind (arith, nat_tests)
 
 number-most : (origins : List Origin) (meta : Meta) → number_of origins meta ≤ length origins
-number-most origins meta = by (is_used origins meta) refl
-  where
-    by : (used : Bool) → is_used origins meta ≡ used → number_of origins meta ≤ length origins
-    by true used = omega (arith, position_or_len-some (is_origin (origin_of meta)) origins used)
-    by false used = omega (arith, position_or_len-none (is_origin (origin_of meta)) origins used)
+number-most origins meta = grind (arith, position_or_len-some, position_or_len-none)
 
 next_room : (origins : List Origin) (meta : Meta) → write_fault origins meta ≡ None → (number_of origins meta == length origins) ≡ true → length origins < 1024
-next_room origins meta none next = by (is_used origins meta) refl
-  where
-    by : (used : Bool) → is_used origins meta ≡ used → length origins < 1024
-    by true used = absurd (false≢true (sym (number-used origins meta used) ∙ next))
-    by false used = room_left origins meta none used
+next_room origins meta none next = grind (arith, false≢true, number-used, room_left)
 
 -- which isn't refused
 unrefused : (file place count : ℕ) (n : Numbered) → n.number ≤ count → ((n.number == count) ≡ true → count < 1024)
@@ -153,16 +134,13 @@ refusal-again order file offset count (n ∷ rest) in_order =
 pub refusal_of-again : (order : Order) (file offset count : ℕ) (ns : List Numbered) → refusal_of (read_items order file offset count ns) ≡ None
 unfolding refusal_of read_items
 refusal_of-again order file offset count [] = refl
-refusal_of-again order file offset count (n ∷ rest) =
-    refusal_of-again order file (offset + length (interface_part order count n) + length (packet_part order n)) (count_after count n) rest
+refusal_of-again order file offset count (n ∷ rest) = cc (refusal_of-again order file (offset + length (interface_part order count n) + length (packet_part order n)) (count_after count n) rest)
 
 -- and their instances are those numbers
 pub instances-again : (order : Order) (file offset count : ℕ) (ns : List Numbered) → instances (read_items order file offset count ns) ≡ numbers ns
 unfolding instances read_items
 instances-again order file offset count [] = refl
-instances-again order file offset count (n ∷ rest) =
-    ap (λ l. n.number ∷ l)
-    (instances-again order file (offset + length (interface_part order count n) + length (packet_part order n)) (count_after count n) rest)
+instances-again order file offset count (n ∷ rest) = cc (instances-again order file (offset + length (interface_part order count n) + length (packet_part order n)) (count_after count n) rest)
 
 numbers-measured : (ns : List Numbered) → numbers (map measured ns) ≡ numbers ns
 numbers-measured [] = refl
@@ -178,11 +156,7 @@ InOrder-numbered origins (packet meta frame ∷ items) = by (write_fault origins
     by : (fault : Option Rule) → write_fault origins meta ≡ fault → InOrder (length (with_origin origins meta)) (numbered (with_origin origins meta) items)
         → InOrder (length origins) (numbered_or fault (numbered_of origins meta frame) (numbered (with_origin origins meta) items))
     by (Some rule) is later = tt
-    by None is later = (
-      number-most origins meta,
-      next_room origins meta is,
-      subst (λ k. InOrder k (numbered (with_origin origins meta) items)) (sym (count_after-is origins meta frame)) later,
-    )
+    by None is later = search (number-most, next_room, count_after-is)
 
 -- What is written of a list is read again as what was numbered of it.
 pub merged_again-law : MergedAgain

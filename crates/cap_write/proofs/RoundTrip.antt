@@ -1,10 +1,9 @@
 -- Every accepted pcap file comes back from its pcapng text.
-use Rattle.std.proofs.Common.{◌≡◌, ◌==◌, ◌&&◌, ℕ, ◌+◌, ◌^◌, ◌≤◌, ◌<◌, nat_le, List, [], ◌∷◌, ◌++◌, length, drop, Bool, true, false, Option, Some, None, is_some, refl, sym, ap, ◌∙◌, subst, arith, length-append, if◌then◌else◌}
+use Rattle.std.proofs.Common.{◌≡◌, ◌==◌, ◌&&◌, ℕ, ◌+◌, ◌^◌, ◌≤◌, ◌<◌, nat_le, List, [], ◌∷◌, ◌++◌, length, drop, Bool, false, Option, Some, None, refl, sym, ap, ◌∙◌, subst, arith, length-append, if◌then◌else◌}
 use Rattle.std.specs.Prelude.{FitsSigned, pos}
 use Rattle.std.specs.Int.{w64}
-use Rattle.std.proofs.lemmas.Bool.{false≢true, ne_eqb}
 use Rattle.cap_blocks.proofs.Parts.{length-packet_body}
-use Rattle.cap_blocks.specs.Grammar.{section_kind, enhanced_kind, packet_body, block_bytes, section_bytes, interface_bytes}
+use Rattle.cap_blocks.specs.Grammar.{section_kind, block_bytes, section_bytes, interface_bytes}
 use Rattle.cap_blocks.specs.Split.{AreBytes}
 use Rattle.cap_bytes.proofs.Spelling.{number-append, length-bytes_of}
 use Rattle.cap_bytes.specs.Number.{number}
@@ -26,7 +25,6 @@ use Rattle.cap_source.specs.Feed.{Item}
 use Rattle.cap_source.specs.Items.{is_pcapng, pcap_items, interface_of, unless_refused, items_from, first_from, file_items, file_first}
 use Rattle.cap_time.specs.declared.resolutions.Interface.{Interface}
 use Rattle.cap_time.specs.declared.stamps.Unit.{Unit as Fraction}
-use Rattle.cap_time.specs.declared.stamps.Unit.TheVariants.{Micro, Nano}
 use Rattle.cap_write.proofs.Files.{length-section_bytes, pcapng-again}
 use Rattle.cap_write.proofs.Held.{AllFit-held, held-written, early-written, records-again}
 use Rattle.cap_write.proofs.Out.{fits, early, records_bytes-read, records_refusal-read, timely-packets}
@@ -36,37 +34,28 @@ use Rattle.cap_write.specs.Laws.{kept, timely, late_in, read_items, record_form,
 use Rattle.cap_write.specs.Numbering.{Numbered}
 use Rattle.cap_write.specs.Pcap.{header_of, pcap_bytes, pcap_refusal, records_bytes, records_refusal}
 use Rattle.cap_source.specs.Feed.{refusal_of}
-use Rattle.cap_write.specs.Texts.{interface_part, packet_part, count_after, packets_bytes, front_bytes, pcapng_bytes, pcapng_refusal}
+use Rattle.cap_write.specs.Texts.{packet_part, count_after, packets_bytes, front_bytes, pcapng_bytes, pcapng_refusal}
 
 -- a written pcap header is no section header
 other_magic : (unit : Fraction) (n : ℕ) → n ≡ magic_of unit → (n == section_kind) ≡ false
-other_magic Micro n is = ne_eqb n section_kind (λ e. absurd (omega (arith, is, e)))
-other_magic Nano n is = ne_eqb n section_kind (λ e. absurd (omega (arith, is, e)))
+other_magic unit n is = grind arith
 
 other_flipped : (unit : Fraction) (n : ℕ) → n ≡ flipped unit → (n == section_kind) ≡ false
-other_flipped Micro n is = ne_eqb n section_kind (λ e. absurd (omega (arith, is, e)))
-other_flipped Nano n is = ne_eqb n section_kind (λ e. absurd (omega (arith, is, e)))
+other_flipped unit n is = grind arith
 
 no_section : (header : PcapHeader) (order : Order) → header.order ≡ order → header.snaplen < 2 ^ 32 → header.link < 2 ^ 16
     → (number Big 4 (header_bytes header) == section_kind) ≡ false
 no_section header Big is snaplen link =
     let s = (header_again-law header snaplen link).0 in
     other_magic header.unit (number Big 4 (header_bytes header)) (subst (λ o. number o 4 (header_bytes header) ≡ magic_of header.unit) is s.magic)
-no_section header Little is snaplen link =
-    other_flipped header.unit (number Big 4 (header_bytes header)) (flips_bytes header is)
+no_section header Little is snaplen link = search (other_flipped, flips_bytes)
 
 and_false : (b : Bool) → (b && false) ≡ false
-and_false true = refl
-and_false false = refl
+and_false b = grind arith
 
 pub is_pcapng-header : (header : PcapHeader) (rest : List ℕ) → header.snaplen < 2 ^ 32 → header.link < 2 ^ 16
     → is_pcapng (header_bytes header ++ rest) ≡ false
-is_pcapng-header header rest snaplen link =
-    let s = (header_again-law header snaplen link).0 in
-    let size = s.size in
-    ap (λ n. nat_le 4 (length (header_bytes header ++ rest)) && (n == section_kind)) (number-append Big 4 (header_bytes header) rest (omega (arith, size)))
-    ∙ (ap (λ b. nat_le 4 (length (header_bytes header ++ rest)) && b) (no_section header header.order refl snaplen link)
-    ∙ and_false (nat_le 4 (length (header_bytes header ++ rest))))
+is_pcapng-header header rest snaplen link = grind (arith, header_again-law, nat_le, number-append, no_section, and_false)
 
 -- what an accepted pcap file holds
 pub record Accepted (tail : Tail) (file : ℕ) (bytes : List ℕ) (header : PcapHeader) : Type 0 where
@@ -92,27 +81,19 @@ first_only tail file bytes is = rw is refl
 -- what begins with a written header has its interface
 pub first-header : (tail : Tail) (file : ℕ) (header : PcapHeader) (rest : List ℕ) → header.snaplen < 2 ^ 32 → header.link < 2 ^ 16
     → file_first tail file (header_bytes header ++ rest) ≡ Some (interface_of header)
-first-header tail file header rest snaplen link =
-    let bytes = header_bytes header ++ rest in
-    let read = header_at-text header rest snaplen link in
-    first_only tail file bytes (is_pcapng-header header rest snaplen link)
-    ∙ (ap (λ f. unless_refused f (interface_of (records.header_at bytes))) read.0
-    ∙ ap (λ x. Some (interface_of x)) read.1)
+first-header tail file header rest snaplen link = grind (arith, header_at-text, first_only, is_pcapng-header)
 
 refused_header : (tail : Tail) (file : ℕ) (bytes : List ℕ) (i : Interface) (rule : Rule) → records.header_fault 0 bytes ≡ Some rule
     → refusal_of (pcap_items file i (records.file_items tail file 0 bytes)) ≡ None → ⊥
 unfolding records.file_items pcap_items refusal_of
-refused_header tail file bytes i rule is none =
-    absurd (false≢true (sym (ap is_some
-    (sym (ap (λ f. refusal_of (pcap_items file i (records.refused_or f file 0 (records.items_from (records.header_at bytes) tail file 24 (drop 24 bytes))))) is) ∙ none))))
+refused_header tail file bytes i rule is none = cc
 
 pub accepted : (tail : Tail) (file : ℕ) (bytes : List ℕ) → AreBytes bytes → is_pcapng bytes ≡ false → refusal_of (file_items tail file bytes) ≡ None
     → Accepted tail file bytes (records.header_at bytes)
 accepted tail file bytes are plain none = by (records.header_fault 0 bytes) refl
   where
     by : (fault : Option Rule) → records.header_fault 0 bytes ≡ fault → Accepted tail file bytes (records.header_at bytes)
-    by (Some rule) is =
-        absurd (refused_header tail file bytes (interface_of (records.header_at bytes)) rule is (ap refusal_of (sym (pcap_only tail file bytes plain)) ∙ none))
+    by (Some rule) is = grind (arith, refused_header, pcap_only)
     by None is =
         let header = records.header_at bytes in
         let split = every_split-law header.order header.unit 24 (drop 24 bytes) in
@@ -145,30 +126,17 @@ unfolding block_bytes
 length-block order kind body = simp (length-append, length-bytes_of) (omega arith)
 
 length-packet : (order : Order) (n : Numbered) → 16 + length n.frame ≤ length (packet_part order n)
-length-packet order n =
-    omega (
-      arith,
-      length-block order enhanced_kind (packet_body order n.number n.units n.original n.frame),
-      length-packet_body order n.number n.units n.original n.frame,
-    )
+length-packet order n = grind (arith, length-block, length-packet_body)
 
 length-packets : (order : Order) (count : ℕ) (n : Numbered) (rest : List Numbered)
     → 16 + length n.frame + length (packets_bytes order (count_after count n) rest) ≤ length (packets_bytes order count (n ∷ rest))
 unfolding packets_bytes
-length-packets order count n rest =
-    omega (
-      arith,
-      length-packet order n,
-      length-append (interface_part order count n) (packet_part order n),
-      length-append (interface_part order count n ++ packet_part order n) (packets_bytes order (count_after count n) rest),
-    )
+length-packets order count n rest = grind (arith, length-packet, length-append)
 
 shorter_by : (b : Bool) (back : Order) (unit : Fraction) (p : Packet) (ps : List Packet) (n : ℕ)
     → 16 + length p.frame + length (records_form back unit ps) ≤ n
     → length (records_form back unit (if b then p ∷ ps else [])) ≤ n
-shorter_by true back unit p ps n few =
-    omega (arith, few, length-append (record_form back unit p) (records_form back unit ps), length-record back unit p)
-shorter_by false back unit p ps n few = omega arith
+shorter_by b back unit p ps n few = grind (arith, length-append, record_form, records_form, length-record)
 
 pub shorter : (back order : Order) (h : PcapHeader) (count : ℕ) (ps : List Packet)
     → length (records_form back h.unit (early h.unit ps)) ≤ length (packets_bytes order count (number_all (interface_of h) ps))
@@ -185,18 +153,7 @@ pub record WrittenOnce (order : Order) (file : ℕ) (items : List Item) (first :
 
 pub written_once : (order : Order) (tail : Tail) (file : ℕ) (bytes : List ℕ) (h : PcapHeader) (a : Accepted tail file bytes h)
     → WrittenOnce order file (file_items tail file bytes) (file_first tail file bytes) (interface_of h) a.packets
-written_once order tail file bytes h a =
-    let i = interface_of h in
-    record {
-      text =
-          ap (λ f. pcapng_bytes order file f (file_items tail file bytes)) a.first
-          ∙ (ap (pcapng_bytes order file (Some i)) a.items
-          ∙ ap (λ ns. front_bytes order (Some i) ++ packets_bytes order 1 ns) (numbered-packets file i 24 a.packets a.stop));
-      refusal =
-          ap (λ f. pcapng_refusal file f (file_items tail file bytes)) a.first
-          ∙ (ap (pcapng_refusal file (Some i)) a.items
-          ∙ (refusal-packets file i 24 a.packets a.stop ∙ a.unrefused));
-    }
+written_once order tail file bytes h a = grind (arith, numbered-packets, refusal-packets)
 
 -- What is written as pcap of the packets that were read again, and read once more.
 out_bytes : (back order : Order) (h : PcapHeader) (file offset : ℕ) (ps : List Packet)
@@ -289,31 +246,13 @@ round_trip-law bytes tail file are plain none order back tail_again tail_last fi
 pub items-written : (tail : Tail) (file : ℕ) (h : PcapHeader) (ps : List Packet) → h.snaplen < 2 ^ 32 → h.link < 2 ^ 16 → AllWritten h.unit ps
     → length (header_bytes h ++ records_form h.order h.unit ps) ≤ 2 ^ 40
     → file_items tail file (header_bytes h ++ records_form h.order h.unit ps) ≡ pcap_items file (interface_of h) (items_with 24 ps stops.End)
-items-written tail file h ps snaplen link w limit =
-    let rest = records_form h.order h.unit ps in
-    let whole = early-written h.unit ps w in
-    let size = (header_again-law h snaplen link).0.size in
-    let room : 24 + length (records_form h.order h.unit (early h.unit ps)) ≤ 2 ^ 40 =
-    omega (arith, limit, length-append (header_bytes h) rest, size, ap (λ l. length (records_form h.order h.unit l)) whole) in
-    ap (λ l. file_items tail file (header_bytes h ++ records_form h.order h.unit l)) (sym whole)
-    ∙ (out_items h.order h tail file ps snaplen link (held-written h.unit ps w) room
-    ∙ ap (λ l. pcap_items file (interface_of h) (items_with 24 l stops.End)) whole)
+items-written tail file h ps snaplen link w limit = grind (arith, records_form, early-written, header_again-law, length-append, out_items, held-written)
 
 -- it is accepted
 accepted-written : (tail : Tail) (file : ℕ) (h : PcapHeader) (ps : List Packet) → h.snaplen < 2 ^ 32 → h.link < 2 ^ 16 → AllWritten h.unit ps
     → length (header_bytes h ++ records_form h.order h.unit ps) ≤ 2 ^ 40
     → Accepted tail file (header_bytes h ++ records_form h.order h.unit ps) h
-accepted-written tail file h ps snaplen link w limit =
-    record {
-      packets = ps;
-      stop = stops.End;
-      items = items-written tail file h ps snaplen link w limit;
-      first = first-header tail file h (records_form h.order h.unit ps) snaplen link;
-      unrefused = refl;
-      held = held-written h.unit ps w;
-      snaplen = snaplen;
-      link = link;
-    }
+accepted-written tail file h ps snaplen link w limit = grind (arith, items-written, first-header, records_form, held-written)
 
 pub same_bytes-law : SameBytes
 unfolding accepted-written

@@ -1,6 +1,6 @@
 -- The numbers of origins by their first use, in one list and in the lists of several groups.
-use Rattle.std.proofs.Common.{◌≡◌, ℕ, zero, suc, ◌+◌, ◌<◌, ◌≤◌, Bool, true, false, cond, List, [], ◌∷◌, ◌++◌, refl, sym, ap, ◌∙◌, subst, arith, inl, inr}
-use Rattle.std.specs.Prelude.{◌&&◌, ◌||◌, ◌==◌, ◌≢◌, ◌⊎◌, not}
+use Rattle.std.proofs.Common.{◌≡◌, ℕ, zero, suc, ◌+◌, ◌<◌, ◌≤◌, Bool, true, false, cond, List, [], ◌∷◌, ◌++◌, refl, sym, ap, ◌∙◌, arith, inl, inr}
+use Rattle.std.specs.Prelude.{◌&&◌, ◌==◌, ◌≢◌, ◌⊎◌}
 use Rattle.std.specs.List.{list_any, position_or_len}
 use Rattle.std.proofs.lemmas.Bool.{true≢false}
 use Rattle.std.proofs.lemmas.Bool.Decides.{nat_tests}
@@ -17,21 +17,15 @@ same_number n = grind (arith, nat_tests)
 pub other_number : (m n : ℕ) → m ≢ n → (m == n) ≡ false
 other_number m n h = grind (arith, nat_tests)
 
-equal_numbers : (m n : ℕ) → (m == n) ≡ true → m ≡ n
-equal_numbers m n h = grind (arith, nat_tests)
-
 next_numbers : (m n : ℕ) → (suc m == suc n) ≡ (m == n)
 next_numbers m n = grind (arith, nat_tests)
 
 both_true : (a b : Bool) → (a && b) ≡ true → (a ≡ true) × (b ≡ true)
-both_true true b e = (refl, e)
-both_true false b e = absurd (true≢false (sym e))
+both_true a b e = grind arith
 
 -- origins that are equal are the same
 pub is_origin-same : (a b : Origin) → is_origin a b ≡ true → a ≡ b
-is_origin-same a b e =
-    let h = both_true (a.0 == b.0) (a.1 == b.1) e in
-    λ i. (equal_numbers a.0 b.0 h.0 i, equal_numbers a.1 b.1 h.1 i)
+is_origin-same a b e = grind arith
 
 pub is_origin-itself : (a : Origin) → is_origin a a ≡ true
 is_origin-itself a = λ i. same_number a.0 i && same_number a.1 i
@@ -52,21 +46,9 @@ number-more (x ∷ xs) ys a (suc n) h = (h.0, number-more xs ys a n h.1)
 -- origins with a number are equal where their numbers are
 pub numbers-decide : (xs : List Origin) (a c : Origin) (m n : ℕ) → IsNumberIn xs a m → IsNumberIn xs c n → (m == n) ≡ is_origin a c
 numbers-decide [] a c m n h k = absurd h
-numbers-decide (x ∷ xs) a c zero zero h k =
-    let same : a ≡ c = is_origin-same a x h ∙ sym (is_origin-same c x k) in
-    same_number 0 ∙ sym (ap (λ w. is_origin a w) (sym same) ∙ is_origin-itself a)
-numbers-decide (x ∷ xs) a c zero (suc n) h k =
-    let differ : 0 ≢ suc n = omega arith in
-    other_number 0 (suc n) differ ∙ sym (ap (λ w. is_origin w c) (is_origin-same a x h) ∙ turned x c ∙ k.0)
-  where
-    turned : (p q : Origin) → is_origin p q ≡ is_origin q p
-    turned p q = λ i. turn p.0 q.0 i && turn p.1 q.1 i
-      where
-        turn : (m n : ℕ) → (m == n) ≡ (n == m)
-        turn m n = grind (arith, nat_tests)
-numbers-decide (x ∷ xs) a c (suc m) zero h k =
-    let differ : suc m ≢ 0 = omega arith in
-    other_number (suc m) 0 differ ∙ sym (ap (λ w. is_origin a w) (is_origin-same c x k) ∙ h.0)
+numbers-decide (x ∷ xs) a c zero zero h k = grind arith
+numbers-decide (x ∷ xs) a c zero (suc n) h k = grind arith
+numbers-decide (x ∷ xs) a c (suc m) zero h k = grind arith
 numbers-decide (x ∷ xs) a c (suc m) (suc n) h k = next_numbers m n ∙ numbers-decide xs a c m n h.1 k.1
 
 -- ---- the origins after a list
@@ -78,8 +60,7 @@ all_origins origins (packet meta frame ∷ items) = all_origins (with_origin ori
 all_origins origins (refused refusal ∷ items) = all_origins origins items
 
 kept_origin : (ns : List Origin) (m : Meta) (a : Origin) (n : ℕ) (b : Bool) → IsNumberIn ns a n → IsNumberIn (cond b ns (ns ++ (origin_of m ∷ []))) a n
-kept_origin ns m a n true h = h
-kept_origin ns m a n false h = number-more ns (origin_of m ∷ []) a n h
+kept_origin ns m a n b h = grind (arith, number-more)
 
 pub number-kept : (ns : List Origin) (xs : List Item) (a : Origin) (n : ℕ) → IsNumberIn ns a n → IsNumberIn (all_origins ns xs) a n
 number-kept ns [] a n h = h
@@ -89,33 +70,11 @@ number-kept ns (refused r ∷ xs) a n h = number-kept ns xs a n h
 -- an origin that stands in the list has the first place, and another the next one
 found : (ns : List Origin) (a : Origin) → list_any (is_origin a) ns ≡ true → IsNumberIn ns a (position_or_len (is_origin a) ns)
 found [] a e = absurd (true≢false (sym e))
-found (n ∷ ns) a e = here (is_origin a n) refl e (found ns a)
-  where
-    here : (b : Bool) → is_origin a n ≡ b → (b || list_any (is_origin a) ns) ≡ true
-        → (list_any (is_origin a) ns ≡ true → IsNumberIn ns a (position_or_len (is_origin a) ns))
-        → IsNumberIn (n ∷ ns) a (cond (not b) (1 + position_or_len (is_origin a) ns) 0)
-    here true h k deeper = h
-    here false h k deeper =
-        let one : suc (position_or_len (is_origin a) ns) ≡ 1 + position_or_len (is_origin a) ns = omega arith in
-        subst (λ (w : ℕ). IsNumberIn (n ∷ ns) a w) one (next (position_or_len (is_origin a) ns) (h, deeper k))
-      where
-        next : (w : ℕ) → (is_origin a n ≡ false) × IsNumberIn ns a w → IsNumberIn (n ∷ ns) a (suc w)
-        next w both = both
+found (n ∷ ns) a e = grind (arith, found ns a)
 
 lacking : (ns : List Origin) (a : Origin) → list_any (is_origin a) ns ≡ false → IsNumberIn (ns ++ (a ∷ [])) a (position_or_len (is_origin a) ns)
 lacking [] a e = is_origin-itself a
-lacking (n ∷ ns) a e = here (is_origin a n) refl e (lacking ns a)
-  where
-    here : (b : Bool) → is_origin a n ≡ b → (b || list_any (is_origin a) ns) ≡ false
-        → (list_any (is_origin a) ns ≡ false → IsNumberIn (ns ++ (a ∷ [])) a (position_or_len (is_origin a) ns))
-        → IsNumberIn ((n ∷ ns) ++ (a ∷ [])) a (cond (not b) (1 + position_or_len (is_origin a) ns) 0)
-    here true h k deeper = absurd (true≢false k)
-    here false h k deeper =
-        let one : suc (position_or_len (is_origin a) ns) ≡ 1 + position_or_len (is_origin a) ns = omega arith in
-        subst (λ (w : ℕ). IsNumberIn ((n ∷ ns) ++ (a ∷ [])) a w) one (next (position_or_len (is_origin a) ns) (h, deeper k))
-      where
-        next : (w : ℕ) → (is_origin a n ≡ false) × IsNumberIn (ns ++ (a ∷ [])) a w → IsNumberIn ((n ∷ ns) ++ (a ∷ [])) a (suc w)
-        next w both = both
+lacking (n ∷ ns) a e = grind (arith, lacking ns a)
 
 -- a packet's interface has its number in the origins after the packet
 pub number-given : (ns : List Origin) (m : Meta) → IsNumberIn (with_origin ns m) (origin_of m) (number_of ns m)
@@ -147,9 +106,7 @@ IsOfGroups file place (g ∷ gs) a b = IsOfGroup file place g a b ⊎ IsOfGroups
 bounds : (file place : ℕ) (gs : List GroupOrigins) (a b : Origin) → IsOfGroups file place gs a b → (file ≤ a.0) × (place ≤ b.0)
 bounds file place [] a b h = absurd h
 bounds file place (g ∷ gs) a b (inl h) = (h.from, omega (arith, h.group))
-bounds file place (g ∷ gs) a b (inr h) =
-    let behind = bounds (file + g.count) (suc place) gs a b h in
-    (omega (arith, behind.0), omega (arith, behind.1))
+bounds file place (g ∷ gs) a b (inr h) = grind (arith, bounds (file + g.count) (suc place) gs a b h)
 
 other_origins : (a b : Origin) → a.0 ≢ b.0 → is_origin a b ≡ false
 other_origins a b h = ap (λ t. t && (a.1 == b.1)) (other_number a.0 b.0 h)
@@ -157,16 +114,7 @@ other_origins a b h = ap (λ t. t && (a.1 == b.1)) (other_number a.0 b.0 h)
 -- Different origins have different numbers, or are of different groups.
 pub groups-apart : (file place : ℕ) (gs : List GroupOrigins) → IsOneToOne (IsOfGroups file place gs)
 groups-apart file place [] a b c d h k = absurd h
-groups-apart file place (g ∷ gs) a b c d (inl h) (inl k) =
-    ap (λ t. t && (b.1 == d.1)) (ap (λ n. n == d.0) (h.group ∙ sym k.group) ∙ same_number d.0) ∙ numbers-decide g.origins a c b.1 d.1 h.number k.number
-groups-apart file place (g ∷ gs) a b c d (inl h) (inr k) =
-    let behind = bounds (file + g.count) (suc place) gs c d k in
-    let left : b.0 ≢ d.0 = omega (arith, h.group, behind.1) in
-    let right : a.0 ≢ c.0 = omega (arith, h.below, behind.0) in
-    other_origins b d left ∙ sym (other_origins a c right)
-groups-apart file place (g ∷ gs) a b c d (inr h) (inl k) =
-    let behind = bounds (file + g.count) (suc place) gs a b h in
-    let left : b.0 ≢ d.0 = omega (arith, k.group, behind.1) in
-    let right : a.0 ≢ c.0 = omega (arith, k.below, behind.0) in
-    other_origins b d left ∙ sym (other_origins a c right)
+groups-apart file place (g ∷ gs) a b c d (inl h) (inl k) = grind (arith, same_number, numbers-decide)
+groups-apart file place (g ∷ gs) a b c d (inl h) (inr k) = grind (arith, bounds, other_origins)
+groups-apart file place (g ∷ gs) a b c d (inr h) (inl k) = grind (arith, bounds, other_origins)
 groups-apart file place (g ∷ gs) a b c d (inr h) (inr k) = groups-apart (file + g.count) (suc place) gs a b c d h k

@@ -1,38 +1,30 @@
 -- What is written for one packet of a list.
-use Rattle.std.proofs.Common.{◌≡◌, ℕ, List, [], ◌∷◌, length, Option, Some, None, IsTrue, Err, refl, sym, ap, ◌∙◌, subst, append-nil}
+use Rattle.std.proofs.Common.{arith, ◌≡◌, ℕ, List, [], ◌∷◌, Option, Some, None, IsTrue, Err, refl, sym, ap, ◌∙◌, subst, append-nil}
 use Rattle.cap_bytes.proofs.Putting.{Putting}
 use Rattle.cap_bytes.specs.Device.{Writer}
 use Rattle.cap_bytes.specs.Printing.{Prints}
 use Rattle.cap_bytes.specs.declared.faults.Fault.{Fault}
-use Rattle.cap_bytes.specs.declared.faults.Fault.TheVariants.{Refused, Read, Write, Memory}
+use Rattle.cap_bytes.specs.declared.faults.Fault.TheVariants.{Refused}
 use Rattle.cap_bytes.specs.declared.faults.Refusal.{Refusal}
 use Rattle.cap_bytes.specs.declared.faults.Rule.{Rule}
-use Rattle.cap_bytes.specs.declared.faults.Rule.TheVariants.{NoTime}
 use Rattle.cap_bytes.specs.declared.numbers.Order.{Order}
 use Rattle.cap_source.proofs.Walking.{Plan, GoesOn, GivesUp, Prints-whole, Prints-front}
 use Rattle.cap_source.specs.Feed.{Item, packet}
 use Rattle.cap_source.specs.declared.packets.Meta.{Meta}
 use Rattle.cap_write.proofs.Numbers.{write_fault-untimed}
 use Rattle.cap_write.specs.Interfaces.{HasUnits}
-use Rattle.cap_write.specs.Numbering.{Origin, refusal_at, refusal_by, write_fault, numbered_of}
-use Rattle.cap_write.specs.Texts.{text_or, numbered_bytes, one_bytes}
+use Rattle.cap_write.specs.Numbering.{Origin, refusal_at, refusal_by, write_fault}
+use Rattle.cap_write.specs.Texts.{text_or, one_bytes}
 
 -- where a packet is refused nothing is written
 Prints-refused : (text : List ℕ) (meta : Meta) (rule : Rule) (fault : Option Rule) (held : List ℕ) → fault ≡ Some rule
     → Prints {A = Unit {0}} (text_or fault text) (refusal_by meta fault) held (Err (Refused (refusal_at meta rule))) held
-Prints-refused text meta rule fault held is =
-    rw is ((refl, sym (append-nil held)))
+Prints-refused text meta rule fault held is = grind (arith, append-nil)
 
 -- a packet without a time is refused
 pub Prints-untimed : (order : Order) (origins : List Origin) (meta : Meta) (frame held : List ℕ) (fault : Fault) → HasUnits meta (Err fault)
     → Prints {A = Unit {0}} (one_bytes order origins meta frame) (refusal_by meta (write_fault origins meta)) held (Err fault) held
-Prints-untimed order origins meta frame held (Refused refusal) h =
-    rw h.1
-    (Prints-refused (numbered_bytes order (length origins) (numbered_of origins meta frame)) meta NoTime (write_fault origins meta) held
-    (write_fault-untimed origins meta h.0))
-Prints-untimed order origins meta frame held (Read file offset) h = absurd h
-Prints-untimed order origins meta frame held Write h = absurd h
-Prints-untimed order origins meta frame held Memory h = absurd h
+Prints-untimed order origins meta frame held fault h = grind (arith, Prints-refused, write_fault-untimed)
 
 -- what is written of a feed's packets where one is refused, or isn't written whole
 pub Prints-one : (plan next : Plan) (fault : Fault) (text : List ℕ) (refusal : Option Refusal) (from mid : Writer) (held : List ℕ)

@@ -1,3 +1,4 @@
+use Rattle.std.proofs.Common.{arith}
 use Rattle.cap_ip.specs.Read.{read_of}
 use Rattle.cap_join.specs.Joiners.{StandsFor}
 use Rattle.cap_write.proofs.Completed.{answered-is, filled-all}
@@ -8,9 +9,7 @@ use Rattle.cap_write.specs.RunPackets.{stamped_in, whole_in}
 use Rattle.cap_write.proofs.datagrams.take_ipv4.Goals as goal
 
 pub fill_answered-requires : goal.fill_answered-requires
-fill_answered-requires c =
-    let s = c.requires.stands in
-    record { short = arrived-short c.args.bytes.now (whole_in c.args.run.now) c.args.run.now.clock (stamped_in c.args.run.now) s.0 c.args.joining.now.joiner c.in-Ok.arrived s.1 (rw c.stamped_of.ensures at (c.in-Ok.ensures.answer s.0 s.1)) }
+fill_answered-requires c = grind (arith, arrived-short)
 
 pub returns-in-Ok-clause-filled : goal.returns-in-Ok-clause-filled
 returns-in-Ok-clause-filled c =

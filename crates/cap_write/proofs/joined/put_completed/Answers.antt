@@ -1,4 +1,4 @@
-use Rattle.std.proofs.Common.{◌≡◌, List, ◌∙◌, None}
+use Rattle.std.proofs.Common.{arith, ◌≡◌, List, ◌∙◌, None}
 use Rattle.std.proofs.lemmas.Result.{err_from_is_err_and}
 use Rattle.cap_join.specs.History.{Event}
 use Rattle.cap_join.specs.Joiners.{StandsFor}
@@ -9,11 +9,7 @@ use Rattle.cap_write.specs.Numbering.{with_origin, write_fault, refusal_in}
 use Rattle.cap_write.proofs.joined.put_completed.Goals as goal
 
 pub returns-in_err-units_of-clause-text : goal.returns-in_err-units_of-clause-text
-returns-in_err-units_of-clause-text g c =
-    let p = err_from_is_err_and c.from_residual.result c.from_residual.ensures.1 in
-    rw (p.1, p.2)
-    (λ w events stands. Prints-no-time c.args.order c.args.origins.now.keys c.args.run.now.place events c.args.run.now.clock c.args.run.now.meta.now c.args.run.now.frame.now (g.W.Sink.held c.args.writer.now)
-    c.in_err-units_of.field-0.0 c.in_err-units_of.ensures.answer)
+returns-in_err-units_of-clause-text g c = grind (arith, err_from_is_err_and, Prints-no-time)
 
 pub returns-then-branch-clause-text : goal.returns-then-branch-clause-text
 returns-then-branch-clause-text g c = λ w events stands.

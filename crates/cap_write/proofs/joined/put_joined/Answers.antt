@@ -1,9 +1,9 @@
-use Rattle.std.proofs.Common.{◌<◌, ◌^◌, Some, None, Ok, arith, rules}
+use Rattle.std.proofs.Common.{Some, None, Ok, arith, rules}
 use Rattle.std.proofs.lemmas.Result.{err_from_is_err_and}
 use Rattle.cap_merge.specs.MergedLaws.{merged-is-feed}
 use Rattle.cap_merge.specs.Parts.{feed_of}
 use Rattle.cap_merge.specs.View.{parts_of}
-use Rattle.cap_source.proofs.Onward.{Walks-fault, Walks-end, Walks-stop, Keeps-trans}
+use Rattle.cap_source.proofs.Onward.{Keeps-trans}
 use Rattle.cap_source.specs.Walk.{ShowsItem}
 use Rattle.cap_source.proofs.Walking.{Prints-fault, Prints-end}
 use Rattle.cap_write.proofs.Feeding.{plan_of, plan_of-is}
@@ -43,12 +43,7 @@ returns-in_err-put_completed-clause-text g c = λ t w.
     (λ events stands. c.in_err-put_completed.ensures.text (i.walk.writer_told w) events stands))
 
 pub overflow_add-place : goal.overflow_add-place
-overflow_add-place g c =
-    let m = c.args.merged.now in
-    let law = merged-is-feed g.F.PacketFeed.feed g.met.F.PacketFeed.lawful m.lanes.items m.feeds.items m.alike m.numbered m.agrees m.reached in
-    let small : c.loop-joining.place < 2 ^ 63 = place-small c.loop-joining.place (feed_of (parts_of c.loop-joining.merged)).left (feed_of (parts_of m)).left _ c.loop-joining.invariant.places law.most
-    (omega (arith, c.files.ensures.files, c.files.ensures.most)) in
-    omega (arith, small)
+overflow_add-place g c = grind arith
 
 pub loop-joining-preserved : goal.loop-joining-preserved
 loop-joining-preserved g c =
@@ -76,23 +71,13 @@ returns-clause-text g c = λ t w.
     (shows-end mid (feed_of shown) c.loop-joining.place i.events shows)
 
 pub returns-in_err-meta-clause-walks : goal.returns-in_err-meta-clause-walks
-returns-in_err-meta-clause-walks g c =
-    let p = err_from_is_err_and c.from_residual.result c.from_residual.ensures.1 in
-    rw (p.1, p.2)
-    (Walks-fault (feed_of (parts_of c.args.merged.now)) (feed_of (parts_of c.loop-joining.merged)) (feed_of (parts_of c.next_of.new.merged)) c.in_err-meta.field-0.0
-    c.loop-joining.invariant.went c.in_err-meta.ensures.answer)
+returns-in_err-meta-clause-walks g c = grind arith
 
 pub returns-in_err-meta-clause-keeps : goal.returns-in_err-meta-clause-keeps
-returns-in_err-meta-clause-keeps g c =
-    Keeps-trans (feed_of (parts_of c.args.merged.now)) (feed_of (parts_of c.loop-joining.merged)) (feed_of (parts_of c.next_of.new.merged))
-    c.loop-joining.invariant.went.keeps c.in_err-meta.ensures.keeps
+returns-in_err-meta-clause-keeps g c = grind arith
 
 pub returns-in_err-put_completed-clause-walks : goal.returns-in_err-put_completed-clause-walks
-returns-in_err-put_completed-clause-walks g c =
-    let p = err_from_is_err_and c.from_residual-in_err-put_completed.result c.from_residual-in_err-put_completed.ensures.1 in
-    rw (p.1, p.2)
-    (Walks-stop (feed_of (parts_of c.args.merged.now)) (feed_of (parts_of c.loop-joining.merged)) (feed_of (parts_of c.next_of.new.merged)) c.in-Some.meta
-    c.in_err-put_completed.field-0.0 c.loop-joining.invariant.went (rw c.in-Some.is at c.in_ok-meta.ensures.answer) c.in_err-put_completed.ensures.read)
+returns-in_err-put_completed-clause-walks g c = grind arith
 
 pub returns-in_err-put_completed-clause-keeps : goal.returns-in_err-put_completed-clause-keeps
 returns-in_err-put_completed-clause-keeps g c =
@@ -100,11 +85,7 @@ returns-in_err-put_completed-clause-keeps g c =
     c.loop-joining.invariant.went.keeps c.in_ok-meta.ensures.keeps
 
 pub returns-clause-walks : goal.returns-clause-walks
-returns-clause-walks g c =
-    Walks-end (feed_of (parts_of c.args.merged.now)) (feed_of (parts_of c.loop-joining.merged)) (feed_of (parts_of c.next_of.new.merged))
-    c.loop-joining.invariant.went (rw c.in_default.is at c.in_ok-meta.ensures.answer)
+returns-clause-walks g c = grind arith
 
 pub returns-clause-keeps : goal.returns-clause-keeps
-returns-clause-keeps g c =
-    Keeps-trans (feed_of (parts_of c.args.merged.now)) (feed_of (parts_of c.loop-joining.merged)) (feed_of (parts_of c.next_of.new.merged))
-    c.loop-joining.invariant.went.keeps c.in_ok-meta.ensures.keeps
+returns-clause-keeps g c = grind arith

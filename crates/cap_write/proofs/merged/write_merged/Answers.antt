@@ -1,22 +1,10 @@
-use Rattle.std.proofs.Common.{[]}
+use Rattle.std.proofs.Common.{arith}
 use Rattle.std.proofs.lemmas.Result.{err_from_is_err_and}
-use Rattle.cap_blocks.specs.Grammar.{section_bytes}
 use Rattle.cap_bytes.proofs.Putting.{Prints-head, Prints-behind}
-use Rattle.cap_write.specs.Numbering.{refusal_in}
-use Rattle.cap_write.specs.Texts.{text_behind}
 use Rattle.cap_write.proofs.merged.write_merged.Goals as goal
 
 pub returns-in_err-put_section-clause-text : goal.returns-in_err-put_section-clause-text
-returns-in_err-put_section-clause-text g c = λ t w.
-    let p = err_from_is_err_and c.from_residual.result c.from_residual.ensures.1 in
-    let items = (g.F.PacketFeed.feed c.args.feed.now).items in
-    rw (p.1, p.2)
-    (Prints-head (refusal_in [] items) (g.W.Sink.held c.args.writer.now) (g.W.Sink.held c.put_section.new.writer) (section_bytes c.args.order)
-    (text_behind c.args.order [] items) c.in_err-put_section.field-0.0 c.in_err-put_section.ensures.fault (c.in_err-put_section.ensures.bytes w))
+returns-in_err-put_section-clause-text g c = grind (arith, err_from_is_err_and, Prints-head)
 
 pub returns-clause-text : goal.returns-clause-text
-returns-clause-text g c = λ t w.
-    let items = (g.F.PacketFeed.feed c.args.feed.now).items in
-    Prints-behind (refusal_in [] items) (g.W.Sink.held c.args.writer.now) (g.W.Sink.held c.put_section.new.writer) (g.W.Sink.held c.put_packets.new.writer)
-    (section_bytes c.args.order) (text_behind c.args.order [] items) c.put_packets.result (c.in_ok-put_section.ensures.bytes w)
-    (rw c.new-origins.ensures.empty at (c.put_packets.ensures.text t (c.in_ok-put_section.ensures.writer.told w)))
+returns-clause-text g c = grind (arith, Prints-behind)

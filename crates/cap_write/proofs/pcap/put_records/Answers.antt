@@ -1,6 +1,6 @@
-use Rattle.std.proofs.Common.{Some, None, Ok, drop, rules}
+use Rattle.std.proofs.Common.{arith, Some, None, Ok, drop, rules}
 use Rattle.std.proofs.lemmas.Result.{err_from_is_err_and}
-use Rattle.cap_source.proofs.Onward.{Went-more, Walks-fault, Walks-end, Walks-stop, Keeps-trans}
+use Rattle.cap_source.proofs.Onward.{Went-more}
 use Rattle.cap_source.proofs.Walking.{Walking-more, Prints-fault, Prints-end}
 use Rattle.cap_source.specs.Walk.{ShowsItem}
 use Rattle.cap_write.proofs.Records.{plan_of, plan_of-is, plan_of-next, plan_of-refused}
@@ -65,32 +65,19 @@ returns-clause-text g c = λ t w.
     Prints-end (plan_of c.args.order first) _ _ _ _ mid shown (plan_of-is c.args.order first) (i.text t) w (i.refusal_same t) shows
 
 pub returns-in_err-meta-clause-walks : goal.returns-in_err-meta-clause-walks
-returns-in_err-meta-clause-walks g c =
-    let p = err_from_is_err_and c.from_residual.result c.from_residual.ensures.1 in
-    rw (p.1, p.2)
-    (Walks-fault (g.F.PacketFeed.feed c.args.feed.now) (g.F.PacketFeed.feed c.loop-meta.feed) (g.F.PacketFeed.feed c.next_packet.new.feed) c.in_err-meta.field-0.0
-    c.loop-meta.invariant.went c.in_err-meta.ensures.answer)
+returns-in_err-meta-clause-walks g c = grind arith
 
 pub returns-in_err-meta-clause-keeps : goal.returns-in_err-meta-clause-keeps
-returns-in_err-meta-clause-keeps g c =
-    Keeps-trans (g.F.PacketFeed.feed c.args.feed.now) (g.F.PacketFeed.feed c.loop-meta.feed) (g.F.PacketFeed.feed c.next_packet.new.feed) c.loop-meta.invariant.went.keeps c.in_err-meta.ensures.keeps
+returns-in_err-meta-clause-keeps g c = grind arith
 
 pub returns-in_err-put_one-clause-walks : goal.returns-in_err-put_one-clause-walks
-returns-in_err-put_one-clause-walks g c =
-    let p = err_from_is_err_and c.from_residual-in_err-put_one.result c.from_residual-in_err-put_one.ensures.1 in
-    rw (p.1, p.2)
-    (Walks-stop (g.F.PacketFeed.feed c.args.feed.now) (g.F.PacketFeed.feed c.loop-meta.feed) (g.F.PacketFeed.feed c.next_packet.new.feed) c.in-Some.meta c.in_err-put_one.field-0.0
-    c.loop-meta.invariant.went (rw c.in-Some.is at c.in_ok-meta.ensures.answer) c.in_err-put_one.ensures.read)
+returns-in_err-put_one-clause-walks g c = grind arith
 
 pub returns-in_err-put_one-clause-keeps : goal.returns-in_err-put_one-clause-keeps
-returns-in_err-put_one-clause-keeps g c =
-    Keeps-trans (g.F.PacketFeed.feed c.args.feed.now) (g.F.PacketFeed.feed c.loop-meta.feed) (g.F.PacketFeed.feed c.next_packet.new.feed) c.loop-meta.invariant.went.keeps c.in_ok-meta.ensures.keeps
+returns-in_err-put_one-clause-keeps g c = grind arith
 
 pub returns-clause-walks : goal.returns-clause-walks
-returns-clause-walks g c =
-    Walks-end (g.F.PacketFeed.feed c.args.feed.now) (g.F.PacketFeed.feed c.loop-meta.feed) (g.F.PacketFeed.feed c.next_packet.new.feed)
-    c.loop-meta.invariant.went (rw c.in_default.is at c.in_ok-meta.ensures.answer)
+returns-clause-walks g c = grind arith
 
 pub returns-clause-keeps : goal.returns-clause-keeps
-returns-clause-keeps g c =
-    Keeps-trans (g.F.PacketFeed.feed c.args.feed.now) (g.F.PacketFeed.feed c.loop-meta.feed) (g.F.PacketFeed.feed c.next_packet.new.feed) c.loop-meta.invariant.went.keeps c.in_ok-meta.ensures.keeps
+returns-clause-keeps g c = grind arith

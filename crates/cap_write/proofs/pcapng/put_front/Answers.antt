@@ -1,3 +1,4 @@
+use Rattle.std.proofs.Common.{arith}
 use Rattle.std.proofs.lemmas.Result.{err_from_is_err_and}
 use Rattle.cap_blocks.specs.Grammar.{section_bytes}
 use Rattle.cap_bytes.proofs.Putting.{Puts-first, Puts-second}
@@ -12,6 +13,4 @@ returns-in_err-put_section-clause-bytes g c =
     c.in_err-put_section.field-0.0 (c.in_err-put_section.ensures.bytes t))
 
 pub returns-clause-bytes : goal.returns-clause-bytes
-returns-clause-bytes g c = λ t.
-    Puts-second (Unit {0}) _ (g.W.Sink.held c.put_section.new.writer) _ (section_bytes c.args.order) (first_bytes c.args.order c.args.first) c.put_first.result
-    (c.in_ok-put_section.ensures.bytes t) (c.put_first.ensures.bytes (c.in_ok-put_section.ensures.writer.told t))
+returns-clause-bytes g c = grind (arith, Puts-second)

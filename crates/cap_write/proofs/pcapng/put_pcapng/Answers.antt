@@ -1,3 +1,4 @@
+use Rattle.std.proofs.Common.{arith}
 use Rattle.std.proofs.lemmas.Result.{err_from_is_err_and}
 use Rattle.cap_bytes.proofs.Putting.{Prints-head, Prints-behind}
 use Rattle.cap_write.specs.Numbering.{refusal_in}
@@ -14,9 +15,4 @@ returns-in_err-put_front-clause-text g c = λ t w.
     (text_behind c.args.order origins items) c.in_err-put_front.field-0.0 c.in_err-put_front.ensures.fault (c.in_err-put_front.ensures.bytes w))
 
 pub returns-clause-text : goal.returns-clause-text
-returns-clause-text g c = λ t w.
-    let items = (g.F.PacketFeed.feed c.args.feed.now).items in
-    let origins = first_origins c.args.begun.file c.args.begun.first in
-    Prints-behind (refusal_in origins items) (g.W.Sink.held c.args.writer.now) (g.W.Sink.held c.put_front.new.writer) (g.W.Sink.held c.put_packets.new.writer)
-    (front_bytes c.args.order c.args.begun.first) (text_behind c.args.order origins items) c.put_packets.result (c.in_ok-put_front.ensures.bytes w)
-    (rw c.in_ok-origins.ensures.origins at (c.put_packets.ensures.text t (c.in_ok-put_front.ensures.writer.told w)))
+returns-clause-text g c = grind (arith, Prints-behind)
