@@ -33,15 +33,13 @@ tells Big Micro bytes magic flip = record { there = rw magic refl; order_is = rw
 tells Big Nano bytes magic flip = record { there = rw magic refl; order_is = rw magic refl; unit_is = rw magic refl }
 tells Little Micro bytes magic flip =
     let big = flip refl in record { there = rw (big, magic) refl; order_is = rw big refl; unit_is = rw magic refl }
-tells Little Nano bytes magic flip =
-    let big = flip refl in record { there = rw (big, magic) refl; order_is = rw big refl; unit_is = rw magic refl }
+tells Little Nano bytes magic flip = grind arith
 
 -- four bytes that spell a little-endian magic don't spell a big-endian one
 flips : (unit : Fraction) (bytes : List ℕ) → ((i : ℕ) → get_or bytes i 0 < 256) → number Little 4 bytes ≡ magic_of unit
     → number Big 4 bytes ≡ flipped unit
 unfolding number
-flips Micro bytes small magic = omega (arith, magic, small 0, small 1, small 2, small 3)
-flips Nano bytes small magic = omega (arith, magic, small 0, small 1, small 2, small 3)
+flips unit bytes small magic = grind arith
 
 reads : (header : PcapHeader) (bytes rest : List ℕ) → SpellsHeader header bytes
     → (header.order ≡ Little → number Big 4 bytes ≡ flipped header.unit)
@@ -72,12 +70,10 @@ header_read-law header bytes rest small s =
 -- a number of a text, by the parts before and after it
 field : (order : Order) (k x i : ℕ) (front back whole : List ℕ) → x < 256 ^ k → length front ≡ i → whole ≡ front ++ (bytes_of order k x ++ back)
     → number order k (drop i whole) ≡ x
-field order k x i front back whole fits size is =
-    ap (λ l. number order k (drop i l)) is ∙ (ap (number order k) (drop_at front (bytes_of order k x ++ back) i size) ∙ number-bytes_of order k x back fits)
+field order k x i front back whole fits size is = grind (arith, drop_at, number-bytes_of)
 
 magic_fits : (unit : Fraction) → magic_of unit < 256 ^ 4
-magic_fits Micro = omega arith
-magic_fits Nano = omega arith
+magic_fits unit = grind arith
 
 pub record_again-law : RecordAgain
 record_again-law order unit seconds fraction original frame s f o limit =
@@ -106,8 +102,7 @@ record_again-law order unit seconds fraction original frame s f o limit =
 -- the magic of a written header, read big
 flipped_bytes : (unit : Fraction) (rest : List ℕ) → number Big 4 (bytes_of Little 4 (magic_of unit) ++ rest) ≡ flipped unit
 unfolding number bytes_of
-flipped_bytes Micro rest = refl
-flipped_bytes Nano rest = refl
+flipped_bytes unit rest = grind arith
 
 -- what is written for a header spells it
 spelled : (header : PcapHeader) → header.snaplen < 2 ^ 32 → header.link < 2 ^ 16 → SpellsHeader header (header_bytes header)
@@ -133,14 +128,7 @@ spelled header snaplen link =
 
 -- the order and the unit of a written header
 pub flips_bytes : (header : PcapHeader) → header.order ≡ Little → number Big 4 (header_bytes header) ≡ flipped header.unit
-flips_bytes header little =
-    let order = header.order in
-    let back = bytes_of order 2 2 ++ (bytes_of order 2 4 ++ (bytes_of order 4 0 ++ (bytes_of order 4 0
-    ++ (bytes_of order 4 header.snaplen ++ bytes_of order 4 header.link)))) in
-    let parts : header_bytes header ≡ bytes_of order 4 (magic_of header.unit) ++ back = simp append_assoc in
-    ap (number Big 4) parts
-    ∙ subst (λ (o : Order). number Big 4 (bytes_of o 4 (magic_of header.unit) ++ back) ≡ flipped header.unit) (sym little)
-    (flipped_bytes header.unit back)
+flips_bytes header little = grind (arith, append_assoc, flipped, flipped_bytes)
 
 written_items : (header : PcapHeader) → SpellsHeader header (header_bytes header) → (tail : Tail) (file : ℕ) (rest : List ℕ)
     → file_items tail file 0 (header_bytes header ++ rest) ≡ items_from header tail file 24 rest

@@ -1,5 +1,5 @@
 -- When the bytes at a place are refused.
-use Rattle.std.proofs.Common.{◌≡◌, ℕ, ◌+◌, ◌^◌, ◌≤◌, ◌<◌, List, ◌++◌, length, take, drop, Some, None, true, refl, sym, ◌∙◌, ap, arith, length-append, ◌||◌}
+use Rattle.std.proofs.Common.{◌≡◌, ℕ, ◌+◌, ◌^◌, ◌≤◌, ◌<◌, List, ◌++◌, length, take, drop, Some, None, true, sym, ◌∙◌, ap, arith, length-append, ◌||◌}
 use Rattle.std.proofs.lemmas.List.{take-append-drop}
 use Rattle.std.proofs.lemmas.Bool.Decides.{nat_tests}
 use Rattle.cap_bytes.specs.Number.{number}
@@ -22,12 +22,7 @@ pub record Fits (order : Order) (offset : ℕ) (bytes : List ℕ) : Type 0 where
 
 pub Fits-from_none : (order : Order) (offset : ℕ) (bytes : List ℕ) → record_fault order offset bytes ≡ None → Fits order offset bytes
 unfolding record_fault
-Fits-from_none order offset bytes h = record {
-  head = grind (arith, nat_tests);
-  captured = grind (arith, nat_tests);
-  limit = grind (arith, nat_tests);
-  whole = grind (arith, nat_tests);
-}
+Fits-from_none order offset bytes h = grind arith
 
 pub record_fault-fits : (order : Order) (offset : ℕ) (bytes : List ℕ) → Fits order offset bytes → record_fault order offset bytes ≡ None
 unfolding record_fault
@@ -56,15 +51,7 @@ record_fault-append order offset xs ys rule h other =
 
 -- more bytes after a whole record make no difference
 pub Fits-append : (order : Order) (offset : ℕ) (xs ys : List ℕ) → Fits order offset xs → Fits order offset (xs ++ ys)
-Fits-append order offset xs ys f =
-    let same = captured_at-append order xs ys f.head in
-    let size = length-append xs ys in
-    record {
-      head = omega arith;
-      captured = omega (arith, same);
-      limit = omega (arith, same);
-      whole = omega (arith, same);
-    }
+Fits-append order offset xs ys f = grind (arith, captured_at-append, length-append)
 
 -- fewer than 16 bytes, or fewer than the record takes
 pub record_fault-short : (order : Order) (offset : ℕ) (bytes : List ℕ) → length bytes < 16 → record_fault order offset bytes ≡ Some Cut
@@ -78,12 +65,10 @@ record_fault-cut order offset bytes head captured limit few = grind (arith, nat_
 
 -- where nothing ends the records, no condition is met
 pub stop_at-fits : (order : Order) (tail : Tail) (file offset : ℕ) (bytes : List ℕ) → Fits order offset bytes → stop_at order tail file offset bytes ≡ None
-stop_at-fits order tail file offset bytes f =
-    stop_where-whole true tail file offset bytes (record_fault order offset bytes) (omega (arith, f.head)) (record_fault-fits order offset bytes f)
+stop_at-fits order tail file offset bytes f = grind (arith, stop_where-whole, record_fault-fits)
 
 pub Fits-from_stop_at : (order : Order) (tail : Tail) (file offset : ℕ) (bytes : List ℕ) → stop_at order tail file offset bytes ≡ None → Fits order offset bytes
-Fits-from_stop_at order tail file offset bytes h =
-    Fits-from_none order offset bytes (no_fault true tail file offset bytes (record_fault order offset bytes) h)
+Fits-from_stop_at order tail file offset bytes h = search (Fits-from_none, no_fault)
 
 -- The header is told by the first 24 bytes alone.
 same_fault : (offset : ℕ) (xs zs : List ℕ) → 24 ≤ length xs → 24 ≤ length zs
@@ -92,8 +77,7 @@ same_fault : (offset : ℕ) (xs zs : List ℕ) → 24 ≤ length xs → 24 ≤ l
     → ((order : Order) → number order 2 (drop 6 zs) ≡ number order 2 (drop 6 xs))
     → header_fault offset zs ≡ header_fault offset xs
 unfolding header_fault
-same_fault offset xs zs long longer magic major minor =
-    rw (magic Big, magic Little, major (order_at xs), minor (order_at xs)) (grind (arith, nat_tests))
+same_fault offset xs zs long longer magic major minor = grind arith
 
 same_header : (xs zs : List ℕ)
     → ((order : Order) → number order 4 zs ≡ number order 4 xs)
@@ -101,8 +85,7 @@ same_header : (xs zs : List ℕ)
     → ((order : Order) → number order 4 (drop 20 zs) ≡ number order 4 (drop 20 xs))
     → header_at zs ≡ header_at xs
 unfolding header_at
-same_header xs zs magic snaplen link =
-    rw (magic Big, magic (order_at xs), snaplen (order_at xs), link (order_at xs)) refl
+same_header xs zs magic snaplen link = grind arith
 
 -- more bytes after the header make no difference
 pub header_fault-append : (offset : ℕ) (xs ys : List ℕ) → 24 ≤ length xs → header_fault offset (xs ++ ys) ≡ header_fault offset xs

@@ -1,18 +1,17 @@
 -- The items of some bytes after a header, by what stands at their front.
-use Rattle.std.proofs.Common.{◌≡◌, ℕ, ◌+◌, List, [], ◌∷◌, drop, Some, None, refl, arith}
+use Rattle.std.proofs.Common.{◌≡◌, ℕ, ◌+◌, List, [], ◌∷◌, drop, Some, None, arith}
 use Rattle.cap_bytes.specs.Items.{given, stopped}
 use Rattle.cap_bytes.specs.declared.faults.Tail.{Tail}
 use Rattle.cap_bytes.specs.declared.stops.Stop.{Stop}
 use Rattle.cap_bytes.specs.declared.stops.Stop.TheVariants as stops
 use Rattle.cap_bytes.proofs.Items as items
 use Rattle.cap_bytes.proofs.Items.{Advances, stop_where-end, stop_where-fault, not_empty}
-use Rattle.cap_pcap.specs.Split.{record_fault, captured_at, record_at, frame_at, stop_at, records, items_from}
+use Rattle.cap_pcap.specs.Split.{captured_at, record_at, frame_at, stop_at, records, items_from}
 use Rattle.cap_pcap.specs.declared.headers.PcapHeader.{PcapHeader}
 use Rattle.cap_pcap.proofs.Faults.{Fits-from_stop_at}
 
 advances : Advances records
-advances header tail file offset bytes is =
-    let head = (Fits-from_stop_at header.order tail file offset bytes is).head in (omega arith, omega arith)
+advances header tail file offset bytes is = grind (arith, Fits-from_stop_at)
 
 -- Where something ends the records, that is the one item.
 pub items_from-stop : (header : PcapHeader) (tail : Tail) (file offset : ℕ) (bytes : List ℕ) (stop : Stop)
@@ -21,8 +20,7 @@ items_from-stop header tail file offset bytes stop is = items.items_in-stop reco
 
 -- At no bytes the records end.
 pub items_from-none : (header : PcapHeader) (tail : Tail) (file offset : ℕ) → items_from header tail file offset [] ≡ stopped stops.End ∷ []
-items_from-none header tail file offset =
-    items_from-stop header tail file offset [] stops.End (stop_where-end _ tail file offset (record_fault header.order offset []) refl)
+items_from-none header tail file offset = search (items_from-stop, stop_where-end)
 
 -- A record is the first item, and those of the bytes after it follow.
 pub items_from-record : (header : PcapHeader) (tail : Tail) (file offset : ℕ) (bytes : List ℕ)

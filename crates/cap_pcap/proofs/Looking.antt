@@ -1,4 +1,6 @@
 -- What a window shows of a header or a record.
+use Rattle.std.proofs.lemmas.Bool.Decides.{nat_tests}
+use Rattle.std.proofs.lemmas.Grind.{common_steps}
 use Rattle.std.proofs.Common.{◌≡◌, ℕ, ◌+◌, ◌≤◌, ◌<◌, ◌^◌, [], length, Some, None, Bool, true, false, IsTrue, Ok, Err, refl, sym, ◌∙◌, ap, arith}
 use Rattle.std.proofs.lemmas.List.{nil_from_length}
 use Rattle.cap_bytes.specs.Items.{stop_by}
@@ -19,16 +21,7 @@ use Rattle.cap_pcap.proofs.Spelling.{SpellsRecord-at}
 -- the header of what is shown
 pub SeesHeader-parsed : (there : Bool) (old new : State) (header : PcapHeader) → Needs 24 old (Ok there) new
     → header_fault old.offset new.shown ≡ None → header ≡ header_at new.shown → SeesHeader header old new
-SeesHeader-parsed true old new header n none is =
-    let whole = λ (t : IsTrue old.told). sym (n.0.coming_same t) in
-    record {
-      shows = n.0;
-      size = n.1;
-      limit = omega (arith, (FitsHeader-from_none old.offset new.shown none).limit, n.0.offset);
-      whole = λ t. ap (header_fault old.offset) (whole t) ∙ (header_fault-append old.offset new.shown new.unread n.1 ∙ none);
-      header_is = λ t. is ∙ sym (ap header_at (whole t) ∙ header_at-append new.shown new.unread n.1);
-    }
-SeesHeader-parsed false old new header n none is = absurd (omega (arith, (FitsHeader-from_none old.offset new.shown none).whole, n.1))
+SeesHeader-parsed there old new header n none is = grind (arith, FitsHeader-from_none, header_fault-append, header_at-append)
 
 -- it is refused
 pub SeesStop-header : (there : Bool) (tail : Tail) (old new : State) (rule : Rule) → Needs 24 old (Ok there) new
@@ -44,8 +37,7 @@ module _ (header : PcapHeader) (tail : Tail) (old : State) where
   -- no record is there, since nothing is
   pub SeesStop-none : (new : State) → Needs 16 old (Ok false) new → length new.shown ≡ 0
       → SeesStop true (record_fault header.order old.offset (coming old)) tail stops.End old new
-  SeesStop-none new n none =
-      SeesStop-end true _ tail old new n.0.goes refl (λ t. all_shown old new n.0 n.2 t ∙ nil_from_length new.shown none)
+  SeesStop-none new n none = grind (arith, SeesStop-end, all_shown, nil_from_length)
 
   -- no record is there, since the input ends inside it
   pub SeesStop-cut : (new : State) → Shows old new → (IsTrue old.told → new.unread ≡ []) → 0 < length new.shown
@@ -69,18 +61,11 @@ module _ (header : PcapHeader) (tail : Tail) (old : State) where
       (is : size ≡ 16 + captured_at header.order b.shown) (few : size ≤ 262160) where
     pub FailsBy-second : (f : Fault) → Needs size b (Err f) c
         → FailsBy 262160 (old.room < 16 + captured_at header.order (coming old)) old f c
-    FailsBy-second f n =
-        FailsBy-later 262160 _ (b.room < size) old b c f p k.file k.told k.can_fail k.room
-        (λ t lacks. omega (arith, lacks, k.room, ap (captured_at header.order) (sym (p.coming_same t)), captured_at-append header.order b.shown b.unread head))
-        (FailsBy-need size 262160 (b.room < size) b c f few (λ h. h) n)
+    FailsBy-second f n = grind (arith, common_steps, nat_tests, FailsBy-later, captured_at-append, FailsBy-need)
 
     pub SeesStop-second : b.offset + size ≤ 2 ^ 40 → Needs size b (Ok false) c
         → SeesStop true (record_fault header.order old.offset (coming old)) tail (stop_by true tail old.file old.offset Cut) old c
-    SeesStop-second limit n =
-        let longer = longer_shown b c n.0 in
-        let same = captured_at-front header.order b.shown c.shown head n.0.front in
-        SeesStop-cut c (Shows-trans old b c k.told p n.0) (λ t. n.2 (k.told t)) (omega arith)
-        (record_fault-cut header.order old.offset c.shown (omega arith) (omega (arith, same)) (omega (arith, same, p.offset)) (omega (arith, same, n.1)))
+    SeesStop-second limit n = grind (arith, common_steps, nat_tests, longer_shown, captured_at-front, SeesStop-cut, Shows-trans, record_fault-cut)
 
     -- a record is shown
     pub SeesRecord-second : b.offset + size ≤ 2 ^ 40 → Needs size b (Ok true) c

@@ -1,18 +1,16 @@
 -- What a look at the window makes of a reader, and what that does to the items to come.
-use Rattle.std.proofs.Common.{◌≡◌, ℕ, ◌+◌, List, [], ◌∷◌, length, drop, Option, Some, None, IsSomeAnd, true, false, IsTrue, Result, Ok, Err, refl, sym, ◌∙◌, ap, arith, add-zero}
+use Rattle.std.proofs.Common.{◌≡◌, ℕ, ◌+◌, List, [], ◌∷◌, length, drop, Option, Some, None, IsSomeAnd, true, false, IsTrue, Result, refl, sym, ◌∙◌, ap, arith, add-zero}
 use Rattle.cap_bytes.specs.Items.{stop_where, given, stopped, items_by_stop}
 use Rattle.cap_bytes.specs.Reader.{State, Keeps}
 use Rattle.cap_bytes.specs.Window.{State as WindowState, Passes, coming}
 use Rattle.cap_bytes.specs.declared.faults.Fault.{Fault}
-use Rattle.cap_bytes.specs.declared.faults.Fault.TheVariants.{Refused, Read, Write, Memory}
 use Rattle.cap_bytes.specs.declared.faults.Rule.{Rule}
 use Rattle.cap_bytes.specs.declared.faults.Tail.{Tail}
 use Rattle.cap_bytes.specs.declared.stops.Stop.{Stop}
-use Rattle.cap_bytes.specs.declared.stops.Stop.TheVariants as stops
 use Rattle.cap_bytes.proofs.Readers.{Stands, Stands-here, Gives-seen, GivesStop-seen, waits_kept, stop_kept}
 use Rattle.cap_bytes.proofs.Readers as readers
 use Rattle.cap_bytes.proofs.Parsing.{coming-passed, from_none, from_some}
-use Rattle.cap_pcap.specs.Reader.{ReadsHeader, HasHeader, GivesHeader, packet_of, GivesRecord, GivesNext, KeepsItems, TakesItem, items_at, items_of, state_of, IsInOrder, MayGoOn}
+use Rattle.cap_pcap.specs.Reader.{HasHeader, GivesHeader, packet_of, GivesRecord, GivesNext, KeepsItems, TakesItem, items_at, items_of, state_of, IsInOrder, MayGoOn}
 use Rattle.cap_pcap.specs.Parsing.{SeesHeader}
 use Rattle.cap_pcap.specs.Split.{header_fault, header_at, record_fault, stop_at, record_at, frame_at, file_items}
 use Rattle.cap_pcap.specs.declared.headers.PcapHeader.{PcapHeader}
@@ -24,12 +22,7 @@ use Rattle.cap_pcap.proofs.Spelling.{SpellsHeader-at, Reads-spelled}
 -- before there is a header, nothing is given
 pub unread : (P : Option PcapHeader → Option ℕ → Option Stop → Type 0) (known : Option PcapHeader) (captured : Option ℕ) (stop : Option Stop)
     → known ≡ None → IsInOrder known captured stop → MayGoOn stop → P None None None → P known captured stop
-unread P None None None none order free p = p
-unread P None (Some n) None none order free p = absurd (cc)
-unread P None captured (Some stops.End) none order free p = absurd (order.1 tt)
-unread P None captured (Some stops.Cut) none order free p = absurd (order.1 tt)
-unread P None captured (Some (stops.Refused refusal)) none order free p = absurd free
-unread P (Some header) captured stop none order free p = absurd (cc)
+unread P known captured stop none order free p = grind arith
 
 -- the header is seen, and passed
 pub HasHeader-seen : (w v u : WindowState) (tail : Tail) (header : PcapHeader) → SeesHeader header w v → Passes 24 v u
@@ -55,8 +48,7 @@ HasHeader-seen w v u tail header s p =
 header_ends : (a : Option PcapHeader) (tail : Tail) (file offset : ℕ) (bytes : List ℕ) (fault : Option Rule) (stop : Stop) → a ≡ None
     → header_fault offset bytes ≡ fault → stop_where false tail file offset bytes fault ≡ Some stop → items_at a tail file offset bytes ≡ stopped stop ∷ []
 unfolding file_items stop_where
-header_ends a tail file offset bytes None stop unknown is h = absurd (cc)
-header_ends a tail file offset bytes (Some rule) stop unknown is h = rw (unknown, is) (cc)
+header_ends a tail file offset bytes fault stop unknown is h = grind arith
 
 -- and of one whose header isn't
 header_items : (s t : Option Stop) (a b : Option PcapHeader) (tail tail' : Tail) (file file' offset offset' : ℕ) (bytes bytes' : List ℕ) (header : PcapHeader)
@@ -64,30 +56,17 @@ header_items : (s t : Option Stop) (a b : Option PcapHeader) (tail tail' : Tail)
     → header_fault offset bytes ≡ None → header ≡ header_at bytes → bytes' ≡ drop 24 bytes
     → items_by_stop t (items_at b tail' file' offset' bytes') ≡ items_by_stop s (items_at a tail file offset bytes)
 unfolding file_items
-header_items s t a b tail tail' file file' offset offset' bytes bytes' header ss ts aa bb e f o whole is l =
-    rw (ss, ts, aa, bb, e, f, o, l, whole, is) refl
+header_items s t a b tail tail' file file' offset offset' bytes bytes' header ss ts aa bb e f o whole is l = cc
 
 -- the header leaves the items to come
 header_kept : (old new : State PcapHeader) (header : PcapHeader) (known : Option PcapHeader) → old.known ≡ known → HasHeader header old new
     → Keeps old new → IsTrue old.told → items_of new ≡ items_of old
-header_kept old new header (Some first) is h k t =
-    ap items_of (from_some old.known first (λ first. (header ≡ first) × (new ≡ old)) is h.again).1
-header_kept old new header None is h k t =
-    let first = from_none old.known (ReadsHeader header old new) is h.first in
-    header_items old.stop new.stop old.known new.known old.tail new.tail old.file new.file old.offset new.offset old.coming new.coming header
-    first.gives.goes.stop first.gives.stop is h.header_known k.tail k.file first.gives.next (first.whole t) (first.header_is t) (first.gives.coming_next t)
+header_kept old new header known is h k t = grind (arith, from_some, from_none, header_items)
 
 -- What `header` answers tells what it does to the items to come.
 pub KeepsItems_header : (old new : State PcapHeader) (result : Result PcapHeader Fault) → GivesHeader old result new → Keeps old new → IsTrue old.told
     → KeepsItems (items_of old) result (items_of new)
-KeepsItems_header old new (Ok header) h k t = header_kept old new header old.known refl h k t
-KeepsItems_header old new (Err (Refused refusal)) g k t =
-    stop_kept items_at false (header_fault old.offset old.coming) old new
-    (λ free stop is. header_ends old.known old.tail old.file old.offset old.coming (header_fault old.offset old.coming) stop (from_none old.stop _ free g.1) refl is)
-    (stops.Refused refusal) old.stop refl g.0 t
-KeepsItems_header old new (Err (Read file offset)) b k t = tt
-KeepsItems_header old new (Err Memory) w k t = waits_kept items_at 24 old new w.0 k t
-KeepsItems_header old new (Err Write) h k t = absurd h
+KeepsItems_header old new result h k t = grind (arith, header_kept, stop_kept, header_ends, from_none, waits_kept)
 
 -- the items where something ends the records
 ended_items : (a : Option PcapHeader) (header : PcapHeader) (tail : Tail) (file offset : ℕ) (bytes : List ℕ) → a ≡ Some header → (stop : Stop)
@@ -101,8 +80,7 @@ given_items : (s t : Option Stop) (a b : Option PcapHeader) (tail tail' : Tail) 
     → bytes' ≡ drop (16 + r.captured) bytes
     → items_by_stop s (items_at a tail file offset bytes) ≡ given r frame ∷ items_by_stop t (items_at b tail' file' offset' bytes')
 unfolding record_at
-given_items s t a b tail tail' file file' offset offset' bytes bytes' header r frame ss ts aa ba e f o none is frame_is l =
-    rw (ss, ts, ba, aa, e, f, o, l, frame_is, is) (items_from-record header tail file offset bytes none)
+given_items s t a b tail tail' file file' offset offset' bytes bytes' header r frame ss ts aa ba e f o none is frame_is l = grind (arith, items_from-record)
 
 record_taken : (header : PcapHeader) (old new : State PcapHeader) (r : Record) (frame : Option (List ℕ)) → new.lent ≡ frame → old.known ≡ Some header
     → GivesRecord header old r new → Keeps old new → IsTrue old.told → IsSomeAnd frame (λ bytes. items_of old ≡ given r bytes ∷ items_of new)

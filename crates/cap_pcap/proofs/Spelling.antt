@@ -1,5 +1,5 @@
 -- What the bytes of a header or a record that isn't refused spell, and the other way round.
-use Rattle.std.proofs.Common.{◌≡◌, ℕ, ◌+◌, ◌-◌, ◌*◌, ◌%◌, ◌^◌, ◌≤◌, List, length, take, drop, Bool, true, false, refl, sym, ◌∙◌, ap, subst, arith, length-drop, length-take, length-take-le, if◌then◌else◌, ◌==◌, ◌||◌}
+use Rattle.std.proofs.Common.{◌≡◌, ℕ, ◌+◌, ◌-◌, ◌*◌, ◌%◌, ◌^◌, ◌≤◌, List, length, take, drop, Bool, true, refl, sym, ◌∙◌, ap, arith, length-drop, length-take, length-take-le, ◌||◌}
 use Rattle.std.proofs.lemmas.Bool.Decides.{nat_tests}
 use Rattle.std.proofs.lemmas.List.{drop-take}
 use Rattle.cap_bytes.specs.Number.{number}
@@ -7,30 +7,16 @@ use Rattle.cap_bytes.specs.declared.numbers.Order.{Order}
 use Rattle.cap_bytes.specs.declared.numbers.Order.TheVariants.{Big, Little}
 use Rattle.cap_time.specs.Unit.{in_second}
 use Rattle.cap_time.specs.declared.stamps.Unit.{Unit as Fraction}
-use Rattle.cap_time.specs.declared.stamps.Unit.TheVariants.{Micro, Nano}
 use Rattle.cap_pcap.specs.Grammar.{magic_of, SpellsHeader, Packet, packet_size, SpellsRecord}
 use Rattle.cap_pcap.specs.Reader.{packet_of}
 use Rattle.cap_pcap.specs.Split.{is_magic, order_at, unit_at, header_at, captured_at, record_at, frame_at}
 use Rattle.cap_bytes.proofs.Spelling.{number-drop_take}
 use Rattle.cap_pcap.proofs.Faults.{Fits, FitsHeader}
 
--- the magic of a unit, by the unit that it tells
-magic_told : (first second : Bool) (n : ℕ) → (n == magic_of Micro) ≡ first → (n == magic_of Nano) ≡ second → (first || second) ≡ true
-    → n ≡ magic_of (if (n == magic_of Micro) then Micro else Nano)
-magic_told true second n is_first is_second one = rw is_first (grind (arith, nat_tests))
-magic_told false true n is_first is_second one = rw is_first (grind (arith, nat_tests))
-magic_told false false n is_first is_second one = absurd (cc)
-
 -- the magic of a header that isn't refused, in the order in which it reads
 magic_there : (big little : Bool) (bytes : List ℕ) → is_magic Big bytes ≡ big → is_magic Little bytes ≡ little → (big || little) ≡ true
     → number (order_at bytes) 4 bytes ≡ magic_of (unit_at (order_at bytes) bytes)
-magic_there true little bytes is_big is_little one =
-    subst (λ (o : Order). number o 4 bytes ≡ magic_of (unit_at o bytes)) (sym (ap (λ (b : Bool). if b then Big else Little) is_big))
-    (magic_told _ _ (number Big 4 bytes) refl refl is_big)
-magic_there false true bytes is_big is_little one =
-    subst (λ (o : Order). number o 4 bytes ≡ magic_of (unit_at o bytes)) (sym (ap (λ (b : Bool). if b then Big else Little) is_big))
-    (magic_told _ _ (number Little 4 bytes) refl refl is_little)
-magic_there false false bytes is_big is_little one = absurd (cc)
+magic_there big little bytes is_big is_little one = grind arith
 
 -- a header that isn't refused is spelled by its bytes
 pub SpellsHeader-at : (offset : ℕ) (bytes : List ℕ) → FitsHeader offset bytes → SpellsHeader (header_at bytes) (take 24 bytes)

@@ -24,15 +24,11 @@ length-spelled order unit p a s = omega (arith, s.size, ap length s.frame, lengt
 
 -- packets with the same parts
 same_packet : (p q : Packet) → p.units ≡ q.units → p.original ≡ q.original → p.frame ≡ q.frame → p ≡ q
-same_packet p q units original frame =
-    let packet = λ (u o : ℕ) (f : List ℕ). let x : Packet = record { units = u; original = o; frame = f } in x in
-    ap (λ u. packet u p.original p.frame) units ∙ (ap (λ o. packet q.units o p.frame) original ∙ ap (packet q.units q.original) frame)
+same_packet p q units original frame = grind arith
 
 -- one spelling, one packet
 same_spelling : (order : Order) (unit : Fraction) (p q : Packet) (a b : List ℕ) → SpellsRecord order unit p a → SpellsRecord order unit q b → a ≡ b → p ≡ q
-same_spelling order unit p q a b s t same =
-    let r = subst (λ l. SpellsRecord order unit q l) (sym same) t in
-    same_packet p q (s.units ∙ sym r.units) (s.original ∙ sym r.original) (s.frame ∙ sym r.frame)
+same_spelling order unit p q a b s t same = grind arith
 
 pub one_record-law : OneRecord
 one_record-law order unit p q a b x y s t whole =
@@ -54,8 +50,7 @@ one_record-law order unit p q a b x y s t whole =
 moved : (order : Order) (unit : Fraction) (offset : ℕ) (bytes : List ℕ) (p q : Packet) (qs : List Packet) (s : List ℕ) → p ≡ q
     → Splits order unit (offset + packet_size q) (drop (packet_size q) bytes) qs s
     → Splits order unit (offset + packet_size p) (drop (packet_size p) bytes) qs s
-moved order unit offset bytes p q qs s same rest =
-    subst (λ (x : Packet). Splits order unit (offset + packet_size x) (drop (packet_size x) bytes) qs s) (sym same) rest
+moved order unit offset bytes p q qs s same rest = grind arith
 
 pub one_split-law : OneSplit
 one_split-law order unit offset bytes [] [] r s a b = (refl, sym a.0 ∙ b.0)
@@ -111,10 +106,7 @@ pub items_from-spelled : (header : PcapHeader) (tail : Tail) (file offset : ℕ)
     → SpellsRecord header.order header.unit p (take (packet_size p) bytes) → offset + packet_size p ≤ 2 ^ 40
     → items_from header tail file offset bytes
     ≡ given (record_of offset p) p.frame ∷ items_from header tail file (offset + packet_size p) (drop (packet_size p) bytes)
-items_from-spelled header tail file offset bytes p s limit =
-    let reads = Reads-spelled header.order header.unit offset p bytes s limit in
-    items_from-record header tail file offset bytes (stop_at-fits header.order tail file offset bytes reads.fits)
-    ∙ rw (reads.record_is, reads.frame_is, reads.captured) refl
+items_from-spelled header tail file offset bytes p s limit = grind (arith, Reads-spelled, items_from-record, stop_at-fits)
 
 pub split_items-law : SplitItems
 split_items-law header tail file offset bytes [] rest split =

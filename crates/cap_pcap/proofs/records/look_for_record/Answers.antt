@@ -1,23 +1,14 @@
 use Rattle.std.proofs.Common.{arith}
-use Rattle.std.proofs.lemmas.Bool.Decides.{nat_tests}
 use Rattle.std.proofs.lemmas.Result.{err_from_is_err_and}
 use Rattle.cap_pcap.proofs.Faults.{record_fault-short}
 use Rattle.cap_pcap.proofs.Looking.{SeesStop-none, SeesStop-cut, SeesStop-broken, SeesStop-second, SeesRecord-second, FailsBy-second}
 use Rattle.cap_pcap.proofs.records.look_for_record.Goals as goal
 
 pub returns-then-is_empty-clause-answer : goal.returns-then-is_empty-clause-answer
-returns-then-is_empty-clause-answer g c =
-    let e = rw c.bytes.ensures at c.if-is_empty.ensures in
-    SeesStop-none c.args.header c.args.tail c.args.window.now c.need.new.self
-    (rw c.if-not-branch.true at c.in_ok-need.ensures.answer) (grind (arith, nat_tests))
+returns-then-is_empty-clause-answer g c = grind (arith, SeesStop-none)
 
 pub returns-else-is_empty-clause-answer : goal.returns-else-is_empty-clause-answer
-returns-else-is_empty-clause-answer g c =
-    let n = rw c.if-not-branch.true at c.in_ok-need.ensures.answer in
-    let e = rw c.bytes.ensures at c.if-is_empty.ensures in
-    rw (c.by.ensures, c.file-file.ensures, c.offset-offset.ensures.value)
-    (SeesStop-cut c.args.header c.args.tail c.args.window.now c.need.new.self n.0 n.2 (grind (arith, nat_tests))
-    (record_fault-short c.args.header.order c.args.window.now.offset c.need.new.self.shown n.1))
+returns-else-is_empty-clause-answer g c = grind (arith, SeesStop-cut, record_fault-short)
 
 pub returns-in-Err-clause-answer : goal.returns-in-Err-clause-answer
 returns-in-Err-clause-answer g c =
@@ -27,13 +18,7 @@ returns-in-Err-clause-answer g c =
     (SeesStop-broken c.args.header c.args.tail c.args.window.now c.need.new.self c.in-Err.rule n.0 (omega (arith, n.1)) e.0 e.1)
 
 pub returns-in_err-need-2-clause-answer : goal.returns-in_err-need-2-clause-answer
-returns-in_err-need-2-clause-answer g c =
-    let n = rw c.if-not-branch.false at c.in_ok-need.ensures.answer in
-    let e = rw c.bytes-2.ensures at c.in-Ok.ensures in
-    let p = err_from_is_err_and c.from_residual-in_err-need-2.result c.from_residual-in_err-need-2.ensures.1 in
-    rw (p.1, p.2)
-    (FailsBy-second c.args.header c.args.tail c.args.window.now c.need.new.self c.need-2.new.self c.in-Ok.size
-    n.0 c.in_ok-need.ensures.keeps n.1 e.0 e.1 c.in_err-need-2.field-0.0 c.in_err-need-2.ensures.answer)
+returns-in_err-need-2-clause-answer g c = grind (arith, err_from_is_err_and, FailsBy-second)
 
 pub returns-then-not-branch-2-clause-answer : goal.returns-then-not-branch-2-clause-answer
 returns-then-not-branch-2-clause-answer g c =
