@@ -1,11 +1,9 @@
 -- What holds where a tally has looked at a packet.
-use Rattle.std.proofs.Common.{◌≡◌, ℕ, ◌+◌, ◌*◌, ◌≤◌, ◌<◌, ◌^◌, Bool, true, false, List, [], ◌∷◌, ◌++◌, length, refl, sym, ◌∙◌, ap, subst, arith, Option, Some, None}
-use Rattle.std.specs.Option.{option_map, option_map_or}
+use Rattle.std.proofs.Common.{◌≡◌, ℕ, ◌+◌, ◌*◌, ◌≤◌, ◌<◌, ◌^◌, Bool, true, false, List, [], ◌∷◌, ◌++◌, length, sym, ◌∙◌, ap, subst, arith, Option, Some, None}
+use Rattle.std.specs.Option.{option_map_or}
 use Rattle.std.specs.Prelude.{if◌then◌else◌}
 use Rattle.cap_ip.specs.Header.{HeaderFields}
 use Rattle.cap_ip.specs.Transport.{transport_of}
-use Rattle.cap_ip.specs.declared.transports.Transport.{Transport}
-use Rattle.cap_ip.specs.declared.transports.Transport.TheVariants as transport
 use Rattle.cap_join.specs.ByteMap.{completes}
 use Rattle.cap_join.specs.Fragments.{Piece}
 use Rattle.cap_join.specs.Groups.{IsDatagramOf}
@@ -19,35 +17,26 @@ use Rattle.cap_join.specs.declared.datagrams.Stamped.{Stamped}
 use Rattle.cap_talks.specs.Talks.Rows.{TalksState, frames_in, bytes_in, is_refused, talk_limit}
 use Rattle.cap_talks.specs.Talks.Rows as talks
 use Rattle.cap_talks.specs.Talks.{frames_of, bytes_of, key_of, rows_of}
-use Rattle.cap_talks.specs.Talks.Units.{ends_of, timed_frame}
 use Rattle.cap_talks.specs.declared.talks.units.CountedUnit.{CountedUnit}
-use Rattle.cap_talks.specs.declared.talks.units.TimedFrame.{TimedFrame}
-use Rattle.cap_talks.proofs.TalkLemmas.RowSums.{frames_in-more}
 use Rattle.cap_time.specs.declared.stamps.Stamp.{Stamp}
 use Rattle.cap_talks.proofs.Frames.{frames-counted}
 use Rattle.cap_talks.proofs.Steps.{one-class}
 use Rattle.cap_talks.proofs.Tallying.{unit-waiting, enough-waiting, Stands-joined, state, unit-is, Stands-plain, Stands-datagram, Stands-kept, Stands-waiting}
 use Rattle.cap_talks.specs.Talks.Adding.{datagram_unit, datagram_class, is_over}
 use Rattle.cap_join.specs.Completed.{if_complete, completed_of}
-use Rattle.cap_talks.specs.Classes.{group_class, is_class, class_of, classes, counts_of, sum_of, times}
+use Rattle.cap_talks.specs.Classes.{class_of, sum_of}
 use Rattle.cap_talks.specs.Taken.{Taken, Look, plain, datagram, fragment, look, stamped_of, events_with, events_of}
 use Rattle.std.specs.Prelude.{Err}
 use Rattle.cap_talks.specs.declared.tallies.TallyFault.{TallyFault}
-use Rattle.cap_talks.specs.Tallies.{LimitBy, TallyState, Joins, Stands, IsSoundTally, Fits, Looks, one_if, counted_one, with_frames, with_group}
-use Rattle.cap_talks.specs.CountedUnits.{counted_in, first_unit, unit_of, whole_unit, unit_at, listed, units_of, is_limit_at}
+use Rattle.cap_talks.specs.Tallies.{LimitBy, TallyState, Stands, IsSoundTally, Fits, Looks, one_if, counted_one, with_frames, with_group}
+use Rattle.cap_talks.specs.CountedUnits.{counted_in, first_unit, whole_unit, unit_at, listed, units_of, is_limit_at}
 use Rattle.cap_talks.specs.declared.classes.Class.{Class}
 use Rattle.cap_talks.specs.declared.classes.Class.TheVariants as class
 use Rattle.cap_talks.specs.declared.classes.ClassCounts.{ClassCounts}
 
 -- no datagram waits: then it doesn't matter what comes next
 pub unwaited : (t : TallyState) (xs : List Taken) (old next : Option Taken) → t.waiting ≡ None → Stands t xs old → Stands (state t.place t.classes t.joined t.talks t.joiner None) xs next
-unwaited t xs old next none h = record {
-  place = h.place;
-  classes = h.classes;
-  joined = h.joined;
-  talks = h.talks;
-  joins = subst (λ (w : Option Datagram). Joins w t.joiner xs old) none h.joins;
-}
+unwaited t xs old next none h = grind arith
 
 -- the seven counts are the packets'
 pub sum-taken : (t : TallyState) (xs : List Taken) (next : Option Taken) → Stands t xs next → sum_of t.classes ≡ t.place
@@ -61,9 +50,7 @@ frames-taken t xs next sums h =
 
 fit : (place joined : ℕ) (counts other : ClassCounts) (t : TalksState) (j : JoinerState) (w : Option Datagram) (xs : List Taken) (next : Option Taken) → w ≡ None → other ≡ counts
     → Stands (state place counts joined t j None) xs next → Stands (state place other joined t j w) xs next
-fit place joined counts other t j w xs next none same h =
-    subst (λ (v : Option Datagram). Stands (state place other joined t j v) xs next) (sym none)
-    (subst (λ (n : ClassCounts). Stands (state place n joined t j None) xs next) (sym same) h)
+fit place joined counts other t j w xs next none same h = grind arith
 
 no_fits : (w : Option Datagram) (place : ℕ) → w ≡ None → Fits w place
 no_fits w place none = subst (λ (v : Option Datagram). Fits v place) (sym none) tt
@@ -148,9 +135,7 @@ module _ (t : TallyState) (x : Taken) (none : t.waiting ≡ None) where
     module _ (unfinished : (es : List Event) → joiners.StandsFor t.joiner es → completes (joined_pieces x.clock (p t.place) (state_of open_limit es)) ≡ false)
         (counts : ClassCounts) (same : counts ≡ with_frames class.Unjoined 1 t.classes) where
       not-yet : (xs : List Taken) (old : Option Taken) → Stands t xs old → completes (joined_pieces x.clock (p (length xs)) (state_of open_limit (events_of xs))) ≡ false
-      not-yet xs old h =
-          subst (λ (n : ℕ). completes (joined_pieces x.clock (p n) (state_of open_limit (events_of xs))) ≡ false) h.place
-          (unfinished (events_of xs) (unwaited t xs old (Some x) none h).joins)
+      not-yet xs old h = grind arith
 
       kept : (xs : List Taken) (old next : Option Taken) → Stands t xs old → Stands (record t { place = t.place + 1; classes = counts; joiner = k }) (x ∷ xs) next
       kept xs old next h =
@@ -186,31 +171,13 @@ module _ (t : TallyState) (x : Taken) (none : t.waiting ≡ None) where
       looks-waiting = λ xs h. waits xs (Some x) h
 
       pub sound-waiting : IsSoundTally t → k.next ≤ t.place + 1 → Fits (Some d) t.place → IsSoundTally (record t { joiner = k; waiting = Some d })
-      sound-waiting s next fits = record {
-        taken = s.taken;
-        next = Some x;
-        stands = waits s.taken s.next s.stands;
-        few = s.few;
-        places = next;
-        bytes = s.bytes;
-        fits = fits;
-      }
+      sound-waiting s next fits = search (waits)
 
 -- ---- numbers of a whole datagram
 
-whole_numbers : (protocol bytes source destination : ℕ) (first last : Option TimedFrame) (t : Transport) → bytes < 2 ^ 32
-    → (frames_of (listed (option_map (unit_of protocol 1 bytes first last) (ends_of source destination t))) ≤ 1)
-    × (bytes_of (listed (option_map (unit_of protocol 1 bytes first last) (ends_of source destination t)))
-    ≤ frames_of (listed (option_map (unit_of protocol 1 bytes first last) (ends_of source destination t))) * 2 ^ 32)
-whole_numbers protocol bytes source destination first last (transport.Ports a b) h = (omega arith, omega (arith, h))
-whole_numbers protocol bytes source destination first last transport.NoPorts h = (omega arith, omega (arith, h))
-whole_numbers protocol bytes source destination first last transport.Bad h = (omega arith, omega arith)
-whole_numbers protocol bytes source destination first last transport.Cut h = (omega arith, omega arith)
-
 pub numbers-whole : (header : HeaderFields) (captured : List ℕ) (s : Stamped) → s.original < 2 ^ 32
     → (frames_of (listed (whole_unit header captured s)) ≤ 1) × (bytes_of (listed (whole_unit header captured s)) ≤ frames_of (listed (whole_unit header captured s)) * 2 ^ 32)
-numbers-whole header captured s h =
-    whole_numbers header.key.protocol s.original header.key.source header.key.destination _ _ (transport_of header.key.protocol captured header.data_length) h
+numbers-whole header captured s h = grind arith
 
 -- ---- answers
 
@@ -226,9 +193,7 @@ joined-of put d ps is h = subst (λ (q : Put). IsAnswer q ps) is h
 -- ---- a datagram that waits
 
 events-few : (l : Look) (clock : Option Stamp) (es : List Event) → length (events_with l clock es) ≤ length es + 1
-events-few (plain c) clock es = omega arith
-events-few (datagram header captured) clock es = omega arith
-events-few (fragment p) clock es = omega arith
+events-few l clock es = grind arith
 
 events-taken : (xs : List Taken) → length (events_of xs) ≤ length xs
 unfolding events_of
@@ -236,15 +201,7 @@ events-taken [] = omega arith
 events-taken (x ∷ xs) = omega (arith, events-few (look (length xs) x) x.clock (events_of xs), events-taken xs)
 
 counted-more : (ps : List Piece) (groups : List (List Piece)) → counted_in (if_complete ps ++ groups) ≤ counted_in groups + 1
-counted-more ps groups = by (completes ps) (is_class class.Counted (group_class ps))
-  where
-    by : (b c : Bool) → counted_in ((if b then ps ∷ [] else []) ++ groups) ≤ counted_in groups + 1
-    by true c = one (is_class class.Counted (group_class ps))
-      where
-        one : (c : Bool) → (if c then 1 else 0) + counted_in groups ≤ counted_in groups + 1
-        one true = omega arith
-        one false = omega arith
-    by false c = omega arith
+counted-more ps groups = grind arith
 
 counted-few : (limit : ℕ) (es : List Event) → counted_in (completed_of limit es) ≤ length es
 unfolding completed_of
@@ -255,21 +212,10 @@ counted-few limit (flushes key ∷ es) = omega (arith, counted-few limit es)
 pub joined-taken : (t : TallyState) (xs : List Taken) (next : Option Taken) → Stands t xs next → t.joined ≤ t.place
 joined-taken t xs next h = omega (arith, h.joined, h.place, counted-few open_limit (events_of xs), events-taken xs)
 
-unit_numbers : (protocol frames bytes source destination : ℕ) (first last : Option TimedFrame) (t : Transport) → bytes ≤ frames * 2 ^ 32
-    → (frames_of (listed (option_map (unit_of protocol frames bytes first last) (ends_of source destination t))) ≤ frames)
-    × (bytes_of (listed (option_map (unit_of protocol frames bytes first last) (ends_of source destination t)))
-    ≤ frames_of (listed (option_map (unit_of protocol frames bytes first last) (ends_of source destination t))) * 2 ^ 32)
-unit_numbers protocol frames bytes source destination first last (transport.Ports a b) h = (omega arith, omega (arith, h))
-unit_numbers protocol frames bytes source destination first last transport.NoPorts h = (omega arith, omega (arith, h))
-unit_numbers protocol frames bytes source destination first last transport.Bad h = (omega arith, omega arith)
-unit_numbers protocol frames bytes source destination first last transport.Cut h = (omega arith, omega arith)
-
 pub numbers-joined : (d : Datagram) → d.bytes ≤ d.frames * 2 ^ 32
     → (frames_of (listed (datagram_unit d)) ≤ d.frames) × (bytes_of (listed (datagram_unit d)) ≤ frames_of (listed (datagram_unit d)) * 2 ^ 32)
 unfolding datagram_unit
-numbers-joined d h =
-    unit_numbers d.header.key.protocol d.frames d.bytes d.header.key.source d.header.key.destination (timed_frame d.first) (timed_frame d.last)
-    (transport_of d.header.key.protocol d.payload.items (length d.payload.items)) h
+numbers-joined d h = grind arith
 
 pub waiting-state : (t : TallyState) (d : Datagram) (xs : List Taken) (next : Option Taken) → t.waiting ≡ Some d → Stands t xs next
     → Stands (state t.place t.classes t.joined t.talks t.joiner (Some d)) xs next

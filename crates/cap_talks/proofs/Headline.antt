@@ -1,13 +1,12 @@
 -- The report over files that are read.
-use Rattle.std.proofs.Common.{◌≡◌, ℕ, zero, suc, ◌+◌, ◌||◌, Bool, true, false, List, [], length, map, IsTrue, IsOkUnless, Option, Some, None, Result, Ok, Err, refl, sym, ap, ◌∙◌, subst, arith}
-use Rattle.std.specs.Prelude.{if◌then◌else◌, ⊤}
+use Rattle.std.proofs.Common.{◌≡◌, ℕ, zero, suc, ◌+◌, Bool, List, [], length, map, IsTrue, IsOkUnless, Some, None, Result, Err, refl, sym, ap, ◌∙◌, subst, arith}
+use Rattle.std.specs.Prelude.{if◌then◌else◌}
 use Rattle.std.specs.List.{list_all, list_any, range_with_len}
 use Rattle.std.proofs.lemmas.List.{length-map}
 use Rattle.cap_bytes.specs.Device.{Writer, WriterKeeps}
 use Rattle.cap_bytes.specs.Printing.{Prints, is_write}
 use Rattle.cap_bytes.specs.declared.faults.Fault.{Fault}
 use Rattle.cap_bytes.specs.declared.faults.Fault.TheVariants.{Refused, Read, Write, Memory}
-use Rattle.cap_bytes.specs.declared.faults.Refusal.{Refusal}
 use Rattle.cap_bytes.specs.declared.faults.Tail.{Tail}
 use Rattle.cap_merge.proofs.Unread.{told-readers, bytes-readers, Fails-merged}
 use Rattle.cap_merge.specs.Files.{clocked_run, endings_of_files}
@@ -16,7 +15,6 @@ use Rattle.cap_merge.specs.Readers.{Reader, IsUnreadRun}
 use Rattle.cap_source.specs.Feed.{Feed}
 use Rattle.cap_source.specs.ReadFaults.{FailsOf}
 use Rattle.cap_source.specs.Walk.{Walks}
-use Rattle.cap_source.specs.declared.feeds.Ending.{Ending}
 use Rattle.cap_talks.specs.Reporting.{TookAll, TakesAll}
 use Rattle.cap_talks.specs.ReportText.{text_of, taken_after, refusal_after, report_text, report_refusal}
 use Rattle.cap_talks.specs.Stepping.{TableState, TableStands, endings_so_far}
@@ -47,12 +45,7 @@ module _ {A : Type 0} (reader : A → Reader) (tail : Tail) (sources : List A) (
 
   endings-are : (new : TableState) → ((file : ℕ) → (feed_of new.parts).endings file ≡ (feed_of old.parts).endings file)
       → (feed_of new.parts).endings ≡ endings_of_files tail (map (λ s. (reader s).bytes) sources)
-  endings-are new same = λ i file. at file i
-    where
-      at : (file : ℕ) → (feed_of new.parts).endings file ≡ endings_of_files tail (map (λ s. (reader s).bytes) sources) file
-      at file =
-          same file ∙ ap (λ q. (feed_of q).endings file) b.parts ∙ b.unread.endings file
-          ∙ ap (λ l. endings_of_files tail l file) (bytes-readers reader sources)
+  endings-are new same = grind (arith, bytes-readers)
 
   -- all packets were taken: the report is written
   pub tells-report : (new : TableState) (held out : List ℕ) (result : Result (Unit {0}) Fault) (t : IsTrue (list_all (λ s. (reader s).told) sources))
@@ -86,25 +79,8 @@ module _ {A : Type 0} (reader : A → Reader) (tail : Tail) (sources : List A) (
 
 -- no read fails as the report is written
 pub fails-none : (count : ℕ) (can_fail : Bool) (result : Result (Unit {0}) Fault) → IsOkUnless result Write → FailsOf count can_fail result
-fails-none count can_fail (Ok x) fault = tt
-fails-none count can_fail (Err (Refused r)) fault = tt
-fails-none count can_fail (Err (Read file offset)) fault = absurd (cc)
-fails-none count can_fail (Err Write) fault = tt
-fails-none count can_fail (Err Memory) fault = tt
+fails-none count can_fail result fault = grind arith
 
 -- nothing is written as packets are taken
 pub writer-same : (w : Writer) (old new : TableState) (fault : Fault) → TakesAll old (Err fault) new → WriterKeeps w (is_write {A = Unit {0}} (Err fault)) w
-writer-same w old new fault takes = by fault takes
-  where
-    or-false : (b : Bool) → b ≡ (b || false)
-    or-false true = refl
-    or-false false = refl
-
-    untouched : WriterKeeps w false w
-    untouched = record { told = λ t. t; failed = or-false w.failed; can = λ t. absurd (cc); cannot = λ c. c }
-
-    by : (fault : Fault) → TakesAll old (Err fault) new → WriterKeeps w (is_write {A = Unit {0}} (Err fault)) w
-    by (Refused r) takes = untouched
-    by (Read file offset) takes = untouched
-    by Write takes = absurd takes
-    by Memory takes = untouched
+writer-same w old new fault takes = grind arith

@@ -1,18 +1,17 @@
 -- In a run clocks never fall, places rise, and no fragment is a whole datagram by itself.
-use Rattle.std.proofs.Common.{◌≡◌, ℕ, ◌+◌, ◌/◌, ◌≤◌, ◌<◌, Bool, true, false, List, [], ◌∷◌, length, refl, sym, ◌∙◌, ap, subst, arith, cond, ◌&&◌, ◌||◌, not, true≢false, Option, Some, None, Ordering, Less, Equal, Greater}
-use Rattle.std.specs.Prelude.{nat_lt, ◌==◌, if◌then◌else◌, map}
+use Rattle.std.proofs.Common.{◌≡◌, ℕ, ◌+◌, ◌≤◌, ◌<◌, Bool, true, false, List, [], ◌∷◌, length, refl, sym, ap, arith, ◌||◌, not, true≢false, Option, Some, None, Ordering}
+use Rattle.std.specs.Prelude.{◌==◌, if◌then◌else◌, map}
 use Rattle.std.specs.Option.{option_map_or}
 use Rattle.std.specs.Ordering.{is_lt, is_gt, ordering_reverse}
 use Rattle.std.proofs.lemmas.Bool.Decides.{nat_tests}
-use Rattle.cap_ip.specs.Fields.{header_length, is_fragment, more_fragments, offset, data_length}
+use Rattle.cap_ip.specs.Fields.{is_fragment, more_fragments, offset, data_length}
 use Rattle.cap_ip.specs.Header.{HeaderFields}
-use Rattle.cap_ip.specs.Read.{Reading, found, bad, cut, read_of, fields_of, fragment_of, data_of, ended, is_malformed, is_overstated, is_misfit, is_partial}
+use Rattle.cap_ip.specs.Read.{Reading, found, bad, cut, read_of, fields_of, fragment_of, ended}
 use Rattle.cap_ip.specs.declared.headers.Fragment.{Fragment}
-use Rattle.cap_join.specs.ByteMap.{completes, covers_below, is_covered, holds, blocks, total_of}
+use Rattle.cap_join.specs.ByteMap.{completes, covers_below, holds, blocks}
 use Rattle.cap_join.proofs.Grouping.{covers_below-some}
 use Rattle.cap_join.specs.Fragments.{Piece, piece_of, end_of}
 use Rattle.cap_join.specs.declared.datagrams.Stamped.{Stamped}
-use Rattle.cap_link.specs.Links.{network_of, is_whole}
 use Rattle.cap_link.specs.Seen.{Carried, ipv4, other_link, not_ipv4, short, cut as ends}
 use Rattle.cap_join.specs.Frames.{is_before}
 use Rattle.cap_join.specs.Joiners.{open_limit}
@@ -29,7 +28,7 @@ use Rattle.cap_talks.proofs.Recount.{place_of}
 use Rattle.cap_talks.specs.Classes.{classes, classes_in}
 use Rattle.cap_talks.specs.InOrder.{ByPlaces}
 use Rattle.cap_talks.specs.ReportText.{with_item, taken_after}
-use Rattle.cap_talks.specs.Taken.{Taken, events_with, events_of, Look, plain, datagram, fragment, look_by, look_in, look_at, look, stamped_of}
+use Rattle.cap_talks.specs.Taken.{Taken, events_with, events_of, Look, plain, datagram, fragment, look_by, look_in, look_at, look}
 
 -- a fragment after which more follow, or that doesn't begin at 0
 lone : (p : Piece) → (p.more || not (p.start == 0)) ≡ true → completes (p ∷ []) ≡ false
@@ -45,59 +44,15 @@ lone p h = by p.more (p.start == 0) refl h
         covers_below-some (p ∷ []) (blocks (end_of p)) 0 (omega (arith, far)) (ap (λ (b : Bool). b || false) out)
 
 -- what was found is what the bytes spell
-found_by : (a b c d e f : Bool) (w : Bool) (h k : HeaderFields) (x y : List ℕ)
-    → (if a then (if w then bad else cut) else (if b then bad else (if c then (if w then bad else cut) else (if d then bad else (if e then bad else (if f then cut else found k y)))))) ≡ found h x
-    → k ≡ h
-found_by true b c d e f true h k x y g = absurd (clash g)
-  where
-    clash : bad ≡ found h x → ⊥
-    clash e = cc
-found_by true b c d e f false h k x y g = absurd (clash g)
-  where
-    clash : cut ≡ found h x → ⊥
-    clash e = cc
-found_by false true c d e f w h k x y g = absurd (clash g)
-  where
-    clash : bad ≡ found h x → ⊥
-    clash e = cc
-found_by false false true d e f true h k x y g = absurd (clash g)
-  where
-    clash : bad ≡ found h x → ⊥
-    clash e = cc
-found_by false false true d e f false h k x y g = absurd (clash g)
-  where
-    clash : cut ≡ found h x → ⊥
-    clash e = cc
-found_by false false false true e f w h k x y g = absurd (clash g)
-  where
-    clash : bad ≡ found h x → ⊥
-    clash e = cc
-found_by false false false false true f w h k x y g = absurd (clash g)
-  where
-    clash : bad ≡ found h x → ⊥
-    clash e = cc
-found_by false false false false false true w h k x y g = absurd (clash g)
-  where
-    clash : cut ≡ found h x → ⊥
-    clash e = cc
-found_by false false false false false false w h k x y g = cc
-
 found_fields : (bytes : List ℕ) (whole : Bool) (h : HeaderFields) (x : List ℕ) → read_of bytes whole ≡ found h x → fields_of bytes ≡ h
 unfolding read_of ended
-found_fields bytes whole h x g =
-    found_by (nat_lt (length bytes) 20) (is_malformed bytes) (nat_lt (length bytes) (header_length bytes)) (is_overstated bytes whole) (is_misfit bytes) (is_partial bytes) whole h (fields_of bytes) x (data_of bytes) g
+found_fields bytes whole h x g = grind arith
 
 -- a fragment that was found has MF set, or doesn't begin at 0
 part_by : (bytes : List ℕ) (f : Fragment) (b : Bool) → is_fragment bytes ≡ b
     → (if b then Some (record { start = offset bytes; length = data_length bytes; more = more_fragments bytes }) else None) ≡ Some f → (f.more || not (f.start == 0)) ≡ true
 unfolding is_fragment
-part_by bytes f true e g =
-    let same : record { start = offset bytes; length = data_length bytes; more = more_fragments bytes } ≡ f = cc in
-    ap (λ (k : Fragment). k.more || not (k.start == 0)) (sym same) ∙ e
-part_by bytes f false e g = absurd (clash g)
-  where
-    clash : None ≡ Some f → ⊥
-    clash e = cc
+part_by bytes f b e g = grind arith
 
 part : (bytes : List ℕ) (f : Fragment) → fragment_of bytes ≡ Some f → (f.more || not (f.start == 0)) ≡ true
 unfolding fragment_of
@@ -110,11 +65,7 @@ IsPart (fragment p) = completes (p ∷ []) ≡ false
 
 part_of-by : (o : Option Fragment) (bytes : List ℕ) (h : HeaderFields) (x : List ℕ) (s : Stamped) → fields_of bytes ≡ h → h.fragment ≡ o → IsPart (look_by o h x s)
 unfolding fields_of piece_of IsPart
-part_of-by None bytes h x s e g = tt
-part_of-by (Some f) bytes h x s e g =
-    lone (piece_of h x s)
-    (ap (λ (k : Option Fragment). option_map_or (λ v. v.more) k false || not (option_map_or (λ v. v.start) k 0 == 0)) g
-    ∙ part bytes f (ap (λ (k : HeaderFields). k.fragment) e ∙ g))
+part_of-by o bytes h x s e g = grind (arith, lone, part)
 
 part_in : (r : Reading) (bytes : List ℕ) (whole : Bool) (s : Stamped) → read_of bytes whole ≡ r → IsPart (look_in r s)
 unfolding IsPart
@@ -132,15 +83,12 @@ part_at ends whole s = tt
 
 pub no-lone : (place : ℕ) (x : Taken) (p : Piece) → look place x ≡ fragment p → completes (p ∷ []) ≡ false
 unfolding look IsPart
-no-lone place x p is =
-    subst IsPart is (part_at (network_of x.meta.interface.link x.frame x.meta.original) (is_whole x.frame x.meta.original) (stamped_of place x.meta))
+no-lone place x p is = grind (arith, part_at)
 
 -- ---- the events of a run are in order
 
 turned_by : (r s : Ordering) → r ≡ ordering_reverse s → is_gt s ≡ false → is_lt r ≡ false
-turned_by r Less e h = ap is_lt e
-turned_by r Equal e h = ap is_lt e
-turned_by r Greater e h = absurd (true≢false h)
+turned_by r s e h = grind arith
 
 not_before : (a b : Option Stamp) → AtMost b a → is_before a b ≡ false
 not_before a b h = turned_by (clock_cmp a b) (clock_cmp b a) (clock_total.antisymm a b) h
@@ -170,9 +118,7 @@ record Ordered (xs : List Taken) (clock : Option Stamp) : Type 0 where
 
 ordered-more : (x : Taken) (xs : List Taken) (clock : Option Stamp) → AtMost clock x.clock → Ordered xs clock → Ordered (x ∷ xs) x.clock
 unfolding events_of
-ordered-more x xs clock rises o =
-    let m = one_more x xs clock rises o.order o.late o.below (look (length xs) x) refl in
-    record { order = m.0; late = m.1; below = omega (arith, m.2) }
+ordered-more x xs clock rises o = grind (arith, one_more)
 
 ordered-item : (c clock : Option Stamp) (i : Item) (xs : List Taken) → AtMost clock c → Ordered xs clock → Ordered (with_item c i xs) c
 ordered-item c clock (packet meta frame) xs rises o = ordered-more (record { clock = c; meta = meta; frame = frame }) xs clock rises o

@@ -1,19 +1,17 @@
 -- Taking all packets of a run, one by one.
-use Rattle.std.proofs.Common.{◌≡◌, ℕ, ◌+◌, ◌≤◌, ◌<◌, Bool, true, false, List, [], ◌∷◌, length, refl, sym, ◌∙◌, ap, subst, arith, true≢false, Option, Some, None, Result, Ok, Err, IsTrue, inl, inr}
-use Rattle.std.specs.Prelude.{if◌then◌else◌, ◌⊎◌}
+use Rattle.std.proofs.Common.{◌≡◌, ℕ, Bool, true, false, List, [], ◌∷◌, length, refl, sym, ◌∙◌, ap, arith, true≢false, Option, Some, None, Ok, Err, IsTrue, inl, inr}
+use Rattle.std.specs.Prelude.{if◌then◌else◌}
 use Rattle.cap_bytes.specs.declared.faults.Fault.{Fault}
 use Rattle.cap_bytes.specs.declared.faults.Fault.TheVariants.{Refused, Read, Write, Memory}
 use Rattle.cap_bytes.specs.declared.faults.Refusal.{Refusal}
-use Rattle.cap_source.proofs.Onward.{Went, Went-none, Keeps-trans, Lasts-trans, Lasts-goes, Walks-behind, Walks-head}
-use Rattle.cap_source.specs.Walk.{Walks}
+use Rattle.cap_source.proofs.Onward.{Went, Went-none, Keeps-trans, Lasts-trans, Lasts-goes}
 use Rattle.cap_merge.specs.Parts.{feed_of, run_of}
 use Rattle.cap_merge.specs.Run.{Clocked}
-use Rattle.cap_source.specs.Feed.{Item, packet, refused}
-use Rattle.cap_talks.specs.Files.Lines.{or_else}
+use Rattle.cap_source.specs.Feed.{Item, refused}
 use Rattle.cap_time.specs.declared.stamps.Stamp.{Stamp}
 use Rattle.cap_talks.specs.ReportText.{refusal_at, taken_after, refusal_after}
 use Rattle.cap_talks.specs.Reporting.{TookAll, TakesAll}
-use Rattle.cap_talks.specs.Stepping.{clocked, TableState, TableStands, StepKeeps, Takes, Ends, RefusedNext, RefusedHere, Fails, WaitsAgain, Steps, IsMore}
+use Rattle.cap_talks.specs.Stepping.{clocked, TableState, TableStands, StepKeeps, Takes, Steps, IsMore}
 use Rattle.cap_talks.specs.Taken.{Taken}
 use Rattle.cap_talks.specs.CountedUnits.{is_limit_at}
 use Rattle.cap_talks.specs.declared.tables.Step.{Step}
@@ -44,8 +42,7 @@ Reporting-begin t = record {
 refusal-packet : (xs : List Taken) (x : Taken) (run : List (Clocked Item)) (b : Bool) → is_limit_at xs x ≡ b
     → refusal_after xs (clocked x ∷ run) ≡ (if b then Some (refusal_at x.meta) else refusal_after (x ∷ xs) run)
 unfolding refusal_after
-refusal-packet xs x run true is = ap (λ (c : Bool). or_else (if c then Some (refusal_at x.meta) else None) (refusal_after (x ∷ xs) run)) is
-refusal-packet xs x run false is = ap (λ (c : Bool). or_else (if c then Some (refusal_at x.meta) else None) (refusal_after (x ∷ xs) run)) is
+refusal-packet xs x run b is = grind arith
 
 taken-packet : (xs : List Taken) (x : Taken) (run : List (Clocked Item)) → taken_after xs (clocked x ∷ run) ≡ taken_after (x ∷ xs) run
 unfolding taken_after
@@ -86,47 +83,15 @@ pub Reporting-more : (old mid new : TableState) (step : Step) (b : Bool) → Rep
 Reporting-more old mid new steps.Took b p k t m is = more old mid new p k t
 Reporting-more old mid new steps.Done b p k t m is = absurd (clash (sym is ∙ m))
 
-pub left-more : (mid new : TableState) (step : Step) (b : Bool) → Steps mid (Ok step) new → IsMore step b → b ≡ true → (feed_of new.parts).left < (feed_of mid.parts).left
-left-more mid new steps.Took b t m is = t.left
-left-more mid new steps.Done b t m is = absurd (clash (sym is ∙ m))
-
 pub TakesAll-end : (old mid new : TableState) (step : Step) (b : Bool) → Reporting old mid → StepKeeps mid new → Steps mid (Ok step) new → IsMore step b → b ≡ false → TookAll old new
 TakesAll-end old mid new steps.Took b p k t m is = absurd (clash (sym m ∙ is))
-TakesAll-end old mid new steps.Done b p k t m is = record {
-  known = t.known;
-  done = t.done;
-  files = k.files ∙ p.files;
-  endings = λ h file. (t.same (p.went.keeps.told h)).endings file ∙ p.endings h file;
-  free = λ h s. p.refusal h s ∙ ap (refusal_after p.taken) (t.run (p.went.keeps.told h)) ∙ refusal-none p.taken;
-  stands = λ h s.
-      subst (TableStands new) (sym (p.text h ∙ ap (taken_after p.taken) (t.run (p.went.keeps.told h)) ∙ taken-none p.taken)) (t.stands p.taken (p.stands s));
-}
+TakesAll-end old mid new steps.Done b p k t m is = grind (arith, refusal-none, taken-none)
 
 pub TakesAll-fault : (old mid new : TableState) (fault : Fault) → Reporting old mid → Steps mid (Err fault) new → TakesAll old (Err fault) new
-TakesAll-fault old mid new (Refused r) p (inl t) = λ h s.
-    let one = t.run (p.went.keeps.told h) in
-    p.refusal h s ∙ ap (refusal_after p.taken) one.1 ∙ refusal-refused p.taken one.0 r
+TakesAll-fault old mid new (Refused r) p (inl t) = grind (arith, refusal-refused)
 TakesAll-fault old mid new (Refused r) p (inr t) = λ h s.
     p.refusal h s ∙ ap (refusal_after p.taken) (t.run (p.went.keeps.told h))
     ∙ refusal-packet p.taken t.item _ true (t.limit p.taken (p.stands s)) ∙ ap Some (sym t.is)
 TakesAll-fault old mid new (Read file offset) p t = tt
 TakesAll-fault old mid new Write p t = absurd t
 TakesAll-fault old mid new Memory p t = tt
-
--- a fault is one of the feeds as the walk over them has it
-step-walks : (mid new : TableState) (fault : Fault) → Steps mid (Err fault) new → Walks {A = Unit {0}} (feed_of mid.parts) (Err fault) (feed_of new.parts)
-step-walks mid new (Refused r) (inl t) = t.goes
-step-walks mid new (Refused r) (inr t) = t.goes
-step-walks mid new (Read file offset) t = Walks-head (feed_of mid.parts) (feed_of new.parts) (Read file offset) t.breaks
-step-walks mid new Write t = absurd t
-step-walks mid new Memory t = Lasts-goes (feed_of mid.parts) (feed_of new.parts) t.goes
-
-pub Walks-faulty : (old mid new : TableState) (fault : Fault) → Reporting old mid → Steps mid (Err fault) new → Walks {A = Unit {0}} (feed_of old.parts) (Err fault) (feed_of new.parts)
-Walks-faulty old mid new fault p t =
-    Walks-behind {A = Unit {0}} (feed_of old.parts) (feed_of mid.parts) (feed_of new.parts) (Err fault) p.went.keeps p.went.lasts (step-walks mid new fault t)
-
-pub Walks-done : (old mid new : TableState) (step : Step) (b : Bool) → Reporting old mid → Steps mid (Ok step) new → IsMore step b → b ≡ false
-    → Walks {A = Unit {0}} (feed_of old.parts) (Ok tt) (feed_of new.parts)
-Walks-done old mid new steps.Took b p t m is = absurd (clash (sym m ∙ is))
-Walks-done old mid new steps.Done b p t m is =
-    Walks-behind {A = Unit {0}} (feed_of old.parts) (feed_of mid.parts) (feed_of new.parts) (Ok tt) p.went.keeps p.went.lasts (t.known, t.goes)

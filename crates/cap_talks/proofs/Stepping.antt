@@ -1,26 +1,24 @@
 -- One step of a table.
-use Rattle.std.proofs.Common.{◌≡◌, ℕ, ◌+◌, ◌≤◌, ◌<◌, Bool, true, false, List, [], ◌∷◌, length, drop, map, refl, sym, ◌∙◌, ap, subst, arith, cond, ◌&&◌, true≢false, Option, Some, None, Result, Ok, Err, IsTrue, inl, inr}
-use Rattle.std.specs.Prelude.{is_some, if◌then◌else◌, IfSome, IfOk}
+use Rattle.std.proofs.Common.{◌≡◌, ℕ, ◌≤◌, Bool, true, false, List, [], ◌∷◌, drop, map, refl, sym, ◌∙◌, ap, subst, ◌&&◌, true≢false, Option, Some, None, Err, IsTrue, inl}
+use Rattle.std.specs.Prelude.{is_some, if◌then◌else◌, IfSome}
 use Rattle.std.specs.List.{range_with_len}
 use Rattle.cap_bytes.specs.declared.faults.Fault.{Fault}
 use Rattle.cap_bytes.specs.declared.faults.Fault.TheVariants.{Refused, Read, Write, Memory}
 use Rattle.cap_bytes.specs.declared.faults.Refusal.{Refusal}
 use Rattle.cap_join.specs.declared.datagrams.Datagram.{Datagram}
 use Rattle.cap_join.specs.Joiners.{JoinerState}
-use Rattle.cap_merge.specs.Merge.{LearnsBy, LearnsAll, AsksAll}
+use Rattle.cap_merge.specs.Merge.{LearnsBy, LearnsAll}
 use Rattle.cap_merge.specs.Parts.{Part, feed_of, run_of, clock_of, known_of, is_known, head_by, first_of, BeginsAt, KeepsRun}
 use Rattle.cap_merge.specs.Run.{Clocked}
-use Rattle.cap_source.specs.Feed.{Feed, Item, packet, refused, Keeps, Leads, IsFeed, SameItems, Knows, GivesHead, KeepsItems, IsPacket, IsPacketOf, IfPacket, HasFile}
+use Rattle.cap_source.specs.Feed.{Feed, Item, packet, refused, Leads, IsFeed, GivesHead, KeepsItems, IsPacket, IsPacketOf, IfPacket, HasFile}
 use Rattle.cap_source.specs.declared.feeds.Head.{Head}
 use Rattle.cap_source.specs.declared.feeds.Head.TheVariants as heads
 use Rattle.cap_source.specs.declared.packets.Meta.{Meta}
 use Rattle.cap_time.specs.declared.stamps.Stamp.{Stamp}
-use Rattle.cap_talks.specs.Stepping.{next_by, next_taken, clocked, TableState, TableStands, SameRun, Steps, AnswersAgain}
+use Rattle.cap_talks.specs.Stepping.{next_by, next_taken, TableStands, Steps}
 use Rattle.cap_talks.specs.Taken.{Taken}
 use Rattle.cap_talks.specs.Files.Totals.{TotalsState}
-use Rattle.cap_talks.specs.declared.tables.Step.{Step}
-use Rattle.cap_talks.specs.declared.tables.Step.TheVariants as steps
-use Rattle.cap_talks.specs.Tallies.{TallyState, WaitsFor, Joins, Stands}
+use Rattle.cap_talks.specs.Tallies.{TallyState, Joins, Stands}
 
 -- ---- what was known stays
 
@@ -145,54 +143,6 @@ first-asked ps qs x asks is = by (feed_of ps).known refl
     by (Some head) e = out (next_taken ps) (ap next_taken (sym (all_known ps qs asks (known-some ps head e))) ∙ is)
 
 -- ---- the end and a refusal come again
-
-again-none : (known : Option Head) (result : Result Step Fault) → known ≡ None → AnswersAgain known result
-again-none known result is = subst (λ (k : Option Head). AnswersAgain k result) (sym is) tt
-
-pub again-fault : (old new : Feed) (fault : Fault) (result : Result Step Fault) → GivesHead old (Err fault) new → AnswersAgain old.known result
-again-fault old new (Refused r) result h = absurd h
-again-fault old new (Read file offset) result h = again-none old.known result h.before
-again-fault old new Write result h = absurd h
-again-fault old new Memory result h = again-none old.known result h.before
-
-pub again-packet : (old new : Feed) (meta : Meta) (result : Result Step Fault) → Knows old (heads.Packet meta) new → AnswersAgain old.known result
-again-packet old new meta result k = by old.known k.again
-  where
-    by : (known : Option Head) → IfSome known (λ first. (heads.Packet meta ≡ first) × (new ≡ old)) → AnswersAgain known result
-    by None again = tt
-    by (Some (heads.Packet m)) again = tt
-    by (Some (heads.Refused r)) again = absurd (clash again.0)
-      where
-        clash : heads.Packet meta ≡ heads.Refused r → ⊥
-        clash e = cc
-    by (Some heads.End) again = absurd (clash again.0)
-      where
-        clash : heads.Packet meta ≡ heads.End → ⊥
-        clash e = cc
-
-pub again-refused : (old new : Feed) (refusal : Refusal) → Knows old (heads.Refused refusal) new → AnswersAgain old.known (Err (Refused refusal))
-again-refused old new refusal k = by old.known k.again
-  where
-    by : (known : Option Head) → IfSome known (λ first. (heads.Refused refusal ≡ first) × (new ≡ old)) → AnswersAgain known (Err (Refused refusal))
-    by None again = tt
-    by (Some (heads.Packet m)) again = tt
-    by (Some (heads.Refused r)) again = cc
-    by (Some heads.End) again = absurd (clash again.0)
-      where
-        clash : heads.Refused refusal ≡ heads.End → ⊥
-        clash e = cc
-
-pub again-end : (old new : Feed) → Knows old heads.End new → AnswersAgain old.known (Ok steps.Done)
-again-end old new k = by old.known k.again
-  where
-    by : (known : Option Head) → IfSome known (λ first. (heads.End ≡ first) × (new ≡ old)) → AnswersAgain known (Ok steps.Done)
-    by None again = tt
-    by (Some (heads.Packet m)) again = tt
-    by (Some (heads.Refused r)) again = absurd (clash again.0)
-      where
-        clash : heads.End ≡ heads.Refused r → ⊥
-        clash e = cc
-    by (Some heads.End) again = refl
 
 -- ---- what the table stands for
 

@@ -1,7 +1,6 @@
 -- What one packet more makes of the classes of those before it.
-use Rattle.std.proofs.Common.{◌≡◌, ℕ, ◌+◌, ◌≤◌, ◌<◌, Bool, true, false, List, [], ◌∷◌, ◌++◌, length, refl, sym, ◌∙◌, ap, subst, arith, cond, Option, Some, None}
+use Rattle.std.proofs.Common.{◌≡◌, ℕ, ◌+◌, ◌≤◌, Bool, true, false, List, [], ◌∷◌, ◌++◌, length, refl, sym, ◌∙◌, ap, subst, arith}
 use Rattle.std.specs.Prelude.{if◌then◌else◌, map}
-use Rattle.std.proofs.lemmas.List.{length-map}
 use Rattle.cap_ip.specs.Header.{HeaderFields}
 use Rattle.cap_ip.specs.Transport.{transport_of}
 use Rattle.cap_join.specs.ByteMap.{completes}
@@ -10,8 +9,8 @@ use Rattle.cap_join.specs.History.{arrives, joined_pieces, state_of}
 use Rattle.cap_join.specs.Joiners.{open_limit}
 use Rattle.cap_join.proofs.Once.{once}
 use Rattle.cap_talks.proofs.Recount.{looks, here, hits, place_of, here_few, here_once, comes_here, present, hits_all, unjoined, classes_looks, some_of, recount}
-use Rattle.cap_talks.specs.Classes.{class_of, class_by, class_in, classes, classes_in, counts_of, group_class, groups_of, has_place, is_class, sum_of, times, OneClass}
-use Rattle.cap_join.specs.Completed.{if_complete, completed_of, occurs, occurs_in, occurs_open, comes}
+use Rattle.cap_talks.specs.Classes.{class_of, class_by, class_in, classes, classes_in, counts_of, group_class, groups_of, has_place, sum_of, times, OneClass}
+use Rattle.cap_join.specs.Completed.{completed_of, occurs, occurs_in}
 use Rattle.cap_talks.specs.Taken.{Taken, Look, plain, datagram, fragment, look, events_with, events_of}
 use Rattle.cap_talks.specs.declared.classes.Class.{Class}
 use Rattle.cap_talks.specs.declared.classes.Class.TheVariants as class
@@ -20,9 +19,7 @@ use Rattle.cap_talks.specs.declared.classes.Class.TheVariants as class
 classes-are : (x : Taken) (xs : List Taken) (l : Look) → look (length xs) x ≡ l
     → classes (x ∷ xs) ≡ map (class_by (completed_of open_limit (events_with l x.clock (events_of xs)))) (l ∷ looks xs)
 unfolding classes events_of
-classes-are x xs l is =
-    classes_looks (groups_of (x ∷ xs)) (x ∷ xs)
-    ∙ ap (λ (k : Look). map (class_by (completed_of open_limit (events_with k x.clock (events_of xs)))) (k ∷ looks xs)) is
+classes-are x xs l is = grind (arith, classes_looks, looks)
 
 classes-before : (xs : List Taken) → classes xs ≡ map (class_by (groups_of xs)) (looks xs)
 unfolding classes
@@ -99,13 +96,7 @@ module _ (x : Taken) (xs : List Taken) (p : Piece) (is : look (length xs) x ≡ 
 -- ---- one class each
 
 sum-more : (k : Class) (cs : List Class) → sum_of (counts_of (k ∷ cs)) ≡ 1 + sum_of (counts_of cs)
-sum-more class.OtherLink cs = omega arith
-sum-more class.NotIpv4 cs = omega arith
-sum-more class.Short cs = omega arith
-sum-more class.Cut cs = omega arith
-sum-more class.Bad cs = omega arith
-sum-more class.Unjoined cs = omega arith
-sum-more class.Counted cs = omega arith
+sum-more k cs = grind arith
 
 pub sum-length : (cs : List Class) → sum_of (counts_of cs) ≡ length cs
 sum-length [] = refl

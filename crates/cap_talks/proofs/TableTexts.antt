@@ -1,13 +1,10 @@
 -- The text of what a table stands for.
-use Rattle.std.proofs.Common.{◌≡◌, ℕ, List, ◌++◌, length, Option, refl, sym, ap, ◌∙◌, append_assoc}
-use Rattle.std.specs.List.{flat_map, range_with_len}
+use Rattle.std.proofs.Common.{arith, ◌≡◌, ℕ, List, ◌++◌, length, Option, refl, ◌∙◌, append_assoc}
 use Rattle.cap_source.specs.declared.feeds.Ending.{Ending}
 use Rattle.cap_talks.specs.Classes.{classes, counts_of}
 use Rattle.cap_talks.specs.CountedUnits.{units_of, joined_in, given_up_in}
 use Rattle.cap_talks.specs.Files.Lines.{files_text, lines_from}
-use Rattle.cap_talks.specs.ReportText.{file_line, files_part, body_text, text_of, total_text, frames_text, joined_text, bytes_of, truncated_of}
-use Rattle.cap_talks.specs.Talks.Rows.{StandsFor}
-use Rattle.cap_talks.specs.Stepping.{TableState, TableStands}
+use Rattle.cap_talks.specs.ReportText.{files_part, body_text, text_of, total_text, frames_text, joined_text, bytes_of, truncated_of}
 use Rattle.cap_talks.specs.Taken.{Taken}
 use Rattle.cap_talks.specs.Talks.{rows_of}
 use Rattle.cap_talks.specs.Talks.Lines.{talk_texts, talks_text}
@@ -20,16 +17,14 @@ use Rattle.cap_talks.proofs.Waiting.{given-up}
 pub files-are : (e : Option (ℕ → Ending)) (t : TotalsState) (xs : List Taken) → TotalsStand t xs
     → files_text (length t.files) ++ lines_from e 1 t.files ≡ files_part (length t.files) e xs
 unfolding files_part
-files-are e t xs s =
-    ap (λ l. files_text (length t.files) ++ l) (ap (lines_from e 1) s.files ∙ lines-counted e xs 1 (length t.files))
+files-are e t xs s = grind (arith, lines-counted)
 
 -- the lines of a tally
 tally-is : (t : TallyState) (xs : List Taken) (next : Option Taken) → Stands t xs next
     → tally_text t
     ≡ frames_text (counts_of (classes xs)) ++ joined_text (joined_in xs) (given_up_in xs) ++ (talks_text (length (rows_of (units_of xs))) ++ talk_texts (rows_of (units_of xs)))
 unfolding tally_text
-tally-is t xs next s = λ i.
-    frames_text (s.classes i) ++ joined_text (s.joined i) (given-up t xs next s i) ++ (talks_text (length (s.talks.rows i)) ++ talk_texts (s.talks.rows i))
+tally-is t xs next s = grind (arith, given-up)
 
 regroup : (a b c d e : List ℕ) → a ++ (b ++ c ++ (d ++ e)) ≡ a ++ b ++ c ++ d ++ e
 regroup a b c d e = simp append_assoc refl

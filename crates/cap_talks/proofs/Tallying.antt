@@ -1,33 +1,26 @@
 -- What a tally stands for, with one packet more.
-use Rattle.std.proofs.Common.{◌≡◌, ℕ, ◌+◌, ◌-◌, ◌*◌, ◌≤◌, ◌<◌, ◌^◌, Bool, true, false, List, [], ◌∷◌, ◌++◌, length, refl, sym, ◌∙◌, ap, subst, arith, cond, Option, Some, None}
-use Rattle.std.specs.Prelude.{if◌then◌else◌, option_and_then}
-use Rattle.std.specs.Option.{option_map, option_map_or}
+use Rattle.std.proofs.Common.{◌≡◌, ℕ, ◌+◌, ◌≤◌, Bool, true, false, List, [], ◌∷◌, ◌++◌, length, refl, sym, ◌∙◌, ap, subst, arith, Option, Some, None}
+use Rattle.std.specs.Prelude.{if◌then◌else◌}
 use Rattle.cap_ip.specs.Header.{HeaderFields}
 use Rattle.cap_ip.specs.Transport.{transport_of}
 use Rattle.cap_ip.specs.declared.transports.Transport.{Transport}
-use Rattle.cap_ip.specs.declared.transports.Transport.TheVariants as transport
-use Rattle.cap_join.specs.ByteMap.{completes, header_of, data_of}
+use Rattle.cap_join.specs.ByteMap.{completes}
 use Rattle.cap_join.specs.Fragments.{Piece}
-use Rattle.cap_join.specs.Frames.{original_bytes, first_frame, last_frame}
 use Rattle.cap_join.specs.Groups.{IsDatagramOf}
 use Rattle.cap_join.specs.History.{arrives, flushes, joined_pieces, state_of}
 use Rattle.cap_join.specs.Joiners.{JoinerState, open_limit}
 use Rattle.cap_join.specs.Joiners as joiners
 use Rattle.cap_join.specs.declared.datagrams.Datagram.{Datagram}
-use Rattle.cap_join.specs.declared.datagrams.Stamped.{Stamped}
 use Rattle.cap_talks.specs.Talks.Rows.{TalksState, is_refused, talk_limit}
 use Rattle.cap_talks.specs.Talks.Rows as talks
-use Rattle.cap_talks.specs.Talks.{key_of, rows_of}
-use Rattle.cap_talks.specs.Talks.Units.{ends_of, timed_frame}
-use Rattle.cap_talks.specs.declared.talks.units.CountedUnit.{CountedUnit}
 use Rattle.cap_talks.proofs.Recount.{some_of}
 use Rattle.cap_talks.proofs.Steps.{classes-plain, classes-datagram, classes-kept, classes-completed}
-use Rattle.cap_talks.specs.Talks.Adding.{datagram_unit, datagram_class, is_over}
-use Rattle.cap_talks.specs.Classes.{class_of, classes, counts_of, group_class, groups_of, is_class, joined_transport, times}
-use Rattle.cap_join.specs.Completed.{if_complete, completed_of}
+use Rattle.cap_talks.specs.Talks.Adding.{datagram_unit, datagram_class}
+use Rattle.cap_talks.specs.Classes.{class_of, classes, counts_of, group_class, groups_of, joined_transport, times}
+use Rattle.cap_join.specs.Completed.{completed_of}
 use Rattle.cap_talks.specs.Taken.{Taken, Look, plain, datagram, fragment, look, stamped_of, events_with, events_of}
-use Rattle.cap_talks.specs.Tallies.{TallyState, WaitsFor, Joins, Stands, counted_one, with_frames, with_group}
-use Rattle.cap_talks.specs.CountedUnits.{unit_of, whole_unit, group_unit, first_unit, unit_by, unit_at, listed, units_of, counted_in, joined_in, is_limit_at}
+use Rattle.cap_talks.specs.Tallies.{TallyState, Stands, counted_one, with_frames, with_group}
+use Rattle.cap_talks.specs.CountedUnits.{whole_unit, group_unit, first_unit, unit_by, unit_at, listed, units_of, counted_in, joined_in}
 use Rattle.cap_talks.specs.declared.classes.Class.{Class}
 use Rattle.cap_talks.specs.declared.classes.Class.TheVariants as class
 use Rattle.cap_talks.specs.declared.classes.ClassCounts.{ClassCounts}
@@ -55,37 +48,15 @@ append-none (x ∷ xs) = ap (λ l. x ∷ l) (append-none xs)
 
 -- ---- counts
 
-same-counts : (a b : ClassCounts) → a.other_link ≡ b.other_link → a.not_ipv4 ≡ b.not_ipv4 → a.short ≡ b.short → a.cut ≡ b.cut → a.bad ≡ b.bad → a.unjoined ≡ b.unjoined
-    → a.counted ≡ b.counted → a ≡ b
-same-counts a b e f g h k l m =
-    λ i. record { other_link = e i; not_ipv4 = f i; short = g i; cut = h i; bad = k i; unjoined = l i; counted = m i }
-
 pub counts-more : (c : Class) (cs : List Class) → counts_of (c ∷ cs) ≡ with_frames c 1 (counts_of cs)
-counts-more class.OtherLink cs = same-counts _ _ (omega arith) (omega arith) (omega arith) (omega arith) (omega arith) (omega arith) (omega arith)
-counts-more class.NotIpv4 cs = same-counts _ _ (omega arith) (omega arith) (omega arith) (omega arith) (omega arith) (omega arith) (omega arith)
-counts-more class.Short cs = same-counts _ _ (omega arith) (omega arith) (omega arith) (omega arith) (omega arith) (omega arith) (omega arith)
-counts-more class.Cut cs = same-counts _ _ (omega arith) (omega arith) (omega arith) (omega arith) (omega arith) (omega arith) (omega arith)
-counts-more class.Bad cs = same-counts _ _ (omega arith) (omega arith) (omega arith) (omega arith) (omega arith) (omega arith) (omega arith)
-counts-more class.Unjoined cs = same-counts _ _ (omega arith) (omega arith) (omega arith) (omega arith) (omega arith) (omega arith) (omega arith)
-counts-more class.Counted cs = same-counts _ _ (omega arith) (omega arith) (omega arith) (omega arith) (omega arith) (omega arith) (omega arith)
+counts-more c cs = grind arith
 
 -- what holds where a group of that many is completed
 abbrev pub Moves : Class → ℕ → List Class → List Class → Type 0
 Moves k n new old = (c : Class) → times c new + some_of c class.Unjoined n ≡ times c (class.Unjoined ∷ old) + some_of c k n
 
 moved_by : (t : Transport) (n : ℕ) (new old : List Class) → Moves (class_of t) n new old → counts_of new ≡ with_group (class_of t) n (counts_of old)
-moved_by (transport.Ports a b) n new old h =
-    same-counts _ _ (omega (arith, h class.OtherLink)) (omega (arith, h class.NotIpv4)) (omega (arith, h class.Short)) (omega (arith, h class.Cut))
-    (omega (arith, h class.Bad)) (omega (arith, h class.Unjoined)) (omega (arith, h class.Counted))
-moved_by transport.NoPorts n new old h =
-    same-counts _ _ (omega (arith, h class.OtherLink)) (omega (arith, h class.NotIpv4)) (omega (arith, h class.Short)) (omega (arith, h class.Cut))
-    (omega (arith, h class.Bad)) (omega (arith, h class.Unjoined)) (omega (arith, h class.Counted))
-moved_by transport.Bad n new old h =
-    same-counts _ _ (omega (arith, h class.OtherLink)) (omega (arith, h class.NotIpv4)) (omega (arith, h class.Short)) (omega (arith, h class.Cut))
-    (omega (arith, h class.Bad)) (omega (arith, h class.Unjoined)) (omega (arith, h class.Counted))
-moved_by transport.Cut n new old h =
-    same-counts _ _ (omega (arith, h class.OtherLink)) (omega (arith, h class.NotIpv4)) (omega (arith, h class.Short)) (omega (arith, h class.Cut))
-    (omega (arith, h class.Bad)) (omega (arith, h class.Unjoined)) (omega (arith, h class.Counted))
+moved_by t n new old h = grind arith
 
 counts-moved : (ps : List Piece) (n : ℕ) (new old : List Class) → Moves (group_class ps) n new old → counts_of new ≡ with_group (group_class ps) n (counts_of old)
 unfolding group_class
@@ -94,13 +65,7 @@ counts-moved ps n new old h = moved_by (joined_transport ps) n new old h
 -- fragments are unjoined before they are moved
 pub enough : (ps : List Piece) (n : ℕ) (new old : List Class) → Moves (group_class ps) n new old → n ≤ times class.Unjoined old + 1
 unfolding group_class
-enough ps n new old h = by (joined_transport ps) h
-  where
-    by : (t : Transport) → Moves (class_of t) n new old → n ≤ times class.Unjoined old + 1
-    by (transport.Ports a b) h = omega (arith, h class.Unjoined)
-    by transport.NoPorts h = omega (arith, h class.Unjoined)
-    by transport.Bad h = omega (arith, h class.Unjoined)
-    by transport.Cut h = omega (arith, h class.Unjoined)
+enough ps n new old h = grind arith
 
 -- ---- the state
 
@@ -179,17 +144,11 @@ module _ (place joined : ℕ) (counts : ClassCounts) (t : TalksState) (j : Joine
 
 pub unit-of-group : (ps : List Piece) (d : Datagram) → IsDatagramOf d ps → group_unit ps ≡ datagram_unit d
 unfolding group_unit datagram_unit
-unit-of-group ps d is =
-    ap (option_and_then (λ h. option_map (unit_of h.key.protocol (length ps) (original_bytes ps) (timed_frame (first_frame ps)) (timed_frame (last_frame ps)))
-    (ends_of h.key.source h.key.destination (transport_of h.key.protocol (data_of ps) (length (data_of ps)))))) is.header
-    ∙ sym (λ i. option_map (unit_of d.header.key.protocol (is.frames i) (is.bytes i) (timed_frame (is.first i)) (timed_frame (is.last i)))
-    (ends_of d.header.key.source d.header.key.destination (transport_of d.header.key.protocol (is.payload i) (length (is.payload i)))))
+unit-of-group ps d is = cc
 
 pub class-of-group : (ps : List Piece) (d : Datagram) → IsDatagramOf d ps → group_class ps ≡ datagram_class d
 unfolding group_class datagram_class
-class-of-group ps d is =
-    ap (λ (o : Option HeaderFields). class_of (option_map_or (λ h. transport_of h.key.protocol (data_of ps) (length (data_of ps))) o transport.Bad)) is.header
-    ∙ sym (λ i. class_of (transport_of d.header.key.protocol (is.payload i) (length (is.payload i))))
+class-of-group ps d is = cc
 
 module _ (place joined : ℕ) (counts : ClassCounts) (t : TalksState) (j : JoinerState) (d : Datagram) (xs : List Taken) (next : Option Taken)
     (h : Stands (state place counts joined t j (Some d)) xs next) where

@@ -1,9 +1,8 @@
 -- What a joined datagram that waits for its conversation leaves room for.
-use Rattle.std.proofs.Common.{◌≡◌, ℕ, ◌+◌, ◌≤◌, true, false, List, ◌∷◌, length, refl, sym, ◌∙◌, ap, subst, arith, Option, Some, None}
+use Rattle.std.proofs.Common.{◌≡◌, ℕ, ◌+◌, ◌≤◌, List, ◌∷◌, length, refl, ◌∙◌, ap, subst, arith, Option}
 use Rattle.cap_join.proofs.Entries.{lengths}
-use Rattle.cap_join.specs.ByteMap.{completes}
 use Rattle.cap_join.specs.Fragments.{Piece}
-use Rattle.cap_join.specs.History.{Event, arrives, joined_pieces, state_of, step}
+use Rattle.cap_join.specs.History.{Event, arrives, state_of, step}
 use Rattle.cap_join.specs.Joiners.{JoinerState, StandsFor, open_limit}
 use Rattle.cap_join.specs.declared.datagrams.Datagram.{Datagram}
 use Rattle.cap_talks.specs.CountedUnits.{given_up_in}
@@ -39,15 +38,13 @@ left-by d j xs next w =
 
 -- no more groups are held than may be open
 groups-by : (w : Option Datagram) (j : JoinerState) (xs : List Taken) (next : Option Taken) → Joins w j xs next → length j.groups + one_if w ≤ open_limit
-groups-by None j xs next h = omega (arith, lengths j.groups _ h.groups, few-open open_limit (events_of xs) (omega arith))
-groups-by (Some d) j xs next h = (left-by d j xs next h).room
+groups-by w j xs next h = grind (arith, lengths, few-open, left-by)
 
 pub groups-few : (t : TallyState) → IsSoundTally t → length t.joiner.groups + one_if t.waiting ≤ open_limit
 groups-few t s = groups-by t.waiting t.joiner s.taken s.next s.stands.joins
 
 given-by : (w : Option Datagram) (j : JoinerState) (xs : List Taken) (next : Option Taken) → Joins w j xs next → j.given_up ≡ given_up_in xs
-given-by None j xs next h = h.given_up
-given-by (Some d) j xs next h = (left-by d j xs next h).given_up
+given-by w j xs next h = grind (arith, left-by)
 
 -- the groups that were given up are those of the packets that were taken
 pub given-up : (t : TallyState) (xs : List Taken) (next : Option Taken) → Stands t xs next → t.joiner.given_up ≡ given_up_in xs

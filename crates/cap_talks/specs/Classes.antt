@@ -1,5 +1,5 @@
 -- The class of each packet of a run, and how many packets of each class there are. Lists have the latest first.
-use Rattle.std.specs.Prelude.{◌≡◌, ℕ, List, [], ◌∷◌, Bool, ◌+◌, ◌==◌, length, if◌then◌else◌, Option, Some, None}
+use Rattle.std.specs.Prelude.{◌≡◌, ℕ, List, [], ◌∷◌, Bool, ◌+◌, ◌==◌, length, if◌then◌else◌}
 use Rattle.std.specs.List.{find, list_any}
 use Rattle.std.specs.Option.{option_map_or}
 use Rattle.cap_ip.specs.Transport.{transport_of}

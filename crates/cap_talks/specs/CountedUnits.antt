@@ -17,7 +17,7 @@ use Rattle.cap_talks.specs.declared.talks.units.CountedUnit.{CountedUnit}
 use Rattle.cap_talks.specs.declared.talks.units.End.{End}
 use Rattle.cap_talks.specs.declared.talks.units.TimedFrame.{TimedFrame}
 use Rattle.cap_time.specs.declared.stamps.Stamp.{Stamp}
-use Rattle.cap_talks.specs.Classes.{group_class, groups_of, joined_transport, is_class}
+use Rattle.cap_talks.specs.Classes.{group_class, groups_of, is_class}
 use Rattle.cap_join.specs.Completed.{if_complete}
 use Rattle.cap_talks.specs.Taken.{Taken, Look, plain, datagram, fragment, look, events_of, stamped_of}
 use Rattle.cap_talks.specs.declared.classes.Class.TheVariants as class

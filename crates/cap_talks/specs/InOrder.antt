@@ -1,5 +1,5 @@
 -- The classes of a run by places.
-use Rattle.std.specs.Prelude.{◌≡◌, List, [], ◌∷◌, map, Option}
+use Rattle.std.specs.Prelude.{◌≡◌, List, [], map}
 use Rattle.cap_join.specs.Joiners.{open_limit}
 use Rattle.cap_join.specs.Places.{marks}
 use Rattle.cap_merge.specs.Parts.{item_time, is_refusal}

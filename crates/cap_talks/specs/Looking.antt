@@ -1,6 +1,5 @@
 -- What a packet is by itself, as it is looked at.
-use Rattle.std.specs.Prelude.{◌≡◌, ℕ, List, length, IsSome, Option, Some, None, ⊤}
-use Rattle.cap_ip.specs.Header.{HeaderFields}
+use Rattle.std.specs.Prelude.{◌≡◌, ℕ, List, length, IsSome, Option, ⊤}
 use Rattle.cap_join.specs.Fragments.{piece_of}
 use Rattle.cap_join.specs.declared.datagrams.Stamped.{Stamped}
 use Rattle.cap_source.specs.declared.packets.Meta.{Meta}

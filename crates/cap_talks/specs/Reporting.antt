@@ -1,5 +1,5 @@
 -- What taking all packets of a run answers.
-use Rattle.std.specs.Prelude.{◌≡◌, ℕ, List, [], Bool, true, IsTrue, Option, Some, None, Result, Ok, Err, ⊤, length}
+use Rattle.std.specs.Prelude.{◌≡◌, ℕ, [], true, IsTrue, Some, None, Result, Ok, Err, ⊤, length}
 use Rattle.cap_bytes.specs.declared.faults.Fault.{Fault}
 use Rattle.cap_bytes.specs.declared.faults.Fault.TheVariants.{Refused, Read, Write, Memory}
 use Rattle.cap_merge.specs.Parts.{feed_of, run_of}

@@ -1,5 +1,5 @@
 -- The report on a few frames, by computation.
-use Rattle.std.specs.Prelude.{◌≡◌, ℕ, ◌*◌, List, [], ◌∷◌, ◌++◌, codes, Option, Some, None, pos, length, false}
+use Rattle.std.specs.Prelude.{◌≡◌, ℕ, ◌*◌, List, [], ◌∷◌, ◌++◌, codes, Some, None, pos, length, false}
 use Rattle.cap_source.specs.Clocks.{microseconds}
 use Rattle.cap_source.specs.declared.feeds.Ending.{Ending}
 use Rattle.cap_source.specs.declared.packets.Format.TheVariants.{Pcap}
@@ -9,7 +9,6 @@ use Rattle.cap_time.specs.declared.resolutions.Interface.{Interface}
 use Rattle.cap_talks.specs.Classes.{classes}
 use Rattle.cap_talks.specs.ReportText.{text_of}
 use Rattle.cap_talks.specs.Taken.{Taken}
-use Rattle.cap_talks.specs.declared.classes.Class.{Class}
 use Rattle.cap_talks.specs.declared.classes.Class.TheVariants.{Bad, Unjoined, Counted}
 
 -- an interface of a link type (LINKTYPE registry): 1 is Ethernet, 101 IP alone

@@ -1,11 +1,9 @@
 -- The packets of a file, counted one by one.
-use Rattle.std.proofs.Common.{◌≡◌, ◌≤◌, ◌<◌, ◌+◌, ◌*◌, ◌^◌, ℕ, cond, nat_lt, List, [], ◌∷◌, ◌++◌, length, drop, refl, sym, ap, ◌∙◌, arith, Option, Some, None, option_map, IsTrue, Ok, Err, append-nil, append_assoc, length-append, Bool, true, false, ◌==◌, ◌||◌, Result, subst}
+use Rattle.std.proofs.Common.{◌≡◌, ◌≤◌, ◌<◌, ◌+◌, ◌*◌, ◌^◌, ℕ, cond, nat_lt, List, [], ◌∷◌, ◌++◌, drop, refl, sym, ap, ◌∙◌, arith, Some, None, option_map, IsTrue, Ok, Err, append-nil, append_assoc, length-append, Bool}
 use Rattle.std.specs.Option.{option_map_or}
 use Rattle.cap_bytes.specs.declared.faults.Fault.{Fault}
-use Rattle.cap_bytes.specs.declared.faults.Fault.TheVariants.{Refused, Read, Write, Memory}
-use Rattle.std.proofs.lemmas.Bool.{eqb-true, false≢true}
 use Rattle.cap_source.proofs.Onward.{Went, Went-none, Went-more}
-use Rattle.cap_source.specs.Feed.{Feed, Item, packet, refused, Keeps, Passes, HasFile, refusal_of}
+use Rattle.cap_source.specs.Feed.{Feed, Item, packet, Keeps, Passes, refusal_of}
 use Rattle.cap_source.specs.ReadFaults.{FailsAs}
 use Rattle.cap_source.specs.Walk.{GivesPacket, ShowsItem, Walks}
 use Rattle.cap_source.specs.declared.packets.Meta.{Meta}
@@ -82,11 +80,7 @@ unfolding refusal_of
 refusal-first meta frame items rest is = ap refusal_of is
 
 one_or_none : (captured original : ℕ) → cond (nat_lt captured original) 1 0 ≤ 1
-one_or_none captured original = by (nat_lt captured original)
-  where
-    by : (b : _) → cond b 1 0 ≤ 1
-    by true = omega arith
-    by false = omega arith
+one_or_none captured original = grind arith
 
 -- one packet more is taken
 pub counted-taken : (old mid shown new : Feed) (counts more : Counts) (meta : Meta) → IsCounted old mid counts → GivesPacket mid (Ok (Some meta)) shown → Keeps mid shown
@@ -119,30 +113,15 @@ counted-taken old mid shown new counts more meta c gives asked shows passed pass
 pub counted-end : (old mid shown : Feed) (counts : Counts) → IsCounted old mid counts → IsTrue old.told
     → (IsTrue mid.told → ShowsItem mid (Ok None) shown) → CountsAll old (Ok counts) shown
 unfolding packets_of refusal_of
-counted-end old mid shown counts c t shows =
-    let s = shows (c.told t) in (
-      sym (c.refusal t) ∙ ap refusal_of s.1,
-      c.counts_is ∙ ap counted (sym (c.packets t ∙ ap (λ l. c.taken ++ packets_of l) s.1 ∙ append-nil c.taken)),
-      λ file. s.0.endings file ∙ c.endings t file,
-    )
+counted-end old mid shown counts c t shows = grind (arith, counted, append-nil)
 
 -- it faults
 pub counted-fault : (fault : Fault) (old mid shown new : Feed) (counts : Counts) → IsCounted old mid counts → IsTrue old.told
     → (IsTrue mid.told → ShowsItem mid (Err fault) shown) → CountsAll old (Err fault) new
 unfolding refusal_of
-counted-fault (Refused refusal) old mid shown new counts c t shows = sym (c.refusal t) ∙ ap refusal_of (shows (c.told t)).1
-counted-fault (Read file offset) old mid shown new counts c t shows = tt
-counted-fault Write old mid shown new counts c t shows = absurd (shows (c.told t))
-counted-fault Memory old mid shown new counts c t shows = tt
+counted-fault fault old mid shown new counts c t shows = grind arith
 
 -- A read of the file of that number fails.
 pub fails-as : (A : Type 0) (old new : Feed) (number : ℕ) (can_fail : Bool) (fault : Fault) → old.files ≡ number ∷ [] → old.can_fail ≡ can_fail
     → Walks {A = Counts} old (Err fault) new → FailsAs {A = A} number can_fail (Err fault)
-fails-as A old new number can_fail (Refused r) files can w = tt
-fails-as A old new number can_fail (Read file offset) files can w = by (number == file) refl (subst (λ l. HasFile l file) files w.of)
-  where
-    by : (b : Bool) → (number == file) ≡ b → (b || false) ≡ true → (file ≡ number) × IsTrue can_fail
-    by true e h = (sym (eqb-true number file e), subst IsTrue can w.can_fail)
-    by false e h = absurd (false≢true h)
-fails-as A old new number can_fail Write files can w = tt
-fails-as A old new number can_fail Memory files can w = tt
+fails-as A old new number can_fail fault files can w = grind arith

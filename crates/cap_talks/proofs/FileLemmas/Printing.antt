@@ -1,14 +1,12 @@
 -- The lines of files, written one by one.
-use Rattle.std.proofs.Common.{◌≡◌, ◌<◌, ◌≤◌, ◌+◌, ℕ, zero, suc, List, [], ◌∷◌, ◌++◌, length, take, drop, get_or, IsTrue, IsOkUnless, refl, sym, ap, ◌∙◌, subst, arith, Option, Some, None, Result, Ok, Err, length-append, take_at, drop_at}
+use Rattle.std.proofs.Common.{◌≡◌, ◌<◌, ◌≤◌, ◌+◌, ℕ, zero, suc, List, [], ◌∷◌, ◌++◌, length, take, drop, get_or, IsTrue, IsOkUnless, refl, sym, ap, ◌∙◌, subst, arith, Option, Some, None, Result, Err, length-append, take_at, drop_at}
 use Rattle.cap_bytes.proofs.Putting.{Putting, Putting-more, Putting-front}
 use Rattle.cap_bytes.specs.Device.{Writer}
 use Rattle.cap_bytes.specs.Printing.{Prints, PrintsFront}
 use Rattle.cap_bytes.specs.declared.faults.Fault.{Fault}
-use Rattle.cap_bytes.specs.declared.faults.Fault.TheVariants.{Refused, Read, Write, Memory}
+use Rattle.cap_bytes.specs.declared.faults.Fault.TheVariants.{Write}
 use Rattle.cap_bytes.specs.declared.faults.Refusal.{Refusal}
 use Rattle.cap_bytes.specs.declared.faults.Tail.{Tail}
-use Rattle.cap_source.specs.Items.{file_items, file_ending}
-use Rattle.cap_talks.specs.Files.Counting.{packets_of, counted}
 use Rattle.cap_talks.specs.Files.Lines.{file_text, files_text, file_texts, info_text, first_refusal}
 use Rattle.cap_talks.specs.Files.Reading.{counted_texts, counted_files, CountsFiles}
 use Rattle.cap_talks.specs.Telling.{Tells}
@@ -58,8 +56,7 @@ lines-front from mid held all place it line n is within text p t wrote =
 -- the lines of what was counted of files are those of the files
 pub texts-counted : (tail : Tail) (file : ℕ) (files : List (List ℕ)) → counted_texts file (counted_files tail file files) ≡ file_texts tail file files
 texts-counted tail file [] = refl
-texts-counted tail file (bytes ∷ files) =
-    ap (λ l. file_text file (counted (packets_of (file_items tail file bytes))) (Some (file_ending tail file bytes)) ++ l) (texts-counted tail (file + 1) files)
+texts-counted tail file (bytes ∷ files) = cc (texts-counted tail (file + 1) files)
 
 files-counted : (tail : Tail) (file : ℕ) (files : List (List ℕ)) → length (counted_files tail file files) ≡ length files
 files-counted tail file [] = refl
@@ -67,22 +64,14 @@ files-counted tail file (bytes ∷ files) = ap suc (files-counted tail (file + 1
 
 pub info-counted : (tail : Tail) (files : List (List ℕ)) (all : List Counted) → all ≡ counted_files tail 1 files
     → files_text (length all) ++ counted_texts 1 all ≡ info_text tail files
-info-counted tail files all is =
-    (λ i. files_text (length (is i)) ++ counted_texts 1 (is i)) ∙ (λ i. files_text (files-counted tail 1 files i) ++ texts-counted tail 1 files i)
+info-counted tail files all is = grind (arith, files-counted, texts-counted)
 
 -- a text that is written after everything that can be refused
 pub tells-printed : (text : List ℕ) (refusal : Option Refusal) (old : List ℕ) (result : Result (Unit {0}) Fault) (new : List ℕ) → refusal ≡ None
     → IsOkUnless result Write → Prints text None old result new → Tells text refusal old result new
-tells-printed text refusal old (Ok x) new none fault p = (none, p.1)
-tells-printed text refusal old (Err (Refused r)) new none fault p = absurd (cc)
-tells-printed text refusal old (Err (Read file offset)) new none fault p = absurd (cc)
-tells-printed text refusal old (Err Write) new none fault p = (none, p)
-tells-printed text refusal old (Err Memory) new none fault p = absurd (cc)
+tells-printed text refusal old result new none fault p = grind arith
 
 -- nothing is written before the files were read
 pub tells-fault : (text : List ℕ) (tail : Tail) (files : List (List ℕ)) (held : List ℕ) (fault : Fault) → CountsFiles tail files (Err fault)
     → Tells text (first_refusal tail 1 files) held (Err fault) held
-tells-fault text tail files held (Refused refusal) e = (e, refl)
-tells-fault text tail files held (Read file offset) e = refl
-tells-fault text tail files held Write e = absurd e
-tells-fault text tail files held Memory e = refl
+tells-fault text tail files held fault e = grind arith

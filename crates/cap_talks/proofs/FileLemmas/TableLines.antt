@@ -1,7 +1,6 @@
 -- The lines of the files of a table, written one by one.
-use Rattle.std.proofs.Common.{◌≡◌, ◌<◌, ◌≤◌, ◌+◌, ◌==◌, ◌||◌, ℕ, zero, suc, Bool, true, false, List, [], ◌∷◌, ◌++◌, length, map, take, drop, get_or, IsTrue, refl, sym, ap, ◌∙◌, subst, arith, Option, Some, None, length-append, take_at, drop_at, true≢false}
+use Rattle.std.proofs.Common.{◌≡◌, ◌<◌, ◌≤◌, ◌+◌, ◌==◌, ◌||◌, ℕ, zero, suc, Bool, List, [], ◌∷◌, ◌++◌, length, take, drop, get_or, IsTrue, refl, sym, ap, ◌∙◌, subst, arith, Option, length-append, take_at, drop_at}
 use Rattle.std.specs.List.{flat_map, list_any, range_with_len}
-use Rattle.std.proofs.lemmas.Bool.Decides.{nat_tests}
 use Rattle.cap_bytes.proofs.Putting.{Putting, Putting-more, Putting-front}
 use Rattle.cap_bytes.specs.Device.{Writer}
 use Rattle.cap_bytes.specs.Printing.{PrintsFront}
@@ -30,8 +29,7 @@ lines-none e (c ∷ all) (suc place) file past = lines-none e all place file (om
 split : (e : Option (ℕ → Ending)) (all : List Counts) (place : ℕ) (it : Counts) (line : List ℕ) → it ≡ get_or all place it → place < length all
     → line ≡ file_text (place + 1) it (ending_at e (place + 1))
     → lines_from e (place + 1) (drop place all) ≡ line ++ lines_from e (place + 1 + 1) (drop (suc place) all)
-split e all place it line is within text =
-    lines-at e all place (place + 1) it is within ∙ ap (λ l. l ++ lines_from e (place + 1 + 1) (drop (suc place) all)) (sym text)
+split e all place it line is within text = grind (arith, lines-at)
 
 -- one line more is written
 pub lines-more : (e : Option (ℕ → Ending)) (from mid to : Writer) (all : List Counts) (place : ℕ) (it : Counts) (line : List ℕ) → it ≡ get_or all place it → place < length all
@@ -63,22 +61,14 @@ lines-front e from mid held all place it line n is within text p t wrote =
 -- a file of that number is one of them
 pub is-numbered : (first count place : ℕ) → place < count → HasFile (range_with_len first count) (first + place)
 is-numbered first zero place within = absurd (omega (arith, within))
-is-numbered first (suc count) zero within = by (first == first + 0) own
-  where
-    own : (first == first + 0) ≡ true
-    own = grind (arith, nat_tests)
-
-    by : (b : Bool) → b ≡ true → IsTrue (b || list_any (λ f. f == first + 0) (range_with_len (first + 1) count))
-    by true e = refl
-    by false e = absurd (true≢false (sym e))
+is-numbered first (suc count) zero within = grind arith
 is-numbered first (suc count) (suc place) within = by (first == first + suc place) (subst (HasFile (range_with_len (first + 1) count)) next (is-numbered (first + 1) count place (omega (arith, within))))
   where
     next : first + 1 + place ≡ first + suc place
     next = omega arith
 
     by : (b : Bool) → HasFile (range_with_len (first + 1) count) (first + suc place) → IsTrue (b || list_any (λ f. f == first + suc place) (range_with_len (first + 1) count))
-    by true h = refl
-    by false h = h
+    by b h = grind arith
 
 -- the lines of what is counted of each file are those of the report
 pub lines-counted : (e : Option (ℕ → Ending)) (xs : List Taken) (first count : ℕ) → lines_from e first (counts_from first count xs) ≡ flat_map (file_line e xs) (range_with_len first count)

@@ -1,7 +1,7 @@
 -- What is counted of each file and of all, packet by packet.
-use Rattle.std.proofs.Common.{◌≡◌, ℕ, zero, suc, ◌+◌, ◌-◌, ◌*◌, ◌^◌, ◌≤◌, ◌<◌, ◌==◌, ◌&&◌, Bool, true, false, List, [], ◌∷◌, ◌++◌, length, map, get_or, nat_lt, Option, None, refl, sym, ap, ◌∙◌, subst, arith, append-nil, length-append, true≢false, cond, take, drop, take_at}
+use Rattle.std.proofs.Common.{rules, ◌≡◌, ℕ, zero, suc, ◌+◌, ◌*◌, ◌^◌, ◌≤◌, ◌<◌, ◌==◌, Bool, true, false, List, [], ◌∷◌, ◌++◌, length, nat_lt, refl, ap, ◌∙◌, arith, append-nil, length-append, drop, take_at}
 use Rattle.std.specs.Prelude.{replicate, slice_set, slice_index_or, if◌then◌else◌}
-use Rattle.std.specs.List.{AllByRecursion, range_with_len, refill}
+use Rattle.std.specs.List.{AllByRecursion, refill}
 use Rattle.std.proofs.lemmas.Bool.Decides.{nat_tests}
 use Rattle.cap_source.specs.declared.packets.Meta.{Meta}
 use Rattle.cap_talks.specs.Files.Counting.{counted, with_packet, original_bytes, truncated_packets}
@@ -27,9 +27,7 @@ other xs x file is = ap (λ (b : Bool). counted (metas_of file xs ++ (if b then 
 -- files of other numbers stay as they are
 apart : (xs : List Taken) (x : Taken) (first count : ℕ) → x.meta.file < first → counts_from first count (x ∷ xs) ≡ counts_from first count xs
 apart xs x first zero below = refl
-apart xs x first (suc count) below =
-    let differs : (x.meta.file == first) ≡ false = grind (arith, nat_tests) in
-    λ i. other xs x first differs i ∷ apart xs x (first + 1) count (omega (arith, below)) i
+apart xs x first (suc count) below = search (rules, apart xs x (first + 1) count (omega (arith, below)))
 
 -- one packet more changes the counts of its file
 pub counts-more : (xs : List Taken) (x : Taken) (first count place : ℕ) → x.meta.file ≡ first + place → place < count
@@ -39,16 +37,13 @@ counts-more xs x first zero place is within = absurd (omega (arith, within))
 counts-more xs x first (suc count) zero is within =
     let same : (x.meta.file == first) ≡ true = grind (arith, nat_tests, is) in
     λ i. own xs x first same i ∷ apart xs x (first + 1) count (omega (arith, is)) i
-counts-more xs x first (suc count) (suc place) is within =
-    let differs : (x.meta.file == first) ≡ false = grind (arith, nat_tests, is) in
-    λ i. other xs x first differs i ∷ counts-more xs x (first + 1) count place (omega (arith, is)) (omega (arith, within)) i
+counts-more xs x first (suc count) (suc place) is within = search (rules, counts-more xs x (first + 1) count place (omega (arith, is)) (omega (arith, within)))
 
 pub counts-at : (xs : List Taken) (first count place : ℕ) → place < count
     → slice_index_or (counts_from first count xs) place (counted []) ≡ counted (metas_of (first + place) xs)
 counts-at xs first zero place within = absurd (omega (arith, within))
 counts-at xs first (suc count) zero within = ap (λ (n : ℕ). counted (metas_of n xs)) (let e : first ≡ first + 0 = omega arith in e)
-counts-at xs first (suc count) (suc place) within =
-    counts-at xs (first + 1) count place (omega (arith, within)) ∙ ap (λ (n : ℕ). counted (metas_of n xs)) (let e : first + 1 + place ≡ first + suc place = omega arith in e)
+counts-at xs first (suc count) (suc place) within = grind (arith, counts-at xs (first + 1) count place (omega (arith, within)))
 
 -- ---- all of them fit
 
@@ -57,11 +52,7 @@ AreShort xs = AllByRecursion (λ x. x.meta.original < 2 ^ 32) xs
 
 metas-few : (file : ℕ) (xs : List Taken) → length (metas_of file xs) ≤ length xs
 metas-few file [] = omega arith
-metas-few file (x ∷ xs) = by (x.meta.file == file) (metas-few file xs)
-  where
-    by : (b : Bool) → length (metas_of file xs) ≤ length xs → length (metas_of file xs ++ (if b then x.meta ∷ [] else [])) ≤ length (x ∷ xs)
-    by true rest = omega (arith, rest, length-append (metas_of file xs) (x.meta ∷ []))
-    by false rest = omega (arith, rest, ap length (append-nil (metas_of file xs)))
+metas-few file (x ∷ xs) = grind (arith, metas-few file xs, length-append, append-nil)
 
 sum-append : (ms bs : List Meta) → original_bytes (ms ++ bs) ≡ original_bytes ms + original_bytes bs
 sum-append [] bs = omega arith
@@ -69,20 +60,11 @@ sum-append (m ∷ ms) bs = omega (arith, sum-append ms bs)
 
 metas-short : (file : ℕ) (xs : List Taken) → AreShort xs → original_bytes (metas_of file xs) ≤ length xs * 2 ^ 32
 metas-short file [] short = omega arith
-metas-short file (x ∷ xs) short = by (x.meta.file == file) (metas-short file xs short.1)
-  where
-    by : (b : Bool) → original_bytes (metas_of file xs) ≤ length xs * 2 ^ 32
-        → original_bytes (metas_of file xs ++ (if b then x.meta ∷ [] else [])) ≤ length (x ∷ xs) * 2 ^ 32
-    by true rest = omega (arith, rest, short.0, sum-append (metas_of file xs) (x.meta ∷ []))
-    by false rest = omega (arith, rest, ap original_bytes (append-nil (metas_of file xs)))
+metas-short file (x ∷ xs) short = grind (arith, metas-short file xs short.1, sum-append, append-nil)
 
 truncated-few : (metas : List Meta) → truncated_packets metas ≤ length metas
 truncated-few [] = omega arith
-truncated-few (m ∷ metas) = by (nat_lt m.captured m.original) (truncated-few metas)
-  where
-    by : (b : Bool) → truncated_packets metas ≤ length metas → (if b then 1 else 0) + truncated_packets metas ≤ length (m ∷ metas)
-    by true rest = omega (arith, rest)
-    by false rest = omega (arith, rest)
+truncated-few (m ∷ metas) = grind (arith, truncated-few metas)
 
 pub bytes-few : (xs : List Taken) → AreShort xs → bytes_of xs ≤ length xs * 2 ^ 32
 bytes-few [] short = omega arith
@@ -90,11 +72,7 @@ bytes-few (x ∷ xs) short = omega (arith, bytes-few xs short.1, short.0)
 
 pub truncated-all : (xs : List Taken) → truncated_of xs ≤ length xs
 truncated-all [] = omega arith
-truncated-all (x ∷ xs) = by (nat_lt (length x.frame) x.meta.original) (truncated-all xs)
-  where
-    by : (b : Bool) → truncated_of xs ≤ length xs → truncated_of xs + (if b then 1 else 0) ≤ length (x ∷ xs)
-    by true rest = omega (arith, rest)
-    by false rest = omega (arith, rest)
+truncated-all (x ∷ xs) = grind (arith, truncated-all xs)
 
 room_by : (counts : Counts) → counts.packets < 2 ^ 45 → counts.bytes ≤ 2 ^ 45 * 2 ^ 32 → counts.truncated < 2 ^ 45 → is_room counts ≡ true
 room_by counts p b t = grind (arith, nat_tests, p, b, t)
@@ -105,14 +83,7 @@ counted-fits metas p b t = room_by (counted metas) p b t
 
 -- one packet more fits into the counts of its file
 pub has-room : (t : TotalsState) → IsSoundTotals t → t.packets < 2 ^ 45 → (place : ℕ) → place < length t.files → is_room (slice_index_or t.files place (counted [])) ≡ true
-has-room t s few place within =
-    let xs = s.taken in
-    let metas = metas_of (1 + place) xs in
-    let is = ap (λ l. slice_index_or l place (counted [])) s.stands.files ∙ counts-at xs 1 (length t.files) place within in
-    let packets = s.stands.packets in
-    subst (λ c. is_room c ≡ true) (sym is)
-    (counted-fits metas (omega (arith, metas-few (1 + place) xs, packets, few)) (omega (arith, metas-short (1 + place) xs s.short, packets, few))
-    (omega (arith, truncated-few metas, metas-few (1 + place) xs, packets, few)))
+has-room t s few place within = grind (arith, counts-at, counted-fits, metas-few, metas-short, truncated-few)
 
 -- the totals with one packet more
 pub stands-more : (t u : TotalsState) (x : Taken) (xs : List Taken) (place : ℕ) → x.meta.file ≡ 1 + place → place < length t.files
@@ -120,14 +91,7 @@ pub stands-more : (t u : TotalsState) (x : Taken) (xs : List Taken) (place : ℕ
     → u.packets ≡ t.packets + 1 → u.bytes ≡ t.bytes + x.meta.original
     → u.truncated ≡ t.truncated + (if nat_lt (length x.frame) x.meta.original then 1 else 0)
     → TotalsStand t xs → TotalsStand u (x ∷ xs)
-stands-more t u x xs place is within files len packets bytes truncated s = record {
-  files =
-      files ∙ ap (λ l. slice_set l place (with_packet (slice_index_or l place (counted [])) x.meta)) s.files
-      ∙ sym (counts-more xs x 1 (length t.files) place is within) ∙ ap (λ n. counts_from 1 n (x ∷ xs)) (sym len);
-  packets = omega (arith, packets, s.packets);
-  bytes = bytes ∙ ap (λ n. n + x.meta.original) s.bytes;
-  truncated = truncated ∙ ap (λ n. n + (if nat_lt (length x.frame) x.meta.original then 1 else 0)) s.truncated;
-}
+stands-more t u x xs place is within files len packets bytes truncated s = grind (arith, counts-more, nat_lt)
 
 -- a list that was written whole through a slice of it
 pub refilled : {A : Type 0} (xs ws : List A) → length ws ≡ length xs → refill (length xs) xs ws ≡ ws
@@ -135,13 +99,7 @@ refilled xs ws e = take_at ws (drop (length ws) xs) (length xs) e
 
 pub sound-more : (t u : TotalsState) (x : Taken) → IsSoundTotals t → ((xs : List Taken) → TotalsStand t xs → TotalsStand u (x ∷ xs))
     → t.packets < 2 ^ 45 → u.packets ≡ t.packets + 1 → x.meta.original < 2 ^ 32 → length u.files ≡ length t.files → IsSoundTotals u
-sound-more t u x s more few packets short files = record {
-  taken = x ∷ s.taken;
-  stands = more s.taken s.stands;
-  few = omega (arith, packets, few);
-  short = (short, s.short);
-  files = omega (arith, files, s.files);
-}
+sound-more t u x s more few packets short files = grind arith
 
 -- the sums with one packet more fit
 pub sum-fits : (t : TotalsState) (n : ℕ) → IsSoundTotals t → t.packets < 2 ^ 45 → n < 2 ^ 32 → t.bytes + n < 2 ^ 128
@@ -151,8 +109,7 @@ pub truncated-fits : (t : TotalsState) (n : ℕ) → IsSoundTotals t → t.packe
 truncated-fits t n s few one = omega (arith, truncated-all s.taken, s.stands.truncated, s.stands.packets, few, one)
 
 pub at-most-one : (b : Bool) (n : ℕ) → n ≡ (if b then 1 else 0) → n ≤ 1
-at-most-one true n is = omega (arith, is)
-at-most-one false n is = omega (arith, is)
+at-most-one b n is = grind arith
 
 -- nothing was taken
 none-counted : (first count : ℕ) → replicate count (counted []) ≡ counts_from first count []
@@ -167,9 +124,4 @@ pub len-new : (files : List Counts) (count : ℕ) → files ≡ replicate count 
 len-new files count is = ap length is ∙ length-none count
 
 pub stands-new : (t : TotalsState) (count : ℕ) → t.files ≡ replicate count (counted []) → t.packets ≡ 0 → t.bytes ≡ 0 → t.truncated ≡ 0 → TotalsStand t []
-stands-new t count files packets bytes truncated = record {
-  files = files ∙ none-counted 1 count ∙ ap (λ n. counts_from 1 n []) (sym (len-new t.files count files));
-  packets = packets;
-  bytes = bytes;
-  truncated = truncated;
-}
+stands-new t count files packets bytes truncated = grind (arith, none-counted, len-new)

@@ -1,5 +1,5 @@
 -- The frames that give the printed times are the first in their order.
-use Rattle.std.proofs.Common.{◌≡◌, ◌<◌, Bool, true, false, cond, List, [], ◌∷◌, length, refl, sym, ap, subst, ◌∙◌, true≢false, arith, Contains, Ordering, Less, Equal, Greater, Option, Some, None}
+use Rattle.std.proofs.Common.{◌≡◌, Bool, true, false, cond, List, [], ◌∷◌, refl, sym, subst, arith, Contains, Ordering, Option, Some, None}
 use Rattle.std.specs.Cmp.{IsTotalOrder}
 use Rattle.std.specs.List.{AllByRecursion}
 use Rattle.std.specs.Ordering.{is_lt, ordering_reverse}
@@ -8,7 +8,6 @@ use Rattle.cap_talks.specs.declared.talks.units.TimedFrame.{TimedFrame}
 use Rattle.cap_talks.proofs.Chosen.{chosen, not_trans}
 use Rattle.cap_talks.proofs.TalkLemmas.FrameOrder.{by_time_total, by_time_down_total, earlier_is, later_is}
 use Rattle.cap_talks.specs.Talks.Laws.{with_frame, firsts, lasts, IsFirstIn, FrameLaw}
-use Rattle.cap_talks.specs.Talks.{by_time, by_time_down, earlier_frame, later_frame, least_frame, greatest_frame}
 use Rattle.cap_talks.specs.declared.talks.units.CountedUnit.{CountedUnit}
 
 all-map : {X : Type 0} {P Q : X → Type 0} → ((x : X) → P x → Q x) → (xs : List X) → AllByRecursion P xs → AllByRecursion Q xs
@@ -16,17 +15,10 @@ all-map f [] h = h
 all-map f (x ∷ xs) h = (f x h.0, all-map f xs h.1)
 
 not_below_itself : (r : Ordering) → r ≡ ordering_reverse r → is_lt r ≡ false
-not_below_itself Less e = absurd (clash e)
-  where
-    clash : Less ≡ Greater → ⊥
-    clash e = cc
-not_below_itself Equal e = refl
-not_below_itself Greater e = refl
+not_below_itself r e = grind arith
 
 not_turned : (r s : Ordering) → r ≡ ordering_reverse s → is_lt s ≡ true → is_lt r ≡ false
-not_turned r Less e h = ap is_lt e
-not_turned r Equal e h = absurd (true≢false (sym h))
-not_turned r Greater e h = absurd (true≢false (sym h))
+not_turned r s e h = grind arith
 
 module _ (cmp : TimedFrame → TimedFrame → Ordering) (total : IsTotalOrder cmp) where
   here : (x : TimedFrame) (fs : List TimedFrame) → Contains (x ∷ fs) x
@@ -47,11 +39,4 @@ module _ (cmp : TimedFrame → TimedFrame → Ordering) (total : IsTotalOrder cm
 
 pub frame_law : (units : List CountedUnit) → FrameLaw units
 frame_law [] = record { first = refl; last = refl }
-frame_law (u ∷ units) =
-    let rest = frame_law units in
-    record {
-      first = subst (IsFirstIn by_time (with_frame u.first (firsts units))) (sym (earlier_is u.first (least_frame units)))
-          (first-more by_time by_time_total u.first (firsts units) (least_frame units) rest.first);
-      last = subst (IsFirstIn by_time_down (with_frame u.last (lasts units))) (sym (later_is u.last (greatest_frame units)))
-          (first-more by_time_down by_time_down_total u.last (lasts units) (greatest_frame units) rest.last);
-    }
+frame_law (u ∷ units) = search (frame_law units, with_frame, firsts, earlier_is, first-more, by_time_total, lasts, later_is, by_time_down_total)

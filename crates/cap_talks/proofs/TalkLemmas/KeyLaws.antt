@@ -1,74 +1,49 @@
 -- When two units are of one conversation.
-use Rattle.std.proofs.Common.{◌≡◌, ℕ, Bool, true, false, cond, not, ◌&&◌, ◌||◌, refl, sym, ap, subst, ◌∙◌, true≢false, Ordering, Less, Equal, Greater, Option, Some, None}
-use Rattle.std.specs.Prelude.{◌==◌, if◌then◌else◌}
+use Rattle.std.proofs.Common.{arith, ◌≡◌, Bool, true, false, cond, not, ◌&&◌, ◌||◌, refl, sym, ap, ◌∙◌, true≢false, Ordering, Equal}
+use Rattle.std.specs.Prelude.{◌==◌}
 use Rattle.std.specs.Cmp.{IsTotalOrder}
-use Rattle.std.specs.Ordering.{is_lt, is_gt, nat_cmp, ordering_reverse}
+use Rattle.std.specs.Ordering.{is_gt, nat_cmp, ordering_reverse}
 use Rattle.std.specs.Option.{option_cmp}
 use Rattle.std.specs.Cmp.Lexicographic.{options_total}
 use Rattle.std.proofs.lemmas.Cmp.{then_total, on_total, nat_cmp_total}
-use Rattle.std.proofs.lemmas.Map.Lookups.{CmpEqualImpliesEq, exact_unsigned, exact_pairs}
+use Rattle.std.proofs.lemmas.Map.Lookups.{CmpEqualImpliesEq}
 use Rattle.cap_talks.proofs.TalkLemmas.Talking.{same_end-self, and_true}
 use Rattle.cap_talks.specs.Talks.Keys.{same_end-is, and_left, and_right}
-use Rattle.cap_talks.specs.Talks.Laws.{KeyLaw, goes_along, goes_back}
-use Rattle.cap_talks.specs.Talks.{is_forward, key_of, same_end, same_talk}
+use Rattle.cap_talks.specs.Talks.Laws.{KeyLaw}
+use Rattle.cap_talks.specs.Talks.{is_forward, same_end, same_talk}
 use Rattle.cap_talks.specs.Talks.Units.{end_cmp}
-use Rattle.cap_talks.specs.declared.talks.rows.TalkKey.{TalkKey}
-use Rattle.cap_talks.specs.declared.talks.units.CountedUnit.{CountedUnit}
 use Rattle.cap_talks.specs.declared.talks.units.End.{End}
 
 end_total : IsTotalOrder end_cmp
 end_total = then_total (on_total (λ e. e.address) nat_cmp_total) (on_total (λ e. e.port) (options_total nat_cmp_total))
 
 exact_ports : CmpEqualImpliesEq (option_cmp nat_cmp)
-exact_ports None None h = refl
-exact_ports None (Some b) h = absurd (clash h)
-  where
-    clash : Less ≡ Equal → ⊥
-    clash e = cc
-exact_ports (Some a) None h = absurd (clash h)
-  where
-    clash : Greater ≡ Equal → ⊥
-    clash e = cc
-exact_ports (Some a) (Some b) h = ap Some (exact_unsigned a b h)
+exact_ports h' x1 h = grind arith
 
 -- ends that compare alike are one
 exact_ends : CmpEqualImpliesEq end_cmp
-exact_ends a b h =
-    ap (λ (p : ℕ × Option ℕ). record { address = p.0; port = p.1 })
-    (exact_pairs nat_cmp (option_cmp nat_cmp) exact_unsigned exact_ports (a.address, a.port) (b.address, b.port) h)
+exact_ends a b h = grind arith
 
 not_both : (r s : Ordering) → r ≡ ordering_reverse s → is_gt r ≡ false → is_gt s ≡ false → r ≡ Equal
-not_both r Less e h k = absurd (true≢false (ap is_gt (sym e) ∙ h))
-not_both r Equal e h k = e
-not_both r Greater e h k = absurd (true≢false k)
+not_both r s e h k = grind arith
 
 both_greater : (r s : Ordering) → r ≡ ordering_reverse s → is_gt r ≡ true → is_gt s ≡ true → ⊥
-both_greater r Less e h k = true≢false (sym k)
-both_greater r Equal e h k = true≢false (sym k)
-both_greater r Greater e h k = true≢false (sym h ∙ ap is_gt e)
+both_greater r s e h k = grind arith
 
 upto_of : (b : Bool) → not b ≡ true → b ≡ false
-upto_of true h = absurd (true≢false (sym h))
-upto_of false h = refl
+upto_of b h = grind arith
 
 above_of : (b : Bool) → not b ≡ false → b ≡ true
-above_of true h = refl
-above_of false h = absurd (true≢false h)
+above_of b h = grind arith
 
 left_absorbs : (x y : Bool) → (y ≡ true → x ≡ true) → (x || y) ≡ x
-left_absorbs true y h = refl
-left_absorbs false true h = sym (h refl)
-left_absorbs false false h = refl
+left_absorbs x y h = grind arith
 
 right_absorbs : (x y : Bool) → (x ≡ true → y ≡ true) → (x || y) ≡ y
-right_absorbs true y h = sym (h refl)
-right_absorbs false y h = refl
+right_absorbs x y h = grind arith
 
 and_turned : (x y : Bool) → (x && y) ≡ (y && x)
-and_turned true true = refl
-and_turned true false = refl
-and_turned false true = refl
-and_turned false false = refl
+and_turned x y = grind arith
 
 same_of : (a b : End) → a ≡ b → same_end a b ≡ true
 same_of a b e = sym (ap (same_end a) e) ∙ same_end-self a

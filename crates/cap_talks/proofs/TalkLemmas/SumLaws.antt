@@ -1,9 +1,9 @@
 -- All rows together count each unit once.
-use Rattle.std.proofs.Common.{◌≡◌, ℕ, ◌+◌, List, [], ◌∷◌, ◌++◌, refl, sym, ap, subst, ◌∙◌, append_assoc, append-nil}
+use Rattle.std.proofs.Common.{◌+◌, List, [], ◌∷◌, ◌++◌, refl, sym, ap, subst, ◌∙◌, append_assoc, append-nil}
 use Rattle.cap_talks.proofs.TalkLemmas.RowSums.{frames_in-more, bytes_in-more}
 use Rattle.cap_talks.proofs.TalkLemmas.Talking.{rows-more, frames-more, bytes-more}
 use Rattle.cap_talks.specs.Talks.Rows.{frames_in, bytes_in}
-use Rattle.cap_talks.specs.Talks.{frames_of, bytes_of, rows_of}
+use Rattle.cap_talks.specs.Talks.{rows_of}
 use Rattle.cap_talks.specs.Talks.Laws.{SumLaw}
 use Rattle.cap_talks.specs.declared.talks.units.CountedUnit.{CountedUnit}
 

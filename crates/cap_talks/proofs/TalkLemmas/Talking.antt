@@ -1,18 +1,19 @@
 -- The rows of the conversations of some units, with one unit more.
-use Rattle.std.proofs.Common.{◌≡◌, ℕ, ◌+◌, ◌≤◌, ◌<◌, Bool, true, false, cond, not, ◌&&◌, List, [], ◌∷◌, ◌++◌, length, filter, map, refl, sym, ap, subst, ◌∙◌, true≢false, arith, Option, Some, None, append-nil}
-use Rattle.std.specs.Prelude.{◌==◌, nat_eq, if◌then◌else◌}
+use Rattle.std.proofs.lemmas.Bool.Decides.{nat_tests}
+use Rattle.std.proofs.lemmas.Grind.{common_steps}
+use Rattle.std.proofs.Common.{◌≡◌, ℕ, ◌+◌, Bool, true, false, cond, not, ◌&&◌, List, [], ◌∷◌, ◌++◌, filter, map, refl, sym, ap, ◌∙◌, true≢false, arith, Option, Some, append-nil}
+use Rattle.std.specs.Prelude.{◌==◌, nat_eq}
 use Rattle.std.specs.Option.{option_eq}
 use Rattle.std.specs.Map.{lookup}
 use Rattle.indexmap.specs.IndexMap.{insert_entry}
-use Rattle.std.proofs.lemmas.Bool.{eqb-true, eq-eqb}
+use Rattle.std.proofs.lemmas.Bool.{eq-eqb}
 use Rattle.cap_talks.proofs.TalkLemmas.FrameOrder.{least-more, greatest-more}
-use Rattle.cap_talks.specs.Talks.{Talk, is_forward, backward, by_time, by_time_down, earlier_frame, later_frame, least_frame, greatest_frame, frame_time, place_or, key_of, frames_of, bytes_of, row_of, same_end, same_talk, units_of, keys_of, rows_of}
+use Rattle.cap_talks.specs.Talks.{Talk, is_forward, backward, earlier_frame, later_frame, least_frame, greatest_frame, frame_time, place_or, key_of, frames_of, bytes_of, row_of, same_end, same_talk, units_of, keys_of, rows_of}
 use Rattle.cap_talks.specs.Talks.Keys.{same_talk-is}
-use Rattle.cap_talks.specs.Talks.Rows.{frame_of, with_unit, or_empty, row_at, with_talk}
+use Rattle.cap_talks.specs.Talks.Rows.{frame_of, with_unit, or_empty, with_talk}
 use Rattle.cap_talks.specs.declared.talks.rows.TalkKey.{TalkKey}
 use Rattle.cap_talks.specs.declared.talks.rows.TalkRow.{TalkRow}
 use Rattle.cap_talks.specs.declared.talks.units.TimedFrame.{TimedFrame}
-use Rattle.std.specs.Ordering.{is_lt}
 use Rattle.cap_talks.specs.declared.talks.units.CountedUnit.{CountedUnit}
 use Rattle.cap_talks.specs.declared.talks.units.End.{End}
 
@@ -20,8 +21,7 @@ same_number : (n : ℕ) → (n == n) ≡ true
 same_number n = eq-eqb n n refl
 
 same_port : (a : Option ℕ) → option_eq nat_eq a a ≡ true
-same_port None = refl
-same_port (Some a) = same_number a
+same_port a = grind arith
 
 pub and_true : (x y : Bool) → x ≡ true → y ≡ true → (x && y) ≡ true
 and_true x y h k = ap (λ b. b && y) h ∙ k
@@ -30,17 +30,11 @@ pub same_end-self : (a : End) → same_end a a ≡ true
 same_end-self a = and_true (a.address == a.address) (option_eq nat_eq a.port a.port) (same_number a.address) (same_port a.port)
 
 same_talk-self : (a : TalkKey) → same_talk a a ≡ true
-same_talk-self a =
-    and_true (a.protocol == a.protocol) (same_end a.lesser a.lesser && same_end a.greater a.greater) (same_number a.protocol)
-    (and_true (same_end a.lesser a.lesser) (same_end a.greater a.greater) (same_end-self a.lesser) (same_end-self a.greater))
+same_talk-self a = grind arith
 
 -- two keys that differ, the other way round
 other_way : (a b : TalkKey) → same_talk a b ≡ false → same_talk b a ≡ false
-other_way a b h = by (same_talk b a) refl
-  where
-    by : (t : Bool) → same_talk b a ≡ t → t ≡ false
-    by false is = refl
-    by true is = absurd (true≢false (sym (same_talk-self a) ∙ ap (same_talk a) (sym (same_talk-is b a is)) ∙ h))
+other_way a b h = grind arith
 
 -- Whether a key is among some keys.
 abbrev has : TalkKey → List TalkKey → Bool
@@ -68,11 +62,7 @@ has-but k x (y ∷ ks) h = by (same_talk x y) refl (has-but k x ks h)
 
 has-gone : (k : TalkKey) (ks : List TalkKey) → has k (but k ks) ≡ false
 has-gone k [] = refl
-has-gone k (y ∷ ks) = by (same_talk k y) refl (has-gone k ks)
-  where
-    by : (t : Bool) → same_talk k y ≡ t → has k (but k ks) ≡ false → has k (cond (not t) (y ∷ but k ks) (but k ks)) ≡ false
-    by true is rest = rest
-    by false is rest = ap (λ b. cond b true (has k (but k ks))) is ∙ rest
+has-gone k (y ∷ ks) = grind (arith, has-gone k ks)
 
 has_not-but : (k x : TalkKey) (ks : List TalkKey) → has k ks ≡ false → has k (but x ks) ≡ false
 has_not-but k x [] h = refl
@@ -80,17 +70,11 @@ has_not-but k x (y ∷ ks) h = by (same_talk k y) refl h (same_talk x y) (has_no
   where
     by : (s : Bool) → same_talk k y ≡ s → cond s true (has k ks) ≡ false → (t : Bool) → (has k ks ≡ false → has k (but x ks) ≡ false)
         → has k (cond (not t) (y ∷ but x ks) (but x ks)) ≡ false
-    by true is n t rest = absurd (true≢false n)
-    by false is n true rest = rest n
-    by false is n false rest = ap (λ b. cond b true (has k (but x ks))) is ∙ rest n
+    by s is n t rest = grind arith
 
 Apart-but : (x : TalkKey) (ks : List TalkKey) → Apart ks → Apart (but x ks)
 Apart-but x [] h = h
-Apart-but x (y ∷ ks) h = by (same_talk x y) (Apart-but x ks h.1)
-  where
-    by : (t : Bool) → Apart (but x ks) → Apart (cond (not t) (y ∷ but x ks) (but x ks))
-    by true rest = rest
-    by false rest = (has_not-but y x ks h.0, rest)
+Apart-but x (y ∷ ks) h = grind (arith, Apart-but x ks h.1, has_not-but)
 
 keys-apart : (units : List CountedUnit) → Apart (keys_of units)
 keys-apart [] = tt
@@ -98,12 +82,7 @@ keys-apart (u ∷ units) = (has-gone (key_of u) (keys_of units), Apart-but (key_
 
 filter-more : {X : Type 0} (test : X → Bool) (xs : List X) (x : X) → filter test (xs ++ x ∷ []) ≡ filter test xs ++ cond (test x) (x ∷ []) []
 filter-more test [] x = refl
-filter-more test (y ∷ xs) x = by (test y) (filter-more test xs x)
-  where
-    by : (t : Bool) → filter test (xs ++ x ∷ []) ≡ filter test xs ++ cond (test x) (x ∷ []) []
-        → cond t (y ∷ filter test (xs ++ x ∷ [])) (filter test (xs ++ x ∷ [])) ≡ cond t (y ∷ filter test xs) (filter test xs) ++ cond (test x) (x ∷ []) []
-    by true rest = ap (λ l. y ∷ l) rest
-    by false rest = rest
+filter-more test (y ∷ xs) x = grind (arith, filter-more test xs x)
 
 -- the conversations of one unit more
 keys-more : (units : List CountedUnit) (u : CountedUnit)
@@ -133,22 +112,8 @@ keys-more (x ∷ units) u = by (same_talk k kx) refl (has k ks) refl (keys-more 
         ∙ sym (ap (λ b. cond (cond b true (has k (but kx ks))) (kx ∷ but kx ks) ((kx ∷ but kx ks) ++ k ∷ [])) is)
       where
         either : (b : Bool) → but kx (ks ++ k ∷ []) ≡ but kx ks → but kx (cond b ks (ks ++ k ∷ [])) ≡ but kx ks
-        either true e = refl
-        either false e = e
-    by false is h among rest =
-        let stays : not (same_talk kx k) ≡ true = ap not (other_way k kx is) in
-        let tail : but kx (ks ++ k ∷ []) ≡ but kx ks ++ k ∷ [] = filter-more (λ key. not (same_talk kx key)) ks k ∙ ap (λ b. but kx ks ++ cond b (k ∷ []) []) stays in
-        ap (λ l. kx ∷ but kx l) rest ∙ ap (λ l. kx ∷ l) (either (has k ks) tail)
-        ∙ joined (has k ks)
-        ∙ sym (ap (λ b. cond b (kx ∷ but kx ks) ((kx ∷ but kx ks) ++ k ∷ [])) (ap (λ b. cond b true (has k (but kx ks))) is ∙ has-but k kx ks is))
-      where
-        either : (b : Bool) → but kx (ks ++ k ∷ []) ≡ but kx ks ++ k ∷ [] → but kx (cond b ks (ks ++ k ∷ [])) ≡ cond b (but kx ks) (but kx ks ++ k ∷ [])
-        either true e = refl
-        either false e = e
-
-        joined : (b : Bool) → kx ∷ cond b (but kx ks) (but kx ks ++ k ∷ []) ≡ cond b (kx ∷ but kx ks) ((kx ∷ but kx ks) ++ k ∷ [])
-        joined true = refl
-        joined false = refl
+        either b e = grind arith
+    by false is h among rest = grind (arith, other_way, filter-more, has-but)
 
 -- a conversation that isn't among those of some units has none of them
 no_units : (k : TalkKey) (units : List CountedUnit) → has k (keys_of units) ≡ false → units_of k units ≡ []
@@ -157,8 +122,7 @@ no_units k (x ∷ units) h = by (same_talk k (key_of x)) refl h (no_units k unit
   where
     by : (s : Bool) → same_talk k (key_of x) ≡ s → cond s true (has k (but (key_of x) (keys_of units))) ≡ false → (has k (keys_of units) ≡ false → units_of k units ≡ [])
         → cond s (x ∷ units_of k units) (units_of k units) ≡ []
-    by true is n rest = absurd (true≢false n)
-    by false is n rest = rest (sym (has-but k (key_of x) (keys_of units) is) ∙ n)
+    by s is n rest = grind (arith, has-but)
 
 -- A row with one unit more.
 
@@ -174,45 +138,26 @@ bytes-more (x ∷ units) u = let e = bytes-more units u in omega (arith, e)
 tested-more : (count : List CountedUnit → ℕ) (one : CountedUnit → ℕ) → ((units : List CountedUnit) (u : CountedUnit) → count (units ++ u ∷ []) ≡ count units + one u)
     → (test : CountedUnit → Bool) (units : List CountedUnit) (u : CountedUnit)
     → count (filter test (units ++ u ∷ [])) ≡ cond (test u) (count (filter test units) + one u) (count (filter test units))
-tested-more count one more test units u = ap count (filter-more test units u) ∙ by (test u)
-  where
-    by : (t : Bool) → count (filter test units ++ cond t (u ∷ []) []) ≡ cond t (count (filter test units) + one u) (count (filter test units))
-    by true = more (filter test units) u
-    by false = ap count (append-nil (filter test units))
+tested-more count one more test units u = grind (arith, filter-more, filter, append-nil)
 
 turned : {X : Type 0} (t : Bool) (a b : X) → cond (not t) a b ≡ cond t b a
-turned true a b = refl
-turned false a b = refl
+turned t a b = grind arith
 
 -- of the units that go back
 back-more : (count : List CountedUnit → ℕ) (one : CountedUnit → ℕ) → ((units : List CountedUnit) (u : CountedUnit) → count (units ++ u ∷ []) ≡ count units + one u)
     → (units : List CountedUnit) (u : CountedUnit)
     → count (backward (units ++ u ∷ [])) ≡ cond (is_forward u) (count (backward units)) (count (backward units) + one u)
-back-more count one more units u =
-    tested-more count one more (λ unit. not (is_forward unit)) units u ∙ turned (is_forward u) (count (backward units) + one u) (count (backward units))
+back-more count one more units u = grind (arith, common_steps, nat_tests, tested-more, turned)
 
 -- a row keeps its frames' times and places
 kept : (f : Option TimedFrame) → frame_of (frame_time f) (place_or f 0) ≡ f
-kept None = refl
-kept (Some frame) = refl
+kept f = grind arith
 
 earlier-place : (f g : Option TimedFrame) → place_or (earlier_frame f g) 0 ≡ place_or (earlier_frame f g) (place_or f 0)
-earlier-place None g = refl
-earlier-place (Some a) None = refl
-earlier-place (Some a) (Some b) = by (is_lt (by_time b a))
-  where
-    by : (t : Bool) → place_or (cond t (Some b) (Some a)) 0 ≡ place_or (cond t (Some b) (Some a)) a.place
-    by true = refl
-    by false = refl
+earlier-place f g = grind arith
 
 later-place : (f g : Option TimedFrame) → place_or (later_frame f g) 0 ≡ place_or (later_frame f g) (place_or f 0)
-later-place None g = refl
-later-place (Some a) None = refl
-later-place (Some a) (Some b) = by (is_lt (by_time_down b a))
-  where
-    by : (t : Bool) → place_or (cond t (Some b) (Some a)) 0 ≡ place_or (cond t (Some b) (Some a)) a.place
-    by true = refl
-    by false = refl
+later-place f g = grind arith
 
 row-more : (units : List CountedUnit) (u : CountedUnit) → row_of (units ++ u ∷ []) ≡ with_unit (row_of units) u
 row-more units u =
@@ -240,14 +185,12 @@ row-more units u =
 -- the row of the unit's own conversation
 own_row : (k : TalkKey) (units : List CountedUnit) (u : CountedUnit) → same_talk k (key_of u) ≡ true
     → row_of (units_of k (units ++ u ∷ [])) ≡ with_unit (row_of (units_of k units)) u
-own_row k units u is =
-    ap row_of (filter-more (λ unit. same_talk k (key_of unit)) units u ∙ ap (λ b. units_of k units ++ cond b (u ∷ []) []) is) ∙ row-more (units_of k units) u
+own_row k units u is = grind (arith, filter-more, row-more)
 
 -- and of another
 other_row : (k : TalkKey) (units : List CountedUnit) (u : CountedUnit) → same_talk k (key_of u) ≡ false
     → row_of (units_of k (units ++ u ∷ [])) ≡ row_of (units_of k units)
-other_row k units u is =
-    ap row_of (filter-more (λ unit. same_talk k (key_of unit)) units u ∙ ap (λ b. units_of k units ++ cond b (u ∷ []) []) is ∙ append-nil (units_of k units))
+other_row k units u is = grind (arith, filter-more, append-nil)
 
 -- Rows of some conversations.
 abbrev rows_at : List CountedUnit → List TalkKey → List Talk
@@ -260,11 +203,7 @@ others_stay units u (y ∷ ks) h = by (same_talk (key_of u) y) refl h (others_st
   where
     by : (s : Bool) → same_talk (key_of u) y ≡ s → cond s true (has (key_of u) ks) ≡ false → (has (key_of u) ks ≡ false → rows_at units ks ≡ rows_at (units ++ u ∷ []) ks)
         → rows_at units (y ∷ ks) ≡ rows_at (units ++ u ∷ []) (y ∷ ks)
-    by true is n rest = absurd (true≢false n)
-    by false is n rest =
-        let here = sym (other_row y units u (other_way (key_of u) y is)) in
-        let behind = rest n in
-        λ i. (y, here i) ∷ behind i
+    by s is n rest = grind (arith, other_row, other_way)
 
 insert-present : (units : List CountedUnit) (u : CountedUnit) (ks : List TalkKey) → Apart ks → has (key_of u) ks ≡ true
     → insert_entry same_talk (rows_at units ks) (key_of u) (row_of (units_of (key_of u) (units ++ u ∷ []))) ≡ rows_at (units ++ u ∷ []) ks
@@ -283,10 +222,7 @@ insert-present units u (y ∷ ks) apart h = by (same_talk (key_of u) y) refl h (
         let here : w ≡ row_of (units_of y (units ++ u ∷ [])) = ap (λ k. row_of (units_of k (units ++ u ∷ []))) one in
         let behind = others_stay units u ks absent in
         λ i. (y, here i) ∷ behind i
-    by false is n rest =
-        let here = sym (other_row y units u (other_way (key_of u) y is)) in
-        let behind = rest n in
-        λ i. (y, here i) ∷ behind i
+    by false is n rest = search (other_row, other_way)
 
 insert-absent : (units : List CountedUnit) (u : CountedUnit) (ks : List TalkKey) → has (key_of u) ks ≡ false
     → insert_entry same_talk (rows_at units ks) (key_of u) (row_of (units_of (key_of u) (units ++ u ∷ []))) ≡ rows_at (units ++ u ∷ []) (ks ++ key_of u ∷ [])
@@ -300,11 +236,7 @@ insert-absent units u (y ∷ ks) h = by (same_talk (key_of u) y) refl h (insert-
         → (has (key_of u) ks ≡ false → insert_entry same_talk (rows_at units ks) (key_of u) w ≡ rows_at (units ++ u ∷ []) (ks ++ key_of u ∷ []))
         → cond s ((y, w) ∷ rows_at units ks) ((y, row_of (units_of y units)) ∷ insert_entry same_talk (rows_at units ks) (key_of u) w)
         ≡ rows_at (units ++ u ∷ []) (y ∷ (ks ++ key_of u ∷ []))
-    by true is n rest = absurd (true≢false n)
-    by false is n rest =
-        let here = sym (other_row y units u (other_way (key_of u) y is)) in
-        let behind = rest n in
-        λ i. (y, here i) ∷ behind i
+    by s is n rest = grind (arith, other_row, other_way)
 
 -- the row that is found is the conversation's
 found_row : (k : TalkKey) (units : List CountedUnit) (ks : List TalkKey) → (has k ks ≡ false → units_of k units ≡ []) → or_empty (lookup (same_talk k) (rows_at units ks)) ≡ row_of (units_of k units)
@@ -333,5 +265,4 @@ rows-more units u =
     ks = keys_of units
 
     by : (h : Bool) → has k ks ≡ h → insert_entry same_talk (rows_at units ks) k (row_of (units_of k (units ++ u ∷ []))) ≡ rows_at (units ++ u ∷ []) (cond (has k ks) ks (ks ++ k ∷ []))
-    by true is = insert-present units u ks (keys-apart units) is ∙ sym (ap (λ b. rows_at (units ++ u ∷ []) (cond b ks (ks ++ k ∷ []))) is)
-    by false is = insert-absent units u ks is ∙ sym (ap (λ b. rows_at (units ++ u ∷ []) (cond b ks (ks ++ k ∷ []))) is)
+    by h is = grind (arith, insert-present, keys-apart, insert-absent)

@@ -1,5 +1,5 @@
 -- The unit of a joined datagram, and whether a unit's conversation is one too many.
-use Rattle.std.specs.Prelude.{◌≡◌, ℕ, List, Bool, false, length, Option, Some, None}
+use Rattle.std.specs.Prelude.{List, Bool, false, length, Option}
 use Rattle.std.specs.Option.{option_map, option_map_or}
 use Rattle.cap_ip.specs.Transport.{transport_of}
 use Rattle.cap_join.specs.declared.datagrams.Datagram.{Datagram}

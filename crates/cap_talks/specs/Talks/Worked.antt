@@ -1,14 +1,12 @@
 -- The definitions on a few units, by computation.
-use Rattle.std.specs.Prelude.{◌≡◌, ℕ, List, [], ◌∷◌, Bool, true, false, None, Some, Option, codes, pos, ◌++◌}
+use Rattle.std.specs.Prelude.{◌≡◌, ℕ, List, [], ◌∷◌, true, false, None, Some, Option, codes, pos}
 use Rattle.std.proofs.Common.{lit<}
-use Rattle.cap_ip.specs.declared.transports.Transport.{Transport}
-use Rattle.cap_ip.specs.declared.transports.Transport.TheVariants.{Ports, NoPorts, Bad, Cut}
 use Rattle.cap_talks.specs.declared.talks.units.TimedFrame.{TimedFrame}
 use Rattle.cap_time.specs.declared.stamps.Stamp.{Stamp}
 use Rattle.cap_talks.specs.Talks.Rows.{is_refused}
 use Rattle.cap_talks.specs.Talks.Lines.{talk_texts}
 use Rattle.cap_talks.specs.Talks.{key_of, rows_of}
-use Rattle.cap_talks.specs.Talks.Units.{end_at, ends_of}
+use Rattle.cap_talks.specs.Talks.Units.{end_at}
 use Rattle.cap_talks.specs.declared.talks.units.CountedUnit.{CountedUnit}
 use Rattle.cap_talks.specs.declared.talks.units.End.{End}
 

@@ -1,22 +1,18 @@
-use Rattle.std.proofs.Common.{◌≡◌, ◌+◌, ◌++◌, [], ◌∷◌, length, map, Some, None, Ok, Err, sym, ap, ◌∙◌, arith, rules, map-id, length-append, subst, IsTrue, ℕ}
+use Rattle.std.proofs.Common.{◌≡◌, ◌++◌, [], ◌∷◌, length, Ok, Err, sym, ap, ◌∙◌, arith, rules, length-append, subst, ℕ}
 use Rattle.std.proofs.lemmas.Iterator.Adapters.{YieldsList-from_vec}
-use Rattle.std.proofs.lemmas.Iterator.Consumers.{YieldsList-end, YieldsList-turn}
+use Rattle.std.proofs.lemmas.Iterator.Consumers.{YieldsList-turn}
 use Rattle.std.proofs.lemmas.Result.{err_from_is_err_and}
-use Rattle.std.specs.List.{list_all, list_any}
+use Rattle.std.specs.List.{list_any}
 use Rattle.std.specs.Prelude.{Vec}
 use Rattle.std.specs.declared.alloc.Global.{Global}
 use Rattle.cap_source.specs.ReadFaults.{FailsAs, FailsOf}
 use Rattle.cap_talks.specs.Files.Reading.{CountsFile}
 use Rattle.cap_talks.specs.declared.files.Counted.{Counted}
-use Rattle.cap_talks.proofs.FileLemmas.FileByFile.{AreRead, all-at, read-none, read-more, read-all, read-fault, fails}
+use Rattle.cap_talks.proofs.FileLemmas.FileByFile.{all-at, read-more, read-fault, fails}
 use Rattle.cap_talks.proofs.files.count_files.Goals as goal
 
 pub loop-source-init : goal.loop-source-init
-loop-source-init g c = record {
-  number = search rules;
-  few = search rules;
-  read = λ t. rw (c.new-counted.ensures.items) (read-none c.args.tail (map g.R.Source.coming c.args.sources.items));
-}
+loop-source-init g c = grind arith
 
 pub returns-in_err-each-clause-counts : goal.returns-in_err-each-clause-counts
 returns-in_err-each-clause-counts g c = λ t.

@@ -1,6 +1,5 @@
-use Rattle.std.proofs.Common.{sym, ◌∙◌, refl, rules}
+use Rattle.std.proofs.Common.{arith, rules}
 use Rattle.std.proofs.lemmas.Result.{err_from_is_err_and}
-use Rattle.cap_source.proofs.Onward.{Keeps-trans, Walks-fault, Walks-end}
 use Rattle.cap_talks.proofs.FileLemmas.Counting.{counted-none, counted-taken, counted-end, counted-fault}
 use Rattle.cap_talks.proofs.files.count_packets.Goals as goal
 
@@ -27,21 +26,13 @@ returns-clause-counts g c = λ t.
     c.loop-meta.counts c.loop-meta.invariant t (λ u. rw c.in_default.is at (c.in_ok-meta.ensures.items u))
 
 pub returns-in_err-meta-clause-walks : goal.returns-in_err-meta-clause-walks
-returns-in_err-meta-clause-walks g c =
-    let p = err_from_is_err_and c.from_residual.result c.from_residual.ensures.1 in
-    rw (p.1, p.2)
-    (Walks-fault (g.F.PacketFeed.feed c.args.feed.now) (g.F.PacketFeed.feed c.loop-meta.feed) (g.F.PacketFeed.feed c.next_packet.new.feed) c.in_err-meta.field-0.0
-    c.loop-meta.invariant.went c.in_err-meta.ensures.answer)
+returns-in_err-meta-clause-walks g c = grind arith
 
 pub returns-in_err-meta-clause-keeps : goal.returns-in_err-meta-clause-keeps
-returns-in_err-meta-clause-keeps g c =
-    Keeps-trans (g.F.PacketFeed.feed c.args.feed.now) (g.F.PacketFeed.feed c.loop-meta.feed) (g.F.PacketFeed.feed c.next_packet.new.feed) c.loop-meta.invariant.went.keeps c.in_err-meta.ensures.keeps
+returns-in_err-meta-clause-keeps g c = grind arith
 
 pub returns-clause-walks : goal.returns-clause-walks
-returns-clause-walks g c =
-    Walks-end (g.F.PacketFeed.feed c.args.feed.now) (g.F.PacketFeed.feed c.loop-meta.feed) (g.F.PacketFeed.feed c.next_packet.new.feed)
-    c.loop-meta.invariant.went (rw c.in_default.is at c.in_ok-meta.ensures.answer)
+returns-clause-walks g c = grind arith
 
 pub returns-clause-keeps : goal.returns-clause-keeps
-returns-clause-keeps g c =
-    Keeps-trans (g.F.PacketFeed.feed c.args.feed.now) (g.F.PacketFeed.feed c.loop-meta.feed) (g.F.PacketFeed.feed c.next_packet.new.feed) c.loop-meta.invariant.went.keeps c.in_ok-meta.ensures.keeps
+returns-clause-keeps g c = grind arith

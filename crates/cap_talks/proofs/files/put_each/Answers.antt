@@ -1,8 +1,6 @@
-use Rattle.std.proofs.Common.{◌≡◌, ◌∙◌, ◌+◌, Some, refl, sym, ap, add-one, arith, rules}
+use Rattle.std.proofs.Common.{◌∙◌, ◌+◌, refl, arith, rules}
 use Rattle.std.proofs.lemmas.Result.{err_from_is_err_and}
 use Rattle.cap_bytes.proofs.Putting.{Putting-all}
-use Rattle.cap_bytes.specs.Device.{Writer}
-use Rattle.cap_talks.specs.Files.Lines.{file_text}
 use Rattle.cap_talks.specs.Files.Reading.{counted_texts}
 use Rattle.cap_talks.proofs.FileLemmas.Printing.{lines-more, lines-front, texts-none}
 use Rattle.cap_talks.proofs.files.put_each.Goals as goal

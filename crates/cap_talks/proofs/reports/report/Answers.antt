@@ -1,8 +1,7 @@
-use Rattle.std.proofs.Common.{rules, ◌∙◌, refl, sym, subst, Err, map}
+use Rattle.std.proofs.Common.{sym, subst, Err}
 use Rattle.std.specs.List.{list_any}
 use Rattle.cap_source.specs.ReadFaults.{FailsOf}
 use Rattle.std.proofs.lemmas.Result.{err_from_is_err_and}
-use Rattle.cap_bytes.specs.Device.{writer_of}
 use Rattle.cap_merge.specs.Parts.{feed_of}
 use Rattle.cap_merge.specs.Readers.{reader_of}
 use Rattle.cap_merge.specs.View.{parts_of}

@@ -1,4 +1,4 @@
-use Rattle.std.proofs.Common.{◌≡◌, ◌<◌, ◌≤◌, ◌+◌, ap, arith}
+use Rattle.std.proofs.Common.{ap, arith}
 use Rattle.cap_talks.specs.Talks.Rows.{or_empty, frames_of_row, bytes_of_row}
 use Rattle.cap_talks.proofs.TalkLemmas.RowSums.{frames-within, bytes-within, on_ok, there-more, new-more}
 use Rattle.cap_talks.proofs.talks.add_unit.Goals as goal

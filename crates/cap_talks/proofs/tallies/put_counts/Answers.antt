@@ -1,7 +1,6 @@
 use Rattle.std.proofs.Common.{◌∙◌, None}
 use Rattle.std.proofs.lemmas.Result.{err_from_is_err_and}
 use Rattle.cap_bytes.proofs.Putting.{Prints-head, Prints-behind}
-use Rattle.cap_bytes.specs.Printing.{Prints}
 use Rattle.cap_talks.specs.ReportText.{frames_text, joined_text}
 use Rattle.cap_talks.proofs.Written.{prints-all}
 use Rattle.cap_talks.proofs.tallies.put_counts.Goals as goal

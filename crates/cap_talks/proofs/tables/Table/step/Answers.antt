@@ -1,12 +1,10 @@
-use Rattle.std.proofs.Common.{rules, ◌≡◌, ℕ, ◌+◌, ◌<◌, ◌≤◌, ◌∷◌, drop, length, List, Option, None, Some, Ok, Err, inl, inr, sym, ap, ◌∙◌, subst, arith, refl}
+use Rattle.std.proofs.Common.{◌∷◌, drop, length, List, Option, Err, inl, inr, sym, ap, ◌∙◌, subst, arith, refl}
 use Rattle.cap_merge.specs.MergedLaws.{merged-is-feed}
-use Rattle.cap_merge.specs.Parts.{Part, feed_of, run_of}
+use Rattle.cap_merge.specs.Parts.{feed_of}
 use Rattle.cap_merge.specs.View.{parts_of}
-use Rattle.cap_source.specs.declared.feeds.Head.TheVariants as heads
 use Rattle.cap_source.specs.declared.feeds.FeedHeld.{FeedHeld}
 use Rattle.cap_source.specs.Feed.{Knows}
 use Rattle.cap_talks.specs.Looking.{taken}
-use Rattle.cap_talks.specs.ReportText.{refusal_at}
 use Rattle.cap_talks.specs.Stepping.{next_taken, clocked}
 use Rattle.cap_talks.specs.Taken.{Taken}
 use Rattle.cap_talks.specs.Tallies.{LimitBy, Stands}

@@ -1,4 +1,4 @@
-use Rattle.std.proofs.Common.{◌≡◌, ◌++◌, ◌∙◌, List, Some, None, Ok, Err, length, ap, sym, subst, IsTrue}
+use Rattle.std.proofs.Common.{◌++◌, ◌∙◌, Some, None, Ok, Err, length, subst}
 use Rattle.std.specs.Prelude.{if◌then◌else◌}
 use Rattle.std.proofs.lemmas.Result.{err_from_is_err_and}
 use Rattle.cap_bytes.proofs.Putting.{Prints-head, Prints-behind}
@@ -6,7 +6,7 @@ use Rattle.cap_bytes.specs.Printing.{Prints}
 use Rattle.cap_merge.specs.Parts.{feed_of}
 use Rattle.cap_merge.specs.View.{parts_of}
 use Rattle.cap_talks.specs.Files.Lines.{files_text, lines_from}
-use Rattle.cap_talks.specs.ReportText.{total_text, text_of}
+use Rattle.cap_talks.specs.ReportText.{total_text}
 use Rattle.cap_talks.specs.Stepping.{next_taken}
 use Rattle.cap_talks.specs.Tallies.{tally_text}
 use Rattle.cap_talks.proofs.TableTexts.{text-is}

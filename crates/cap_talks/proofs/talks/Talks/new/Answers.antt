@@ -1,5 +1,3 @@
-use Rattle.std.proofs.Common.{◌≡◌, List, [], ◌∙◌}
-use Rattle.cap_talks.specs.Talks.Rows.{StandsFor}
 use Rattle.cap_talks.specs.Talks.{rows_of}
 use Rattle.cap_talks.proofs.talks.Talks.new.Goals as goal
 

@@ -1,4 +1,4 @@
-use Rattle.std.proofs.Common.{◌≡◌, ◌∙◌, ◌+◌, ◌<◌, ◌≤◌, length, Some, refl, sym, ap, arith, rules}
+use Rattle.std.proofs.Common.{◌∙◌, ◌<◌, ◌≤◌, length, refl, arith, rules}
 use Rattle.std.proofs.lemmas.Result.{err_from_is_err_and}
 use Rattle.cap_bytes.proofs.Putting.{Putting-all}
 use Rattle.cap_talks.specs.Talks.Lines.{talk_texts}

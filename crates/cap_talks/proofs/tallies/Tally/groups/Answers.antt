@@ -1,5 +1,4 @@
-use Rattle.std.proofs.Common.{◌≡◌, ◌+◌, ◌∙◌, length, arith}
-use Rattle.cap_talks.specs.Tallies.{one_if}
+use Rattle.std.proofs.Common.{arith}
 use Rattle.cap_talks.specs.TallyView.{tally_view}
 use Rattle.cap_talks.proofs.Waiting.{groups-few}
 use Rattle.cap_talks.proofs.tallies.Tally.groups.Goals as goal

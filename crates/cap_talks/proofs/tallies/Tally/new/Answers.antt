@@ -1,7 +1,5 @@
-use Rattle.std.proofs.Common.{[], arith, rules, refl, ◌∙◌, ap, sym, subst}
-use Rattle.std.specs.Prelude.{Option, None}
-use Rattle.cap_talks.specs.Talks.Rows.{TalksState, frames_in, bytes_in}
-use Rattle.cap_talks.specs.TallyView.{tally_view}
+use Rattle.std.proofs.Common.{[], arith}
+use Rattle.std.specs.Prelude.{None}
 use Rattle.cap_talks.proofs.Tallying.{Stands-none}
 use Rattle.cap_talks.proofs.tallies.Tally.new.Goals as goal
 

@@ -1,4 +1,4 @@
-use Rattle.std.proofs.Common.{rules, ◌≡◌, false, true, ℕ, ◌+◌, ◌≤◌, ◌∷◌, List, Some, Err, sym, ap, ◌∙◌, subst, arith}
+use Rattle.std.proofs.Common.{◌≡◌, false, ◌∷◌, List, Some, Err, subst}
 use Rattle.std.specs.Prelude.{OnOk, Result, Ok, Option}
 use Rattle.cap_talks.specs.Looking.{taken_of}
 use Rattle.cap_talks.specs.Taken.{Taken}

@@ -1,4 +1,4 @@
-use Rattle.std.proofs.Common.{ℕ, ◌∷◌, ap, ◌∙◌, subst, arith}
+use Rattle.std.proofs.Common.{rules, ℕ, ◌∷◌, ap, ◌∙◌, subst, arith}
 use Rattle.cap_join.specs.Fitting.{FitsPut}
 use Rattle.cap_join.specs.Fragments.{piece_of}
 use Rattle.cap_join.specs.History.{arrives, joined_pieces, state_of}
@@ -12,10 +12,7 @@ use Rattle.cap_talks.proofs.Exits.{sum-taken, looks-kept, sound-kept, looks-wait
 use Rattle.cap_talks.proofs.tallies.Tally.take_fragment.Goals as goal
 
 pub with_frames-self-inside-requires : goal.with_frames-self-inside-requires
-with_frames-self-inside-requires c =
-    let t = tally_view c.self.inside in
-    let s = c.self.invariant in
-    record { few = omega (arith, sum-taken t s.taken s.next s.stands, s.few) }
+with_frames-self-inside-requires c = search (rules, sum-taken)
 
 pub invariant_of-self-in-Kept : goal.invariant_of-self-in-Kept
 invariant_of-self-in-Kept c =

@@ -1,11 +1,9 @@
-use Rattle.std.specs.Prelude.{if◌then◌else◌}
-use Rattle.std.proofs.Common.{rules, ◌≡◌, true, false, ℕ, ◌+◌, ◌≤◌, ◌*◌, ◌^◌, ◌++◌, Some, Err, sym, ap, ◌∙◌, subst, arith}
+use Rattle.std.proofs.Common.{rules, ◌≤◌, ◌++◌, sym, ap, ◌∙◌, subst, arith}
 use Rattle.std.proofs.lemmas.Result.{err_from_is_err_and}
-use Rattle.cap_join.specs.declared.datagrams.Datagram.{Datagram}
-use Rattle.cap_talks.specs.Talks.Rows.{StandsFor, frames_in}
+use Rattle.cap_talks.specs.Talks.Rows.{StandsFor}
 use Rattle.cap_talks.specs.Talks.{frames_of, bytes_of}
 use Rattle.cap_talks.proofs.TalkLemmas.SumLaws.{sum_law}
-use Rattle.cap_talks.specs.Talks.Adding.{datagram_unit, datagram_class, is_over}
+use Rattle.cap_talks.specs.Talks.Adding.{is_over}
 use Rattle.cap_talks.specs.Tallies.{TallyState, Fits, counted_one, with_group}
 use Rattle.cap_talks.specs.TallyView.{tally_view}
 use Rattle.cap_talks.specs.CountedUnits.{listed}
@@ -48,11 +46,7 @@ add_unit-requires-clause-bytes c =
     )
 
 pub returns-in_err-add_unit-clause-limit : goal.returns-in_err-add_unit-clause-limit
-returns-in_err-add_unit-clause-limit c =
-    let p = err_from_is_err_and c.from_residual.result c.from_residual.ensures.1 in
-    let t = tally_view c.self.inside in
-    rw (p.1, p.2, ← c.self.view_is) (λ xs x h.
-    limit-by c.in_err-add_unit.field-0.0 _ _ (ap (is_over t.talks.rows) c.joined_unit.ensures ∙ limit-waiting t c.in-Some.datagram xs x c.in-Some.is h) c.in_err-add_unit.ensures.limit)
+returns-in_err-add_unit-clause-limit c = grind (arith, err_from_is_err_and, limit-by, limit-waiting)
 
 pub with_group-self-inside-requires-clause-unjoined : goal.with_group-self-inside-requires-clause-unjoined
 with_group-self-inside-requires-clause-unjoined c =
@@ -60,23 +54,13 @@ with_group-self-inside-requires-clause-unjoined c =
     enough-for (tally_view c.self.inside) c.in-Some.datagram s.taken s.next c.in-Some.is s.stands
 
 pub with_group-self-inside-requires-clause-few : goal.with_group-self-inside-requires-clause-few
-with_group-self-inside-requires-clause-few c =
-    let t = tally_view c.self.inside in
-    let s = c.self.invariant in
-    omega (arith, sum-taken t s.taken s.next s.stands, s.few)
+with_group-self-inside-requires-clause-few c = search (rules, sum-taken)
 
 one_most : (c : _) → counted_one c ≤ 1
-one_most c = by _
-  where
-    by : (b : _) → (if b then 1 else 0) ≤ 1
-    by true = omega arith
-    by false = omega arith
+one_most c = grind arith
 
 pub overflow_add-self : goal.overflow_add-self
-overflow_add-self c =
-    let t = tally_view c.self.inside in
-    let s = c.self.invariant in
-    omega (arith, joined-taken t s.taken s.next s.stands, s.few, c.is_counted.ensures, one_most c.joined_class-class.result)
+overflow_add-self c = search (rules, joined-taken, one_most)
 
 pub invariant_of-self-2 : goal.invariant_of-self-2
 invariant_of-self-2 c =

@@ -1,4 +1,4 @@
-use Rattle.std.proofs.Common.{◌≡◌, [], length, refl, arith}
+use Rattle.std.proofs.Common.{[], refl, arith}
 use Rattle.cap_talks.proofs.FileLemmas.Totaling.{stands-new, len-new}
 use Rattle.cap_talks.proofs.files.totals.Totals.new.Goals as goal
 

@@ -1,20 +1,14 @@
-use Rattle.std.proofs.Common.{◌≡◌, ℕ, ◌+◌, ◌-◌, ◌^◌, ◌<◌, ◌≤◌, List, [], ◌∷◌, None, length, arith, rules, refl, sym, ap, ◌∙◌, subst, nat_lt}
-use Rattle.cap_time.specs.declared.stamps.Stamp.{Stamp}
-use Rattle.std.specs.Prelude.{Option, slice_set, slice_index_or}
+use Rattle.std.proofs.Common.{◌≡◌, ◌+◌, ◌-◌, ◌^◌, ◌<◌, [], None, length, arith, rules, refl, ap, ◌∙◌, subst, nat_lt}
+use Rattle.std.specs.Prelude.{slice_set, slice_index_or}
 use Rattle.cap_talks.specs.Files.Counting.{counted, with_packet}
 use Rattle.cap_talks.specs.Looking.{taken}
-use Rattle.cap_talks.specs.Taken.{Taken}
-use Rattle.cap_talks.specs.Files.Totals.{TotalsState, TotalsStand}
+use Rattle.cap_talks.specs.Files.Totals.{TotalsState}
 use Rattle.cap_talks.specs.Files.TotalsView.{totals_view}
 use Rattle.cap_talks.proofs.FileLemmas.Totaling.{has-room, stands-more, sound-more, refilled, sum-fits, truncated-fits, at-most-one}
 use Rattle.cap_talks.proofs.files.totals.Totals.take.Goals as goal
 
 pub take_at-requires-clause-room : goal.take_at-requires-clause-room
-take_at-requires-clause-room c =
-    let t = totals_view c.self.inside in
-    let few : t.packets < 2 ^ 45 = omega (arith, ap (λ (n : TotalsState). n.packets) c.self.view_is, c.requires.few) in
-    let within : c.args.meta.now.file - 1 < length t.files = omega (arith, ap (λ (n : TotalsState). length n.files) c.self.view_is, c.requires.first, c.requires.last) in
-    rw c.as_mut_slice.ensures.value (has-room t c.self.invariant few (c.args.meta.now.file - 1) within)
+take_at-requires-clause-room c = grind (arith, has-room)
 
 pub overflow_add-self-2 : goal.overflow_add-self-2
 overflow_add-self-2 c =
