@@ -142,8 +142,6 @@ first-asked ps qs x asks is = by (feed_of ps).known refl
     by None e = subst (λ (k : Option Head). IfSome (next_by k (clock_of ps) (feed_of ps).frame) (λ y. y ≡ x)) (sym e) tt
     by (Some head) e = out (next_taken ps) (ap next_taken (sym (all_known ps qs asks (known-some ps head e))) ∙ is)
 
--- ---- the end and a refusal come again
-
 -- ---- what the table stands for
 
 -- nothing changed but what is known of the feeds
