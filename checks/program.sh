@@ -147,7 +147,7 @@ shown() {
 }
 if command -v script > /dev/null; then
     shown 'a cut file at a terminal' 'refused: file 2 offset 24 rule 3 cut
-  cut.pcap: it ends inside a file header, or inside a record or block, which --allow-cut drops' info one.pcap cut.pcap
+  cut.pcap: it is cut off: --allow-cut drops a last record or block, but not a file header' info one.pcap cut.pcap
     shown 'a missing file at a terminal' 'fault: open file 1
   missing: No such file or directory (os error 2)' list missing
     shown 'a folder at a terminal' "fault: read file 1 offset 0
@@ -156,7 +156,12 @@ if command -v script > /dev/null; then
   k/hard: it is one of the files that are read' merge -o k/hard k/a
     shown 'an OUT in no folder, at a terminal' 'fault: create output
   nowhere/new: No such file or directory (os error 2)' merge -o nowhere/new one.pcap
-    shown 'a faulty output at a terminal' 'fault: output' merge -o one.pcap one.pcap
+    shown 'a faulty output at a terminal' 'fault: output
+  the output is one of the captures that are read' merge -o one.pcap one.pcap
+    shown 'standard input twice at a terminal' 'fault: input
+  standard input, -, can be read once' info - -
+    shown '33 captures at a terminal' 'fault: files
+  a command reads at most 32 captures' info $(yes one.pcap | head -33)
     # a line is seen at a terminal as it comes, while the pipe it is read from stays open
     mkfifo "$work/slow"
     { cat "$one"; for _ in $(seq 100); do [ -e "$work/seen" ] && break; sleep 0.1; done; } > "$work/slow" &

@@ -4,14 +4,9 @@
 ghost use Rattle.std.specs.Prelude.{◌≡◌, ◌⊎◌, IfErr, vec_len};
 ghost use Rattle.cap_line.specs.CommandLine.{IsWhole};
 
-mod hints;
-mod regular;
-mod streams;
-
-use crate::hints::hint;
-use crate::streams::{Output, create_output, open_all, watch_all};
 use cap_bytes::{Fault, Source, Tracked, put_all};
 use cap_line::{Job, LineFault, NOT_UTF_8, USAGE, message, parse};
+use cap_streams::{Output, create_output, hint, open_all, watch_all};
 use cap_tasks::{Outcome, Progress, Watched, end_of, job_to, status_of, tell};
 use std::alloc::Global;
 use std::env;

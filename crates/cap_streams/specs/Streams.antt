@@ -6,10 +6,10 @@ use Rattle.cap_bytes.specs.declared.faults.Fault.TheVariants as faults
 use Rattle.cap_bytes.specs.declared.streams.Tracked.{Tracked}
 use Rattle.cap_tasks.specs.declared.outcomes.Outcome.{Outcome}
 use Rattle.cap_tasks.specs.declared.outcomes.Outcome.TheVariants as outcomes
-use Rattle.cap_tool.specs.declared.streams.Input.{Input}
-use Rattle.cap_tool.specs.declared.streams.Input.TheVariants as inputs
-use Rattle.cap_tool.specs.declared.streams.Output.{Output}
-use Rattle.cap_tool.specs.declared.streams.Output.TheVariants as outputs
+use Rattle.cap_streams.specs.declared.streams.Input.{Input}
+use Rattle.cap_streams.specs.declared.streams.Input.TheVariants as inputs
+use Rattle.cap_streams.specs.declared.streams.Output.{Output}
+use Rattle.cap_streams.specs.declared.streams.Output.TheVariants as outputs
 
 -- whether a name is that of a standard stream
 abbrev pub is_dash : List ℕ → Bool

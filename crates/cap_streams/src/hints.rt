@@ -1,10 +1,10 @@
 //! What is told at a terminal beside the line of a fault: the file's name, and why.
 ghost use Rattle.std.specs.Prelude.{IsSome, IsTrue};
-ghost use Rattle.cap_tool.specs.Hints.{is_of_file};
+ghost use Rattle.cap_streams.specs.Hints.{is_of_file, is_of_names};
 
 use crate::regular::{id_of, is_input, regular_at, regular_file};
 use cap_bytes::{Fault, Rule};
-use cap_line::{Job, parse};
+use cap_line::{Job, LineFault, parse};
 use cap_tasks::Outcome;
 use std::alloc::Global;
 use std::fmt::Display;
@@ -17,7 +17,7 @@ fn meaning(rule: Rule) -> &'static str {
         Rule::Magic => "this is no capture of pcap or pcapng",
         Rule::Version => "its version isn't pcap 2.4 or pcapng 1.0",
         Rule::Cut =>
-            "it ends inside a file header, or inside a record or block, which --allow-cut drops",
+            "it is cut off: --allow-cut drops a last record or block, but not a file header",
         Rule::PacketLong => "more than 262,144 bytes of a packet were captured",
         Rule::BlockLength => "the length of a block is wrong",
         Rule::BlockTrailer => "the two lengths of a block differ",
@@ -44,7 +44,7 @@ fn name_of<'a>(job: &Job<'a>, file: u32) -> Option<&'a str> {
     job.files.get((file as usize).checked_sub(1)?).copied()
 }
 
-// `  cut.pcap: it ends inside a packet`
+// `  cut.pcap: it is cut off`
 fn line(alloc: Global, name: &str, why: &impl Display) -> Option<String> {
     format!(in alloc; "  {name}: {why}\n").ok()
 }
@@ -81,8 +81,22 @@ fn create_line<R: Files<File = File>>(
     }
 }
 
+// What is wrong with the files that a command line names.
+fn names_line(alloc: Global, fault: LineFault) -> Option<String>
+    ensures { IsSome result → IsTrue (is_of_names fault) }
+{
+    let why = match fault {
+        LineFault::Files => "a command reads at most 32 captures",
+        LineFault::Input => "standard input, -, can be read once",
+        LineFault::Output => "the output is one of the captures that are read",
+        _ => return None,
+    };
+    format!(in alloc; "  {why}\n").ok()
+}
+
 /// The line that a terminal shows after the line of a fault: the name of the file, and what the system says
-/// of it, or what the rule means that is broken. There is none where the fault is of no file.
+/// of it, or what the rule means that is broken; of a command line, what is wrong with the files that it names.
+/// There is none if the fault is of no file, or if memory runs out.
 pub fn hint<R: Files<File = File>>(
     files: &R,
     alloc: Global,
@@ -91,6 +105,9 @@ pub fn hint<R: Files<File = File>>(
 ) -> Option<String>
     ensures { IsSome result → IsTrue (is_of_file outcome.now) }
 {
+    if let Outcome::Line(fault) = outcome {
+        return names_line(alloc, *fault);
+    }
     let Ok(job) = parse(alloc, words) else {
         return None;
     };

@@ -1,6 +1,6 @@
 use Rattle.std.proofs.Common.{◌≡◌, map}
 use Rattle.cap_tasks.specs.Watched.{inner_of}
-use Rattle.cap_tool.proofs.streams.watch_all.Given as goal
+use Rattle.cap_streams.proofs.streams.watch_all.Given as goal
 
 -- the inputs so far are watched
 abbrev pub invariant-loop-source : goal.invariant-loop-source

@@ -1,6 +1,6 @@
 use Rattle.std.proofs.Common.{◌≡◌, ◌≤◌, length, map, take, vec_len}
-use Rattle.cap_tool.specs.Streams.{is_dash, standards_of}
-use Rattle.cap_tool.proofs.streams.open_all.Given as goal
+use Rattle.cap_streams.specs.Streams.{is_dash, standards_of}
+use Rattle.cap_streams.proofs.streams.open_all.Given as goal
 
 -- the inputs of the names so far are opened
 abbrev pub invariant-loop-place : goal.invariant-loop-place

@@ -1,7 +1,7 @@
 use Rattle.std.proofs.Common.{sym, ◌∙◌, map-id}
 use Rattle.std.proofs.lemmas.Iterator.Adapters.{YieldsList-from_vec}
 use Rattle.std.proofs.lemmas.Iterator.Consumers.{YieldsList-end}
-use Rattle.cap_tool.proofs.streams.watch_all.Goals as goal
+use Rattle.cap_streams.proofs.streams.watch_all.Goals as goal
 
 pub returns-clause-same : goal.returns-clause-same
 returns-clause-same g c =
