@@ -37,6 +37,7 @@ pub enum Task {
 /// What the command line asks for.
 #[derive(Drop)]
 pub struct Job<'a> {
+    /// What is to be done.
     pub task: Task,
     /// The capture files, from 1 to 32, as they were named. `-` is standard input.
     pub files: Vec<&'a str>,

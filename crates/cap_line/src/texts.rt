@@ -56,6 +56,12 @@ pub(crate) const REPORT_HELP: &str = "Prints, of all packets in the order of tim
 If a capture is refused, nothing is printed. Bytes are original lengths; Q
 packets were captured in part, S blocks skipped. A time T is SEC+NUM/DEN:
 2+500000/1000000 is 2.5 seconds after 1970 began; - is no time.
+Each packet is of one class: of a link type that isn't looked into; not IPv4;
+short, if it ends in its link header; cut, if too little was captured; bad, if
+its headers are wrong; unjoined, a fragment whose datagram lacks another; or
+counted in a conversation. J datagrams were joined of fragments; G groups of
+fragments were given up, each the oldest of 1,024. A is the lesser of the two
+ends, and forward is from A to B.
 
 Examples: capt report morning.pcap evening.pcapng
           zcat trace.pcap.gz | capt report -";
@@ -78,8 +84,8 @@ pub(crate) const LIST_HELP: &str = "Prints, for each packet, as it is found:
   packet N offset O time T captured C original G link L data X
 O is where its record or block begins, C and G are its captured and original
 length, L its link type, X at most 16 of its bytes in hex. If the capture is
-refused, the lines before stand. A time T is SEC+NUM/DEN: 2+500000/1000000 is
-2.5 seconds after 1970 began; - is no time.
+refused, the lines before are printed. A time T is SEC+NUM/DEN:
+2+500000/1000000 is 2.5 seconds after 1970 began; - is no time.
 
 Examples: capt list --allow-cut trace.pcap
           zcat trace.pcap.gz | capt list -";
@@ -89,7 +95,8 @@ pub(crate) const BLOCKS_ABOUT: &str = "Prints a line for each block of a pcapng 
 pub(crate) const BLOCKS_HELP: &str = "Prints, for each block, as it is found:
   block N offset O order little kind 0a0d0d0a total T
 O is where it begins, T its length, and the order that of its section, little
-or big. If the capture is refused, the lines before stand; a pcap file is.
+or big. If the capture is refused, the lines before are printed. A pcap file is
+refused: it has no blocks.
 
 Example: capt blocks trace.pcapng";
 
@@ -105,9 +112,10 @@ Examples: capt convert --to pcapng -o trace.pcapng trace.pcap
 pub(crate) const MERGE_ABOUT: &str = "Writes the packets of captures as one, in the order of time";
 
 pub(crate) const MERGE_HELP: &str =
-    "A packet's time is the greatest so far in its file; of equal times the file
-that is named first comes first. OUT is a pcapng file. More than 32 captures
-are merged in rounds: 32 at a time, in order, and then the results.
+    "A packet stands by the greatest time so far in its own file; of equal times the
+file that is named first comes first. No time is changed. OUT is a pcapng file.
+More than 32 captures are merged in rounds: 32 at a time, in order, and then
+the results.
 
 Examples: capt merge -o day.pcapng morning.pcap evening.pcapng
           capt merge -o - a.pcap b.pcap | capt convert --to pcap -o ab.pcap -";
@@ -116,13 +124,14 @@ pub(crate) const JOIN_ABOUT: &str = "Writes the whole IPv4 datagrams of captures
 
 pub(crate) const JOIN_HELP: &str =
     "Each datagram is one packet, from its IPv4 header on, with the time of the
-frame that completed it. OUT is a pcapng file.
+frame that completed it. What isn't IPv4, and what lacks a fragment, is left
+out. OUT is a pcapng file.
 
 Example: capt join -o whole.pcapng morning.pcap evening.pcapng";
 
 pub(crate) const ALLOW_CUT_HELP: &str = "Drop a last packet or block that is cut off";
 
-pub(crate) const ORDER_HELP: &str = "Byte order, or else little";
+pub(crate) const ORDER_HELP: &str = "Byte order (default little)";
 
 pub(crate) const TO_HELP: &str = "The format of OUT";
 
