@@ -1,5 +1,5 @@
 #!/usr/bin/env python3
-"""Which definitions must be read to trust a command: those that its text and its refusal are defined by.
+"""Which definitions must be read to trust a command: those of its text, of its refusal, and of what is written by each answer.
 
 Prints, for each command, how many definitions and lines these are, by crate; with a command's name, the definitions themselves,
 what stands on nothing first. Words of the toolchain's library and the fields of the types in src/ aren't listed.
@@ -9,17 +9,18 @@ Use: checks/trusted.py [COMMAND]
 import pathlib, re, sys
 
 TOP = pathlib.Path(__file__).resolve().parent.parent
+PRINTS, TELLS = "cap_bytes.Printing.Prints", "cap_talks.Telling.Tells"
 ROOTS = {
-    "list": ["cap_tasks.ListText.list_text", "cap_tasks.ListText.list_refusal"],
-    "blocks": ["cap_tasks.BlockText.block_list", "cap_tasks.BlockText.block_refusal"],
-    "info": ["cap_talks.Files.Lines.files_text", "cap_talks.Files.Lines.lines_from", "cap_source.Items.file_items", "cap_source.Items.file_ending"],
+    "list": ["cap_tasks.ListText.list_text", "cap_tasks.ListText.list_refusal", PRINTS],
+    "blocks": ["cap_tasks.BlockText.block_list", "cap_tasks.BlockText.block_refusal", PRINTS],
+    "info": ["cap_talks.Files.Lines.info_text", "cap_talks.Files.Lines.first_refusal", TELLS],
     "report": [
         "cap_talks.ReportText.report_text", "cap_talks.ReportText.report_refusal", "cap_merge.Files.clocked_run",
-        "cap_merge.Files.endings_of_files",
+        "cap_merge.Files.endings_of_files", TELLS,
     ],
-    "convert": ["cap_tasks.Converted.convert_text", "cap_tasks.Converted.convert_refusal"],
-    "merge": ["cap_tasks.MergeText.merge_text", "cap_tasks.MergeText.merge_refusal"],
-    "join": ["cap_tasks.JoinText.join_text", "cap_tasks.JoinText.join_refusal"],
+    "convert": ["cap_tasks.Converted.convert_text", "cap_tasks.Converted.convert_refusal", PRINTS],
+    "merge": ["cap_tasks.MergeText.merge_text", "cap_tasks.MergeText.merge_refusal", PRINTS],
+    "join": ["cap_tasks.JoinText.join_text", "cap_tasks.JoinText.join_refusal", PRINTS],
 }
 
 
@@ -43,8 +44,8 @@ def parsed(path):
             continue
         name = re.match(r"(?:(?:abbrev|unfoldable|pub|ghost) )*(?:record |data )?([^\s:(]+)", head)[1]
         definitions[f"{module}.{name}"] = lines
-        # the cases of a data type and the fields of a record belong to it
-        if re.search(r"\b(record|data) ", head):
+        # the cases of a data type belong to it; a field of a record comes with its type, and its name may be a variable's
+        if re.search(r"\bdata ", head):
             for case in re.findall(r"^  (?:pub )?([\w-]+) :", part, re.M):
                 definitions.setdefault(f"{module}.{case}", lines)
     return module, imports, wide, definitions

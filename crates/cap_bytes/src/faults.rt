@@ -121,6 +121,7 @@ pub struct Refusal {
     /// Where the record or block begins, in bytes: 0 for the file header, and for
     /// `Rule::NoInterface`.
     pub offset: u64,
+    /// The rule that is broken.
     pub rule: Rule,
 }
 

@@ -214,7 +214,7 @@ pub(crate) fn first_lane(lanes: &[Lane]) -> Option<usize>
     first
 }
 
-/// The same, which may be known.
+/// The same: `known`, if it is there, and else the first of them all.
 pub(crate) fn found(lanes: &[Lane], known: Option<usize>) -> Option<usize>
     requires { IsFound lanes.now known }
     ensures place { result ≡ first_place lanes.now }

@@ -9,8 +9,8 @@ ghost use Rattle.cap_talks.specs.Talks.Worked.{TalkLines, TalkLimit};
 ghost use Rattle.cap_talks.specs.declared.talks.units.CountedUnit.{CountedUnit};
 
 /// What a conversation is: two units belong to the same one if they have the same protocol and the same two
-/// ends, whichever of these is the source. The frames that give a row's printed times are the first by time, and by
-/// time from the greatest down, and then by place. All rows together count each unit once.
+/// ends, whichever of these is the source. A row's first time is that of its earliest frame, its last time that of its
+/// latest; of equal times that of the lowest place counts. All rows together count each unit once.
 pub fn talk_laws()
     ensures key { KeyLaw }
     ensures frames { (units : List CountedUnit) → FrameLaw units }

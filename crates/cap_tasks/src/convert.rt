@@ -11,9 +11,10 @@ use cap_write::{to_pcap, to_pcapng};
 use std::alloc::Global;
 
 /// Writes the packets of a capture file of either format as a file of that format, with numbers in that
-/// order, exactly as they were read, up to the first refusal, which it answers: one of the file that is
+/// byte order, exactly as they were read, up to the first refusal, which it answers: one of the file that is
 /// read, or of a packet that the format can't hold (rules 13 and 17 in pcapng, 17 to 21 in pcap, as of
-/// `to_pcapng` and `to_pcap`). After any other fault a prefix of that text is written.
+/// `to_pcapng` and `to_pcap`). `Read` comes if a read fails, `Write` if a write does, `Memory` if a growth is refused;
+/// after these a prefix of that text is written.
 pub fn convert_to<R: Source, W: Sink>(
     alloc: Global,
     source: R,

@@ -12,11 +12,11 @@ use cap_write::write_joined;
 use std::alloc::Global;
 
 /// Writes the whole IPv4 datagrams of 1 to 32 capture files, each of either format, as a pcapng file of
-/// one section in that order: the packets are taken in the order of exact time, as of `merge_to`, their
+/// one section in that byte order: the packets are taken in the order of exact time, as of `merge_to`, their
 /// fragments are joined (RFC 791, 3.2), and each datagram is one packet without a link header, as of
 /// `write_joined`. It ends at the first refusal, which it answers: one of a file that is read, or of a
-/// packet or a datagram that can't be written (rules 13 and 17, as of `write_joined`). After any other
-/// fault a prefix of that text is written.
+/// packet or a datagram that can't be written (rules 13 and 17, as of `write_joined`). `Read` comes if a read
+/// fails, `Write` if a write does, `Memory` if a growth is refused; after these a prefix of that text is written.
 pub fn join_to<R: Source, W: Sink>(
     alloc: Global,
     sources: Vec<R>,

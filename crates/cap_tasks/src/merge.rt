@@ -12,10 +12,11 @@ use cap_write::write_merged;
 use std::alloc::Global;
 
 /// Writes the packets of 1 to 32 capture files, each of either format, as a pcapng file of one section in
-/// that order, in the order of exact time: by the greatest time so far in a packet's file, of equal ones
+/// that byte order, sorted by exact time: by the greatest time so far in a packet's file, of equal ones
 /// by file, then by place in the file. It ends at the first refusal, which it answers: one of a file that
-/// is read, or of a packet that can't be written (rules 13 and 17, as of `write_merged`). After any other
-/// fault a prefix of that text is written.
+/// is read, or of a packet that can't be written (rules 13 and 17, as of `write_merged`). `Read` comes if a
+/// read fails, `Write` if a write does, `Memory` if a growth is refused; after these a prefix of that text is
+/// written.
 pub fn merge_to<R: Source, W: Sink>(
     alloc: Global,
     sources: Vec<R>,

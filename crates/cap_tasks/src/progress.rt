@@ -123,7 +123,8 @@ pub struct Progress<'a, C: Clock> {
 
 impl<'a, C: Clock> Progress<'a, C> {
     /// The progress of a run that begins now, and that has that many bytes to read, if that is known. It is shown on
-    /// the terminal `screen`, if there is one; if that `is_shared` with what is written, until something is.
+    /// the terminal `screen`, if there is one; if `is_shared`, what is written goes there too, and progress is shown only
+    /// until something is written.
     pub fn new(
         clock: &'a C,
         screen: Option<Stderr>,

@@ -63,12 +63,13 @@ numbered_of origins meta frame =
       frame = frame;
     }
 
--- The packets that are written of a list, where those interfaces were used before: all up to the first
--- that is refused, or to the refusal that ends the list.
+-- a packet and those after it, unless it is refused
 abbrev pub numbered_or : Option Rule → Numbered → List Numbered → List Numbered
 numbered_or (Some rule) first rest = []
 numbered_or None first rest = first ∷ rest
 
+-- The packets that are written of a list, if those interfaces were used before: all up to the first
+-- that is refused, or to the refusal that ends the list.
 unfoldable pub numbered : List Origin → List Item → List Numbered
 numbered origins [] = []
 numbered origins (packet meta frame ∷ items) =

@@ -31,10 +31,11 @@ header_of order first =
 abbrev pub whole_time : Fraction → Interface → ℕ → Option (ℤ × ℕ)
 whole_time fraction interface units = whole_of (in_second fraction) (stamp_in units interface)
 
--- why a time isn't written: it isn't whole, or its seconds are below 0 or don't fit in 32 bits
+-- whether seconds since 1970 fit in 32 bits
 abbrev pub is_in_range : ℤ → Bool
 is_in_range seconds = int_le (pos 0) seconds && int_lt seconds (pos (2 ^ 32))
 
+-- why a time isn't written: it isn't whole, or its seconds are below 0 or don't fit in 32 bits
 abbrev pub time_fault : Option (ℤ × ℕ) → Option Rule
 time_fault None = Some Inexact
 time_fault (Some time) = if is_in_range time.0 then None else Some TimeRange
@@ -51,7 +52,7 @@ record_fault first meta =
     if not (meta.interface.link == first.link) then Some LinkMixed else
     units_fault (fraction_of first) meta.interface meta.units
 
--- the time of a packet that is, after such a header
+-- the time that is written of a packet after a header of that fraction, if it is whole in it
 abbrev pub time_in : Fraction → Interface → Option ℕ → Option (ℤ × ℕ)
 time_in fraction interface None = None
 time_in fraction interface (Some units) = whole_time fraction interface units

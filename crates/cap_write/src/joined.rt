@@ -127,8 +127,8 @@ fn put_joined<F: PacketFeed, W: Sink>(
 /// that byte order: each whole IPv4 datagram, and each that is joined of fragments (RFC 791, 3.2), as one packet
 /// without a link header, of the datagram's header without options and all of its data. It has the place, the
 /// time and the interface's number of the packet that completed it; the interface has link 101 and no snaplen.
-/// A datagram isn't written if some of its data wasn't captured, or if its data doesn't have the form of UDP
-/// or TCP; nor is a frame that isn't IPv4. Interfaces are numbered by first use.
+/// A datagram isn't written if some of its data wasn't captured, or if it is UDP or TCP and its data doesn't have
+/// that form; nor is a frame that isn't IPv4. Interfaces are numbered by first use.
 ///
 /// `Refused` comes at a packet that has no time (rule 17, no-time), whatever it holds, at one that
 /// completes a datagram whose interface would be the 1,025th (rule 13, interface-limit), and where the run

@@ -61,11 +61,12 @@ file_texts tail file (bytes ∷ files) =
 abbrev pub info_text : Tail → List (List ℕ) → List ℕ
 info_text tail files = files_text (length files) ++ file_texts tail 1 files
 
--- the refusal of the first of the files that is refused, from that number on
+-- a file's refusal, or else that of a later one
 abbrev pub or_else : Option Refusal → Option Refusal → Option Refusal
 or_else None later = later
 or_else (Some refusal) later = Some refusal
 
+-- the refusal of the first of the files that is refused, from that number on
 abbrev pub first_refusal : Tail → ℕ → List (List ℕ) → Option Refusal
 first_refusal tail file [] = None
 first_refusal tail file (bytes ∷ files) = or_else (refusal_of (file_items tail file bytes)) (first_refusal tail (file + 1) files)
