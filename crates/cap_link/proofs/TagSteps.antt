@@ -16,17 +16,9 @@ carried-tag whole kind (a ∷ b ∷ c ∷ d ∷ rest) tag long = rw tag refl
 -- a tag that the frame ends in
 pub carried-ended : (whole : Bool) (kind : ℕ) (bytes : List ℕ) → is_tag kind ≡ true → length bytes < 4 → carried whole kind bytes ≡ ended whole
 unfolding carried
-carried-ended whole kind [] tag short = rw tag refl
-carried-ended whole kind (a ∷ []) tag short = rw tag refl
-carried-ended whole kind (a ∷ b ∷ []) tag short = rw tag refl
-carried-ended whole kind (a ∷ b ∷ c ∷ []) tag short = rw tag refl
-carried-ended whole kind (a ∷ b ∷ c ∷ d ∷ rest) tag short = absurd (omega arith)
+carried-ended whole kind bytes tag short = grind arith
 
 -- no tag
 pub carried-payload : (whole : Bool) (kind : ℕ) (bytes : List ℕ) → is_tag kind ≡ false → carried whole kind bytes ≡ payload kind bytes
 unfolding carried
-carried-payload whole kind [] tag = rw tag refl
-carried-payload whole kind (a ∷ []) tag = rw tag refl
-carried-payload whole kind (a ∷ b ∷ []) tag = rw tag refl
-carried-payload whole kind (a ∷ b ∷ c ∷ []) tag = rw tag refl
-carried-payload whole kind (a ∷ b ∷ c ∷ d ∷ rest) tag = rw tag refl
+carried-payload whole kind bytes tag = grind arith

@@ -1,9 +1,7 @@
 -- A tagged frame carries what comes after its tags.
 use Rattle.std.specs.List.{AllByRecursion}
-use Rattle.std.proofs.Common.{◌≡◌, ◌≤◌, ◌/◌, ◌%◌, ◌∙◌, ℕ, Bool, true, false, List, [], ◌∷◌, ◌++◌, length, drop, nat_lt, refl, ap, sym, arith, length-append}
+use Rattle.std.proofs.Common.{◌≡◌, ◌≤◌, ◌/◌, ◌%◌, ◌∙◌, ℕ, Bool, true, false, List, [], ◌∷◌, ◌++◌, length, drop, ap, sym, arith, length-append}
 use Rattle.std.proofs.Math.Seq.{drop-append_seam}
-use Rattle.std.proofs.lemmas.List.{drop-drop}
-use Rattle.std.proofs.lemmas.Bool.Decides.{nat_tests}
 use Rattle.std.proofs.lemmas.List.Elements.{recursion_from_All}
 use Rattle.cap_bytes.specs.Number.{number}
 use Rattle.cap_bytes.specs.declared.numbers.Order.TheVariants.{Big}
@@ -26,17 +24,12 @@ length-tagged (tag ∷ tags) kind bytes = omega arith
 pub carried-tagged : (whole : Bool) (tags : List Tag) (kind : ℕ) (bytes : List ℕ) → AllByRecursion (λ tag. is_tag tag.protocol ≡ true) tags → is_tag kind ≡ false → carried whole (number Big 2 (tagged tags kind bytes)) (drop 2 (tagged tags kind bytes)) ≡ payload kind bytes
 unfolding tagged
 carried-tagged whole [] kind bytes all none = rw number-two (carried-payload whole kind bytes none)
-carried-tagged whole (tag ∷ tags) kind bytes all none =
-    let long : 4 ≤ length (tag.control / 256 ∷ tag.control % 256 ∷ tagged tags kind bytes) = omega (arith, length-tagged tags kind bytes) in
-    rw number-two (carried-tag whole tag.protocol _ all.0 long ∙ carried-tagged whole tags kind bytes all.1 none)
+carried-tagged whole (tag ∷ tags) kind bytes all none = grind (arith, carried-tagged whole tags kind bytes all.1 none, length-tagged, number-two, carried-tag)
 
 -- an Ethernet header, by what comes after its addresses
 pub typed-behind : (whole : Bool) (frame rest : List ℕ) → drop 12 frame ≡ rest → 14 ≤ length frame → typed whole 14 12 frame ≡ carried whole (number Big 2 rest) (drop 2 rest)
 unfolding typed
-typed-behind whole frame rest behind long =
-    let over : nat_lt (length frame) 14 ≡ false = grind (arith, nat_tests) in
-    let two : drop 2 rest ≡ drop 14 frame = ap (drop 2) (sym behind) ∙ drop-drop 2 12 frame in
-    rw (over, two, ← behind) refl
+typed-behind whole frame rest behind long = grind arith
 
 pub tags-law : TagsLaw
 unfolding network_of
