@@ -13,11 +13,10 @@ unfolding floor_of remainder_of
 split (pos k) (pos s) n d h e =
     let both : (k / d ≡ s) × (k % d ≡ n) = quotients k s n d h (omega arith) in
     (ap pos both.0, both.1)
-split (pos k) (negsuc s) n d h e = absurd (omega arith)
-split (negsuc k) (pos s) n d h e = absurd (omega arith)
 split (negsuc k) (negsuc s) n d h e =
     let both : (k / d ≡ s) × (k % d ≡ d - 1 - n) = quotients k s (d - 1 - n) d (omega arith) (omega arith) in
     (ap negsuc both.0, ap (λ (x : ℕ). d - 1 - x) both.1 ∙ omega arith)
+split z s n d h e = grind arith
 
 -- how far a sum of units and whole seconds reaches
 reach : (s : ℤ) (n d : ℕ) → up (pos n +ℤ s *ℤ pos d) + down s * d ≡ down (pos n +ℤ s *ℤ pos d) + n + up s * d
@@ -61,30 +60,3 @@ time_plus-time_at s n d k =
 
 pub time_at-later : (s z : ℤ) (n d k : ℕ) → z ≡ s +ℤ pos k → time_at n d z ≡ time_plus (time_at n d s) k
 time_at-later s z n d k e = ap (λ (x : ℤ). time_at n d x) e ∙ sym (time_plus-time_at s n d k)
-
--- seconds may be counted as units, or begin at the offset
-pub time_at-offset : (s : ℕ) (z : ℤ) (units d : ℕ) → time_at (s * d + units) d z ≡ time_at units d (z +ℤ pos s)
-unfolding time_at
-time_at-offset s z units d =
-    let sum : (up (z +ℤ pos s) + down z + 0) * d ≡ (down (z +ℤ pos s) + up z + s) * d = ap (λ (x : ℕ). x * d) (sum_is_lem z (pos s)) in
-    let same : pos (s * d + units) +ℤ z *ℤ pos d ≡ pos units +ℤ (z +ℤ pos s) *ℤ pos d =
-    same_in (pos (s * d + units) +ℤ z *ℤ pos d) (pos units +ℤ (z +ℤ pos s) *ℤ pos d)
-    (omega (arith, sum, reach z (s * d + units) d, reach (z +ℤ pos s) units d)) in
-    λ i. record { numerator = same i; denominator = d }
-
--- the floor and the remainder are those of a division: d times the floor, and the remainder more, which is below d
-pub time_at-floor : (z : ℤ) (d : ℕ) → 0 < d → time_at (remainder_of z d) d (floor_of z d) ≡ record { numerator = z; denominator = d }
-unfolding time_at floor_of remainder_of
-time_at-floor (pos n) d h =
-    let whole : pos (n % d) +ℤ pos (n / d) *ℤ pos d ≡ pos n = ap pos (omega (arith, div-add-mod' n d)) in
-    λ i. record { numerator = whole i; denominator = d }
-time_at-floor (negsuc n) d h =
-    let below : n % d < d = mod_below n d h in
-    let whole : pos (d - 1 - n % d) +ℤ negsuc (n / d) *ℤ pos d ≡ negsuc n =
-    same_in (pos (d - 1 - n % d) +ℤ negsuc (n / d) *ℤ pos d) (negsuc n) (omega (arith, reach (negsuc (n / d)) (d - 1 - n % d) d, div-add-mod' n d)) in
-    λ i. record { numerator = whole i; denominator = d }
-
-pub remainder_below : (z : ℤ) (d : ℕ) → 0 < d → remainder_of z d < d
-unfolding remainder_of
-remainder_below (pos n) d h = mod_below n d h
-remainder_below (negsuc n) d h = omega arith

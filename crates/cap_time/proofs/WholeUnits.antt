@@ -1,45 +1,27 @@
 -- When a time is a whole number of other units.
-use Rattle.std.proofs.Common.{◌≡◌, ℕ, ◌+◌, ◌*◌, ◌/◌, ◌%◌, ◌<◌, refl, sym, ap, subst, ◌∙◌, lit≤, arith, ℤ, Ordering, Equal}
-use Rattle.std.proofs.Math.Nat.{mul-lt-mul_of_pos_right}
-use Rattle.std.proofs.lemmas.Nat.{div-add-mod', div_below, div-mul-add, mod-mul-add}
-use Rattle.std.specs.Ordering.{int_cmp, nat_cmp, ordering_then}
-use Rattle.std.specs.Cmp.{int_cmp_total, nat_cmp_total, tied_itself, ranked, int_ranked}
+use Rattle.std.proofs.Common.{◌≡◌, ℕ, ◌+◌, ◌*◌, ◌/◌, ◌%◌, ◌<◌, refl, sym, ap, ◌∙◌, arith, ℤ, Equal}
+use Rattle.std.proofs.lemmas.Nat.{mod-mul-add}
+use Rattle.std.specs.Ordering.{int_cmp, nat_cmp}
+use Rattle.std.specs.Cmp.{ranked}
 use Rattle.cap_time.specs.Time.{time_at, IsWhole, IsNeverWhole}
 use Rattle.cap_time.specs.TimeLaws.{time_cmp-units}
-use Rattle.std.specs.Prelude.{Bool, true, false, Some, None, MatchOption, ◌==◌, if◌then◌else◌}
-use borrow.Author.Tests.{eqb-true, eqb-false}
+use Rattle.std.specs.Prelude.{Bool, Some, None, MatchOption, ◌==◌, if◌then◌else◌}
 use Rattle.cap_time.specs.declared.stamps.Stamp.{Stamp}
 use Rattle.cap_time.specs.Stamp.{seconds_of, numerator_of, denominator_of, time_of, whole_of}
 use Rattle.cap_time.specs.StampLaws.{both_equal}
 use Rattle.cap_time.specs.declared.stamps.Unit.{Unit as Fraction}
-use Rattle.cap_time.specs.declared.stamps.Unit.TheVariants.{Micro, Nano}
 use Rattle.cap_time.specs.Unit.{in_second}
 
 -- a fraction of a second is below a second's worth
 pub whole_below : (n d e : ℕ) → n < d → 0 < e → n * e / d < e
-whole_below n d e h p =
-    let product : n * e < d * e = mul-lt-mul_of_pos_right h p in
-    div_below (n * e) d e (omega arith) (omega arith)
+whole_below n d e h p = grind arith
 
 pub whole_here : (s : ℤ) (n d e : ℕ) → n < d → 0 < e → n * e % d ≡ 0 → IsWhole e (time_at n d s) s (n * e / d)
-whole_here s n d e h p exact =
-    let below : n * e / d < e = whole_below n d e h p in
-    let same : n * e ≡ n * e / d * d = omega (arith, div-add-mod' (n * e) d) in
-    record {
-      below = below;
-      same = time_cmp-units s s n d (n * e / d) e h below
-          ∙ ap (λ (r : Ordering). ordering_then r (nat_cmp (n * e) (n * e / d * d))) (tied_itself int_cmp_total s)
-          ∙ ap (λ (x : ℕ). nat_cmp x (n * e / d * d)) same
-          ∙ tied_itself nat_cmp_total (n * e / d * d);
-    }
+whole_here s n d e h p exact = grind (arith, whole_below, time_cmp-units)
 
 -- the same, for numbers that equal these
 pub whole_here_as : (s z : ℤ) (n d e top bottom : ℕ) → n < d → 0 < e → z ≡ s → top ≡ n * e → bottom ≡ d → top % bottom ≡ 0 → IsWhole e (time_at n d s) z (top / bottom)
-whole_here_as s z n d e top bottom h p same top_is bottom_is exact =
-    let quotient : n * e / d ≡ top / bottom = cc in
-    let rest : n * e % d ≡ 0 = cc in
-    let here : IsWhole e (time_at n d s) s (n * e / d) = whole_here s n d e h p rest in
-    subst (λ (u : ℕ). IsWhole e (time_at n d s) z u) quotient (subst (λ (x : ℤ). IsWhole e (time_at n d s) x (n * e / d)) (sym same) here)
+whole_here_as s z n d e top bottom h p same top_is bottom_is exact = grind (arith, whole_here)
 
 pub whole_nowhere : (s : ℤ) (n d e : ℕ) → n < d → ¬ (n * e % d ≡ 0) → (z : ℤ) (u : ℕ) → ¬ (IsWhole e (time_at n d s) z u)
 whole_nowhere s n d e h inexact z u whole =
@@ -51,23 +33,12 @@ whole_nowhere s n d e h inexact z u whole =
 
 pub ruleset whole_units = (whole_here, whole_nowhere, whole_below)
 
--- there is one way at most to write a time as whole seconds and units
-pub IsWhole-unique : (s z : ℤ) (n d u e : ℕ) → n < d → IsWhole e (time_at n d s) z u → (z ≡ s) × (u ≡ n * e / d)
-IsWhole-unique s z n d u e h whole =
-    let both : (int_cmp s z ≡ Equal) × (nat_cmp (n * e) (u * d) ≡ Equal) = both_equal (int_cmp s z) (nat_cmp (n * e) (u * d)) (sym (time_cmp-units s z n d u e h whole.below) ∙ whole.same) in
-    let same : n * e ≡ u * d = ranked (n * e) (u * d) Equal (sym both.1) in
-    let multiple : (u * d + 0) / d ≡ u = div-mul-add u d 0 (omega arith) in
-    let plain : u * d + 0 ≡ n * e = omega (arith, same) in
-    (sym (int_ranked s z Equal (sym both.0)), sym multiple ∙ ap (λ (x : ℕ). x / d) plain)
-
 pub in_second_positive : (unit : Fraction) → 0 < in_second unit
-in_second_positive Micro = lit≤ tt
-in_second_positive Nano = lit≤ tt
+in_second_positive unit = grind arith
 
 whole_case : (e : ℕ) (a : Stamp) → 0 < e → (b : Bool) → (numerator_of a * e % denominator_of a == 0) ≡ b
     → MatchOption {T = ℤ × ℕ} (if b then Some (seconds_of a, numerator_of a * e / denominator_of a) else None) (IsNeverWhole e (time_of a)) (λ w. IsWhole e (time_of a) w.0 w.1)
-whole_case e a p true test = whole_here a.seconds a.numerator a.denominator e a.fraction p (eqb-true (a.numerator * e % a.denominator) 0 test)
-whole_case e a p false test = whole_nowhere a.seconds a.numerator a.denominator e a.fraction (eqb-false (a.numerator * e % a.denominator) 0 test)
+whole_case e a p b test = grind (arith, whole_here, whole_nowhere)
 
 -- what `whole_of` answers: the one pair that is the time, or nothing where there is none
 pub whole_of_pair : (e : ℕ) (a : Stamp) → 0 < e
