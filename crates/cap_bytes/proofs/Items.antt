@@ -1,19 +1,15 @@
 -- What ends the pieces of a file, and the items of some bytes by what stands at their front.
-use Rattle.std.proofs.Common.{◌≡◌, ℕ, zero, suc, ◌+◌, ◌<◌, ◌==◌, ◌&&◌, Bool, true, false, List, [], ◌∷◌, length, drop, Option, Some, None, refl, sym, ◌∙◌, ap, arith, length-drop}
-use Rattle.std.proofs.lemmas.Bool.Decides.{nat_tests}
+use Rattle.std.proofs.Common.{◌≡◌, ℕ, suc, ◌+◌, ◌<◌, ◌==◌, ◌&&◌, Bool, true, false, List, [], ◌∷◌, length, drop, Option, Some, None, refl, arith, length-drop}
 use Rattle.cap_bytes.specs.Items.{stop_by, stop_where, IsStopAt, given, stopped, Format, items_by, items_in}
 use Rattle.cap_bytes.specs.declared.faults.Refusal.{Refusal}
 use Rattle.cap_bytes.specs.declared.faults.Rule.{Rule}
-use Rattle.cap_bytes.specs.declared.faults.Rule.TheVariants.{Cut}
 use Rattle.cap_bytes.specs.declared.faults.Tail.{Tail}
-use Rattle.cap_bytes.specs.declared.faults.Tail.TheVariants.{Accept}
 use Rattle.cap_bytes.specs.declared.stops.Stop.{Stop}
 use Rattle.cap_bytes.specs.declared.stops.Stop.TheVariants as stops
 
 -- some bytes are left
 pub not_empty : (inside : Bool) (n : ℕ) → 0 < n → (inside && (n == 0)) ≡ false
-not_empty true n some = grind (arith, nat_tests)
-not_empty false n some = refl
+not_empty inside n some = grind arith
 
 -- what ends the pieces, by the condition that is met
 pub stop_where-end : (inside : Bool) (tail : Tail) (file offset : ℕ) (fault : Option Rule) → inside ≡ true
@@ -36,27 +32,17 @@ stop_where-whole inside tail file offset bytes fault some is = let there = not_e
 pub no_fault : (inside : Bool) (tail : Tail) (file offset : ℕ) (bytes : List ℕ) (fault : Option Rule)
     → stop_where inside tail file offset bytes fault ≡ None → fault ≡ None
 unfolding stop_where
-no_fault inside tail file offset bytes None h = refl
-no_fault inside tail file offset bytes (Some rule) h = by (inside && (length bytes == 0)) refl
-  where
-    by : (empty : Bool) → (inside && (length bytes == 0)) ≡ empty → Some rule ≡ None
-    by true is = let e = rw is at h in absurd (cc)
-    by false is = let e = rw is at h in absurd (cc)
+no_fault inside tail file offset bytes fault h = grind arith
 
 -- a refusal outside tells the condition that is met
 pub rule_told : (tail : Tail) (file offset : ℕ) (bytes : List ℕ) (fault : Option Rule) (refusal : Refusal)
     → stop_where false tail file offset bytes fault ≡ Some (stops.Refused refusal) → fault ≡ Some refusal.rule
 unfolding stop_where
-rule_told tail file offset bytes None refusal h = absurd (cc)
-rule_told tail file offset bytes (Some rule) refusal h =
-    let made : Refusal = record { file = file; offset = offset; rule = rule } in
-    let same : made ≡ refusal = cc in ap (λ (r : Refusal). Some r.rule) same
+rule_told tail file offset bytes fault refusal h = grind arith
 
 -- a rule is told with its file and place
 pub IsStopAt-stop_by : (inside : Bool) (tail : Tail) (file offset : ℕ) (rule : Rule) → IsStopAt inside tail file offset (stop_by inside tail file offset rule)
-IsStopAt-stop_by true Accept file offset Cut = (refl, refl)
-IsStopAt-stop_by true tail file offset rule = (refl, refl, λ within accept cut. cc)
-IsStopAt-stop_by false tail file offset rule = (refl, refl, λ within accept cut. absurd (cc))
+IsStopAt-stop_by inside tail file offset rule = grind arith
 
 -- a piece takes bytes, which are there, where nothing ends the pieces
 abbrev pub Advances : {K P : Type 0} → Format K P → Type 0
@@ -90,35 +76,19 @@ module _ {K P : Type 0} (format : Format K P) (tail : Tail) (file : ℕ) where
         → ((next : K) (later : ℕ) (rest : List ℕ) → length rest < m → length rest < n
         → items_by format m next tail file later rest ≡ items_by format n next tail file later rest)
         → items_by format (suc m) known tail file offset bytes ≡ items_by format (suc n) known tail file offset bytes
-    items_by-step m n known offset bytes (Some stop) is p q behind =
-        items_by-stop m known offset bytes stop is ∙ sym (items_by-stop n known offset bytes stop is)
-    items_by-step m n known offset bytes None is p q behind =
-        let size = format.size known bytes in
-        let a = advances known tail file offset bytes is in
-        let left = length-drop size bytes in
-        items_by-piece m known offset bytes is
-        ∙ (ap (λ l. given (format.piece known offset bytes) (format.lent known bytes) ∷ l)
-        (behind (format.next known bytes) (offset + size) (drop size bytes) (omega (arith, a.0, a.1, left)) (omega (arith, a.0, a.1, left)))
-        ∙ sym (items_by-piece n known offset bytes is))
+    items_by-step m n known offset bytes (Some stop) is p q behind = grind (arith, items_by-stop)
+    items_by-step m n known offset bytes None is p q behind = grind (arith, length-drop, items_by-piece)
 
     items_by-enough : (m n : ℕ) (known : K) (offset : ℕ) (bytes : List ℕ)
         → length bytes < m → length bytes < n → items_by format m known tail file offset bytes ≡ items_by format n known tail file offset bytes
-    items_by-enough zero n known offset bytes p q = absurd (omega arith)
-    items_by-enough (suc m) zero known offset bytes p q = absurd (omega arith)
     items_by-enough (suc m) (suc n) known offset bytes p q =
         items_by-step m n known offset bytes (format.stop known tail file offset bytes) refl p q
         (λ next later rest few enough. items_by-enough m n next later rest few enough)
+    items_by-enough m n known offset bytes p q = grind arith
 
     -- where nothing does, a piece is the first item, and those of the bytes after it follow
     pub items_in-piece : (known : K) (offset : ℕ) (bytes : List ℕ) → format.stop known tail file offset bytes ≡ None
         → items_in format known tail file offset bytes ≡ given (format.piece known offset bytes) (format.lent known bytes)
         ∷ items_in format (format.next known bytes) tail file (offset + format.size known bytes) (drop (format.size known bytes) bytes)
     unfolding items_in
-    items_in-piece known offset bytes is =
-        let size = format.size known bytes in
-        let a = advances known tail file offset bytes is in
-        let left = length-drop size bytes in
-        items_by-piece (length bytes) known offset bytes is
-        ∙ ap (λ l. given (format.piece known offset bytes) (format.lent known bytes) ∷ l)
-        (items_by-enough (length bytes) (suc (length (drop size bytes))) (format.next known bytes) (offset + size) (drop size bytes)
-        (omega (arith, a.0, a.1, left)) (omega arith))
+    items_in-piece known offset bytes is = grind (arith, length-drop, items_by-piece, items_by-enough)

@@ -1,8 +1,8 @@
 -- A text that is being written in pieces.
-use Rattle.std.proofs.Common.{◌≡◌, ℕ, ◌+◌, ◌≤◌, min, List, [], ◌++◌, length, take, drop, IsTrue, Option, Result, Ok, Err, refl, sym, ◌∙◌, ap, arith, take-add, append_assoc, append-nil, take-append-drop, length-drop}
+use Rattle.std.proofs.lemmas.Grind.{common_steps}
+use Rattle.std.proofs.Common.{◌≡◌, ℕ, ◌+◌, ◌≤◌, min, List, [], ◌++◌, length, take, drop, IsTrue, Option, Result, Ok, Err, sym, ◌∙◌, ap, arith, take-add, append_assoc, append-nil, take-append-drop}
 use Rattle.std.proofs.lemmas.List.{take-append-le, take_min}
 use Rattle.std.proofs.Math.Nat.{min-le_right}
-use Rattle.cap_bytes.proofs.Lists.{drop_more}
 use Rattle.std.proofs.Math.Seq.{take-append-add}
 use Rattle.cap_bytes.specs.Device.{Puts, Writer}
 use Rattle.cap_bytes.specs.Printing.{Prints, PrintsFront}
@@ -26,32 +26,7 @@ pub Putting-more : (old mid new : Writer) (bytes rest : List ℕ) (n : ℕ)
     → (IsTrue mid.told → IsTrue new.told)
     → (IsTrue new.can_fail → IsTrue mid.can_fail)
     → Putting old new bytes (drop n rest)
-Putting-more old mid new bytes rest n p fits more told cannot =
-    let room : n + p.at ≤ length bytes = omega (arith, ap length p.left, length-drop p.at bytes) in
-    record {
-      at = p.at + n;
-      within = omega arith;
-      left = rw p.left (sym (drop_more p.at n bytes));
-      written = λ t.
-          more (p.told t)
-          ∙ (ap (λ l. l ++ take n rest) (p.written t)
-          ∙ (append_assoc old.held (take p.at bytes) (take n rest)
-          ∙ ap (λ l. old.held ++ l) (ap (λ l. take p.at bytes ++ take n l) p.left ∙ sym (take-add p.at n bytes))));
-      told = λ t. told (p.told t);
-      cannot = λ c. p.cannot (cannot c);
-    }
-
--- Nothing is written yet.
-pub Putting-none : (from : Writer) (bytes : List ℕ) → Putting from from bytes bytes
-Putting-none from bytes =
-    record {
-      at = 0;
-      within = omega arith;
-      left = refl;
-      written = λ t. sym (append-nil from.held);
-      told = λ t. t;
-      cannot = λ c. c;
-    }
+Putting-more old mid new bytes rest n p fits more told cannot = grind (arith, common_steps, take-add)
 
 -- Where nothing is left to write, all is written.
 pub Putting-all : (from to : Writer) (text rest : List ℕ) → Putting from to text rest → rest ≡ [] → IsTrue from.told → to.held ≡ from.held ++ text
@@ -113,8 +88,7 @@ Puts-first A old new head rest fault p = (
 -- The second part follows the first.
 pub Puts-second : (A : Type 0) (old mid new head rest : List ℕ) (result : Result A Fault) → mid ≡ old ++ head → Puts mid result new rest
     → Puts old result new (head ++ rest)
-Puts-second A old mid new head rest (Ok x) first second =
-    second ∙ (ap (λ l. l ++ rest) first ∙ append_assoc old head rest)
+Puts-second A old mid new head rest (Ok x) first second = grind (arith, append_assoc)
 Puts-second A old mid new head rest (Err fault) first second = (
   length head + second.0,
   second.1 ∙ (ap (λ l. l ++ take second.0 rest) first ∙ (append_assoc old head (take second.0 rest)

@@ -7,7 +7,7 @@ use Rattle.cap_bytes.specs.declared.faults.Fault.{Fault}
 use Rattle.cap_bytes.specs.declared.faults.Rule.{Rule}
 use Rattle.cap_bytes.specs.declared.faults.Tail.{Tail}
 use Rattle.cap_bytes.specs.declared.stops.Stop.{Stop}
-use Rattle.cap_bytes.proofs.Readers.{Stands, Stands-here, Gives-seen, GivesStop-seen, waits_kept, stop_kept}
+use Rattle.cap_bytes.proofs.Readers.{Stands, Stands-here, Gives-seen, waits_kept, stop_kept}
 use Rattle.cap_bytes.proofs.Readers as readers
 use Rattle.cap_bytes.proofs.Parsing.{coming-passed, from_none, from_some}
 use Rattle.cap_pcap.specs.Reader.{HasHeader, GivesHeader, packet_of, GivesRecord, GivesNext, KeepsItems, TakesItem, items_at, items_of, state_of, IsInOrder, MayGoOn}
