@@ -1,18 +1,10 @@
 -- A header with its checksum in place sums to all ones.
 use Rattle.std.specs.List.{AllByRecursion}
-use Rattle.std.proofs.Common.{◌≡◌, ◌<◌, ◌≤◌, ◌+◌, ◌-◌, ◌/◌, ◌%◌, ℕ, List, [], ◌∷◌, ◌++◌, length, All, subst, arith}
+use Rattle.std.proofs.Common.{◌≡◌, ◌<◌, ◌≤◌, ◌+◌, ◌-◌, ℕ, List, [], ◌∷◌, ◌++◌, length, All, subst, arith}
 use Rattle.std.proofs.lemmas.List.Elements.{recursion_from_All}
 use Rattle.cap_bytes.specs.Number.{number}
 use Rattle.cap_ip.specs.Checksum.{words, ones_sum, checksum_of, checked, ChecksumLaw}
 use Rattle.cap_ip.proofs.OnesSum.{total, IsFolded, IsFolded-unique, IsFolded-ones_sum, AreWords-words}
-
--- words of bytes joined at an even place
-pub total-words-append : (front rest : List ℕ) → length front % 2 ≡ 0 → total (words (front ++ rest)) ≡ total (words front) + total (words rest)
-unfolding words
-total-words-append [] rest even = omega arith
-total-words-append (a ∷ []) rest even = absurd (omega arith)
-total-words-append (a ∷ b ∷ front) rest even =
-    let behind = total-words-append front rest (omega arith) in omega (arith, behind)
 
 pub AllByRecursion-append : (P : ℕ → Type 0) (front back : List ℕ) → AllByRecursion P front → AllByRecursion P back → AllByRecursion P (front ++ back)
 AllByRecursion-append P [] back f b = b
@@ -21,23 +13,16 @@ AllByRecursion-append P (x ∷ front) back f b = (f.0, AllByRecursion-append P f
 -- the plain sum of a header with a word in the checksum's place
 pub total-checked : (front back : List ℕ) (word : ℕ) → length front ≡ 10 → total (words (checked front word back)) ≡ total (words front) + word + total (words back)
 unfolding checked words number
-total-checked front back word long =
-    let seam = total-words-append front (word / 256 ∷ word % 256 ∷ back) (omega arith) in omega (arith, seam)
+total-checked front back word long = grind arith
 
 -- the bytes of such a header
 pub AllByRecursion-checked : (front back : List ℕ) (word : ℕ) → word ≤ 65535 → AllByRecursion (λ b. b < 256) front → AllByRecursion (λ b. b < 256) back → AllByRecursion (λ b. b < 256) (checked front word back)
 unfolding checked
-AllByRecursion-checked front back word fits f b =
-    AllByRecursion-append (λ x. x < 256) front (word / 256 ∷ word % 256 ∷ back) f (omega arith, (omega arith, b))
+AllByRecursion-checked front back word fits f b = grind (arith, AllByRecursion-append)
 
 -- a sum without its carries and its complement
 pub IsFolded-complement : (front back word : ℕ) → IsFolded (front + 0 + back) word → IsFolded (front + (65535 - word) + back) 65535
-IsFolded-complement front back word f = record {
-  carries = f.carries;
-  same = omega (arith, f.same, f.fits);
-  fits = omega arith;
-  zero = λ none. absurd (omega arith);
-}
+IsFolded-complement front back word f = grind arith
 
 pub IsFolded-checked : (front back : List ℕ) (word : ℕ) → length front ≡ 10 → All (λ b. b < 256) front → All (λ b. b < 256) back → word ≤ 65535 → IsFolded (total (words front) + word + total (words back)) (ones_sum (words (checked front word back)))
 IsFolded-checked front back word long f b small =

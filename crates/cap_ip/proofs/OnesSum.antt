@@ -53,21 +53,17 @@ IsFolded-ones_sum (w ∷ ws) fit = IsFolded-add (total ws) (ones_sum ws) w (IsFo
 -- the first word of some bytes
 pub total-words : (bytes : List ℕ) → 2 ≤ length bytes → total (words bytes) ≡ number Big 2 bytes + total (words (drop 2 bytes))
 unfolding words number
-total-words [] long = absurd (omega arith)
-total-words (a ∷ []) long = absurd (omega arith)
-total-words (a ∷ b ∷ rest) long = refl
+total-words bytes long = grind arith
 
 pub total-words-end : (bytes : List ℕ) → length bytes ≡ 0 → total (words bytes) ≡ 0
 unfolding words
-total-words-end [] none = refl
-total-words-end (a ∷ rest) none = absurd (omega arith)
+total-words-end bytes none = grind arith
 
 -- bytes spell words of 16 bits
 pub AreWords-words : (bytes : List ℕ) → AllByRecursion (λ b. b < 256) bytes → AreWords (words bytes)
 unfolding words number
-AreWords-words [] fit = tt
-AreWords-words (a ∷ []) fit = tt
 AreWords-words (a ∷ b ∷ rest) fit = (omega (arith, fit.0, fit.1.0), AreWords-words rest fit.1.1)
+AreWords-words bytes fit = cc
 
 pub AllByRecursion-bytes : (bytes : List ℕ) → ((i : ℕ) → get_or bytes i 0 < 256) → AllByRecursion (λ b. b < 256) bytes
 AllByRecursion-bytes [] fit = tt

@@ -1,4 +1,4 @@
-use Rattle.std.proofs.Common.{sym}
+use Rattle.std.proofs.Common.{arith}
 use Rattle.cap_ip.specs.Read.{IsShaped}
 use Rattle.cap_ip.proofs.Shapes.{IfFound-ended, IsShaped-found}
 use Rattle.cap_ip.proofs.headers.Header.read.Goals as goal
@@ -7,10 +7,7 @@ pub returns-then-bytes-from-clause-shaped : goal.returns-then-bytes-from-clause-
 returns-then-bytes-from-clause-shaped c = rw c.ended.ensures (IfFound-ended c.args.captured_whole IsShaped)
 
 pub returns-then-bytes-from-2-clause-shaped : goal.returns-then-bytes-from-2-clause-shaped
-returns-then-bytes-from-2-clause-shaped c =
-    rw c.ended-then-bytes-from-2.ensures (IfFound-ended c.args.captured_whole IsShaped)
+returns-then-bytes-from-2-clause-shaped c = grind (arith, IfFound-ended)
 
 pub returns-clause-shaped : goal.returns-clause-shaped
-returns-clause-shaped c =
-    rw (c.header_of.ensures.value, c.data_of.ensures)
-    (IsShaped-found c.args.bytes.now (rw c.header_of.ensures.value at c.header_of.ensures.form) (sym c.if-is_partial.ensures))
+returns-clause-shaped c = grind (arith, IsShaped-found)
