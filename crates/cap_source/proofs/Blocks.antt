@@ -13,7 +13,8 @@ use Rattle.cap_blocks.specs.Split.{body_in, block_fault}
 use Rattle.cap_blocks.specs.declared.blocks.Block.{Block}
 use Rattle.cap_bytes.specs.declared.stops.Stop.{Stop}
 use Rattle.cap_bytes.specs.declared.stops.Stop.TheVariants as stops
-use Rattle.cap_source.proofs.Pcaps.{if_none, cut_is}
+use Rattle.cap_bytes.proofs.Parsing.{from_none}
+use Rattle.cap_source.proofs.Pcaps.{none_stops, cut_is}
 use Rattle.cap_bytes.specs.Number.{number}
 use Rattle.cap_bytes.specs.declared.faults.Rule.TheVariants as rules
 use Rattle.cap_source.specs.Clocks.{interface_in}
@@ -122,9 +123,6 @@ first_behind : (p : Progress) (block : Block) (body : List ℕ) (content : Resul
 unfolding first_in
 first_behind p block body content old new is e = rw (is, ← e) refl
 
-none_stops : (stop : Option Stop) → stop ≡ None → is_some stop ≡ false
-none_stops stop is = rw is refl
-
 -- After a block the file goes on, or a packet or a refusal comes next.
 pub block_steps : (file : ℕ) (old new : State Order) (p : Progress) (block : Block) (content : Result Content Rule)
     → file ≡ old.file → GivesBlock old block new → Keeps old new
@@ -186,7 +184,7 @@ pub end_learned : (cut : Bool) (stop : Stop) (old new : State Order) (p : Progre
     → (IsTrue old.told → items_of new ≡ items_of old)
     → Learns (pcapng_state old p) (nexts.End (ending_with p cut)) (pcapng_state new p)
 end_learned cut stop old new p free ends g was k same =
-    let at = if_none old.stop _ free g.first in
+    let at = from_none old.stop _ free g.first in
     let which = cut_is cut stop (rw (g.stop_is) at was) in
     record {
       is = record { file = refl; lent = omega arith; captured = omega arith; behind = omega arith };
@@ -204,7 +202,7 @@ pub refusal_learned : (refusal : Refusal) (old new : State Order) (p : Progress)
     → (IsTrue old.told → items_of old ≡ stopped (stops.Refused refusal) ∷ [])
     → Learns (pcapng_state old p) (nexts.Refused refusal (ending_with p false)) (pcapng_state new p)
 refusal_learned refusal old new p free g k same =
-    let at = if_none old.stop _ free g.first in
+    let at = from_none old.stop _ free g.first in
     record {
       is = record { file = at.is_stop.0 ∙ sym k.file; lent = omega arith; captured = omega arith; behind = omega arith };
       place = k.offset;

@@ -31,7 +31,7 @@ use Rattle.cap_source.specs.Clocks.{interface_in, interface_or, interface_at, op
 use Rattle.cap_source.specs.Contents.{content_in}
 use Rattle.cap_source.specs.Feed.{Item}
 use Rattle.cap_source.specs.Fields.{FitsInterface, ItemFits, FieldsFit}
-use Rattle.cap_source.specs.Items.{Progress, fresh, behind, items_at, items_in, items_of_stop, items_from, is_pcapng, pcap_items, interface_of}
+use Rattle.cap_source.specs.Items.{Progress, behind, items_at, items_in, items_of_stop, items_from, pcap_items, interface_of}
 use Rattle.cap_source.specs.declared.contents.Content.{Content}
 use Rattle.cap_source.specs.declared.contents.Packet.{Packet}
 use Rattle.cap_time.specs.declared.resolutions.Interface.{Interface}
@@ -181,8 +181,7 @@ pub held-splits : (order : Order) (unit : Fraction) (offset : ℕ) (bytes : List
     → Splits order unit offset bytes ps rest → AllHeld ps
 held-splits order unit offset bytes [] rest are s = tt
 held-splits order unit offset bytes (p ∷ ps) rest are s =
-    let here = held-spelled order unit p (take (packet_size p) bytes) (AreBytes-take (packet_size p) bytes are) s.0 in
-    (here.0, here.1, here.2, held-splits order unit (offset + packet_size p) (drop (packet_size p) bytes) ps rest (AreBytes-drop (packet_size p) bytes are) s.2)
+    grind (arith, held-splits order unit (offset + packet_size p) (drop (packet_size p) bytes) ps rest (AreBytes-drop (packet_size p) bytes are) s.2, held-spelled, AreBytes-take, AreBytes-drop)
 
 pub below_header : (bytes : List ℕ) → AreBytes bytes → ((records.header_at bytes).snaplen < 2 ^ 32) × ((records.header_at bytes).link < 2 ^ 16)
 unfolding records.header_at
@@ -220,10 +219,4 @@ pcap-fits tail file bytes are = by (records.header_fault 0 bytes) refl
 
 pub fields_fit-law : FieldsFit
 unfolding items_from pieces.items_in
-fields_fit-law tail file bytes are = by (is_pcapng bytes)
-  where
-    by : (pcapng : Bool)
-        → AllByRecursion ItemFits (if pcapng then items_in file fresh (blocks.items_from None tail file 0 bytes)
-        else pcap_items file (interface_of (records.header_at bytes)) (records.file_items tail file 0 bytes))
-    by true = blocks-fit file fresh (blocks.items_from None tail file 0 bytes) tt (blocks-bytes (suc (length bytes)) None tail file 0 bytes are)
-    by false = pcap-fits tail file bytes are
+fields_fit-law tail file bytes are = grind (arith, blocks-fit, blocks-bytes, pcap-fits)

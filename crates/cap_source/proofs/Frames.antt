@@ -1,10 +1,9 @@
 -- Each packet of a file has as many captured bytes as are told.
 use Rattle.std.proofs.lemmas.Bool.Decides.{nat_tests}
 use Rattle.std.proofs.lemmas.Grind.{common_steps}
-use Rattle.std.proofs.Common.{◌≡◌, ℕ, ◌+◌, ◌≤◌, List, [], ◌∷◌, length, length-drop, drop, Bool, true, false, Option, Some, None, Result, refl, sym, ◌∙◌, subst, arith, if◌then◌else◌}
+use Rattle.std.proofs.Common.{◌≡◌, ℕ, ◌+◌, ◌≤◌, List, [], ◌∷◌, length, length-drop, drop, Option, Some, None, Result, refl, sym, ◌∙◌, subst, arith}
 use Rattle.std.proofs.lemmas.List.{length-take-le}
 use Rattle.std.specs.List.{AllByRecursion}
-use Rattle.cap_blocks.specs.Split as blocks
 use Rattle.cap_blocks.specs.declared.blocks.Block.{Block}
 use Rattle.cap_bytes.specs.Items as pieces
 use Rattle.cap_bytes.specs.declared.stops.Stop.{Stop}
@@ -20,7 +19,7 @@ use Rattle.cap_source.proofs.Blocks.{IsFit, content_fit}
 use Rattle.cap_source.specs.Contents.{content_in}
 use Rattle.cap_source.specs.Feed.{Item}
 use Rattle.cap_source.specs.Fields.{HasFrame, IsFrame, FramesFit}
-use Rattle.cap_source.specs.Items.{Progress, fresh, behind, frame_in, meta_in, items_at, items_in, items_of_stop, items_from, is_pcapng, pcap_items, interface_of}
+use Rattle.cap_source.specs.Items.{Progress, behind, frame_in, meta_in, items_at, items_in, items_of_stop, items_from, pcap_items, interface_of}
 use Rattle.cap_source.specs.declared.contents.Content.{Content}
 use Rattle.cap_source.specs.declared.contents.Packet.{Packet}
 use Rattle.cap_time.specs.declared.resolutions.Interface.{Interface}
@@ -84,10 +83,4 @@ pcap-frames tail file bytes = by (records.header_fault 0 bytes) refl
 
 pub frames_fit-law : FramesFit
 unfolding items_from
-frames_fit-law tail file bytes = by (is_pcapng bytes)
-  where
-    by : (pcapng : Bool)
-        → AllByRecursion HasFrame (if pcapng then items_in file fresh (blocks.items_from None tail file 0 bytes)
-        else pcap_items file (interface_of (records.header_at bytes)) (records.file_items tail file 0 bytes))
-    by true = blocks-frames file fresh (blocks.items_from None tail file 0 bytes)
-    by false = pcap-frames tail file bytes
+frames_fit-law tail file bytes = grind (arith, blocks-frames, pcap-frames)

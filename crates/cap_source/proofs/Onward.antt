@@ -1,9 +1,9 @@
 -- Going through a feed: what it was at first, on the way, and where the call ends.
-use Rattle.std.proofs.Common.{ℕ, Some, None, Result, Ok, Err, refl, sym, ◌∙◌, arith}
+use Rattle.std.proofs.Common.{Some, None, Ok, Err, refl, sym, ◌∙◌, arith}
 use Rattle.cap_bytes.specs.Printing.{IsRead}
 use Rattle.cap_bytes.specs.declared.faults.Fault.{Fault}
-use Rattle.cap_source.specs.Feed.{Feed, Keeps, Goes, GivesHead, Passes}
-use Rattle.cap_source.specs.Walk.{GivesPacket, Lasts, Fails, Walks}
+use Rattle.cap_source.specs.Feed.{Feed, Keeps, Goes, Passes}
+use Rattle.cap_source.specs.Walk.{GivesPacket, Lasts, Walks}
 use Rattle.cap_source.specs.declared.packets.Meta.{Meta}
 
 -- What is true of a feed on the way: all that every answer keeps, and no read has failed.
@@ -36,17 +36,6 @@ Went-none a = record { keeps = Keeps-refl a; lasts = Lasts-refl a }
 pub Went-more : (old mid shown new : Feed) (meta : Meta) → Went old mid → GivesPacket mid (Ok (Some meta)) shown → Keeps mid shown
     → Passes shown new → Keeps shown new → Went old new
 Went-more old mid shown new meta p gives asked passes passed = grind arith
-
-Fails-behind : (old mid new : Feed) (file offset : ℕ) → Keeps old mid → Lasts old mid → Fails mid file offset new → Fails old file offset new
-Fails-behind old mid new file offset k l p = grind arith
-
--- The rest of a walk is done after its first part.
-pub Walks-behind : {A : Type 0} (old mid new : Feed) (result : Result A Fault) → Keeps old mid → Lasts old mid → Walks mid result new → Walks old result new
-Walks-behind old mid new result k l p = grind arith
-
--- what comes next of a feed can't be told
-pub Walks-head : (old new : Feed) (fault : Fault) → GivesHead old (Err fault) new → Walks {A = Unit {0}} old (Err fault) new
-Walks-head old new fault p = grind arith
 
 -- the call for the next packet answers a fault
 pub Walks-fault : (old mid new : Feed) (fault : Fault) → Went old mid → GivesPacket mid (Err fault) new → Walks {A = Unit {0}} old (Err fault) new

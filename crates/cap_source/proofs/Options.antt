@@ -36,23 +36,8 @@ Agrees order res off items (Ok end) =
     × (unwrap_or end.offset (pos 0) ≡ unwrap_or off (given_or (pos 0) (offset_in order) (value_of 14 items)))
 Agrees order res off items (Err rule) = options_fault order (is_some res) (is_some off) items ≡ Some rule
 
-carry : (order : Order) (res res' : Option Resolution) (off off' : Option ℤ) (items rest : List OptionItem) (result : Result Clock Rule)
-    → options_fault order (is_some res) (is_some off) items ≡ options_fault order (is_some res') (is_some off') rest
-    → unwrap_or res' (given_or microseconds resolution_in (value_of 9 rest)) ≡ unwrap_or res (given_or microseconds resolution_in (value_of 9 items))
-    → unwrap_or off' (given_or (pos 0) (offset_in order) (value_of 14 rest)) ≡ unwrap_or off (given_or (pos 0) (offset_in order) (value_of 14 items))
-    → Agrees order res' off' rest result → Agrees order res off items result
-carry order res res' off off' items rest result f r o h = grind arith
-
 abbrev clock_with : Option Resolution → Option ℤ → Clock
 clock_with res off = record { resolution = res; offset = off }
-
-same : (order : Order) (res : Option Resolution) (off : Option ℤ) (rest items : List OptionItem) (read : Result Clock Rule) → read ≡ Ok (clock_with res off)
-    → options_fault order (is_some res) (is_some off) items ≡ options_fault order (is_some res) (is_some off) rest
-    → unwrap_or res (given_or microseconds resolution_in (value_of 9 rest)) ≡ unwrap_or res (given_or microseconds resolution_in (value_of 9 items))
-    → unwrap_or off (given_or (pos 0) (offset_in order) (value_of 14 rest)) ≡ unwrap_or off (given_or (pos 0) (offset_in order) (value_of 14 items))
-    → Agrees order res off rest (options_read order (clock_with res off) rest)
-    → Agrees order res off items (then_read read (λ next. options_read order next rest))
-same order res off rest items read is f r o ih = grind arith
 
 set_resolution : (order : Order) (off : Option ℤ) (value : List ℕ) (rest items : List OptionItem) (read : Result Clock Rule) (x : Result Resolution Rule)
     → resolution_in value ≡ x → read ≡ with_resolution (clock_with None off) x

@@ -1,5 +1,5 @@
 -- What comes next of a pcap file.
-use Rattle.std.proofs.Common.{◌≡◌, ◌≤◌, ◌+◌, ℕ, Bool, true, false, List, [], ◌∷◌, length, Option, Some, None, is_some, IsSomeAnd, IfSome, IfNone, IsTrue, Err, not, ◌↔◌, refl, sym, ap, ◌∙◌, subst, arith}
+use Rattle.std.proofs.Common.{◌≡◌, ◌≤◌, ◌+◌, ℕ, Bool, true, false, List, [], ◌∷◌, length, Option, Some, None, is_some, IsSomeAnd, IsTrue, Err, not, ◌↔◌, refl, sym, ap, ◌∙◌, arith}
 use Rattle.std.proofs.lemmas.List.{take_all}
 use Rattle.cap_bytes.specs.declared.faults.Fault.TheVariants.{Refused}
 use Rattle.cap_bytes.specs.declared.faults.Refusal.{Refusal}
@@ -8,6 +8,7 @@ use Rattle.cap_time.specs.declared.resolutions.Interface.{Interface}
 use Rattle.cap_bytes.specs.Items.{IsEnd, Item, given, stopped}
 use Rattle.cap_bytes.specs.Reader.{State, Keeps, GivesStop}
 use Rattle.cap_bytes.proofs.Items.{rule_told}
+use Rattle.cap_bytes.proofs.Parsing.{from_none, from_some}
 use Rattle.cap_pcap.specs.Reader.{items_of, GivesHeader, GivesRecord, HasHeader, ReadsHeader}
 use Rattle.cap_pcap.specs.Split.{header_fault, header_at, record_fault}
 use Rattle.cap_pcap.specs.declared.headers.PcapHeader.{PcapHeader}
@@ -18,15 +19,6 @@ use Rattle.cap_source.specs.Feed as feeds
 use Rattle.cap_source.specs.Items.{Progress, interface_of, meta_of, pcap_items, pcap_ending, pcap_ending_with, is_cut}
 use Rattle.cap_source.specs.FileState.{pcap_state, header_or, first_of, size_of, part_of, Learns, Waits, FileKeeps}
 use Rattle.cap_source.specs.declared.readers.Next.TheVariants as nexts
-
--- a value where it is known which
-pub if_some : {A : Type 0} (o : Option A) (x : A) (P : A → Type 0) → o ≡ Some x → IfSome o P → P x
-if_some None x P is h = absurd (cc)
-if_some (Some y) x P is h = let same : y ≡ x = cc in subst P same h
-
-pub if_none : {A : Type 0} (o : Option A) (P : Type 0) → o ≡ None → IfNone o P → P
-if_none None P is h = h
-if_none (Some y) P is h = absurd (cc)
 
 known_header : (h : Option PcapHeader) (header : PcapHeader) (bytes : List ℕ) → h ≡ Some header → header_or h bytes ≡ header
 known_header h header bytes is = rw is refl
@@ -59,8 +51,8 @@ unfolding pcap_ending
 ending_given r None old new is = absurd is
 ending_given r (Some bytes) old new is = rw is refl
 
-is_none : (stop : Option Stop) → stop ≡ None → is_some stop ≡ false
-is_none stop is = rw is refl
+pub none_stops : (stop : Option Stop) → stop ≡ None → is_some stop ≡ false
+none_stops stop is = rw is refl
 
 -- A record is given, whose packet comes next.
 pub record_learned : (header : PcapHeader) (file : ℕ) (r : Record) (old new : State PcapHeader) (progress : Progress)
@@ -78,7 +70,7 @@ record_learned header file r old new progress named known first g k taken =
         behind = omega (arith, g.offset, g.gives.next);
       };
       place = omega (arith, g.offset);
-      free = ap not (is_none new.stop g.gives.stop);
+      free = ap not (none_stops new.stop g.gives.stop);
       goes = record { before = g.gives.goes.before; after = g.gives.goes.after; failed = g.gives.goes.failed };
       items = λ t.
           items_given file new.file old.file (interface_of header) (interface_of (header_or new.known new.coming)) (interface_of (header_or old.known old.coming))
@@ -124,7 +116,7 @@ pub end_learned : (header : PcapHeader) (cut : Bool) (stop : Stop) (old new : St
     → (IsTrue old.told → items_of new ≡ items_of old)
     → Learns (pcap_state old progress) (nexts.End (pcap_ending_with cut)) (pcap_state new progress)
 end_learned header cut stop old new progress known first free ends g was k same =
-    let at = if_none old.stop _ free g.first in
+    let at = from_none old.stop _ free g.first in
     let which = cut_is cut stop (rw (g.stop_is) at was) in
     record {
       is = record { file = refl; lent = omega arith; captured = omega arith; behind = omega arith };
@@ -143,7 +135,7 @@ pub refusal_learned : (header : PcapHeader) (refusal : Refusal) (old new : State
     → (IsTrue old.told → items_of old ≡ stopped (stops.Refused refusal) ∷ [])
     → Learns (pcap_state old progress) (nexts.Refused refusal (pcap_ending_with false)) (pcap_state new progress)
 refusal_learned header refusal old new progress known first free g k same =
-    let at = if_none old.stop _ free g.first in
+    let at = from_none old.stop _ free g.first in
     record {
       is = record { file = at.is_stop.0 ∙ sym k.file; lent = omega arith; captured = omega arith; behind = omega arith };
       place = k.offset;
@@ -164,7 +156,7 @@ pub header_refused : (refusal : Refusal) (old new : State PcapHeader) (p q : Pro
     → (IsTrue old.told → items_of old ≡ stopped (stops.Refused refusal) ∷ [])
     → Learns (pcap_state old p) (nexts.Refused refusal (pcap_ending_with false)) (pcap_state new q)
 header_refused refusal old new p q none free g k same =
-    let at = if_none old.stop _ free g.0.first in
+    let at = from_none old.stop _ free g.0.first in
     record {
       is = record { file = at.is_stop.0 ∙ sym k.file; lent = omega arith; captured = omega arith; behind = omega arith };
       place = k.offset;
@@ -172,7 +164,7 @@ header_refused refusal old new p q none free g k same =
       goes = record { before = at.goes.before; after = at.goes.after; failed = at.goes.failed };
       items = λ t. refused_items refusal old.file (interface_of (header_or old.known old.coming)) (items_of old) (same t);
       ending = λ t. ending_stopped (stops.Refused refusal) (items_of old) (same t);
-      first = λ t. none ∙ refused_first old.known old.stop old.offset old.coming refusal.rule (if_none old.stop _ free g.1) free
+      first = λ t. none ∙ refused_first old.known old.stop old.offset old.coming refusal.rule (from_none old.stop _ free g.1) free
           (rule_told old.tail old.file old.offset old.coming (header_fault old.offset old.coming) refusal (at.told_stop t));
     }
 
@@ -184,31 +176,31 @@ new_header h stop offset bytes header unknown free whole is = rw (unknown, free,
 header_read : (header : PcapHeader) (known : Option PcapHeader) (old new : State PcapHeader) → old.known ≡ known → old.stop ≡ None → HasHeader header old new
     → IsTrue old.told → (header ≡ header_or old.known old.coming) × (Some (interface_of header) ≡ first_of old.known old.stop old.offset old.coming)
 header_read header None old new is free h t =
-    let first = if_none old.known (ReadsHeader header old new) is h.first in
+    let first = from_none old.known (ReadsHeader header old new) is h.first in
     new_header old.known old.stop old.offset old.coming header is free (first.whole t) (first.header_is t)
 header_read header (Some was) old new is free h t =
-    let again = if_some old.known was (λ w. (header ≡ w) × (new ≡ old)) is h.again in (
+    let again = from_some old.known was (λ w. (header ≡ w) × (new ≡ old)) is h.again in (
       again.0 ∙ sym (known_header old.known was old.coming is),
       ap (λ x. Some (interface_of x)) again.0 ∙ sym (known_first old.known was old.stop old.offset old.coming is),
     )
 
 header_failed : (header : PcapHeader) (known : Option PcapHeader) (old new : State PcapHeader) → old.known ≡ known → HasHeader header old new → new.failed ≡ old.failed
-header_failed header None old new is h = (if_none old.known (ReadsHeader header old new) is h.first).gives.goes.failed
-header_failed header (Some was) old new is h = ap (λ (s : State PcapHeader). s.failed) (if_some old.known was (λ w. (header ≡ w) × (new ≡ old)) is h.again).1
+header_failed header None old new is h = (from_none old.known (ReadsHeader header old new) is h.first).gives.goes.failed
+header_failed header (Some was) old new is h = ap (λ (s : State PcapHeader). s.failed) (from_some old.known was (λ w. (header ≡ w) × (new ≡ old)) is h.again).1
 
 header_broken : (header : PcapHeader) (known : Option PcapHeader) (old new : State PcapHeader) → old.known ≡ known → HasHeader header old new → new.broken ≡ old.broken
-header_broken header None old new is h = let first = if_none old.known (ReadsHeader header old new) is h.first in first.gives.goes.after ∙ sym first.gives.goes.before
-header_broken header (Some was) old new is h = ap (λ (s : State PcapHeader). s.broken) (if_some old.known was (λ w. (header ≡ w) × (new ≡ old)) is h.again).1
+header_broken header None old new is h = let first = from_none old.known (ReadsHeader header old new) is h.first in first.gives.goes.after ∙ sym first.gives.goes.before
+header_broken header (Some was) old new is h = ap (λ (s : State PcapHeader). s.broken) (from_some old.known was (λ w. (header ≡ w) × (new ≡ old)) is h.again).1
 
 pub header_free : (header : PcapHeader) (known : Option PcapHeader) (old new : State PcapHeader) → old.known ≡ known → old.stop ≡ None → HasHeader header old new → new.stop ≡ None
-header_free header None old new is free h = (if_none old.known (ReadsHeader header old new) is h.first).gives.stop
-header_free header (Some was) old new is free h = ap (λ (s : State PcapHeader). s.stop) (if_some old.known was (λ w. (header ≡ w) × (new ≡ old)) is h.again).1 ∙ free
+header_free header None old new is free h = (from_none old.known (ReadsHeader header old new) is h.first).gives.stop
+header_free header (Some was) old new is free h = ap (λ (s : State PcapHeader). s.stop) (from_some old.known was (λ w. (header ≡ w) × (new ≡ old)) is h.again).1 ∙ free
 
 -- The file's header is read, after which everything is to come as before.
 pub header_waits : (header : PcapHeader) (old new : State PcapHeader) (p q : Progress) → old.stop ≡ None → HasHeader header old new → Keeps old new
     → (IsTrue old.told → items_of new ≡ items_of old) → Waits (pcap_state old p) (pcap_state new q)
 header_waits header old new p q free h k same = record {
-  stops = is_none new.stop (header_free header old.known old new refl free h);
+  stops = none_stops new.stop (header_free header old.known old new refl free h);
   broken = header_broken header old.known old new refl h;
   failed = header_failed header old.known old new refl h;
   rest = λ t.

@@ -1,7 +1,8 @@
 use Rattle.std.proofs.Common.{◌∙◌, refl, false}
 use Rattle.cap_source.specs.Items.{pcap_ending_with}
 use Rattle.cap_source.specs.declared.readers.Next.TheVariants as nexts
-use Rattle.cap_source.proofs.Pcaps.{if_some, record_learned, end_learned, refusal_learned}
+use Rattle.cap_bytes.proofs.Parsing.{from_some}
+use Rattle.cap_source.proofs.Pcaps.{record_learned, end_learned, refusal_learned}
 use Rattle.cap_source.proofs.pcap.next_record_of.Goals as goal
 
 pub returns-in-Ok-Some-clause-answer : goal.returns-in-Ok-Some-clause-answer
@@ -12,13 +13,13 @@ returns-in-Ok-Some-clause-answer g c = λ progress first.
       rw c.meta_of_record.ensures
           (record_learned c.args.header c.file-file.result c.in-Ok-Some.record c.args.reader.now c.next_record.new.self progress
           (c.file-file.ensures ∙ c.window.ensures.file) c.requires.header first
-          (if_some _ _ _ c.requires.header e.answer) e.keeps e.items),
+          (from_some _ _ _ c.requires.header e.answer) e.keeps e.items),
     )
 
 pub returns-in-Ok-None-clause-answer : goal.returns-in-Ok-None-clause-answer
 returns-in-Ok-None-clause-answer g c = λ progress first.
     let e = rw c.in-Ok-None.field-0-is at c.in-Ok-None.ensures in
-    let answer = if_some _ _ _ c.requires.header e.answer in (
+    let answer = from_some _ _ _ c.requires.header e.answer in (
       nexts.End c.ending_of_pcap.result,
       refl,
       rw c.ending_of_pcap.ensures
@@ -29,7 +30,7 @@ returns-in-Ok-None-clause-answer g c = λ progress first.
 pub returns-in-Err-Refused-clause-answer : goal.returns-in-Err-Refused-clause-answer
 returns-in-Err-Refused-clause-answer g c = λ progress first.
     let e = rw c.in-Err-Refused.field-0-is at c.in-Err-Refused.ensures in
-    let answer = if_some _ _ _ c.requires.header e.answer in
+    let answer = from_some _ _ _ c.requires.header e.answer in
     rw (c.in-Err-Refused.field-0-is, c.ending_of_pcap-in-Err-Refused.ensures) (
       nexts.Refused c.in-Err-Refused.refusal (pcap_ending_with false),
       refl,

@@ -1,4 +1,5 @@
-use Rattle.cap_source.proofs.Firsts.{knows, same_items, same_first, first_told}
+use Rattle.std.proofs.Common.{arith}
+use Rattle.cap_source.proofs.Firsts.{knows, first_told}
 use Rattle.cap_source.specs.FileState.{head_of}
 use Rattle.cap_source.specs.Reached.{progress_of}
 use Rattle.cap_source.specs.Readers.{state_of}
@@ -17,12 +18,4 @@ returns-clause-answer g c =
     )
 
 pub returns-clause-items : goal.returns-clause-items
-returns-clause-items g c = λ t.
-    let was = c.args.self.now in
-    let old = state_of was.reader (progress_of was.reached) in
-    let new = state_of c.learn.new.reader (progress_of c.learn.new.reached) in
-    let tells = c.in_ok-learn.ensures.answer in
-    let next = tells.0 in (
-      same_items old new was.next c.learn.new.known next tells.1 tells.2 t,
-      same_first old new was.next c.learn.new.known next tells.1 tells.2 t,
-    )
+returns-clause-items g c = grind arith
