@@ -56,24 +56,18 @@ abbrev pub part : Lane → Feed → Part
 part lane feed = record { lane = lane; feed = feed }
 
 pub length-parts : {F : Type 0} (f : F → Feed) (ls : List Lane) (fs : List F) → length fs ≡ length ls → length (parts ls (map f fs)) ≡ length ls
-length-parts f [] fs e = refl
-length-parts f (l ∷ ls) [] e = absurd (omega arith)
 length-parts f (l ∷ ls) (x ∷ xs) e = ap suc (length-parts f ls xs (omega arith))
+length-parts f ls fs e = grind arith
 
 pub parts-set : {F : Type 0} (f : F → Feed) (ls : List Lane) (fs : List F) (i : ℕ) (l : Lane) (x : F)
     → parts (set ls i l) (map f (set fs i x)) ≡ set (parts ls (map f fs)) i (part l (f x))
-parts-set f [] fs i l x = refl
-parts-set f (y ∷ ls) [] zero l x = refl
-parts-set f (y ∷ ls) [] (suc i) l x = refl
-parts-set f (y ∷ ls) (z ∷ zs) zero l x = refl
 parts-set f (y ∷ ls) (z ∷ zs) (suc i) l x = ap (λ r. part y (f z) ∷ r) (parts-set f ls zs i l x)
+parts-set f ls fs i l x = grind arith
 
 pub parts-get : {F : Type 0} (f : F → Feed) (ls : List Lane) (fs : List F) (i : ℕ) (l : Lane) (x : F) → i < length ls → length fs ≡ length ls
     → get_or (parts ls (map f fs)) i (part l (f x)) ≡ part (get_or ls i l) (f (get_or fs i x))
-parts-get f [] fs i l x h e = absurd (omega arith)
-parts-get f (y ∷ ls) [] i l x h e = absurd (omega arith)
-parts-get f (y ∷ ls) (z ∷ zs) zero l x h e = refl
 parts-get f (y ∷ ls) (z ∷ zs) (suc i) l x h e = parts-get f ls zs i l x (omega arith) (omega arith)
+parts-get f ls fs i l x h e = grind arith
 
 pub lanes-more : {F : Type 0} (f : F → Feed) (ps : List Part) (ls : List Lane) (fs : List F) (i : ℕ) (l m : Lane) (x y : F)
     → AskedUpTo i ps (parts ls (map f fs)) → i < length ls → length fs ≡ length ls
@@ -103,18 +97,14 @@ pub length-written : {A : Type 0} (xs ws : List A) (n : ℕ) → length ws ≡ n
 length-written xs ws n e = ap length (refilled xs ws n e) ∙ e
 
 pub packet-there : {F : Type 0} (f : F → Feed) (ls : List Lane) (fs : List F) (i : ℕ) (x : F) → IsPacketAt (parts ls (map f fs)) i → IsPacket (f (get_or fs i x)).known
-packet-there f [] fs i x h = absurd h
-packet-there f (l ∷ ls) [] i x h = absurd h
-packet-there f (l ∷ ls) (y ∷ ys) zero x h = h
 packet-there f (l ∷ ls) (y ∷ ys) (suc i) x h = packet-there f ls ys i x h
+packet-there f ls fs i x h = grind arith
 
 pub passes-there : {F : Type 0} (f : F → Feed) (ls : List Lane) (fs : List F) (i : ℕ) (l m : Lane) (x y : F) → i < length ls → length ls ≡ length fs
     → PassesPart (part (get_or ls i l) (f (get_or fs i x))) (part m (f y))
     → PassesAt (parts ls (map f fs)) i (parts (set ls i m) (map f (set fs i y)))
-passes-there f [] fs i l m x y h e p = absurd (omega arith)
-passes-there f (k ∷ ls) [] i l m x y h e p = absurd (omega arith)
-passes-there f (k ∷ ls) (z ∷ zs) zero l m x y h e p = (p, refl)
 passes-there f (k ∷ ls) (z ∷ zs) (suc i) l m x y h e p = (refl, passes-there f ls zs i l m x y (omega arith) (omega arith) p)
+passes-there f ls fs i l m x y h e p = grind arith
 
 -- the same where the slices showed other lists that are equal
 pub kept-written : {F : Type 0} (f : F → Feed) (Holds : List Part → List Part → Type 0) (ls ks ms : List Lane) (fs gs ys : List F) (n : ℕ)

@@ -1,6 +1,6 @@
 -- The clocks that the feeds of a merge have reached have seconds below 2^65.
-use Rattle.std.proofs.Common.{◌≡◌, ℕ, zero, suc, Bool, true, List, [], ◌∷◌, length, arith, refl, ap, ◌∙◌, inl, inr, Option, IfSome, Result, pos, ◌^◌}
-use Rattle.std.specs.Prelude.{◌&&◌, ◌<ℤ◌, replicate}
+use Rattle.std.proofs.Common.{◌≡◌, ℕ, suc, true, List, [], ◌∷◌, length, arith, ap, ◌∙◌, inl, inr, Option, IfSome, Result, pos, ◌^◌}
+use Rattle.std.specs.Prelude.{◌<ℤ◌, replicate}
 use Rattle.std.specs.List.{list_all, AllByRecursion}
 use Rattle.cap_bytes.specs.declared.faults.Fault.{Fault}
 use Rattle.cap_source.specs.Feed.{Feed}
@@ -12,14 +12,9 @@ use Rattle.cap_merge.specs.declared.lanes.Lane.{Lane}
 use Rattle.cap_merge.specs.Parts.{Part, parts, is_bounded, AreBounded, Leads, new_lane}
 use Rattle.cap_merge.specs.Merge.{LearnsAll, StopsAt, AsksAll, PassesAt}
 
-both_true : (a b : Bool) → a ≡ true → b ≡ true → (a && b) ≡ true
-both_true a b e h = rw e h
-
 all_learned : (ps qs : List Part) → LearnsAll ps qs → AreBounded ps → AreBounded qs
-all_learned [] [] l h = refl
-all_learned [] (q ∷ qs) l h = absurd l
-all_learned (p ∷ ps) [] l h = absurd l
 all_learned (p ∷ ps) (q ∷ qs) l h = grind (arith, all_learned ps qs l.1)
+all_learned ps qs l g = grind arith
 
 some_learned : (fault : Fault) (ps qs : List Part) → StopsAt fault ps qs → AreBounded ps → AreBounded qs
 some_learned fault [] qs l h = absurd l
@@ -33,24 +28,20 @@ asked-bounded ps qs r l h = grind (arith, all_learned, some_learned)
 
 -- and so does a pass
 pub passed-bounded : (ps qs : List Part) (place : ℕ) → PassesAt ps place qs → AreBounded ps → AreBounded qs
-passed-bounded [] qs place l h = absurd l
-passed-bounded (p ∷ ps) [] place l h = absurd l
-passed-bounded (p ∷ ps) (q ∷ qs) zero l h = cc
 passed-bounded (p ∷ ps) (q ∷ qs) (suc place) l h = grind (arith, passed-bounded ps qs place l.1)
+passed-bounded ps qs place l g = grind arith
 
 -- nothing was reached at first
 new_bounded : (n : ℕ) (feeds : List Feed) → AreBounded (parts (replicate n new_lane) feeds)
-new_bounded zero feeds = refl
-new_bounded (suc n) [] = refl
 new_bounded (suc n) (f ∷ fs) = new_bounded n fs
+new_bounded n feeds = grind arith
 
 pub new-bounded : (lanes : List Lane) (n : ℕ) (feeds : List Feed) → lanes ≡ replicate n new_lane → AreBounded (parts lanes feeds)
 new-bounded lanes n feeds e = ap (λ ls. list_all (λ p. is_bounded p.lane.clock) (parts ls feeds)) e ∙ new_bounded n feeds
 
 each_lane : (ls : List Lane) (fs : List Feed) → length fs ≡ length ls → AreBounded (parts ls fs) → AllByRecursion (λ l. is_bounded l.clock ≡ true) ls
-each_lane [] fs e h = tt
-each_lane (l ∷ ls) [] e h = absurd (omega arith)
 each_lane (l ∷ ls) (f ∷ fs) e h = grind (arith, each_lane ls fs (omega arith))
+each_lane ls fs e g = grind arith
 
 in_bounds : (clock : Option Stamp) → is_bounded clock ≡ true → IfSome clock (λ c. seconds_of c <ℤ pos (2 ^ 65))
 in_bounds clock e = grind arith

@@ -60,10 +60,8 @@ stopped-broken file offset (p ∷ ps) (q ∷ qs) (inr s) = rw (known_by p q p.la
 -- no read has failed where all feeds tell what comes next
 pub learned-whole : (ps qs : List Part) → LearnsAll ps qs → broken_of ps ≡ None
 unfolding broken_of
-learned-whole [] [] l = refl
-learned-whole [] (q ∷ qs) l = absurd l
-learned-whole (p ∷ ps) [] l = absurd l
 learned-whole (p ∷ ps) (q ∷ qs) l = learned_break p.lane.head p q (λ w. w ≡ None) (broken_of ps) l.0 refl (learned-whole ps qs l.1)
+learned-whole ps qs l = grind arith
 
 -- nor where a growth was refused
 pub waited-before : (ps qs : List Part) → StopsAt Memory ps qs → broken_of ps ≡ None

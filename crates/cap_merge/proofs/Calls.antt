@@ -1,5 +1,6 @@
 -- What the calls of a merge keep, over the lists of its lanes and feeds.
-use Rattle.std.proofs.Common.{ℕ, ◌≡◌, true, List, [], ◌∷◌, length, refl, sym, ◌∙◌, arith, Result, Err, suc}
+use Rattle.std.proofs.lemmas.Grind.{common_steps}
+use Rattle.std.proofs.Common.{ℕ, ◌≡◌, true, List, ◌∷◌, length, sym, ◌∙◌, arith, Result, Err, suc}
 use Rattle.std.specs.Prelude.{map, IsTrue, is_some}
 use Rattle.std.specs.List.{AllByRecursion, list_all, range_with_len, flat_map}
 use Rattle.std.proofs.lemmas.List.{length-map}
@@ -14,12 +15,8 @@ use Rattle.cap_merge.proofs.Heads.{asked-keeps, asked-sound, known_all, never}
 
 files_kept : {F : Type 0} (f : F → Feed) (ls ms : List Lane) (fs ys : List F) → length ls ≡ length fs → length ms ≡ length ls → length ys ≡ length fs
     → Each Kept (parts ls (map f fs)) (parts ms (map f ys)) → map (λ (x : Feed). x.files) (map f ys) ≡ map (λ (x : Feed). x.files) (map f fs)
-files_kept f ls ms [] [] a b d k = refl
-files_kept f ls ms [] (y ∷ ys) a b d k = absurd (omega arith)
-files_kept f ls ms (x ∷ xs) [] a b d k = absurd (omega arith)
-files_kept f [] ms (x ∷ xs) (y ∷ ys) a b d k = absurd (omega arith)
-files_kept f (l ∷ ls) [] (x ∷ xs) (y ∷ ys) a b d k = absurd (omega arith)
 files_kept f (l ∷ ls) (m ∷ ms) (x ∷ xs) (y ∷ ys) a b d k = λ i. k.0.files i ∷ files_kept f ls ms xs ys (omega arith) (omega arith) (omega arith) k.1 i
+files_kept f ls ms fs ys a b d e = grind (arith, common_steps)
 
 pub numbered-kept : {F : Type 0} (f : F → Feed) (ls ms : List Lane) (fs ys : List F) → length ls ≡ length fs → length ms ≡ length ls → length ys ≡ length fs
     → Each Kept (parts ls (map f fs)) (parts ms (map f ys)) → IsNumbered (map f fs) → IsNumbered (map f ys)
@@ -50,9 +47,8 @@ run-stopped ps qs fault s f t = grind (arith, never, run-alike, stops-each, alik
 
 -- all lanes are known after all feeds were asked
 known_lanes : (ls : List Lane) (fs : List Feed) → length fs ≡ length ls → is_known (parts ls fs) ≡ true → list_all (λ l. is_some l.head) ls ≡ true
-known_lanes [] fs e k = refl
-known_lanes (l ∷ ls) [] e k = absurd (omega arith)
 known_lanes (l ∷ ls) (x ∷ xs) e k = grind (arith, known_lanes ls xs (omega arith))
+known_lanes ls fs e k = grind arith
 
 pub asked-known : {F : Type 0} (f : F → Feed) (ls ms : List Lane) (fs ys : List F) → length ms ≡ length ys → LearnsAll (parts ls (map f fs)) (parts ms (map f ys))
     → list_all (λ l. is_some l.head) ms ≡ true
@@ -60,18 +56,14 @@ asked-known f ls ms fs ys e h = known_lanes ms (map f ys) (length-map ys f ∙ s
 
 count_files : {F : Type 0} (f : F → Feed) (n : ℕ) (ls : List Lane) (fs : List F) → length ls ≡ length fs → AreFrom n (parts ls (map f fs))
     → length (flat_map (λ p. p.feed.files) (parts ls (map f fs))) ≡ length fs
-count_files f n [] [] e a = refl
-count_files f n [] (x ∷ xs) e a = absurd (omega arith)
-count_files f n (l ∷ ls) [] e a = absurd (omega arith)
 count_files f n (l ∷ ls) (x ∷ xs) e a = cc (count_files f (suc n) ls xs (omega arith) a.1)
+count_files f n ls fs e a = grind arith
 
 -- there is a file for each feed
 number_files : {F : Type 0} (f : F → Feed) (n : ℕ) (ls : List Lane) (fs : List F) → length ls ≡ length fs → AreFrom n (parts ls (map f fs))
     → flat_map (λ p. p.feed.files) (parts ls (map f fs)) ≡ range_with_len n (length fs)
-number_files f n [] [] e a = refl
-number_files f n [] (x ∷ xs) e a = absurd (omega arith)
-number_files f n (l ∷ ls) [] e a = absurd (omega arith)
 number_files f n (l ∷ ls) (x ∷ xs) e a = grind (arith, number_files f (suc n) ls xs (omega arith) a.1)
+number_files f n ls fs e a = grind arith
 
 -- the files are numbered from 1 on
 pub files-numbered : {F : Type 0} (f : F → Feed) (ls : List Lane) (fs : List F) → length ls ≡ length fs → IsNumbered (map f fs)

@@ -1,5 +1,5 @@
 -- The place of the lane whose item comes first, as it is looked for.
-use Rattle.std.proofs.Common.{◌≡◌, ℕ, zero, suc, ◌<◌, ◌≤◌, Bool, cond, List, length, get_or, take, refl, sym, ap, ◌∙◌, subst, arith, Option, Some, None}
+use Rattle.std.proofs.Common.{◌≡◌, ℕ, zero, suc, ◌<◌, ◌≤◌, List, length, get_or, take, refl, sym, ap, ◌∙◌, subst, arith, Option, Some, None}
 use Rattle.std.specs.Prelude.{IfSome}
 use Rattle.std.proofs.lemmas.List.{take_all, get_or_default}
 use Rattle.cap_merge.specs.declared.lanes.Lane.{Lane}
@@ -12,9 +12,6 @@ use Rattle.cap_merge.proofs.Placing.{first-taken}
 abbrev pub first_at : List Lane → Option ℕ → Option First
 first_at ls None = None
 first_at ls (Some place) = Some (record { place = place; clock = (lane_at ls place).clock })
-
-picked : (ls : List Lane) (b : Bool) (place : ℕ) (o : Option ℕ) → first_at ls (cond b (Some place) o) ≡ cond b (first_at ls (Some place)) (first_at ls o)
-picked ls b place o = grind arith
 
 sooner_same : (ls : List Lane) (o : Option ℕ) (place : ℕ) → first_at ls (sooner_place ls o place) ≡ sooner_lane (first_at ls o) place (lane_at ls place)
 sooner_same ls o place = grind arith

@@ -1,6 +1,6 @@
 -- The feeds whose next is known, where one packet was passed.
-use Rattle.std.proofs.Common.{◌≡◌, ℕ, zero, suc, ◌<◌, Bool, true, List, [], ◌∷◌, length, get_or, sym, ap, ◌∙◌, arith, Some, Result}
-use Rattle.std.specs.Prelude.{◌&&◌, map, is_some}
+use Rattle.std.proofs.Common.{◌≡◌, ℕ, suc, ◌<◌, true, List, [], ◌∷◌, length, get_or, arith, Some, Result}
+use Rattle.std.specs.Prelude.{map, is_some}
 use Rattle.std.proofs.Math.ListN.{set}
 use Rattle.std.proofs.lemmas.Bool.{true≢false}
 use Rattle.cap_bytes.specs.declared.faults.Fault.{Fault}
@@ -13,17 +13,12 @@ use Rattle.cap_merge.specs.Merge.{LearnsAll, Asks, AsksAll, PassesAt}
 use Rattle.cap_merge.proofs.Asking.{part}
 use Rattle.cap_merge.proofs.Firsts.{known-holds}
 
-both_true : (a b : Bool) → a ≡ true → b ≡ true → (a && b) ≡ true
-both_true a b e h = rw e h
-
 known_behind : (p : Part) (ps : List Part) → is_known (p ∷ ps) ≡ true → (is_some p.lane.head ≡ true) × (is_known ps ≡ true)
 known_behind p ps k = and-both (is_some p.lane.head) (is_known ps) k
 
 passed_known : (ps qs : List Part) (place : ℕ) → PassesAt ps place qs → is_known ps ≡ true → known_but qs place ≡ true
-passed_known [] qs place h k = absurd h
-passed_known (p ∷ ps) [] place h k = absurd h
-passed_known (p ∷ ps) (q ∷ qs) zero h k = ap is_known h.1 ∙ (known_behind p ps k).1
 passed_known (p ∷ ps) (q ∷ qs) (suc place) h k = grind (arith, passed_known ps qs place h.1)
+passed_known ps qs place h k = grind (arith, known_behind)
 
 -- after a pass what comes next of the other feeds is known
 pub others-passed : (ps qs : List Part) (place : ℕ) → PassesAt ps place qs → IsPacket (feed_of ps).known → OthersKnown qs (Some place)
@@ -40,14 +35,10 @@ asks_front p q ps r k h = grind (arith, learns_all)
 pub asks-there : {F : Type 0} (f : F → Feed) (ls : List Lane) (fs : List F) (i : ℕ) (l m : Lane) (x y : F) {T : Type 0} (r : Result T Fault) → length ls ≡ length fs
     → known_but (parts ls (map f fs)) i ≡ true → Asks (part (get_or ls i l) (f (get_or fs i x))) r (part m (f y))
     → AsksAll (parts ls (map f fs)) r (parts (set ls i m) (map f (set fs i y)))
-asks-there f [] fs i l m x y r e k h = absurd (true≢false (sym k))
-asks-there f (a ∷ ls) [] i l m x y r e k h = absurd (omega arith)
-asks-there f (a ∷ ls) (b ∷ fs) zero l m x y r e k h = asks_front (part a (f b)) (part m (f y)) (parts ls (map f fs)) r k h
 asks-there f (a ∷ ls) (b ∷ fs) (suc i) l m x y r e k h = grind (arith, asks-there f ls fs i l m x y r (omega arith))
+asks-there f ls fs i l m x y r e g k = grind (arith, true≢false, asks_front, part)
 
 -- the one that isn't known is one of them
 pub but-within : {F : Type 0} (f : F → Feed) (ls : List Lane) (fs : List F) (i : ℕ) → length ls ≡ length fs → known_but (parts ls (map f fs)) i ≡ true → i < length ls
-but-within f [] fs i e k = absurd (true≢false (sym k))
-but-within f (a ∷ ls) [] i e k = absurd (omega arith)
-but-within f (a ∷ ls) (b ∷ fs) zero e k = omega arith
 but-within f (a ∷ ls) (b ∷ fs) (suc i) e k = grind (arith, but-within f ls fs i (omega arith))
+but-within f ls fs i e k = grind (arith, true≢false)

@@ -1,6 +1,5 @@
 -- The feeds of a merge before anything is read.
 use Rattle.std.proofs.Common.{◌≡◌, ℕ, zero, suc, ◌+◌, ◌≤◌, ◌<◌, List, [], ◌∷◌, ◌++◌, length, map, Bool, ◌&&◌, ◌||◌, IsTrue, None, Result, refl, sym, ap, ◌∙◌, subst, arith}
-use Rattle.std.specs.Prelude.{if◌then◌else◌}
 use Rattle.std.specs.List.{flat_map, list_all, list_any, range_with_len}
 use Rattle.std.proofs.lemmas.Bool.{false≢true}
 use Rattle.std.proofs.lemmas.List.{length-map}
@@ -13,73 +12,52 @@ use Rattle.cap_merge.specs.Run.{opened, run}
 use Rattle.cap_source.specs.Feed.{Feed, HasFile}
 use Rattle.cap_source.specs.ReadFaults.{FailsOf}
 use Rattle.cap_source.specs.Walk.{Walks}
-use Rattle.cap_source.specs.declared.feeds.Ending.{Ending}
 
 -- one more feed after some
 pub AreUnread-more : (tail : Tail) (file : ℕ) (readers : List Reader) (feeds : List Feed) (reader : Reader) (feed : Feed)
     → AreUnread tail file readers feeds → IsUnread tail (file + length readers) reader feed
     → AreUnread tail file (readers ++ reader ∷ []) (feeds ++ feed ∷ [])
-AreUnread-more tail file [] [] reader feed a is = grind arith
-AreUnread-more tail file [] (f ∷ fs) reader feed a is = absurd a
-AreUnread-more tail file (r ∷ rs) [] reader feed a is = absurd a
 AreUnread-more tail file (r ∷ rs) (f ∷ fs) reader feed a is = grind (arith, AreUnread-more tail (file + 1) rs fs reader feed a.1)
+AreUnread-more tail file readers feeds reader feed a is = grind arith
 
 pub AreUnread-length : (tail : Tail) (file : ℕ) (readers : List Reader) (feeds : List Feed) → AreUnread tail file readers feeds
     → length feeds ≡ length readers
-AreUnread-length tail file [] [] a = refl
-AreUnread-length tail file [] (f ∷ fs) a = absurd a
-AreUnread-length tail file (r ∷ rs) [] a = absurd a
 AreUnread-length tail file (r ∷ rs) (f ∷ fs) a = omega (arith, AreUnread-length tail (file + 1) rs fs a.1)
+AreUnread-length tail file readers feeds a = grind arith
 
 numbered_from : (tail : Tail) (file : ℕ) (readers : List Reader) (feeds : List Feed) → AreUnread tail file readers feeds
     → map (λ f. f.files) feeds ≡ map (λ n. n ∷ []) (range_with_len file (length feeds))
-numbered_from tail file [] [] a = refl
-numbered_from tail file [] (f ∷ fs) a = absurd a
-numbered_from tail file (r ∷ rs) [] a = absurd a
 numbered_from tail file (r ∷ rs) (f ∷ fs) a = cc (numbered_from tail (file + 1) rs fs a.1)
+numbered_from tail file readers feeds a = grind arith
 
 pub AreUnread-numbered : (tail : Tail) (readers : List Reader) (feeds : List Feed) → AreUnread tail 1 readers feeds → IsNumbered feeds
 AreUnread-numbered tail readers feeds a = numbered_from tail 1 readers feeds a
 
 tracks_are : (tail : Tail) (file : ℕ) (readers : List Reader) (feeds : List Feed) → AreUnread tail file readers feeds
     → map (λ f. opened f.items) feeds ≡ map opened (items_of_files tail file (map (λ r. r.bytes) readers))
-tracks_are tail file [] [] a = refl
-tracks_are tail file [] (f ∷ fs) a = absurd a
-tracks_are tail file (r ∷ rs) [] a = absurd a
 tracks_are tail file (r ∷ rs) (f ∷ fs) a = cc (tracks_are tail (file + 1) rs fs a.1)
+tracks_are tail file readers feeds a = grind arith
 
 told_same : (tail : Tail) (file : ℕ) (readers : List Reader) (feeds : List Feed) → AreUnread tail file readers feeds
     → list_all (λ p. p.feed.told) (new_parts feeds) ≡ list_all (λ r. r.told) readers
-told_same tail file [] [] a = refl
-told_same tail file [] (f ∷ fs) a = absurd a
-told_same tail file (r ∷ rs) [] a = absurd a
 told_same tail file (r ∷ rs) (f ∷ fs) a = cc (told_same tail (file + 1) rs fs a.1)
+told_same tail file readers feeds a = grind arith
 
 can_fail_same : (tail : Tail) (file : ℕ) (readers : List Reader) (feeds : List Feed) → AreUnread tail file readers feeds
     → list_any (λ p. p.feed.can_fail) (new_parts feeds) ≡ list_any (λ r. r.can_fail) readers
-can_fail_same tail file [] [] a = refl
-can_fail_same tail file [] (f ∷ fs) a = absurd a
-can_fail_same tail file (r ∷ rs) [] a = absurd a
 can_fail_same tail file (r ∷ rs) (f ∷ fs) a = cc (can_fail_same tail (file + 1) rs fs a.1)
+can_fail_same tail file readers feeds a = grind arith
 
 files_same : (tail : Tail) (file : ℕ) (readers : List Reader) (feeds : List Feed) → AreUnread tail file readers feeds
     → flat_map (λ p. p.feed.files) (new_parts feeds) ≡ range_with_len file (length readers)
-files_same tail file [] [] a = refl
-files_same tail file [] (f ∷ fs) a = absurd a
-files_same tail file (r ∷ rs) [] a = absurd a
 files_same tail file (r ∷ rs) (f ∷ fs) a = cc (files_same tail (file + 1) rs fs a.1)
-
--- how a file ends: as its own feed says
-chosen : (b c : Bool) (e f g h : Ending) → b ≡ c → e ≡ f → g ≡ h → (if b then e else g) ≡ (if c then f else h)
-chosen b c e f g h is first rest = rw (is, first, rest) refl
+files_same tail file readers feeds a = grind arith
 
 endings_same : (tail : Tail) (first : ℕ) (readers : List Reader) (feeds : List Feed) (file : ℕ) → AreUnread tail first readers feeds
     → endings_of (new_parts feeds) file ≡ endings_from tail first (map (λ r. r.bytes) readers) file
 unfolding endings_of
-endings_same tail first [] [] file a = refl
-endings_same tail first [] (f ∷ fs) file a = absurd a
-endings_same tail first (r ∷ rs) [] file a = absurd a
 endings_same tail first (r ∷ rs) (f ∷ fs) file a = grind (arith, endings_same tail (first + 1) rs fs file a.1)
+endings_same tail first readers feeds file a = grind arith
 
 unknown : (tail : Tail) (readers : List Reader) (feeds : List Feed) → 1 ≤ length readers → AreUnread tail 1 readers feeds
     → known_of (new_parts feeds) ≡ None
