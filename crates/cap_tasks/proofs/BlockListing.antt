@@ -53,9 +53,7 @@ Prints-block_fault Memory text refusal from to n old new p t same took = (p.at, 
 
 -- An end that isn't a refusal tells none.
 no_refusal : (stop : Stop) → IsEnd stop → refusal_by stop ≡ None
-no_refusal stops.End e = refl
-no_refusal stops.Cut e = refl
-no_refusal (stops.Refused r) e = absurd e
+no_refusal stop e = grind arith
 
 -- what is written where it answers that there is none
 pub Prints-block_end : (text : List ℕ) (refusal : Option Refusal) (from to : Writer) (n : ℕ) (old new : State Order)

@@ -1,19 +1,14 @@
 use Rattle.std.proofs.lemmas.Result.{err_from_is_err_and}
-use Rattle.std.proofs.Common.{map}
+use Rattle.std.proofs.Common.{arith}
 use Rattle.cap_merge.proofs.Unread.{Fails-merged}
 use Rattle.cap_merge.specs.Parts.{feed_of}
 use Rattle.cap_merge.specs.Readers.{reader_of}
 use Rattle.cap_merge.specs.View.{parts_of}
 use Rattle.cap_tasks.proofs.Merging.{Prints-joined, Prints-nothing}
-use Rattle.cap_tasks.specs.JoinText.{join_text}
 use Rattle.cap_tasks.proofs.join.join_to.Goals as goal
 
 pub returns-in_err-merged-clause-text : goal.returns-in_err-merged-clause-text
-returns-in_err-merged-clause-text g c = λ t w.
-    let p = err_from_is_err_and c.from_residual.result c.from_residual.ensures.1 in
-    rw (p.1, p.2)
-    (Prints-nothing c.in_err-merged.field-0.0 (join_text c.args.order c.args.tail (map g.R.Source.coming c.args.sources.items)) _
-    (g.W.Sink.held c.args.writer.now) c.in_err-merged.ensures.memory)
+returns-in_err-merged-clause-text g c = grind (arith, err_from_is_err_and, Prints-nothing)
 
 pub returns-clause-text : goal.returns-clause-text
 returns-clause-text g c = λ t w.

@@ -1,7 +1,6 @@
 use Rattle.std.proofs.Common.{◌≡◌, ◌+◌, ◌++◌, ◌∙◌, Some, None, Ok, drop, sym, ap, arith, rules}
 use Rattle.std.proofs.lemmas.Result.{err_from_is_err_and}
 use Rattle.cap_bytes.proofs.Putting.{Putting-front}
-use Rattle.cap_bytes.specs.declared.faults.Fault.TheVariants.{Write}
 use Rattle.cap_source.proofs.Onward.{Went-more, Walks-end, Walks-fault, Walks-stop}
 use Rattle.cap_source.proofs.Walking.{Walking-more, Prints-fault, Prints-end}
 use Rattle.cap_source.specs.Walk.{ShowsItem}
@@ -69,20 +68,10 @@ returns-clause-text g c = λ t w.
     Prints-end (plan_of n) _ _ _ _ mid shown (plan_of-is n) (i.text t) w (i.refusal_same t) shows
 
 pub returns-in_err-meta-clause-walks : goal.returns-in_err-meta-clause-walks
-returns-in_err-meta-clause-walks g c =
-    let p = err_from_is_err_and c.from_residual.result c.from_residual.ensures.1 in
-    rw (p.1, p.2)
-    (Walks-fault (g.F.PacketFeed.feed c.args.feed.now) (g.F.PacketFeed.feed c.loop-meta.feed) (g.F.PacketFeed.feed c.next_packet.new.feed) c.in_err-meta.field-0.0
-    c.loop-meta.invariant.went c.in_err-meta.ensures.answer)
+returns-in_err-meta-clause-walks g c = grind (arith, err_from_is_err_and, Walks-fault)
 
 pub returns-in_err-put_all-clause-walks : goal.returns-in_err-put_all-clause-walks
-returns-in_err-put_all-clause-walks g c =
-    let p = err_from_is_err_and c.from_residual-in_err-put_all.result c.from_residual-in_err-put_all.ensures.1 in
-    rw (p.1, p.2, c.in_err-put_all.ensures.fault)
-    (Walks-stop (g.F.PacketFeed.feed c.args.feed.now) (g.F.PacketFeed.feed c.loop-meta.feed) (g.F.PacketFeed.feed c.next_packet.new.feed) c.in-Some.meta Write
-    c.loop-meta.invariant.went (rw c.in-Some.is at c.in_ok-meta.ensures.answer) (λ is. is))
+returns-in_err-put_all-clause-walks g c = grind (arith, err_from_is_err_and, Walks-stop)
 
 pub returns-clause-walks : goal.returns-clause-walks
-returns-clause-walks g c =
-    Walks-end (g.F.PacketFeed.feed c.args.feed.now) (g.F.PacketFeed.feed c.loop-meta.feed) (g.F.PacketFeed.feed c.next_packet.new.feed)
-    c.loop-meta.invariant.went (rw c.in_default.is at c.in_ok-meta.ensures.answer)
+returns-clause-walks g c = grind (arith, Walks-end)
