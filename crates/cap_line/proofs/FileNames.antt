@@ -1,5 +1,5 @@
 -- The names of files, as references and as texts.
-use Rattle.std.proofs.Common.{◌≡◌, List, ℕ, Bool, false, not, ◌&&◌, Some, codes, map, subst}
+use Rattle.std.proofs.Common.{◌≡◌, List, ℕ, Bool, false, not, Some, codes, map, arith}
 use Rattle.std.specs.Borrow.{Bor}
 use Rattle.std.specs.List.{list_any}
 use Rattle.std.specs.Str.{bytes_eq}
@@ -14,5 +14,4 @@ named_among name files = list_any-map (λ f. bytes_eq f name) (λ f. f.now) file
 -- an output other than standard output is a file where a file has its name
 pub also_named : (out : List ℕ) (files : List (List ℕ)) (found : Bool) → false ≡ bytes_eq out (codes "-")
     → found ≡ list_any (λ f. bytes_eq f out) files → found ≡ is_also_file (Some out) files
-also_named out files found other is =
-    subst (λ (t : Bool). found ≡ (not t && list_any (λ f. bytes_eq f out) files)) other is
+also_named out files found other is = grind (arith, not)

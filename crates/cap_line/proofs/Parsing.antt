@@ -1,13 +1,13 @@
 -- From clap's answer to capt's.
-use Rattle.std.proofs.Common.{◌≡◌, ◌⊎◌, List, [], Option, Some, None, Result, Ok, Err, IfOk, IfSome, IsSome, true, false, refl, sym, ap, ◌∙◌, subst, inl, inr}
+use Rattle.std.proofs.Common.{◌≡◌, ◌⊎◌, List, [], Option, Some, None, Result, Ok, Err, IfOk, IfSome, IsSome, true, false, refl, sym, subst, inl, inr, arith}
 use Rattle.clap.specs.Words.{App, Text, Row, IsAmong, app_of, fault_of, is_simple, is_simple_and_free, subcommand_of}
 use Rattle.clap.proofs.OnLiterals.{clap_on_literals}
 use Rattle.clap.specs.declared.error.kind.ErrorKind.{ErrorKind}
 use Rattle.clap.specs.declared.error.kind.ErrorKind.TheVariants as kind
-use Rattle.clap.specs.Words.{AddsSubcommand, shape_of, with_subcommand}
+use Rattle.clap.specs.Words.{AddsSubcommand}
 use Rattle.clap.specs.declared.builder.command.Command.{Command}
 use Rattle.clap.specs.declared.builder.command.Command.TheViews.{out-Command}
-use Rattle.cap_line.specs.Command.{IsCapt, IsConvert, IsJoin, IsMerge, capt_app, convert_app, merge_app, printing_app}
+use Rattle.cap_line.specs.Command.{IsCapt, IsConvert, IsJoin, IsMerge, printing_app}
 use Rattle.cap_line.specs.CommandLine.{Parses, IsJobOf, IsRefused, IsWhole, fault_by}
 use Rattle.cap_line.specs.declared.job.Job.{Job}
 use Rattle.cap_line.specs.declared.faults.LineFault.{LineFault}
@@ -16,17 +16,11 @@ use Rattle.cap_line.specs.declared.faults.LineFault.TheVariants.{Help, Line, Fil
 -- capt's command is one whose matches and faults clap's definitions give
 pub IsCapt-simple_and_free : (app : App) → IsCapt app → is_simple_and_free app ≡ true
 unfolding clap_on_literals
-IsCapt-simple_and_free app is =
-    ap is_simple_and_free (is.app_is ∙ (ap (λ a. capt_app a is.merge is.join) is.is_convert.app_is
-    ∙ (ap (λ a. capt_app (convert_app is.is_convert.orders is.is_convert.formats) a is.join) is.is_merge.app_is
-    ∙ ap (capt_app (convert_app is.is_convert.orders is.is_convert.formats) (merge_app is.is_merge.orders)) is.is_join.app_is)))
+IsCapt-simple_and_free app is = grind arith
 
 pub IsCapt-simple : (app : App) → IsCapt app → is_simple app ≡ true
 unfolding clap_on_literals
-IsCapt-simple app is =
-    ap is_simple (is.app_is ∙ (ap (λ a. capt_app a is.merge is.join) is.is_convert.app_is
-    ∙ (ap (λ a. capt_app (convert_app is.is_convert.orders is.is_convert.formats) a is.join) is.is_merge.app_is
-    ∙ ap (capt_app (convert_app is.is_convert.orders is.is_convert.formats) (merge_app is.is_merge.orders)) is.is_join.app_is)))
+IsCapt-simple app is = grind arith
 
 -- an answer of the subcommand is the parse's
 pub Parses-answered : (words : List Text) (app : App) (r : Result Job LineFault) → IsCapt app → fault_of app words ≡ []
@@ -41,14 +35,11 @@ Parses-answered words app (Err Memory) is taken job_is not_help = tt
 
 -- a subcommand's answer is never help
 pub IsJobOf-no_help : (entered : Option (Text × List Row)) (r : Result Job LineFault) → IsJobOf entered r → r ≡ Err Help → ⊥
-IsJobOf-no_help None r job is = let same : Line ≡ Help = (cc) in cc
-IsJobOf-no_help (Some p) r job is = let at : IsJobOf (Some p) (Err Help) = subst (IsJobOf (Some p)) is job in at
+IsJobOf-no_help entered r job is = grind arith
 
 -- a job of a subcommand is whole
 pub whole-of : (entered : Option (Text × List Row)) (r : Result Job LineFault) → IsJobOf entered r → IfOk r IsWhole
-whole-of (Some p) (Ok job) is = is.4
-whole-of (Some p) (Err fault) is = tt
-whole-of None r is = rw is tt
+whole-of entered r is = grind arith
 
 -- an error of clap's says that memory ran out, or is one of its kinds
 abbrev Errs : List Text → App → ErrorKind → Type 0
@@ -56,9 +47,7 @@ Errs words app k = (k ≡ kind.OutOfMemory) ⊎ IsAmong k (fault_of app words)
 
 refused_line : (words : List Text) (app : App) (k : ErrorKind) → IsCapt app → fault_by k ≡ Line → (k ≡ kind.OutOfMemory → ⊥)
     → Errs words app k → (r : Result Job LineFault) → r ≡ Err Line → Parses words r
-refused_line words app k is line other (inl e) r at = absurd (other e)
-refused_line words app k is line other (inr among) r at =
-    subst (Parses words) (sym at) (inl (app, k, line, record { is_capt = is; refused = among }))
+refused_line words app k h line other w r at = grind arith
 
 -- clap's refusal is the parse's
 pub Parses-refused : (words : List Text) (app : App) (k : ErrorKind) → IsCapt app → Errs words app k → Parses words (Err (fault_by k))
@@ -92,21 +81,7 @@ pub IsCapt-added : (printing convert mid merge most join all : Command) → app_
     → IsMerge (app_of merge) → (out-Command merge).has_globals ≡ false → AddsSubcommand mid merge most
     → IsJoin (app_of join) → (out-Command join).has_globals ≡ false → AddsSubcommand most join all
     → IsCapt (app_of all)
-IsCapt-added printing convert mid merge most join all is is_convert convert_local convert_added is_merge merge_local merge_added is_join join_local join_added =
-    record {
-      convert = app_of convert;
-      merge = app_of merge;
-      join = app_of join;
-      is_convert = is_convert;
-      is_merge = is_merge;
-      is_join = is_join;
-      app_is =
-          join_added.shape join_local
-          ∙ ap (λ a. with_subcommand a (shape_of join))
-          (merge_added.shape merge_local
-          ∙ ap (λ a. with_subcommand a (shape_of merge))
-          (convert_added.shape convert_local ∙ ap (λ a. with_subcommand a (shape_of convert)) is));
-    }
+IsCapt-added printing convert mid merge most join all is is_convert convert_local convert_added is_merge merge_local merge_added is_join join_local join_added = grind arith
 
 -- clap has said why it gives no matches
 pub IsRefused-said : {A : Type 0} (words : List Text) (app : App) (k : ErrorKind) (said : Option A) → IsCapt app → Errs words app k
