@@ -53,6 +53,7 @@ files_same : (tail : Tail) (file : ℕ) (readers : List Reader) (feeds : List Fe
 files_same tail file (r ∷ rs) (f ∷ fs) a = cc (files_same tail (file + 1) rs fs a.1)
 files_same tail file readers feeds a = grind arith
 
+-- how a file ends: as its own feed says
 endings_same : (tail : Tail) (first : ℕ) (readers : List Reader) (feeds : List Feed) (file : ℕ) → AreUnread tail first readers feeds
     → endings_of (new_parts feeds) file ≡ endings_from tail first (map (λ r. r.bytes) readers) file
 unfolding endings_of

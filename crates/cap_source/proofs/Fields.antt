@@ -13,7 +13,6 @@ use Rattle.cap_blocks.specs.Split.{AreBytes}
 use Rattle.cap_blocks.specs.declared.blocks.Block.{Block}
 use Rattle.cap_bytes.specs.Items as pieces
 use Rattle.cap_bytes.specs.declared.stops.Stop.{Stop}
-use Rattle.cap_bytes.specs.declared.stops.Stop.TheVariants as stops
 use Rattle.cap_bytes.proofs.Spelling.{number-lt}
 use Rattle.cap_bytes.specs.Number.{number}
 use Rattle.cap_bytes.specs.declared.faults.Rule.{Rule}
@@ -147,13 +146,12 @@ stop-fits stop = grind arith
 blocks-fit : (file : ℕ) (progress : Progress) (items : List (pieces.Item Block)) → AllByRecursion FitsInterface progress.interfaces
     → AllByRecursion IsOfBytes items → AllByRecursion ItemFits (items_in file progress items)
 unfolding items_in
-blocks-fit file progress [] fit are = tt
-blocks-fit file progress (pieces.stopped stop ∷ rest) fit are = stop-fits stop
 blocks-fit file progress (pieces.given block body ∷ rest) fit are =
     let content = content_in progress.interfaces block.kind block.order body in
     block-fits file (length progress.interfaces) progress block body content (items_in file (behind progress content) rest)
     (content-fits progress.interfaces block.kind block.order body fit are.0) (content_fit progress.interfaces block.kind block.order body) fit
     (λ all. blocks-fit file (behind progress content) rest all are.1)
+blocks-fit file progress items fit are = grind (arith, stop-fits)
 
 -- ---- records
 
@@ -192,10 +190,8 @@ below_header bytes are =
 records-fit : (file : ℕ) (i : Interface) (offset : ℕ) (packets : List Record) (stop : Stop) → FitsInterface i → AllHeld packets
     → AllByRecursion ItemFits (pcap_items file i (records.items_with offset packets stop))
 unfolding pcap_items
-records-fit file i offset [] stops.End fits held = tt
-records-fit file i offset [] stops.Cut fits held = tt
-records-fit file i offset [] (stops.Refused refusal) fits held = (tt, tt)
 records-fit file i offset (p ∷ ps) stop fits held = grind (arith, records-fit file i (offset + packet_size p) ps stop fits held.3)
+records-fit file i offset packets stop fits held = grind arith
 
 pub header-fits : (bytes : List ℕ) → AreBytes bytes → FitsInterface (interface_of (records.header_at bytes))
 header-fits bytes are = record { link = (below_header bytes are).1; snaplen = (below_header bytes are).0; offset = grind (arith, ints) }

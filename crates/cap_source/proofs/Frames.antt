@@ -1,13 +1,12 @@
 -- Each packet of a file has as many captured bytes as are told.
 use Rattle.std.proofs.lemmas.Bool.Decides.{nat_tests}
 use Rattle.std.proofs.lemmas.Grind.{common_steps}
-use Rattle.std.proofs.Common.{◌≡◌, ℕ, ◌+◌, ◌≤◌, List, [], ◌∷◌, length, length-drop, drop, Option, Some, None, Result, refl, sym, ◌∙◌, subst, arith}
+use Rattle.std.proofs.Common.{◌≡◌, ℕ, ◌+◌, ◌≤◌, List, ◌∷◌, length, length-drop, drop, Option, Some, None, Result, refl, sym, ◌∙◌, subst, arith}
 use Rattle.std.proofs.lemmas.List.{length-take-le}
 use Rattle.std.specs.List.{AllByRecursion}
 use Rattle.cap_blocks.specs.declared.blocks.Block.{Block}
 use Rattle.cap_bytes.specs.Items as pieces
 use Rattle.cap_bytes.specs.declared.stops.Stop.{Stop}
-use Rattle.cap_bytes.specs.declared.stops.Stop.TheVariants as stops
 use Rattle.cap_bytes.specs.declared.faults.Rule.{Rule}
 use Rattle.cap_bytes.specs.declared.faults.Tail.{Tail}
 use Rattle.cap_bytes.specs.declared.numbers.Order.{Order}
@@ -41,22 +40,19 @@ stop-frames stop = grind arith
 
 blocks-frames : (file : ℕ) (progress : Progress) (items : List (pieces.Item Block)) → AllByRecursion HasFrame (items_in file progress items)
 unfolding items_in
-blocks-frames file progress [] = tt
-blocks-frames file progress (pieces.stopped stop ∷ rest) = stop-frames stop
 blocks-frames file progress (pieces.given block body ∷ rest) =
     let content = content_in progress.interfaces block.kind block.order body in
     block-frames file (length progress.interfaces) progress block body content (items_in file (behind progress content) rest)
     (content_fit progress.interfaces block.kind block.order body) (blocks-frames file (behind progress content) rest)
+blocks-frames file progress items = grind (arith, stop-frames)
 
 -- ---- records
 
 records-frames : (file : ℕ) (i : Interface) (order : Order) (unit : Fraction) (offset : ℕ) (bytes : List ℕ) (packets : List Record) (rest : List ℕ) (stop : Stop)
     → Splits order unit offset bytes packets rest → AllByRecursion HasFrame (pcap_items file i (records.items_with offset packets stop))
 unfolding pcap_items
-records-frames file i order unit offset bytes [] rest stops.End s = tt
-records-frames file i order unit offset bytes [] rest stops.Cut s = tt
-records-frames file i order unit offset bytes [] rest (stops.Refused refusal) s = (tt, tt)
 records-frames file i order unit offset bytes (p ∷ ps) rest stop s = grind (arith, records-frames file i order unit (offset + packet_size p) (drop (packet_size p) bytes) ps rest stop s.2)
+records-frames file i order unit offset bytes packets rest stop s = grind arith
 
 pub read_header : (tail : Tail) (file : ℕ) (bytes : List ℕ) → records.header_fault 0 bytes ≡ None
     → records.file_items tail file 0 bytes ≡ records.items_from (records.header_at bytes) tail file 24 (drop 24 bytes)

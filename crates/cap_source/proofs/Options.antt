@@ -73,11 +73,10 @@ apart code p q = grind (arith, nat_tests)
 pub agrees : (order : Order) (items : List OptionItem) (res : Option Resolution) (off : Option ℤ)
     → Agrees order res off items (options_read order (clock_with res off) items)
 unfolding options_read options_fault option_read
-agrees order [] res off = (refl, refl, refl)
-agrees order (Err rule ∷ rest) res off = refl
 agrees order (Ok option ∷ rest) res off =
     one order res off option.1 rest (Ok option ∷ rest) (option.0 == 9) (option.0 == 14) (option_read order (clock_with res off) option.0 option.1)
     (apart option.0) refl refl refl refl (λ r o. agrees order rest r o)
+agrees order items res off = grind arith
 
 -- The interface of a body is the one that its conditions tell.
 by_agrees : (order : Order) (body : List ℕ) (items : List OptionItem) (result : Result Clock Rule) → Agrees order None None items result

@@ -96,9 +96,7 @@ Prints-fault plan (Refused r) text refusal from to mid shown is p t same shows =
   sym same ∙ (ap plan.refusal shows.1 ∙ is.refusal_refused r),
   Putting-all from to text (plan.text mid.items) p (ap plan.text shows.1 ∙ is.text_refused r) t,
 )
-Prints-fault plan (Read file offset) text refusal from to mid shown is p t same shows = (p.at, p.written t)
-Prints-fault plan Write text refusal from to mid shown is p t same shows = absurd shows
-Prints-fault plan Memory text refusal from to mid shown is p t same shows = (p.at, p.written t)
+Prints-fault plan fault text refusal from to mid shown is p t same shows = grind arith
 
 -- what is written where it answers that there is none
 pub Prints-end : (plan : Plan) (text : List ℕ) (refusal : Option Refusal) (from to : Writer) (mid shown : Feed)
