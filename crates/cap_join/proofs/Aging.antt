@@ -12,11 +12,8 @@ use Rattle.cap_time.proofs.StampForms.{stamp_cmp_itself, stamp_upto_turned, stam
 use Rattle.cap_join.specs.Frames.{wait, is_too_old}
 use Rattle.cap_join.specs.Groups.{GroupState}
 use Rattle.cap_join.specs.Joiners.{Entry}
-use Rattle.cap_join.specs.Ages.{deadline_of, is_past, sooner, latest_of, is_in_turn, NoneOld, IsDeadline, Precedes, AreInTurn, IsUpTo, AreUpTo}
+use Rattle.cap_join.specs.Ages.{deadline_of, is_past, sooner, latest_of, is_in_turn, NoneOld, IsDeadline, AreInTurn, IsUpTo, AreUpTo}
 use Rattle.cap_join.specs.Tables.{live_entries}
-
-pub is_past-deadline : (clock now : Option Stamp) → is_past (deadline_of clock) now ≡ is_too_old clock now
-is_past-deadline clock now = grind arith
 
 back : (r : Ordering) → is_gt r ≡ false → is_lt (ordering_reverse r) ≡ false
 back r h = grind arith
@@ -110,11 +107,8 @@ AreInTurn-first es h = grind arith
 pub AreUpTo-first : (latest : Option Stamp) (es : List Entry) → AreUpTo latest es → AreUpTo latest (remove es 0)
 AreUpTo-first latest es h = grind arith
 
-NoneOld-first : (now : Option Stamp) (es : List Entry) → NoneOld now es → NoneOld now (remove es 0)
-NoneOld-first now es h = grind arith
-
 pub IsDeadline-first : (deadline : Option Stamp) (es : List Entry) → IsDeadline deadline es → IsDeadline deadline (remove es 0)
-IsDeadline-first deadline es h = λ now p. NoneOld-first now es (h now p)
+IsDeadline-first deadline es h = grind arith
 
 -- those that aren't too old
 pub AreInTurn-live : (now : Option Stamp) (es : List Entry) → AreInTurn es → AreInTurn (live_entries now es)
@@ -144,29 +138,16 @@ later (Some l) c (Some k) (Some n) upto turn fresh =
     flipped : (b : Bool) → not b ≡ true → b ≡ false
     flipped b h = grind arith
 
-Precedes-none : (clock : Option Stamp) → Precedes clock []
-Precedes-none clock = grind arith
-
-Precedes-push : (latest clock : Option Stamp) (es : List Entry) (e : Entry) → IsUpTo (deadline_of clock) latest → is_in_turn latest (deadline_of e.1.clock) ≡ true → Precedes clock es
-    → Precedes clock (es ++ e ∷ [])
-Precedes-push latest clock es e upto turn h = grind (arith, NoneOld-push, later)
-
 pub AreInTurn-push : (latest : Option Stamp) (es : List Entry) (e : Entry) → is_in_turn latest (deadline_of e.1.clock) ≡ true → AreUpTo latest es → AreInTurn es → AreInTurn (es ++ e ∷ [])
-AreInTurn-push latest [] e turn upto h = (Precedes-none e.1.clock, tt)
-AreInTurn-push latest (x ∷ es) e turn upto h = (Precedes-push latest x.1.clock es e upto.0 turn h.0, AreInTurn-push latest es e turn upto.1 h.1)
-
-IsUpTo-later : (latest d x : Option Stamp) → is_in_turn latest d ≡ true → IsUpTo x latest → IsUpTo x (latest_of latest d)
-IsUpTo-later latest d x turn h = grind (arith, stamp_upto_trans, stamp_upto_turned)
+AreInTurn-push latest [] e turn upto h = grind arith
+AreInTurn-push latest (x ∷ es) e turn upto h = grind (arith, AreInTurn-push latest es e turn upto.1 h.1, NoneOld-push, later)
 
 itself : (d : Stamp) → is_gt (stamp_cmp d d) ≡ false
 itself d = ap is_gt (stamp_cmp_itself d)
 
-IsUpTo-itself : (latest d : Option Stamp) → IsUpTo d (latest_of latest d)
-IsUpTo-itself latest d = grind (arith, itself)
-
 pub AreUpTo-push : (latest : Option Stamp) (es : List Entry) (e : Entry) → is_in_turn latest (deadline_of e.1.clock) ≡ true → AreUpTo latest es → AreUpTo (latest_of latest (deadline_of e.1.clock)) (es ++ e ∷ [])
-AreUpTo-push latest [] e turn h = (IsUpTo-itself latest (deadline_of e.1.clock), tt)
-AreUpTo-push latest (x ∷ es) e turn h = (IsUpTo-later latest (deadline_of e.1.clock) (deadline_of x.1.clock) turn h.0, AreUpTo-push latest es e turn h.1)
+AreUpTo-push latest [] e turn h = grind (arith, itself)
+AreUpTo-push latest (x ∷ es) e turn h = grind (arith, AreUpTo-push latest es e turn h.1, stamp_upto_trans, stamp_upto_turned)
 
 pub IsDeadline-push : (deadline : Option Stamp) (es : List Entry) (e : Entry) → IsDeadline deadline es → IsDeadline (sooner deadline (deadline_of e.1.clock)) (es ++ e ∷ [])
 IsDeadline-push deadline es e h = grind (arith, NoneOld-push, sooner-first, sooner-second)
@@ -208,4 +189,4 @@ Leaves-more deadline e left es h = grind (arith, sooner-first, sooner-second)
 
 -- where the groups are in order, no more need be
 pub Leaves-turn : (deadline : Option Stamp) (e : Entry) (left es : List Entry) → IsSome e.1.clock → AreInTurn (e ∷ left) → Leaves deadline (e ∷ left) es → IsDeadline (sooner deadline (deadline_of e.1.clock)) es
-Leaves-turn deadline e left es some turn h = grind (arith, is_past-deadline, sooner-second, sooner-first)
+Leaves-turn deadline e left es some turn h = grind (arith, sooner-second, sooner-first)

@@ -4,7 +4,7 @@ use Rattle.std.proofs.lemmas.List.Elements.{length_all_zip, AllZip-push}
 use Rattle.std.specs.Prelude.{nat_lt, nat_le, if◌then◌else◌, filter}
 use Rattle.std.specs.List.{list_all, AllZip}
 use Rattle.std.specs.Option.{option_cmp}
-use Rattle.std.specs.Ordering.{is_lt, is_gt}
+use Rattle.std.specs.Ordering.{is_lt}
 use Rattle.std.specs.Cmp.{alike_right}
 use Rattle.cap_time.specs.declared.stamps.Stamp.{Stamp}
 use Rattle.cap_time.specs.Stamp.{stamp_cmp, stamp_plus}
@@ -31,16 +31,10 @@ cmp_same a b c d e f = total.congr a b c e ∙ alike_right total c d b f
 pub before_same : (a b c d : Option Stamp) → IsSameTime a b → IsSameTime c d → is_before a c ≡ is_before b d
 before_same a b c d e f = ap is_lt (cmp_same a b c d e f)
 
-pub none_some : (b : Stamp) → IsSameTime None (Some b) → ⊥
-none_some b e = true≢false (ap is_lt e)
-
-pub some_none : (b : Stamp) → IsSameTime (Some b) None → ⊥
-some_none b e = true≢false (ap is_gt e)
-
 old_same : (a b c d : Option Stamp) → IsSameTime a b → IsSameTime c d → is_too_old a c ≡ is_too_old b d
 old_same None None c d e f = refl
-old_same None (Some b) c d e f = absurd (none_some b e)
-old_same (Some a) None c d e f = absurd (some_none a e)
+old_same None (Some b) c d e f = grind (arith, true≢false)
+old_same (Some a) None c d e f = grind (arith, true≢false)
 old_same (Some a) (Some b) c d e f = before_same (Some (stamp_plus a wait)) (Some (stamp_plus b wait)) c d (plus_same a b wait e) f
 
 -- ---- fragments that are alike

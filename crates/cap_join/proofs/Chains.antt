@@ -52,6 +52,3 @@ kept-chain from to next low middle high xs ys ss some begins ends end_is next_is
 
 pub kept-some : (from to : ℕ) (ss : List Span) → from < to → kept from to ss ≡ record { from = from; to = to } ∷ ss
 kept-some from to ss some = grind arith
-
-pub kept-none : (from to : ℕ) (ss : List Span) → to ≤ from → kept from to ss ≡ ss
-kept-none from to ss none = grind arith

@@ -1,5 +1,5 @@
 -- Bytes that change within a range.
-use Rattle.std.proofs.Common.{◌≡◌, ℕ, ◌<◌, ◌≤◌, List, arith}
+use Rattle.std.proofs.Common.{ℕ, ◌≤◌, List, arith}
 use Rattle.cap_join.specs.Holes.{ChangesWithin}
 
 -- one change after another, and a wider range
@@ -8,7 +8,3 @@ ChangesWithin-trans from to a b c p q = grind arith
 
 pub ChangesWithin-wider : (from to lower upper : ℕ) (a b : List ℕ) → lower ≤ from → to ≤ upper → ChangesWithin from to a b → ChangesWithin lower upper a b
 ChangesWithin-wider from to lower upper a b h k p = grind arith
-
--- a loop that began after the end has changed nothing
-pub ChangesWithin-ended : (from to i : ℕ) (a b : List ℕ) → to ≤ i → (to < i → i ≡ from) → ChangesWithin from i a b → ChangesWithin from to a b
-ChangesWithin-ended from to i a b h k p = grind arith

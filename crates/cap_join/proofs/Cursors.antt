@@ -1,8 +1,7 @@
 -- The cursor of a chain of holes, which is one of them.
 use Rattle.std.proofs.Common.{◌≡◌, ℕ, ◌+◌, ◌<◌, ◌≤◌, List, [], ◌∷◌, length, refl, sym, ◌∙◌, subst, arith, inl, inr}
-use Rattle.std.specs.Prelude.{slice_index}
-use Rattle.cap_join.specs.Holes.{Span, no_hole, word_at, IsChain, HasHoles, Begins, HasCursor, IsBefore, ChangesWithin, Punched}
-use Rattle.cap_join.proofs.Growing.{IsChain-apart, IsChain-front}
+use Rattle.cap_join.specs.Holes.{Span, no_hole, word_at, IsChain, Begins, HasCursor, IsBefore, ChangesWithin, Punched}
+use Rattle.cap_join.proofs.Growing.{IsChain-apart}
 use Rattle.cap_join.proofs.Mapping.{outside_after}
 
 -- bytes have one chain at most from a place on
@@ -41,13 +40,6 @@ Begins-trans xs below low high at start last (s ∷ ss) chain (inr begins) from 
 pub HasCursor-marked : (xs : List ℕ) (high first cursor : ℕ) (ss : List Span) → high < no_hole → IsChain xs 0 high first ss → Begins high cursor ss → HasCursor xs high first cursor
 HasCursor-marked xs high first cursor ss near chain begins = grind (arith, IsChain-unique)
 
-pub HasCursor-higher : (xs : List ℕ) (high higher first cursor : ℕ) → high ≤ higher → higher < no_hole → HasHoles xs high first → HasCursor xs high first cursor → HasCursor xs higher first cursor
-HasCursor-higher xs high higher first cursor le near h is = grind (arith, IsChain-unique, Begins-wider)
-
--- a buffer that was made longer
-pub HasCursor-front : (xs ys : List ℕ) (high first cursor : ℕ) → ((k : ℕ) → k < high → slice_index ys k ≡ slice_index xs k) → HasCursor xs high first cursor → HasCursor ys high first cursor
-HasCursor-front xs ys high first cursor same is = grind (arith, IsChain-front)
-
 -- data was copied to where no hole is
 pub HasCursor-copied : (a e b first cursor : ℕ) (old mid new : List ℕ) (ss : List Span) → e ≤ b → length mid < no_hole → Punched a b old ss 0 (length old) first mid → ChangesWithin a e mid new
     → HasCursor mid (length mid) first cursor → HasCursor new (length new) first cursor
@@ -57,10 +49,6 @@ HasCursor-copied a e b first cursor old mid new ss le near u w is = λ ts chain 
     let now : IsChain new 0 (length mid) first u.spans = IsChain-apart mid new 0 (length mid) first u.spans (outside_after a e b old mid new ss first le u w) was in
     subst (λ (n : ℕ). Begins n cursor ts) (sym size)
     (subst (Begins (length mid) cursor) (IsChain-unique new 0 0 (length mid) (length new) first u.spans ts near (omega arith) now chain) (is u.spans was lt))
-
--- where a walk begins
-pub IsBefore-cursor : (xs : List ℕ) (high first cursor below : ℕ) → high < no_hole → below ≤ high → HasHoles xs high first → HasCursor xs high first cursor → cursor < below → word_at xs cursor ≤ below → IsBefore xs first below cursor
-IsBefore-cursor xs high first cursor below near le h is here whole = grind (arith, IsChain-unique, Begins-below)
 
 pub IsBefore-first : (xs : List ℕ) (first below : ℕ) → below < no_hole → first < below → word_at xs first ≤ below → IsBefore xs first below first
 IsBefore-first xs first below near here whole = record {
@@ -72,8 +60,3 @@ IsBefore-first xs first below near here whole = record {
     by : (high : ℕ) (ts : List Span) → IsChain xs 0 high first ts → Begins below first ts
     by high [] chain = absurd (omega (arith, chain))
     by high (t ∷ ts) chain = grind arith
-
--- and where it ends
-pub IsBefore-last : (xs : List ℕ) (first below start last : ℕ) → IsBefore xs first below start → last < below → word_at xs last ≤ below
-    → ((low high : ℕ) (ss : List Span) → IsChain xs low high start ss → Begins below last ss) → IsBefore xs first below last
-IsBefore-last xs first below start last at here whole from = grind (arith, Begins-trans)

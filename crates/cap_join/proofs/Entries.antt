@@ -1,6 +1,5 @@
 -- Entries of the table and the open groups that they are, one by one, under what a step does to the table.
-use Rattle.std.proofs.Common.{arith, ◌≡◌, suc, Bool, true, false, List, [], ◌∷◌, length, refl, sym, ◌∙◌, ap, subst, cond, ◌&&◌, not, Option, Some, None, Result}
-use Rattle.std.specs.Prelude.{OnErr}
+use Rattle.std.proofs.Common.{arith, ◌≡◌, suc, Bool, true, false, List, [], ◌∷◌, length, refl, sym, ◌∙◌, ap, subst, cond, ◌&&◌, not, Option, Some, None}
 use Rattle.std.specs.List.{AllByRecursion, IsDistinct}
 use Rattle.std.specs.Map.{keys_of, lookup, set_value}
 use Rattle.std.specs.Option.{option_map_or}
@@ -12,9 +11,6 @@ use Rattle.cap_join.specs.Groups.{GroupState, IsGroupOf}
 use Rattle.cap_join.specs.History.{OpenGroup, same_key, live_at, group_at}
 use Rattle.cap_join.specs.Joiners.{Entry, IsEntryOf, AreEntriesOf}
 use Rattle.cap_join.specs.Tables.{entry_at, live_entries, has_live}
-
-pub OnErr-always : {T E : Type 0} (r : Result T E) (P : Type 0) → P → OnErr r P
-OnErr-always r P p = grind arith
 
 -- a value that is written again
 pub set_value-same : {K X : Type 0} (test : K → Bool) (es : List (K × X)) (w : X) → lookup test es ≡ Some w → set_value test es w ≡ es

@@ -25,14 +25,11 @@ same-lists (p ∷ ps) (q ∷ qs) h = λ i. same-pieces p q h.0 i ∷ same-lists 
 alike : IsAlikeness IsSame
 alike = grind (arith, same-pieces)
 
-same-event : (e f : Event) → IsSameEvent e f → IsAlikeEvent IsSame e f
-same-event e f h = grind arith
-
 same-events : (es fs : List Event) → AllZip IsSameEvent es fs → AllZip (IsAlikeEvent IsSame) es fs
 same-events [] [] h = tt
 same-events [] (f ∷ fs) h = h
 same-events (e ∷ es) [] h = h
-same-events (e ∷ es) (f ∷ fs) h = (same-event e f h.0, same-events es fs h.1)
+same-events (e ∷ es) (f ∷ fs) h = grind (arith, same-events es fs h.1)
 
 pub same-groups : EqualClocksLaw
 same-groups limit es fs h =

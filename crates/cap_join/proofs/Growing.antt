@@ -14,13 +14,9 @@ pub IsChain-apart : (xs ys : List ℕ) (low high at : ℕ) (ss : List Span) → 
 IsChain-apart xs ys low high at [] same h = h
 IsChain-apart xs ys low high at (s ∷ ss) same h = grind (arith, IsChain-apart xs ys s.to high (word_at xs (s.from + 4)) ss, IsHole-block, or_left, word_at-same)
 
--- a place of a hole lies below the chain's end
-pub below_high : (xs : List ℕ) (low high at : ℕ) (ss : List Span) (i : ℕ) → IsChain xs low high at ss → in_hole ss i ≡ true → i < high
-below_high xs low high at ss i chain p = grind (arith, in_hole-above)
-
 -- a chain stays where bytes are added after it
 pub IsChain-front : (xs ys : List ℕ) (low high at : ℕ) (ss : List Span) → ((k : ℕ) → k < high → slice_index ys k ≡ slice_index xs k) → IsChain xs low high at ss → IsChain ys low high at ss
-IsChain-front xs ys low high at ss same chain = IsChain-apart xs ys low high at ss (λ k p. same k (below_high xs low high at ss k chain p)) chain
+IsChain-front xs ys low high at ss same chain = grind (arith, IsChain-apart, in_hole-above)
 
 -- a list that was made longer
 pub longer_front : (xs ys : List ℕ) (n : ℕ) → length xs ≤ n → ys ≡ take n xs ++ replicate (n - length xs) 0 → (k : ℕ) → k < length xs → slice_index ys k ≡ slice_index xs k

@@ -1,6 +1,8 @@
 -- What a buffer holds once one more fragment is put into it.
-use Rattle.std.proofs.Common.{◌≡◌, ℕ, ◌-◌, ◌*◌, ◌/◌, ◌%◌, ◌<◌, ◌≤◌, Bool, true, false, List, [], ◌∷◌, length, refl, sym, ◌∙◌, ap, arith, max, ◌&&◌, ◌||◌, not}
-use Rattle.std.specs.Prelude.{slice_index, nat_lt, nat_le}
+use Rattle.std.proofs.lemmas.Bool.Decides.{nat_tests}
+use Rattle.std.proofs.lemmas.Grind.{common_steps}
+use Rattle.std.proofs.Common.{◌≡◌, ℕ, ◌-◌, ◌*◌, ◌/◌, ◌<◌, ◌≤◌, Bool, true, false, List, [], ◌∷◌, length, refl, arith, max, ◌&&◌, ◌||◌, not}
+use Rattle.std.specs.Prelude.{slice_index}
 use Rattle.std.proofs.lemmas.Bool.{cases_lt}
 use Rattle.cap_join.specs.Holes.{Span, is_within, in_hole, ChangesWithin, Punched}
 use Rattle.cap_join.specs.Fragments.{Piece, end_of, IsShaped, AreShaped}
@@ -8,16 +10,6 @@ use Rattle.cap_join.specs.ByteMap.{holds, is_covered, byte_at, greatest_end, rou
 use Rattle.cap_join.specs.Buffers.{Maps, Grown}
 use Rattle.cap_join.proofs.Punching.{unchanged, or_false_right, or_false, within-below}
 use Rattle.cap_join.proofs.Growing.{IsChain-apart}
-
-le_block : (a i : ℕ) → a % 8 ≡ 0 → nat_le a (8 * (i / 8)) ≡ nat_le a i
-le_block a i h = grind arith
-
-lt_block : (e i : ℕ) → nat_lt (8 * (i / 8)) e ≡ nat_lt i (rounded e)
-lt_block e i = grind arith
-
--- a fragment covers the blocks from its start up to its end, rounded up
-pub holds_block : (p : Piece) (i : ℕ) → p.start % 8 ≡ 0 → holds p (8 * (i / 8)) ≡ is_within p.start (rounded (end_of p)) i
-holds_block p i h = λ j. le_block p.start i h j && lt_block (end_of p) i j
 
 -- no fragment covers a block after the greatest end
 pub uncovered_beyond : (ps : List Piece) (k : ℕ) → greatest_end ps ≤ 8 * k → is_covered ps k ≡ false
@@ -34,9 +26,6 @@ and_right x y h = grind arith
 
 or_first : (x y : Bool) → (x || y) ≡ true → y ≡ false → x ≡ true
 or_first x y h k = grind arith
-
-outside_below : (a b i : ℕ) → i < a → is_within a b i ≡ false
-outside_below a b i h = grind arith
 
 sized : (n g e end l : ℕ) → n ≡ rounded g → end ≡ rounded e → l ≡ max n end → l ≡ rounded (max e g)
 sized n g e end l p q r = grind arith
@@ -57,10 +46,10 @@ module _ (p : Piece) (ps : List Piece) (end hole0 hole1 hole2 : ℕ) (xs0 xs1 xs
 
   -- the holes after growing are the blocks that were not covered
   grown_holes : (i : ℕ) → i < length xs1 → in_hole g.spans i ≡ not (is_covered ps (i / 8))
-  grown_holes i h = grind (arith, cases_lt, outside_below, or_false, beyond)
+  grown_holes i h = grind (arith, cases_lt, i, or_false, beyond)
 
   covered : (i : ℕ) → holds p (8 * (i / 8)) ≡ is_within p.start end i
-  covered i = holds_block p i shaped.begins ∙ ap (λ (n : ℕ). is_within p.start n i) (sym end_is)
+  covered i = grind (arith, p, i, common_steps, nat_tests, shaped, end_is)
 
   reach : end_of p ≤ end
   reach = omega (arith, end_is)

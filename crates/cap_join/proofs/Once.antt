@@ -1,11 +1,13 @@
 -- No fragment is in two groups, open or completed; and the groups that were completed, by places.
+use Rattle.std.proofs.lemmas.Bool.Decides.{nat_tests}
+use Rattle.std.proofs.lemmas.Grind.{common_steps}
 use Rattle.std.proofs.Common.{◌≡◌, ℕ, ◌+◌, ◌≤◌, Bool, true, List, [], ◌∷◌, ◌++◌, refl, sym, subst, arith, not, Option, Some, None}
 use Rattle.std.specs.Prelude.{if◌then◌else◌, filter}
 use Rattle.cap_time.specs.declared.stamps.Stamp.{Stamp}
 use Rattle.cap_ip.specs.declared.headers.Key.{Key}
 use Rattle.cap_join.specs.Fragments.{Piece}
 use Rattle.cap_join.specs.Frames.{is_too_old}
-use Rattle.cap_join.specs.History.{Event, arrives, flushes, OpenGroup, same_key, key_of, with_piece, live_at, group_at, without, extended, trimmed, pieces_with, opens_with, state_of, step, joined_pieces}
+use Rattle.cap_join.specs.History.{Event, arrives, flushes, OpenGroup, same_key, key_of, with_piece, live_at, group_at, without, extended, pieces_with, opens_with, state_of, step, joined_pieces}
 use Rattle.cap_join.proofs.ByPlaces.{agree}
 use Rattle.cap_join.proofs.Entries.{same_key-is}
 use Rattle.cap_join.proofs.OpenGroups.{IsApart, apart-filter, apart-extended, apart-push, group_at-filter-none}
@@ -13,18 +15,11 @@ use Rattle.cap_join.specs.Completed.{if_complete, completed_of, CompletedLaw, on
 
 -- ---- keys
 
-none_trimmed : (limit : ℕ) (key : Key) (os : List OpenGroup) → group_at key os ≡ None → group_at key (trimmed limit os) ≡ None
-none_trimmed limit key os none = grind (arith, group_at-filter-none)
-
-apart_with : (limit : ℕ) (clock : Option Stamp) (p : Piece) (os : List OpenGroup) → IsApart os → (g : Option OpenGroup) → group_at (key_of p) os ≡ g
-    → IsApart (opens_with limit clock p g os)
-apart_with limit clock p os h g is = grind (arith, apart-push, none_trimmed, apart-filter, apart-extended)
-
 -- the open groups have different keys
 pub apart : (limit : ℕ) (es : List Event) → IsApart (state_of limit es).opens
 unfolding state_of step
 apart limit [] = tt
-apart limit (arrives clock p ∷ es) = search (apart limit es, apart_with, apart-filter)
+apart limit (arrives clock p ∷ es) = grind (arith, apart limit es, apart-push, group_at-filter-none, apart-filter, apart-extended, common_steps, nat_tests)
 apart limit (flushes key ∷ es) = apart-filter (λ o. not (same_key key o.key)) (state_of limit es).opens (apart limit es)
 
 -- ---- how often a place occurs
@@ -36,9 +31,6 @@ fewer n t (o ∷ os) = grind (arith, fewer n t os)
 behind : (n : ℕ) (os qs : List OpenGroup) → occurs_open n (os ++ qs) ≡ occurs_open n os + occurs_open n qs
 behind n [] qs = omega arith
 behind n (o ∷ os) qs = omega (arith, behind n os qs)
-
-fewer_trimmed : (n limit : ℕ) (os : List OpenGroup) → occurs_open n (trimmed limit os) ≤ occurs_open n os
-fewer_trimmed n limit os = grind (arith, fewer)
 
 -- a key's group goes with those of the key
 taken_out : (n : ℕ) (key : Key) (o : OpenGroup) (os : List OpenGroup) → group_at key os ≡ Some o → occurs n o.pieces + occurs_open n (without key os) ≤ occurs_open n os
@@ -63,7 +55,7 @@ put_once n p (q ∷ os) h = by (same_key (key_of p) q.key) refl (put_once n p os
 
 arrive_once : (n limit : ℕ) (clock : Option Stamp) (p : Piece) (os : List OpenGroup) → IsApart os → (g : Option OpenGroup) → group_at (key_of p) os ≡ g
     → occurs_open n (opens_with limit clock p g os) + occurs_in n (if_complete (pieces_with p g)) ≤ one_at p.stamped.place n + occurs_open n os
-arrive_once n limit clock p os h g is = grind (arith, behind, fewer_trimmed, taken_out, put_once)
+arrive_once n limit clock p os h g is = grind (arith, behind, fewer, taken_out, put_once)
 
 in_behind : (n : ℕ) (xs ys : List (List Piece)) → occurs_in n (xs ++ ys) ≡ occurs_in n xs + occurs_in n ys
 in_behind n [] ys = omega arith

@@ -71,9 +71,6 @@ live_at-later b c h (o ∷ os) = by (is_too_old o.clock b) refl (live_at-later b
 
 -- ---- finding a key's group
 
-pub found_step : (key : Key) (o : OpenGroup) (os : List OpenGroup) (b : Bool) → same_key key o.key ≡ b → group_at key (o ∷ os) ≡ cond b (Some o) (group_at key os)
-found_step key o os b h = ap (λ (b : Bool). cond b (Some o) (group_at key os)) h
-
 pub group_at-filter-none : (key : Key) (t : OpenGroup → Bool) (os : List OpenGroup) → group_at key os ≡ None → group_at key (filter t os) ≡ None
 group_at-filter-none key t [] h = h
 group_at-filter-none key t (o ∷ os) h = grind (arith, group_at-filter-none key t os)
@@ -106,7 +103,7 @@ group_at-push-none key o [] h = refl
 group_at-push-none key o (q ∷ os) h = grind (arith, group_at-push-none key o os)
 
 pub group_at-push-other : (key : Key) (o : OpenGroup) (os : List OpenGroup) → same_key key o.key ≡ false → group_at key (os ++ o ∷ []) ≡ group_at key os
-group_at-push-other key o [] h = found_step key o [] false h
+group_at-push-other key o [] h = grind (arith, cond)
 group_at-push-other key o (q ∷ os) h = ap (λ (l : Option OpenGroup). cond (same_key key q.key) (Some q) l) (group_at-push-other key o os h)
 
 -- ---- groups of different keys, with rising places

@@ -1,7 +1,6 @@
 use Rattle.std.proofs.Common.{◌≡◌, ℕ, ◌-◌, List, length, take, ◌++◌, replicate, sym, ◌∙◌, ap, subst, arith, take_at}
-use Rattle.cap_join.specs.Holes.{IsChain, HasHoles, HasCursor, Appended}
+use Rattle.cap_join.specs.Holes.{IsChain, HasHoles, Appended}
 use Rattle.cap_join.proofs.Growing.{IsChain-front, longer_front, Grown-appended}
-use Rattle.cap_join.proofs.Cursors.{HasCursor-front}
 use Rattle.cap_join.proofs.buffers.grow.Goals as goal
 
 resized : (size len : ℕ) (xs ys now : List ℕ) → now ≡ ys → ys ≡ take size xs ++ replicate (size - len) 0 → len ≡ length xs → now ≡ take size xs ++ replicate (size - length xs) 0
@@ -27,12 +26,7 @@ returns-clause-ok c = λ ss chain.
     (λ ss le chain. subst (λ (n : ℕ). Appended c.as_mut_slice.result.now ss 0 n c.add_hole.result.first c.add_hole.new.bytes) size (c.add_hole.ensures.appended ss (subst (λ (n : ℕ). IsChain c.as_mut_slice.result.now 0 n c.args.holes.first ss) (sym size) chain))))
 
 pub add_hole-requires-clause-cursor : goal.add_hole-requires-clause-cursor
-add_hole-requires-clause-cursor c =
-    let size : c.len-length.result ≡ length c.args.buffer.now.items = omega (arith, c.args.buffer.now.ok.0, c.len-length.ensures) in
-    subst (λ (n : ℕ). HasCursor c.as_mut_slice.result.now n c.args.holes.first c.args.holes.cursor) (sym size)
-    (HasCursor-front c.args.buffer.now.items c.as_mut_slice.result.now (length c.args.buffer.now.items) c.args.holes.first c.args.holes.cursor
-    (longer_front c.args.buffer.now.items c.as_mut_slice.result.now c.args.size (omega arith) (resized c.args.size c.args.buffer.now.len c.args.buffer.now.items c.resize.new.self.items c.as_mut_slice.result.now c.as_mut_slice.ensures.value c.in_ok-resize.ensures.items (omega (arith, c.args.buffer.now.ok.0))))
-    c.requires.cursor)
+add_hole-requires-clause-cursor c = grind (arith, IsChain-front, longer_front, resized)
 
 pub returns-clause-cursor : goal.returns-clause-cursor
 returns-clause-cursor c =

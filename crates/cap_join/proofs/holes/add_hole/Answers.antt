@@ -2,7 +2,7 @@ use Rattle.std.proofs.Common.{◌≡◌, ℕ, ◌<◌, length, sym, subst, arith
 use Rattle.cap_join.specs.Holes.{no_hole, HasCursor, Appended}
 use Rattle.cap_join.proofs.Chains.{IsChain-higher}
 use Rattle.cap_join.proofs.Reading.{AppendedFrom, HasHoles-begins, Appended-behind}
-use Rattle.cap_join.proofs.Cursors.{HasCursor-marked, HasCursor-higher}
+use Rattle.cap_join.proofs.Cursors.{HasCursor-marked, Begins-wider, IsChain-unique}
 use Rattle.cap_join.proofs.holes.add_hole.Goals as goal
 
 pub last_before-requires-clause-holes : goal.last_before-requires-clause-holes
@@ -12,8 +12,7 @@ last_before-requires-clause-holes c = record {
 }
 
 pub last_before-requires-clause-cursor : goal.last_before-requires-clause-cursor
-last_before-requires-clause-cursor c =
-    HasCursor-higher c.args.bytes.now c.args.from (length c.args.bytes.now) c.args.holes.first c.args.holes.cursor (omega (arith, c.requires.some)) (omega (arith, c.requires.short)) c.requires.holes c.requires.cursor
+last_before-requires-clause-cursor c = grind (arith, IsChain-unique, Begins-wider)
 
 pub append_hole-requires-in-Some-clause-holes : goal.append_hole-requires-in-Some-clause-holes
 append_hole-requires-in-Some-clause-holes c =

@@ -1,7 +1,7 @@
 use Rattle.std.proofs.Common.{◌≡◌, ℕ, ◌+◌, ◌≤◌, ◌<◌, List, sym, ◌∙◌, subst, arith}
 use Rattle.std.specs.Prelude.{slice_index}
 use Rattle.cap_join.specs.Holes.{Span, IsChain, word_at}
-use Rattle.cap_join.proofs.Chains.{word_at-same, kept-chain, IsChain-lower, kept-some, kept-none}
+use Rattle.cap_join.proofs.Chains.{word_at-same, kept-chain, IsChain-lower, kept-some}
 use Rattle.cap_join.proofs.holes.keep.Goals as goal
 
 pub returns-then-from-to-clause-chain : goal.returns-then-from-to-clause-chain
@@ -19,6 +19,4 @@ returns-then-from-to-clause-chain c = λ low middle high ss after lower le withi
     (kept-chain c.args.from c.args.to c.args.next low middle high xs ys ss some c.requires.begins c.requires.ends end_is c.put_word-then-from-to.ensures.word same after le within chain)
 
 pub returns-else-from-to-clause-chain : goal.returns-else-from-to-clause-chain
-returns-else-from-to-clause-chain c = λ low middle high ss after lower le within chain.
-    subst (λ (spans : List Span). IsChain c.args.bytes.now low high c.args.next spans) (sym (kept-none c.args.from c.args.to ss c.if-from-to.false))
-    (IsChain-lower c.args.bytes.now middle low high c.args.next ss lower chain)
+returns-else-from-to-clause-chain c = grind (arith, IsChain-lower)

@@ -1,6 +1,6 @@
+use Rattle.cap_join.proofs.Cursors.{Begins-trans}
 use Rattle.std.proofs.Common.{length, arith}
 use Rattle.cap_join.proofs.Reading.{HasHoles-begins}
-use Rattle.cap_join.proofs.Cursors.{IsBefore-last}
 use Rattle.cap_join.proofs.holes.last_before.Goals as goal
 
 pub last_below-requires-clause-holes : goal.last_below-requires-clause-holes
@@ -9,5 +9,4 @@ last_below-requires-clause-holes c =
     (c.in-Some.ensures.begins (length c.args.bytes.now) c.requires.holes.spans (omega (arith, c.requires.short)) c.requires.holes.chain)
 
 pub returns-in-Some : goal.returns-in-Some
-returns-in-Some c =
-    IsBefore-last c.args.bytes.now c.args.holes.first c.args.below c.in-Some.at c.last_below.result c.in-Some.ensures c.last_below.ensures.first c.last_below.ensures.whole c.last_below.ensures.begins
+returns-in-Some c = grind (arith, Begins-trans)

@@ -1,7 +1,7 @@
 use Rattle.std.proofs.Common.{◌<◌, ◌≤◌, length, arith}
 use Rattle.cap_join.specs.Holes.{word_at}
 use Rattle.cap_join.proofs.Punching.{HasHoles-first}
-use Rattle.cap_join.proofs.Cursors.{Begins-block, IsBefore-cursor, IsBefore-first}
+use Rattle.cap_join.proofs.Cursors.{Begins-block, IsBefore-first, Begins-below, IsChain-unique}
 use Rattle.cap_join.proofs.holes.start_below.Goals as goal
 
 pub lies_below-requires : goal.lies_below-requires
@@ -10,9 +10,7 @@ lies_below-requires c = λ lt.
     (c.requires.cursor c.requires.holes.spans c.requires.holes.chain (omega (arith, c.requires.within, c.requires.short)))
 
 pub returns-then-lies_below : goal.returns-then-lies_below
-returns-then-lies_below c =
-    let below : (c.args.holes.cursor < c.args.below) × (word_at c.args.bytes.now c.args.holes.cursor ≤ c.args.below) = c.lies_below.ensures c.if-lies_below.true in
-    IsBefore-cursor c.args.bytes.now (length c.args.bytes.now) c.args.holes.first c.args.holes.cursor c.args.below (omega (arith, c.requires.short)) c.requires.within c.requires.holes c.requires.cursor below.0 below.1
+returns-then-lies_below c = grind (arith, IsChain-unique, Begins-below)
 
 pub lies_below-requires-2 : goal.lies_below-requires-2
 lies_below-requires-2 c = λ lt.
