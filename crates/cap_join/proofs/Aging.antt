@@ -28,24 +28,20 @@ from_on x y n upto late =
 
 -- where the sooner of two deadlines isn't past, neither is
 sooner-first : (a b now : Option Stamp) → is_past (sooner a b) now ≡ false → is_past a now ≡ false
-sooner-first None b now h = refl
-sooner-first (Some a) None now h = h
-sooner-first (Some a) (Some b) None h = refl
 sooner-first (Some a) (Some b) (Some n) h = by (is_lt (stamp_cmp b a)) refl h
   where
     by : (t : Bool) → is_lt (stamp_cmp b a) ≡ t → is_past (if t then Some b else Some a) (Some n) ≡ false → is_past (Some a) (Some n) ≡ false
     by true is p = from_on b a n (not_after (stamp_cmp b a) is) p
     by false is p = p
+sooner-first a b now h = cc
 
 sooner-second : (a b now : Option Stamp) → is_past (sooner a b) now ≡ false → is_past b now ≡ false
-sooner-second None b now h = h
-sooner-second (Some a) None now h = refl
-sooner-second (Some a) (Some b) None h = refl
 sooner-second (Some a) (Some b) (Some n) h = by (is_lt (stamp_cmp b a)) refl h
   where
     by : (t : Bool) → is_lt (stamp_cmp b a) ≡ t → is_past (if t then Some b else Some a) (Some n) ≡ false → is_past (Some b) (Some n) ≡ false
     by true is p = p
     by false is p = from_on a b n (stamp_upto_turned b a is) p
+sooner-second a b now h = cc
 
 -- where none is too old all stay
 pub live-all : (now : Option Stamp) (es : List Entry) → NoneOld now es → live_entries now es ≡ es
@@ -129,14 +125,12 @@ AreUpTo-live latest now (e ∷ es) h = grind (arith, AreUpTo-live latest now es 
 -- a group is opened
 later : (latest : Option Stamp) (c : Stamp) (k now : Option Stamp) → IsUpTo (Some (stamp_plus c wait)) latest → is_in_turn latest (deadline_of k) ≡ true
     → is_too_old (Some c) now ≡ false → is_too_old k now ≡ false
-later latest c None now upto turn fresh = refl
-later None c (Some k) now upto turn fresh = absurd upto
-later (Some l) c (Some k) None upto turn fresh = refl
 later (Some l) c (Some k) (Some n) upto turn fresh =
     from_on l (stamp_plus k wait) n (stamp_upto_turned (stamp_plus k wait) l (flipped (is_lt (stamp_cmp (stamp_plus k wait) l)) turn)) (from_on (stamp_plus c wait) l n upto fresh)
   where
     flipped : (b : Bool) → not b ≡ true → b ≡ false
     flipped b h = grind arith
+later latest c k now upto turn fresh = grind arith
 
 pub AreInTurn-push : (latest : Option Stamp) (es : List Entry) (e : Entry) → is_in_turn latest (deadline_of e.1.clock) ≡ true → AreUpTo latest es → AreInTurn es → AreInTurn (es ++ e ∷ [])
 AreInTurn-push latest [] e turn upto h = grind arith

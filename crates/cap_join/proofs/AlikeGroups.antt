@@ -91,10 +91,8 @@ pub record AlikeGroups (R : Piece → Piece → Type 0) (limit : ℕ) (es fs : L
       → AllZip R (joined_pieces clock p (state_of limit es)) (joined_pieces other q (state_of limit fs))
 
 pub zip-both : {A : Type 0} (R : A → A → Type 0) (xs ys us vs : List A) → AllZip R xs ys → AllZip R us vs → AllZip R (xs ++ us) (ys ++ vs)
-zip-both R [] [] us vs h k = k
-zip-both R [] (y ∷ ys) us vs h k = absurd h
-zip-both R (x ∷ xs) [] us vs h k = absurd h
 zip-both R (x ∷ xs) (y ∷ ys) us vs h k = (h.0, zip-both R xs ys us vs h.1 k)
+zip-both R xs ys us vs h k = grind arith
 
 module _ (R : Piece → Piece → Type 0) (alike : IsAlikeness R) where
   -- ---- groups
@@ -103,43 +101,33 @@ module _ (R : Piece → Piece → Type 0) (alike : IsAlikeness R) where
   same-key p r l = ap (λ header. header.key) (alike.header p r l)
 
   same-filter : (s t : OpenGroup → Bool) → ((o q : OpenGroup) → IsSameGroup R o q → s o ≡ t q) → (os qs : List OpenGroup) → Same R os qs → Same R (filter s os) (filter t qs)
-  same-filter s t same [] [] h = tt
-  same-filter s t same [] (q ∷ qs) h = absurd h
-  same-filter s t same (o ∷ os) [] h = absurd h
   same-filter s t same (o ∷ os) (q ∷ qs) h = grind (arith, same-filter s t same os qs h.1)
+  same-filter s t same os qs h = grind arith
 
   with_same : (p r : Piece) → R p r → (o q : OpenGroup) → IsSameGroup R o q
       → IsSameGroup R (if same_key (key_of p) o.key then with_piece p o else o) (if same_key (key_of r) q.key then with_piece r q else q)
   with_same p r l o q s = grind arith
 
   same-extended : (p r : Piece) → R p r → (os qs : List OpenGroup) → Same R os qs → Same R (extended p os) (extended r qs)
-  same-extended p r l [] [] h = tt
-  same-extended p r l [] (q ∷ qs) h = absurd h
-  same-extended p r l (o ∷ os) [] h = absurd h
   same-extended p r l (o ∷ os) (q ∷ qs) h = (with_same p r l o q h.0, same-extended p r l os qs h.1)
+  same-extended p r l os qs h = grind arith
 
   same-found : (key other : Key) → key ≡ other → (os qs : List OpenGroup) → Same R os qs → SameOption R (group_at key os) (group_at other qs)
-  same-found key other f [] [] h = tt
-  same-found key other f [] (q ∷ qs) h = absurd h
-  same-found key other f (o ∷ os) [] h = absurd h
   same-found key other f (o ∷ os) (q ∷ qs) h = grind (arith, same-found key other f os qs h.1)
+  same-found key other f os qs h = grind arith
 
   lowest-same : (n : ℕ) (os qs : List OpenGroup) → Same R os qs → list_all (λ q. nat_le n q.place) os ≡ list_all (λ q. nat_le n q.place) qs
-  lowest-same n [] [] h = refl
-  lowest-same n [] (q ∷ qs) h = absurd h
-  lowest-same n (o ∷ os) [] h = absurd h
   lowest-same n (o ∷ os) (q ∷ qs) h = λ i. nat_le n (h.0.place i) && lowest-same n os qs h.1 i
+  lowest-same n os qs h = grind arith
 
   same-trimmed : (limit : ℕ) (os qs : List OpenGroup) → Same R os qs → Same R (trimmed limit os) (trimmed limit qs)
   same-trimmed limit os qs h = by (nat_lt (length os) limit) (nat_lt (length qs) limit) (ap (λ (n : ℕ). nat_lt n limit) (length_all_zip (IsSameGroup R) os qs h))
     where
       by : (b c : Bool) → b ≡ c → Same R (if b then os else without_oldest os) (if c then qs else without_oldest qs)
-      by true true e = h
-      by true false e = absurd (true≢false e)
-      by false true e = absurd (true≢false (sym e))
       by false false e =
           same-filter (λ o. not (list_all (λ q. nat_le o.place q.place) os)) (λ o. not (list_all (λ q. nat_le o.place q.place) qs))
           (λ o q s. ap not (ap (λ (n : ℕ). list_all (λ x. nat_le n x.place) os) s.place ∙ lowest-same q.place os qs h)) os qs h
+      by b c e = grind (arith, true≢false)
 
   same-without : (key other : Key) → key ≡ other → (os qs : List OpenGroup) → Same R os qs → Same R (without key os) (without other qs)
   same-without key other e os qs h = same-filter (λ o. not (same_key key o.key)) (λ o. not (same_key other o.key)) (λ o q s. λ i. not (same_key (e i) (s.key i))) os qs h
@@ -156,12 +144,10 @@ module _ (R : Piece → Piece → Type 0) (alike : IsAlikeness R) where
   }
     where
       by : (b f : Bool) → b ≡ f → Same R (if b then os else trimmed limit os ++ opened c p ∷ []) (if f then qs else trimmed limit qs ++ opened d r ∷ [])
-      by true true x = h
-      by true false x = absurd (true≢false x)
-      by false true x = absurd (true≢false (sym x))
       by false false x =
           AllZip-push (IsSameGroup R) (trimmed limit os) (trimmed limit qs) (opened c p) (opened d r) (same-trimmed limit os qs h)
           (record { key = same-key p r l; clock = e; place = alike.place p r l; pieces = (l, tt) })
+      by b f x = grind (arith, true≢false)
   same-step limit c d p r os qs e l h None (Some k) s = absurd s
   same-step limit c d p r os qs e l h (Some g) None s = absurd s
   same-step limit c d p r os qs e l h (Some g) (Some k) s = record {
@@ -195,16 +181,13 @@ module _ (R : Piece → Piece → Type 0) (alike : IsAlikeness R) where
   step_same : (limit : ℕ) (e f : Event) (s t : State) → IsAlikeEvent R e f → SameState R s t → SameState R (step limit e s) (step limit f t)
   unfolding step
   step_same limit (arrives c p) (arrives d q) s t same h = (arrival_same limit c d p q s t same.0 same.1 h).state
-  step_same limit (arrives c p) (flushes k) s t same h = absurd same
-  step_same limit (flushes key) (arrives d q) s t same h = absurd same
   step_same limit (flushes key) (flushes k) s t same h = record { opens = same-without key k same s.opens t.opens h.opens; given_up = h.given_up }
+  step_same limit e f s t same h = grind arith
 
   same-state : (limit : ℕ) (es fs : List Event) → AllZip (IsAlikeEvent R) es fs → SameState R (state_of limit es) (state_of limit fs)
   unfolding state_of
-  same-state limit [] [] h = record { opens = tt; given_up = refl }
-  same-state limit [] (f ∷ fs) h = absurd h
-  same-state limit (e ∷ es) [] h = absurd h
   same-state limit (e ∷ es) (f ∷ fs) h = step_same limit e f (state_of limit es) (state_of limit fs) h.0 (same-state limit es fs h.1)
+  same-state limit es fs h = grind arith
 
   same-joined : (limit : ℕ) (es fs : List Event) → AllZip (IsAlikeEvent R) es fs → (c d : Option Stamp) (p q : Piece) → IsSameTime c d → R p q
       → AllZip R (joined_pieces c p (state_of limit es)) (joined_pieces d q (state_of limit fs))
@@ -215,13 +198,9 @@ module _ (R : Piece → Piece → Type 0) (alike : IsAlikeness R) where
 
   same-completed : (limit : ℕ) (es fs : List Event) → AllZip (IsAlikeEvent R) es fs → AllZip (AllZip R) (completed_of limit es) (completed_of limit fs)
   unfolding completed_of
-  same-completed limit [] [] h = tt
-  same-completed limit [] (f ∷ fs) h = absurd h
-  same-completed limit (e ∷ es) [] h = absurd h
   same-completed limit (arrives c p ∷ es) (arrives d q ∷ fs) h = search (same-completed limit es fs h.1, zip-both, if_complete-alike, same-joined)
-  same-completed limit (arrives c p ∷ es) (flushes key ∷ fs) h = absurd h.0
-  same-completed limit (flushes key ∷ es) (arrives d q ∷ fs) h = absurd h.0
   same-completed limit (flushes key ∷ es) (flushes k ∷ fs) h = same-completed limit es fs h.1
+  same-completed limit es fs h = grind arith
 
   -- Events that are alike, one by one, make groups that are alike.
   pub alike-groups : (limit : ℕ) (es fs : List Event) → AllZip (IsAlikeEvent R) es fs → AlikeGroups R limit es fs

@@ -86,9 +86,8 @@ one_opened clock p gave ms done own key lt = new (goes_on key ms) (goes_on-key k
 
 -- a group that was given up isn't found
 but_found : (key : Key) (gave : Option ℕ) (os : List OpenGroup) → IsApart os → group_at key (but_gone gave os) ≡ unless_given gave (group_at key os)
-but_found key None os a = ap (group_at key) (but_none os)
-but_found key (Some place) [] a = refl
 but_found key (Some place) (o ∷ os) a = grind (arith, but_found key (Some place) os a.1)
+but_found key gave os a = grind (arith, but_none)
 
 without_absent : (key : Key) (os : List OpenGroup) → group_at key os ≡ None → without key os ≡ os
 without_absent key [] h = refl

@@ -41,10 +41,8 @@ pub key_test : (key : Key) (e : Entry) (o : OpenGroup) → IsEntryOf e o → sam
 key_test key e o h = ap (same_key key) (sym h.key)
 
 pub lengths : (es : List Entry) (os : List OpenGroup) → AreEntriesOf es os → length es ≡ length os
-lengths [] [] h = refl
-lengths [] (o ∷ os) h = absurd h
-lengths (e ∷ es) [] h = absurd h
 lengths (e ∷ es) (o ∷ os) h = ap suc (lengths es os h.1)
+lengths es os h = grind arith
 
 -- A key's group, which an entry's is.
 pub record Found (key : Key) (s : GroupState) (os : List OpenGroup) : Type 0 where
@@ -54,19 +52,16 @@ pub record Found (key : Key) (s : GroupState) (os : List OpenGroup) : Type 0 whe
   pub group : IsGroupOf s open_group.pieces
 
 pub group_at-some : (key : Key) (s : GroupState) (es : List Entry) (os : List OpenGroup) → AreEntriesOf es os → entry_at key es ≡ Some s → Found key s os
-group_at-some key s [] os h some = cc
-group_at-some key s (e ∷ es) [] h some = absurd h
 group_at-some key s (e ∷ es) (o ∷ os) h some = by (same_key key e.0) (key_test key e o h.0) some (group_at-some key s es os h.1)
   where
     by : (b : Bool) → same_key key o.key ≡ b → cond b (Some e.1) (entry_at key es) ≡ Some s → (entry_at key es ≡ Some s → Found key s os) → Found key s (o ∷ os)
     by b is n rest = grind arith
+group_at-some key s es os h some = grind arith
 
 -- the entries that aren't too old are the groups that aren't
 pub AreEntriesOf-live : (now : Option Stamp) (es : List Entry) (os : List OpenGroup) → AreEntriesOf es os → AreEntriesOf (live_entries now es) (live_at now os)
-AreEntriesOf-live now [] [] h = h
-AreEntriesOf-live now [] (o ∷ os) h = absurd h
-AreEntriesOf-live now (e ∷ es) [] h = absurd h
 AreEntriesOf-live now (e ∷ es) (o ∷ os) h = grind (arith, AreEntriesOf-live now es os h.1)
+AreEntriesOf-live now es os h = grind arith
 
 -- a key's group is found among those that aren't too old, where it isn't
 pub group_at-live : (key : Key) (now : Option Stamp) (o : OpenGroup) (os : List OpenGroup) → group_at key os ≡ Some o → not (is_too_old o.clock now) ≡ true
@@ -77,9 +72,6 @@ group_at-live key now o (q ∷ os) h live = grind (arith, group_at-live key now 
 -- a key without a live entry has no live group
 pub no_live : (key : Key) (now : Option Stamp) (es : List Entry) (os : List OpenGroup) → AreEntriesOf es os → IsDistinct same_key (keys_of es) → has_live key now es ≡ false
     → group_at key (live_at now os) ≡ None
-no_live key now [] [] h apart none = refl
-no_live key now [] (o ∷ os) h apart none = absurd h
-no_live key now (e ∷ es) [] h apart none = absurd h
 no_live key now (e ∷ es) (o ∷ os) h apart none =
     by (same_key key e.0) (key_test key e o h.0) (alone key e es apart) none (not (is_too_old e.1.clock now)) (ap (λ (c : Option Stamp). not (is_too_old c now)) (sym h.0.clock)) refl
     (no_live key now es os h.1 (IsDistinct-tail same_key e.0 (keys_of es) apart))
@@ -92,6 +84,7 @@ no_live key now (e ∷ es) (o ∷ os) h apart none =
         → (b : Bool) → not (is_too_old o.clock now) ≡ b → not (is_too_old e.1.clock now) ≡ b
         → (has_live key now es ≡ false → group_at key (live_at now os) ≡ None) → group_at key (live_at now (o ∷ os)) ≡ None
     by t' t lone n b' b c rest = grind arith
+no_live key now es os h apart none = grind arith
 
 -- a live entry is a live group
 pub live_group : (key : Key) (now : Option Stamp) (s : GroupState) (es : List Entry) (os : List OpenGroup) → AreEntriesOf es os → entry_at key es ≡ Some s → has_live key now es ≡ true

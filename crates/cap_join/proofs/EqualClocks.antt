@@ -1,5 +1,5 @@
 -- What fragments make of the open groups depends on clocks by the order of times alone: fragments that are equal are alike.
-use Rattle.std.proofs.Common.{arith, ◌≡◌, List, [], ◌∷◌, refl}
+use Rattle.std.proofs.Common.{arith, ◌≡◌, List, ◌∷◌, refl}
 use Rattle.std.specs.List.{AllZip}
 use Rattle.cap_join.specs.Completed.{completed_of}
 use Rattle.cap_join.specs.EqualClocks.{IsSameEvent, EqualClocksLaw}
@@ -11,25 +11,19 @@ abbrev IsSame : Piece → Piece → Type 0
 IsSame p q = p ≡ q
 
 same-pieces : (ps qs : List Piece) → AllZip IsSame ps qs → ps ≡ qs
-same-pieces [] [] h = refl
-same-pieces [] (q ∷ qs) h = absurd h
-same-pieces (p ∷ ps) [] h = absurd h
 same-pieces (p ∷ ps) (q ∷ qs) h = λ i. h.0 i ∷ same-pieces ps qs h.1 i
+same-pieces ps qs h = grind arith
 
 same-lists : (ps qs : List (List Piece)) → AllZip (AllZip IsSame) ps qs → ps ≡ qs
-same-lists [] [] h = refl
-same-lists [] (q ∷ qs) h = absurd h
-same-lists (p ∷ ps) [] h = absurd h
 same-lists (p ∷ ps) (q ∷ qs) h = λ i. same-pieces p q h.0 i ∷ same-lists ps qs h.1 i
+same-lists ps qs h = grind arith
 
 alike : IsAlikeness IsSame
 alike = grind (arith, same-pieces)
 
 same-events : (es fs : List Event) → AllZip IsSameEvent es fs → AllZip (IsAlikeEvent IsSame) es fs
-same-events [] [] h = tt
-same-events [] (f ∷ fs) h = h
-same-events (e ∷ es) [] h = h
 same-events (e ∷ es) (f ∷ fs) h = grind (arith, same-events es fs h.1)
+same-events es fs h = grind arith
 
 pub same-groups : EqualClocksLaw
 same-groups limit es fs h =

@@ -46,10 +46,10 @@ module _ (p : Piece) (ps : List Piece) (end hole0 hole1 hole2 : ℕ) (xs0 xs1 xs
 
   -- the holes after growing are the blocks that were not covered
   grown_holes : (i : ℕ) → i < length xs1 → in_hole g.spans i ≡ not (is_covered ps (i / 8))
-  grown_holes i h = grind (arith, cases_lt, i, or_false, beyond)
+  grown_holes i h = grind (arith, cases_lt, or_false, beyond)
 
   covered : (i : ℕ) → holds p (8 * (i / 8)) ≡ is_within p.start end i
-  covered i = grind (arith, p, i, common_steps, nat_tests, shaped, end_is)
+  covered i = grind (arith, p, common_steps, nat_tests, shaped, end_is)
 
   reach : end_of p ≤ end
   reach = omega (arith, end_is)

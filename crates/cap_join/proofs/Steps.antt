@@ -16,22 +16,17 @@ use Rattle.cap_join.proofs.Entries.{alone, key_test}
 
 -- without a group of its key a fragment changes no group
 extended-none : (p : Piece) (es : List Entry) (os : List OpenGroup) → AreEntriesOf es os → entry_at (key_of p) es ≡ None → AreEntriesOf es (extended p os)
-extended-none p [] [] h none = h
-extended-none p [] (o ∷ os) h none = absurd h
-extended-none p (e ∷ es) [] h none = absurd h
 extended-none p (e ∷ es) (o ∷ os) h none = by (same_key (key_of p) e.0) (key_test (key_of p) e o h.0) none (extended-none p es os h.1)
   where
     by : (b : Bool) → same_key (key_of p) o.key ≡ b → cond b (Some e.1) (entry_at (key_of p) es) ≡ None → (entry_at (key_of p) es ≡ None → AreEntriesOf es (extended p os))
         → AreEntriesOf (e ∷ es) (extended p (o ∷ os))
     by b is n rest = grind arith
+extended-none p es os h none = grind arith
 
 -- a fragment that is put into the group of its key
 pub AreEntriesOf-put : (p : Piece) (before after : GroupState) (es : List Entry) (os : List OpenGroup) → AreEntriesOf es os → IsDistinct same_key (keys_of es)
     → entry_at (key_of p) es ≡ Some before → ((ps : List Piece) → IsGroupOf before ps → IsGroupOf after (p ∷ ps)) → after.clock ≡ before.clock → after.place ≡ before.place
     → AreEntriesOf (set_value (same_key (key_of p)) es after) (extended p os)
-AreEntriesOf-put p before after [] [] h apart was group clock place = h
-AreEntriesOf-put p before after [] (o ∷ os) h apart was group clock place = absurd h
-AreEntriesOf-put p before after (e ∷ es) [] h apart was group clock place = absurd h
 AreEntriesOf-put p before after (e ∷ es) (o ∷ os) h apart was group clock place =
     by (same_key (key_of p) e.0) (key_test (key_of p) e o h.0) (alone (key_of p) e es apart) was
     (λ was. AreEntriesOf-put p before after es os h.1 (IsDistinct-tail same_key e.0 (keys_of es) apart) was group clock place)
@@ -40,6 +35,7 @@ AreEntriesOf-put p before after (e ∷ es) (o ∷ os) h apart was group clock pl
         → (entry_at (key_of p) es ≡ Some before → AreEntriesOf (set_value (same_key (key_of p)) es after) (extended p os))
         → AreEntriesOf (cond b ((e.0, after) ∷ es) (e ∷ set_value (same_key (key_of p)) es after)) (extended p (o ∷ os))
     by b is lone n rest = grind (arith, extended-none)
+AreEntriesOf-put p before after es os h apart was group clock place = grind arith
 
 -- a fragment changes no clock, so that the same groups are too old
 pub live_at-extended : (now : Option Stamp) (p : Piece) (os : List OpenGroup) → live_at now (extended p os) ≡ extended p (live_at now os)
@@ -58,29 +54,23 @@ group_at-extended p o (q ∷ os) h = grind (arith, group_at-extended p o os)
 
 -- a key without an entry is taken from no group
 without-none : (key : Key) (es : List Entry) (os : List OpenGroup) → AreEntriesOf es os → entry_at key es ≡ None → AreEntriesOf es (without key os)
-without-none key [] [] h none = h
-without-none key [] (o ∷ os) h none = absurd h
-without-none key (e ∷ es) [] h none = absurd h
 without-none key (e ∷ es) (o ∷ os) h none = grind (arith, without-none key es os h.1)
+without-none key es os h none = grind arith
 
 -- a key that is taken out
 pub AreEntriesOf-without : (key : Key) (es : List Entry) (os : List OpenGroup) → AreEntriesOf es os → IsDistinct same_key (keys_of es)
     → AreEntriesOf (remove_entry (same_key key) es) (without key os)
-AreEntriesOf-without key [] [] h apart = h
-AreEntriesOf-without key [] (o ∷ os) h apart = absurd h
-AreEntriesOf-without key (e ∷ es) [] h apart = absurd h
 AreEntriesOf-without key (e ∷ es) (o ∷ os) h apart =
     by (same_key key e.0) (key_test key e o h.0) (alone key e es apart) (AreEntriesOf-without key es os h.1 (IsDistinct-tail same_key e.0 (keys_of es) apart))
   where
     by : (b : Bool) → same_key key o.key ≡ b → (b ≡ true → entry_at key es ≡ None) → AreEntriesOf (remove_entry (same_key key) es) (without key os)
         → AreEntriesOf (cond b es (e ∷ remove_entry (same_key key) es)) (without key (o ∷ os))
     by b is lone rest = grind (arith, without-none)
+AreEntriesOf-without key es os h apart = grind arith
 
 pub AreEntriesOf-push : (es : List Entry) (os : List OpenGroup) (e : Entry) (o : OpenGroup) → AreEntriesOf es os → IsEntryOf e o → AreEntriesOf (es ++ e ∷ []) (os ++ o ∷ [])
-AreEntriesOf-push [] [] e o h k = (k, tt)
-AreEntriesOf-push [] (q ∷ os) e o h k = absurd h
-AreEntriesOf-push (f ∷ es) [] e o h k = absurd h
 AreEntriesOf-push (f ∷ es) (q ∷ os) e o h k = (h.0, AreEntriesOf-push es os e o h.1 k)
+AreEntriesOf-push es os e o h k = grind arith
 
 -- places that rise
 pub Rises-wider : (low high lower higher : ℕ) (es : List Entry) → lower ≤ low → high ≤ higher → Rises low high es → Rises lower higher es
@@ -114,25 +104,19 @@ Rises-first low high es h = grind (arith, Rises-wider)
 
 -- where places rise, the oldest group is the first
 all_above : (place low high : ℕ) (es : List Entry) (os : List OpenGroup) → place ≤ low → AreEntriesOf es os → Rises low high es → list_all (λ q. nat_le place q.place) os ≡ true
-all_above place low high [] [] le h r = refl
-all_above place low high [] (o ∷ os) le h r = absurd h
-all_above place low high (e ∷ es) [] le h r = absurd h
 all_above place low high (e ∷ es) (o ∷ os) le h r = grind (arith, all_above place (e.1.place + 1) high es os (omega arith) h.1 r.3)
+all_above place low high es os le h r = grind arith
 
 others_stay : (first : OpenGroup) (all : List OpenGroup) (low high : ℕ) (es : List Entry) (os : List OpenGroup) → first.place < low → AreEntriesOf es os → Rises low high es
     → filter (λ o. not (nat_le o.place first.place && list_all (λ q. nat_le o.place q.place) all)) os ≡ os
-others_stay first all low high [] [] lt h r = refl
-others_stay first all low high [] (o ∷ os) lt h r = absurd h
-others_stay first all low high (e ∷ es) [] lt h r = absurd h
 others_stay first all low high (e ∷ es) (o ∷ os) lt h r = grind (arith, others_stay first all (e.1.place + 1) high es os (omega arith) h.1 r.3)
+others_stay first all low high es os lt h r = grind arith
 
 pub AreEntriesOf-oldest : (low high : ℕ) (es : List Entry) (os : List OpenGroup) → AreEntriesOf es os → Rises low high es → AreEntriesOf (remove es 0) (without_oldest os)
-AreEntriesOf-oldest low high [] [] h r = tt
-AreEntriesOf-oldest low high [] (o ∷ os) h r = absurd h
-AreEntriesOf-oldest low high (e ∷ es) [] h r = absurd h
 AreEntriesOf-oldest low high (e ∷ es) (o ∷ os) h r =
     let at : e.1.place ≡ o.place = h.0.place in
     let self : nat_le o.place o.place ≡ true = grind (arith, nat_tests) in
     let lowest : list_all (λ q. nat_le o.place q.place) (o ∷ os) ≡ true = (let rest = all_above o.place (e.1.place + 1) high es os (omega arith) h.1 r.3 in λ i. self i && rest i) in
     let rest = others_stay o os (e.1.place + 1) high es os (omega arith) h.1 r.3 in
     subst (AreEntriesOf es) (sym (ap (λ (b : Bool). cond (not b) (o ∷ filter (λ o'. not (list_all (λ q. nat_le o'.place q.place) (o ∷ os))) os) (filter (λ o'. not (list_all (λ q. nat_le o'.place q.place) (o ∷ os))) os)) lowest ∙ rest)) h.1
+AreEntriesOf-oldest low high es os h r = grind arith
