@@ -6,8 +6,7 @@ use Rattle.std.specs.Prelude.{if◌then◌else◌, filter}
 use Rattle.cap_time.specs.declared.stamps.Stamp.{Stamp}
 use Rattle.cap_ip.specs.declared.headers.Key.{Key}
 use Rattle.cap_join.specs.Fragments.{Piece}
-use Rattle.cap_join.specs.Frames.{is_too_old}
-use Rattle.cap_join.specs.History.{Event, arrives, flushes, OpenGroup, same_key, key_of, with_piece, live_at, group_at, without, extended, pieces_with, opens_with, state_of, step, joined_pieces}
+use Rattle.cap_join.specs.History.{Event, arrives, flushes, OpenGroup, same_key, key_of, with_piece, group_at, without, extended, pieces_with, opens_with, state_of, step, joined_pieces}
 use Rattle.cap_join.proofs.ByPlaces.{agree}
 use Rattle.cap_join.proofs.Entries.{same_key-is}
 use Rattle.cap_join.proofs.OpenGroups.{IsApart, apart-filter, apart-extended, apart-push, group_at-filter-none}
@@ -19,8 +18,7 @@ use Rattle.cap_join.specs.Completed.{if_complete, completed_of, CompletedLaw, on
 pub apart : (limit : ℕ) (es : List Event) → IsApart (state_of limit es).opens
 unfolding state_of step
 apart limit [] = tt
-apart limit (arrives clock p ∷ es) = grind (arith, apart limit es, apart-push, group_at-filter-none, apart-filter, apart-extended, common_steps, nat_tests)
-apart limit (flushes key ∷ es) = apart-filter (λ o. not (same_key key o.key)) (state_of limit es).opens (apart limit es)
+apart limit (x ∷ es) = grind (arith, apart limit es, apart-push, group_at-filter-none, apart-filter, apart-extended, common_steps, nat_tests, not)
 
 -- ---- how often a place occurs
 
@@ -64,19 +62,7 @@ in_behind n (x ∷ xs) ys = omega (arith, in_behind n xs ys)
 pub once : OnceLaw
 unfolding state_of step completed_of joined_pieces
 once limit n [] = omega arith
-once limit n (arrives clock p ∷ es) =
-    let all = (state_of limit es).opens in
-    let live = live_at clock all in
-    let t : OpenGroup → Bool = λ o. not (is_too_old o.clock clock) in
-    let here = if_complete (pieces_with p (group_at (key_of p) live)) in
-    omega (
-      arith,
-      once limit n es,
-      fewer n t all,
-      in_behind n here (completed_of limit es),
-      arrive_once n limit clock p live (apart-filter t all (apart limit es)) (group_at (key_of p) live) refl,
-    )
-once limit n (flushes key ∷ es) = omega (arith, once limit n es, fewer n (λ o. not (same_key key o.key)) (state_of limit es).opens)
+once limit n (x ∷ es) = grind (arith, once limit n es, not, fewer, in_behind, arrive_once, apart-filter, apart)
 
 -- ---- by places
 
