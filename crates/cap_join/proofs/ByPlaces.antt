@@ -342,9 +342,4 @@ same_pieces clock p x = grind arith
 
 pub agree : (limit : ℕ) (es : List Event) → 0 < limit → AreInOrder es → Agree limit es
 unfolding joined_pieces
-agree limit es some order =
-    let h = holds limit es some order in
-    record {
-      groups = λ clock p later. ap (pieces_with p) (h.goes (key_of p) clock later) ∙ same_pieces clock p (goes_on (key_of p) (marks limit es));
-      given_up = h.given_up;
-    }
+agree limit es some order = grind (arith, holds limit es some order, holds, same_pieces)

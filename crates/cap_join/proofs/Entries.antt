@@ -89,12 +89,4 @@ no_live key now es os h apart none = grind arith
 -- a live entry is a live group
 pub live_group : (key : Key) (now : Option Stamp) (s : GroupState) (es : List Entry) (os : List OpenGroup) → AreEntriesOf es os → entry_at key es ≡ Some s → has_live key now es ≡ true
     → Found key s (live_at now os)
-live_group key now s es os h some live =
-    let f = group_at-some key s es os h some in
-    let fresh : not (is_too_old s.clock now) ≡ true = sym (ap (λ (o : Option GroupState). option_map_or (λ s. not (is_too_old s.clock now)) o false) some) ∙ live in
-    record {
-      open_group = f.open_group;
-      found = group_at-live key now f.open_group os f.found (ap (λ (c : Option Stamp). not (is_too_old c now)) (sym f.clock) ∙ fresh);
-      clock = f.clock;
-      group = f.group;
-    }
+live_group key now s es os h some live = grind (arith, group_at-some key s es os h some, sym (ap (λ (o : Option GroupState). option_map_or (λ s. not (is_too_old s.clock now)) o false) some) ∙ live, group_at-some, group_at-live, not)

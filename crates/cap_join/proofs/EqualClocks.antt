@@ -1,10 +1,9 @@
 -- What fragments make of the open groups depends on clocks by the order of times alone: fragments that are equal are alike.
-use Rattle.std.proofs.Common.{arith, ◌≡◌, List, ◌∷◌, refl}
+use Rattle.std.proofs.Common.{arith, ◌≡◌, List, ◌∷◌}
 use Rattle.std.specs.List.{AllZip}
-use Rattle.cap_join.specs.Completed.{completed_of}
 use Rattle.cap_join.specs.EqualClocks.{IsSameEvent, EqualClocksLaw}
 use Rattle.cap_join.specs.Fragments.{Piece}
-use Rattle.cap_join.specs.History.{Event, joined_pieces, state_of}
+use Rattle.cap_join.specs.History.{Event}
 use Rattle.cap_join.proofs.AlikeGroups.{IsAlikeness, IsAlikeEvent, alike-groups}
 
 abbrev IsSame : Piece → Piece → Type 0
@@ -26,10 +25,4 @@ same-events (e ∷ es) (f ∷ fs) h = grind (arith, same-events es fs h.1)
 same-events es fs h = grind arith
 
 pub same-groups : EqualClocksLaw
-same-groups limit es fs h =
-    let groups = alike-groups IsSame alike limit es fs (same-events es fs h) in
-    record {
-      completed = same-lists (completed_of limit es) (completed_of limit fs) groups.completed;
-      given_up = groups.given_up;
-      joined = λ c d p e. same-pieces (joined_pieces c p (state_of limit es)) (joined_pieces d p (state_of limit fs)) (groups.joined c d p p e refl);
-    }
+same-groups limit es fs h = grind (arith, alike-groups IsSame alike limit es fs (same-events es fs h), same-lists, alike-groups, alike, same-events, same-pieces)

@@ -162,10 +162,7 @@ above_all place low high [] le u = refl
 above_all place low high (o ∷ os) le u = grind (arith, above_all place (o.place + 1) high os (omega arith) u.2)
 
 pub first_lowest : (low high : ℕ) (o : OpenGroup) (os : List OpenGroup) → Up low high (o ∷ os) → list_all (λ q. nat_le o.place q.place) (o ∷ os) ≡ true
-first_lowest low high o os u =
-    let self : nat_le o.place o.place ≡ true = grind (arith, nat_tests) in
-    let rest : list_all (λ q. nat_le o.place q.place) os ≡ true = above_all o.place (o.place + 1) high os (omega arith) u.2 in
-    λ i. self i && rest i
+first_lowest low high o os u = grind (arith, nat_tests, above_all o.place (o.place + 1) high os (omega arith) u.2, above_all)
 
 pub rest_higher : (first : OpenGroup) (all : List OpenGroup) (low high : ℕ) (os : List OpenGroup) → first.place < low → Up low high os
     → filter (λ o. not (nat_le o.place first.place && list_all (λ q. nat_le o.place q.place) all)) os ≡ os

@@ -1,5 +1,5 @@
 use Rattle.std.proofs.Common.{◌≡◌, ℕ, ◌-◌, List, length, take, ◌++◌, replicate, sym, ◌∙◌, ap, subst, arith, take_at}
-use Rattle.cap_join.specs.Holes.{IsChain, HasHoles, Appended}
+use Rattle.cap_join.specs.Holes.{IsChain, Appended}
 use Rattle.cap_join.proofs.Growing.{IsChain-front, longer_front, Grown-appended}
 use Rattle.cap_join.proofs.buffers.grow.Goals as goal
 
@@ -7,15 +7,7 @@ resized : (size len : ℕ) (xs ys now : List ℕ) → now ≡ ys → ys ≡ take
 resized size len xs ys now a b h = a ∙ b ∙ ap (λ (n : ℕ). take size xs ++ replicate (size - n) 0) h
 
 pub add_hole-requires-clause-holes : goal.add_hole-requires-clause-holes
-add_hole-requires-clause-holes c =
-    let size : c.len-length.result ≡ length c.args.buffer.now.items = omega (arith, c.args.buffer.now.ok.0, c.len-length.ensures) in
-    subst (λ (n : ℕ). HasHoles c.as_mut_slice.result.now n c.args.holes.first) (sym size)
-    (record {
-      spans = c.requires.holes.spans;
-      chain = IsChain-front c.args.buffer.now.items c.as_mut_slice.result.now 0 (length c.args.buffer.now.items) c.args.holes.first c.requires.holes.spans
-          (longer_front c.args.buffer.now.items c.as_mut_slice.result.now c.args.size (omega arith) (resized c.args.size c.args.buffer.now.len c.args.buffer.now.items c.resize.new.self.items c.as_mut_slice.result.now c.as_mut_slice.ensures.value c.in_ok-resize.ensures.items (omega (arith, c.args.buffer.now.ok.0))))
-          c.requires.holes.chain;
-    })
+add_hole-requires-clause-holes c = grind (arith, c.args.buffer.now.ok.0, c.len-length.ensures, IsChain-front, longer_front, resized, c.requires.holes.spans, c.as_mut_slice.ensures.value, c.in_ok-resize.ensures.items, c.requires.holes.chain)
 
 pub returns-clause-ok : goal.returns-clause-ok
 returns-clause-ok c = λ ss chain.
@@ -29,6 +21,4 @@ pub add_hole-requires-clause-cursor : goal.add_hole-requires-clause-cursor
 add_hole-requires-clause-cursor c = grind (arith, IsChain-front, longer_front, resized)
 
 pub returns-clause-cursor : goal.returns-clause-cursor
-returns-clause-cursor c =
-    let long : length c.add_hole.new.bytes ≡ c.resize.new.self.len = c.add_hole.auto.bytes ∙ c.as_mut_slice.ensures.len in
-    rw (take_at c.add_hole.new.bytes _ _ long) c.add_hole.ensures.cursor
+returns-clause-cursor c = grind (arith, c.add_hole.auto.bytes ∙ c.as_mut_slice.ensures.len, take_at, c.add_hole.auto.bytes, c.as_mut_slice.ensures.len, c.add_hole.ensures.cursor)

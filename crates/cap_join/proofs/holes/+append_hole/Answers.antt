@@ -4,9 +4,7 @@ use Rattle.cap_join.proofs.Punching.{HasHoles-first, Appended-last, Appended-hol
 use Rattle.cap_join.proofs.holes.+append_hole.Goals as goal
 
 pub returns-then-at-from-clause-appended : goal.returns-then-at-from-clause-appended
-returns-then-at-from-clause-appended t c = λ low ss le chain.
-    Appended-last low c.args.from c.args.at c.keep.result c.args.bytes.now c.keep.new.bytes ss le c.if-at-from.true c.requires.some (omega (arith, c.requires.short)) chain
-    c.keep.ensures.within c.keep.ensures.chain
+returns-then-at-from-clause-appended t c = λ low ss le chain. grind (arith, Appended-last, c.if-at-from.true, c.requires.some, c.requires.short, c.keep.ensures.within, c.keep.ensures.chain)
 
 pub word_at-end-requires : goal.word_at-end-requires
 word_at-end-requires t c =
@@ -32,9 +30,7 @@ keep-requires-2-clause-within t c =
     omega (arith, first.within, c.word_at-end.ensures, c.append_hole-rest.auto.bytes, c.requires.some)
 
 pub keep-requires-2-clause-begins : goal.keep-requires-2-clause-begins
-keep-requires-2-clause-begins t c =
-    let first = HasHoles-first c.args.bytes.now c.args.from c.args.at c.requires.holes (omega (arith, c.requires.some, c.requires.short)) in
-    first.begins
+keep-requires-2-clause-begins t c = grind (arith, HasHoles-first c.args.bytes.now c.args.from c.args.at c.requires.holes (omega (arith, c.requires.some, c.requires.short)), HasHoles-first, c.requires.holes, c.requires.some, c.requires.short)
 
 pub keep-requires-2-clause-ends : goal.keep-requires-2-clause-ends
 keep-requires-2-clause-ends t c =

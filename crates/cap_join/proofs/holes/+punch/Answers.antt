@@ -4,9 +4,7 @@ use Rattle.cap_join.proofs.Punching.{HasHoles-first, Punched-none, Punched-hole,
 use Rattle.cap_join.proofs.holes.+punch.Goals as goal
 
 pub returns-then-at-to-clause-punched : goal.returns-then-at-to-clause-punched
-returns-then-at-to-clause-punched t c =
-    c.cover-at.ensures.punched c.cover-at.result c.cover-at.new.bytes
-    (λ low ss chain. Punched-none c.args.from c.args.to low (length c.cover-at.new.bytes) c.cover-at.result c.cover-at.new.bytes ss c.if-at-to.true chain)
+returns-then-at-to-clause-punched t c = grind (arith, Punched-none, c.cover-at.ensures.punched, c.if-at-to.true)
 
 pub returns-then-at-to-clause-stays : goal.returns-then-at-to-clause-stays
 returns-then-at-to-clause-stays t c = λ near whole. (c.cover-at.ensures.stays near).0

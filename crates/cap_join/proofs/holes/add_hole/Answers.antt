@@ -6,18 +6,13 @@ use Rattle.cap_join.proofs.Cursors.{HasCursor-marked, Begins-wider, IsChain-uniq
 use Rattle.cap_join.proofs.holes.add_hole.Goals as goal
 
 pub last_before-requires-clause-holes : goal.last_before-requires-clause-holes
-last_before-requires-clause-holes c = record {
-  spans = c.requires.holes.spans;
-  chain = IsChain-higher c.args.bytes.now 0 c.args.from (length c.args.bytes.now) c.args.holes.first c.requires.holes.spans (omega (arith, c.requires.some)) c.requires.holes.chain;
-}
+last_before-requires-clause-holes c = grind (arith, IsChain-higher, c.requires.holes.spans, c.requires.some, c.requires.holes.chain)
 
 pub last_before-requires-clause-cursor : goal.last_before-requires-clause-cursor
 last_before-requires-clause-cursor c = grind (arith, IsChain-unique, Begins-wider)
 
 pub append_hole-requires-in-Some-clause-holes : goal.append_hole-requires-in-Some-clause-holes
-append_hole-requires-in-Some-clause-holes c =
-    HasHoles-begins c.args.bytes.now c.args.from c.in-Some.last 0 c.args.from c.args.holes.first c.requires.holes.spans c.requires.holes.chain
-    (c.in-Some.ensures.begins c.args.from c.requires.holes.spans (omega (arith, c.requires.some, c.requires.short)) c.requires.holes.chain)
+append_hole-requires-in-Some-clause-holes c = grind (arith, HasHoles-begins, c.requires.holes.spans, c.requires.holes.chain, c.in-Some.ensures.begins, c.requires.some, c.requires.short)
 
 pub returns-in-Some-clause-appended : goal.returns-in-Some-clause-appended
 returns-in-Some-clause-appended c = λ ss chain.

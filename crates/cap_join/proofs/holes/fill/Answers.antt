@@ -5,9 +5,7 @@ use Rattle.cap_join.proofs.Cursors.{HasCursor-marked}
 use Rattle.cap_join.proofs.holes.fill.Goals as goal
 
 pub punch-requires-in-Some-clause-holes : goal.punch-requires-in-Some-clause-holes
-punch-requires-in-Some-clause-holes c =
-    HasHoles-begins c.args.bytes.now c.args.from c.in-Some.last 0 (length c.args.bytes.now) c.args.holes.first c.requires.holes.spans c.requires.holes.chain
-    (c.in-Some.ensures.begins (length c.args.bytes.now) c.requires.holes.spans (omega (arith, c.requires.short)) c.requires.holes.chain)
+punch-requires-in-Some-clause-holes c = grind (arith, HasHoles-begins, c.requires.holes.spans, c.requires.holes.chain, c.in-Some.ensures.begins, c.requires.short)
 
 pub returns-in-Some-clause-punched : goal.returns-in-Some-clause-punched
 returns-in-Some-clause-punched c = λ ss chain.

@@ -5,12 +5,7 @@ use Rattle.cap_join.proofs.Reading.{Reached-first, Reached-next}
 use Rattle.cap_join.proofs.holes.last_below.Goals as goal
 
 pub loop-next-init : goal.loop-next-init
-loop-next-init c = (
-  c.requires.holes,
-  c.requires.first,
-  c.requires.whole,
-  λ low high ss chain. Reached-first c.args.bytes.now c.args.below c.args.at low high ss (omega (arith, c.requires.first, c.requires.within, c.requires.short)) c.requires.whole chain,
-)
+loop-next-init c = grind (arith, Reached-first, c.requires.holes, c.requires.first, c.requires.whole, c.requires.within, c.requires.short)
 
 pub next_below-requires : goal.next_below-requires
 next_below-requires c =

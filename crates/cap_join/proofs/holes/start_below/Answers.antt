@@ -5,9 +5,7 @@ use Rattle.cap_join.proofs.Cursors.{Begins-block, IsBefore-first, Begins-below, 
 use Rattle.cap_join.proofs.holes.start_below.Goals as goal
 
 pub lies_below-requires : goal.lies_below-requires
-lies_below-requires c = λ lt.
-    Begins-block c.args.bytes.now 0 (length c.args.bytes.now) c.args.holes.first c.args.holes.cursor c.requires.holes.spans c.requires.holes.chain
-    (c.requires.cursor c.requires.holes.spans c.requires.holes.chain (omega (arith, c.requires.within, c.requires.short)))
+lies_below-requires c = λ lt. grind (arith, Begins-block, c.requires.holes.spans, c.requires.holes.chain, c.requires.cursor, c.requires.within, c.requires.short)
 
 pub returns-then-lies_below : goal.returns-then-lies_below
 returns-then-lies_below c = grind (arith, IsChain-unique, Begins-below)

@@ -1,24 +1,19 @@
-use Rattle.std.proofs.Common.{◌≡◌, ◌<◌, ◌∙◌, true, List, Option, length, sym, ap, subst}
-use Rattle.std.specs.Prelude.{IfNone}
+use Rattle.std.proofs.Common.{◌≡◌, ◌∙◌, List, sym, ap, subst, arith}
 use Rattle.std.specs.List.{IsDistinct}
 use Rattle.std.specs.Map.{keys_of, remove_entry}
 use Rattle.lru.specs.LruCache.{LruCache}
 use Rattle.cap_ip.specs.declared.headers.Key.{Key}
-use Rattle.cap_join.specs.Frames.{is_too_old}
 use Rattle.cap_join.specs.Groups.{GroupState}
 use Rattle.cap_join.specs.History.{same_key}
 use Rattle.cap_join.specs.Joiners.{Entry}
-use Rattle.cap_join.specs.Ages.{NoneOld, AreInTurn}
+use Rattle.cap_join.specs.Ages.{AreInTurn}
 use Rattle.cap_join.specs.Tables.{live_entries}
 use Rattle.cap_join.proofs.Aging.{live-all, AreInTurn-remove_entry}
 use Rattle.cap_join.proofs.Tabling.{IsDistinct-remove_entry, live-expired, length-removed}
 use Rattle.cap_join.proofs.tables.expire.Goals as goal
 
 pub loop-key-smaller-in-Some : goal.loop-key-smaller-in-Some
-loop-key-smaller-in-Some c =
-    let is : c.pop.new.self.entries ≡ remove_entry (same_key c.in-Some.key) c.loop-key.groups.entries = ap (λ (x : LruCache Key GroupState). x.entries) c.pop.ensures.entries in
-    subst (λ (l : List Entry). length l < length c.loop-key.groups.entries) (sym is)
-    (length-removed (same_key c.in-Some.key) (λ s. is_too_old s.clock c.args.now ≡ true) c.loop-key.groups.entries c.in-Some.ensures.old)
+loop-key-smaller-in-Some c = grind (arith, ap (λ (x : LruCache Key GroupState). x.entries) c.pop.ensures.entries, length-removed, c.pop.ensures.entries, c.in-Some.ensures.old)
 
 pub loop-key-preserved-in-Some : goal.loop-key-preserved-in-Some
 loop-key-preserved-in-Some c =
@@ -32,5 +27,4 @@ loop-key-preserved-in-Some c =
     )
 
 pub returns-clause-entries : goal.returns-clause-entries
-returns-clause-entries c =
-    sym (live-all c.args.now c.loop-key.groups.entries (subst (λ (r : Option Key). IfNone r (NoneOld c.args.now c.loop-key.groups.entries)) c.in_default.is c.first_old.ensures.none)) ∙ c.loop-key.invariant.2
+returns-clause-entries c = grind (arith, live-all, c.in_default.is, c.first_old.ensures.none, c.loop-key.invariant.2)

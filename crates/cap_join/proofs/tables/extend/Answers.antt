@@ -25,9 +25,7 @@ returns-then-not-complete-clause-ok c = λ os entries.
     c.drop_old.ensures.entries
 
 pub returns-then-not-complete-clause-table : goal.returns-then-not-complete-clause-table
-returns-then-not-complete-clause-table c =
-    IsTable-put c.key-key.result (piece_in c.args.incoming.now) c.args.clock (place_in c.args.incoming.now) c.args.groups.now c.put_at.new.self c.drop_old.new.self
-    c.in_ok-complete.complete c.requires.table c.in_ok-complete.ensures.ok c.drop_old.ensures.entries c.drop_old.ensures.unique
+returns-then-not-complete-clause-table c = search (IsTable-put, c.requires.table, c.in_ok-complete.ensures.ok, c.drop_old.ensures.entries, c.drop_old.ensures.unique)
 
 pub unreachable-requires : goal.unreachable-requires
 unreachable-requires c =

@@ -1,4 +1,4 @@
-use Rattle.std.proofs.Common.{◌≡◌, ◌∙◌, [], true, Option, sym, subst}
+use Rattle.std.proofs.Common.{◌≡◌, ◌∙◌, [], true, Option, sym, subst, arith}
 use Rattle.std.specs.Prelude.{IsSomeAnd}
 use Rattle.cap_join.specs.Frames.{is_too_old}
 use Rattle.cap_join.specs.Groups.{GroupState}
@@ -10,9 +10,7 @@ pub loop-key-init : goal.loop-key-init
 loop-key-init c = record { seen = []; split = sym (c.into_iter-key-iterator.ensures.into_iter_gives ∙ c.iter-key-items.ensures.rest); none = tt }
 
 pub loop-key-preserved : goal.loop-key-preserved
-loop-key-preserved c =
-    Looked-more c.args.now c.args.groups.now.entries (c.in-Some.key.now, c.in-Some.group.now) c.next.new.self (sym c.is_too_old.ensures ∙ c.if-is_too_old.false)
-    (subst (Looked c.args.now c.args.groups.now.entries) c.in-Some.ensures.steps c.loop-key.invariant)
+loop-key-preserved c = grind (arith, Looked-more, c.is_too_old.ensures, c.if-is_too_old.false, c.in-Some.ensures.steps, c.loop-key.invariant)
 
 pub returns-then-is_too_old-clause-old : goal.returns-then-is_too_old-clause-old
 returns-then-is_too_old-clause-old c =

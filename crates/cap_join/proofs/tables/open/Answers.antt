@@ -30,8 +30,7 @@ returns-then-is_complete-clause-ok c = λ os entries.
     (c.into_datagram.ensures.datagram (p ∷ []) group done) c.drop_old.ensures.entries
 
 pub returns-then-is_complete-clause-table : goal.returns-then-is_complete-clause-table
-returns-then-is_complete-clause-table c =
-    IsTable-live c.args.clock (place_in c.args.incoming.now) c.args.groups.now c.drop_old.new.self c.requires.table c.drop_old.ensures.entries c.drop_old.ensures.unique
+returns-then-is_complete-clause-table c = search (IsTable-live, c.requires.table, c.drop_old.ensures.entries, c.drop_old.ensures.unique)
 
 pub add-requires : goal.add-requires
 add-requires c = record { few = c.requires.table.few }

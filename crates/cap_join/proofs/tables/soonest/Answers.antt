@@ -1,14 +1,12 @@
-use Rattle.std.proofs.Common.{◌≡◌, ◌∙◌, List, Option, sym, ap, subst}
+use Rattle.std.proofs.Common.{◌≡◌, ◌∙◌, List, Option, sym, ap, subst, arith}
 use Rattle.cap_time.specs.declared.stamps.Stamp.{Stamp}
 use Rattle.cap_join.specs.Joiners.{Entry}
-use Rattle.cap_join.specs.Ages.{deadline_of, sooner, NoneOld, IsDeadline, AreInTurn}
+use Rattle.cap_join.specs.Ages.{deadline_of, sooner, IsDeadline, AreInTurn}
 use Rattle.cap_join.proofs.Aging.{Leaves, Leaves-more, Leaves-turn}
 use Rattle.cap_join.proofs.tables.soonest.Goals as goal
 
 pub loop-key-init : goal.loop-key-init
-loop-key-init c =
-    let all : c.into_iter-key-iterator.result ≡ c.args.groups.now.entries = c.into_iter-key-iterator.ensures.into_iter_gives ∙ c.iter-key-items.ensures.rest in
-    (λ now p rest. subst (NoneOld now) all rest, λ o. subst AreInTurn (sym all) (c.requires o))
+loop-key-init c = grind (arith, c.into_iter-key-iterator.ensures.into_iter_gives ∙ c.iter-key-items.ensures.rest, c.into_iter-key-iterator.ensures.into_iter_gives, c.iter-key-items.ensures.rest, c.requires)
 
 pub loop-key-preserved : goal.loop-key-preserved
 loop-key-preserved c =

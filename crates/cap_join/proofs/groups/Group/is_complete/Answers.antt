@@ -1,12 +1,10 @@
-use Rattle.std.proofs.Common.{sym, ◌∙◌, subst}
+use Rattle.std.proofs.Common.{sym, ◌∙◌, subst, arith}
 use Rattle.cap_join.specs.Groups.{GroupState, IsGroupOf}
 use Rattle.cap_join.proofs.Grouping.{completes-none, completes-some, covers_below-hole, total_of-reached}
 use Rattle.cap_join.proofs.groups.Group.is_complete.Goals as goal
 
 pub returns-in-None : goal.returns-in-None
-returns-in-None c = λ ps group.
-    let g = subst (λ (s : GroupState). IsGroupOf s ps) (sym c.self.view_is) group in
-    completes-none ps (sym g.total ∙ c.in-None.is)
+returns-in-None c = λ ps group. grind (arith, subst (λ (s : GroupState). IsGroupOf s ps) (sym c.self.view_is) group, completes-none, c.in-None.is)
 
 pub returns-in-Some : goal.returns-in-Some
 returns-in-Some c = λ ps group.

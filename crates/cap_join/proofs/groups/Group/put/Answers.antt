@@ -7,8 +7,7 @@ use Rattle.cap_join.proofs.Grouping.{Maps-short, IsGroupOf-put}
 use Rattle.cap_join.proofs.groups.Group.put.Goals as goal
 
 pub put_data-requires-clause-bounded : goal.put_data-requires-clause-bounded
-put_data-requires-clause-bounded c =
-    omega (arith, c.self.inside.buffer.ok.0, Maps-short c.self.inside.buffer.items c.self.inside.holes.first c.self.invariant.sound.pieces c.self.invariant.sound.group.maps)
+put_data-requires-clause-bounded c = grind (arith, c.self.inside.buffer.ok.0, Maps-short c.self.inside.buffer.items c.self.inside.holes.first c.self.invariant.sound.pieces c.self.invariant.sound.group.maps)
 
 pub invariant_of-self-2 : goal.invariant_of-self-2
 invariant_of-self-2 c = record {

@@ -1,14 +1,11 @@
-use Rattle.std.proofs.Common.{◌≡◌, ◌<◌, ℕ, ◌∙◌, List, sym, subst}
-use Rattle.cap_join.specs.Joiners.{Entry, open_limit}
+use Rattle.std.proofs.Common.{◌<◌, ℕ, sym, subst, arith}
+use Rattle.cap_join.specs.Joiners.{open_limit}
 use Rattle.cap_join.specs.Ages.{AreInTurn, AreUpTo}
-use Rattle.cap_join.specs.Tables.{live_entries}
 use Rattle.cap_join.proofs.Aging.{live-all, AreInTurn-live, AreUpTo-live}
 use Rattle.cap_join.proofs.tables.Table.drop_old.Goals as goal
 
 pub returns-then-not-is_past-clause-entries : goal.returns-then-not-is_past-clause-entries
-returns-then-not-is_past-clause-entries c =
-    subst (λ (es : List Entry). es ≡ live_entries c.args.now es) c.self.view_is
-    (sym (live-all c.args.now c.self.inside.groups.entries (c.self.invariant.deadline c.args.now (sym c.is_past.ensures ∙ c.if-not-is_past.true))))
+returns-then-not-is_past-clause-entries c = grind (arith, live-all, c.self.invariant.deadline, c.is_past.ensures, c.if-not-is_past.true)
 
 pub soonest-self-inside-requires : goal.soonest-self-inside-requires
 soonest-self-inside-requires c = λ o. subst AreInTurn (sym c.expire.ensures.entries) (AreInTurn-live c.args.now c.self.inside.groups.entries (c.self.invariant.in_turn o))

@@ -1,4 +1,4 @@
-use Rattle.std.proofs.Common.{◌≡◌, ◌<◌, ℕ, List, sym, ◌∙◌, ap, subst}
+use Rattle.std.proofs.Common.{◌≡◌, ◌<◌, ℕ, List, sym, ◌∙◌, ap, subst, arith}
 use Rattle.std.specs.Prelude.{remove}
 use Rattle.std.specs.List.{IsDistinct}
 use Rattle.std.specs.Map.{keys_of}
@@ -25,6 +25,4 @@ invariant_of-self c =
     }
 
 pub returns-clause-unique : goal.returns-clause-unique
-returns-clause-unique c =
-    subst (λ (l : List Entry). IsDistinct same_key (keys_of l)) (sym (ap (λ (x : LruCache Key GroupState). x.entries) c.pop_mru.ensures.entries ∙ drop-first c.self.inside.groups.entries))
-    (IsDistinct-first c.self.inside.groups.entries c.self.invariant.unique)
+returns-clause-unique c = grind (arith, drop-first, IsDistinct-first, c.pop_mru.ensures.entries, c.self.invariant.unique)
