@@ -1,5 +1,5 @@
 -- What fragments make of the open groups, where they are alike, one by one, and their clocks are of the same times.
-use Rattle.std.proofs.Common.{arith, ◌≡◌, ℕ, ◌+◌, Bool, true, false, List, [], ◌∷◌, ◌++◌, length, refl, sym, ◌∙◌, ap, not, true≢false, ◌&&◌, Option, Some, None, Equal}
+use Rattle.std.proofs.Common.{arith, ◌≡◌, ℕ, ◌+◌, Bool, false, List, [], ◌∷◌, ◌++◌, length, refl, ◌∙◌, ap, not, true≢false, ◌&&◌, Option, Some, None, Equal}
 use Rattle.std.proofs.lemmas.List.Elements.{length_all_zip, AllZip-push}
 use Rattle.std.specs.Prelude.{nat_lt, nat_le, if◌then◌else◌, filter}
 use Rattle.std.specs.List.{list_all, AllZip}
@@ -144,10 +144,7 @@ module _ (R : Piece → Piece → Type 0) (alike : IsAlikeness R) where
   }
     where
       by : (b f : Bool) → b ≡ f → Same R (if b then os else trimmed limit os ++ opened c p ∷ []) (if f then qs else trimmed limit qs ++ opened d r ∷ [])
-      by false false x =
-          AllZip-push (IsSameGroup R) (trimmed limit os) (trimmed limit qs) (opened c p) (opened d r) (same-trimmed limit os qs h)
-          (record { key = same-key p r l; clock = e; place = alike.place p r l; pieces = (l, tt) })
-      by b f x = grind (arith, true≢false)
+      by b f x = grind (arith, AllZip-push, same-trimmed, same-key, alike, true≢false)
   same-step limit c d p r os qs e l h None (Some k) s = absurd s
   same-step limit c d p r os qs e l h (Some g) None s = absurd s
   same-step limit c d p r os qs e l h (Some g) (Some k) s = record {
@@ -157,10 +154,7 @@ module _ (R : Piece → Piece → Type 0) (alike : IsAlikeness R) where
   }
     where
       by : (b f : Bool) → b ≡ f → Same R (if b then without (key_of p) os else extended p os) (if f then without (key_of r) qs else extended r qs)
-      by true true x = same-without (key_of p) (key_of r) (same-key p r l) os qs h
-      by true false x = absurd (true≢false x)
-      by false true x = absurd (true≢false (sym x))
-      by false false x = same-extended p r l os qs h
+      by b f x = grind (arith, same-without, same-key, true≢false, same-extended)
 
   -- ---- events
 

@@ -60,16 +60,14 @@ module _ (p : Piece) (o : OpenGroup) (ms : List Mark) (mine : o.key ≡ key_of p
     where
       joined : (x : Option OpenGroup) → ((g : OpenGroup) → x ≡ Some g → key ≡ g.key) → (same_key key o.key ≡ true → x ≡ Some o)
           → first_at own (if same_key key o.key then (if completes (p ∷ o.pieces) then None else Some (with_piece p o)) else unless_given None x) ≡ extended p (first_at own x)
-      joined None keyed found = grind arith
-      joined (Some g) keyed found = grind arith
+      joined x keyed found = grind arith
 
   one_done : completes (p ∷ o.pieces) ≡ true → (own : ℕ) (key : Key) → own < n → first_at own (goes_on key (fragment n (with_piece p o) None ∷ ms)) ≡ without (key_of p) (first_at own (goes_on key ms))
   one_done done own key lt = joined (goes_on key ms) (goes_on-key key ms) (here key)
     where
       joined : (x : Option OpenGroup) → ((g : OpenGroup) → x ≡ Some g → key ≡ g.key) → (same_key key o.key ≡ true → x ≡ Some o)
           → first_at own (if same_key key o.key then (if completes (p ∷ o.pieces) then None else Some (with_piece p o)) else unless_given None x) ≡ without (key_of p) (first_at own x)
-      joined None keyed found = grind arith
-      joined (Some g) keyed found = grind arith
+      joined x keyed found = grind arith
 
 but_push : (gave : Option ℕ) (xs ys : List OpenGroup) → but_gone gave (xs ++ ys) ≡ but_gone gave xs ++ but_gone gave ys
 but_push gave xs ys = filter-push (λ o. not (gone gave o.place)) xs ys

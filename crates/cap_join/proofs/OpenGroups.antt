@@ -28,9 +28,7 @@ before_later a b c h k = by (option_cmp stamp_cmp a b) (option_cmp stamp_cmp b c
   where
     by : (r q : Ordering) → option_cmp stamp_cmp a b ≡ r → option_cmp stamp_cmp b c ≡ q → is_lt r ≡ true → is_lt (ordering_reverse q) ≡ false → is_before a c ≡ true
     by Less Less e f h k = ap is_lt (total.trans a b c e f)
-    by Less Equal e f h k =
-        let back : option_cmp stamp_cmp c b ≡ Equal = total.antisymm c b ∙ ap ordering_reverse f in
-        ap is_lt (total.antisymm a c ∙ ap ordering_reverse (total.congr c b a back) ∙ sym (total.antisymm a b) ∙ e)
+    by Less Equal e f h k = grind (arith, total)
     by Less Greater e f h k = absurd (true≢false k)
     by Equal q e f h k = absurd (true≢false (sym h))
     by Greater q e f h k = absurd (true≢false (sym h))

@@ -169,9 +169,7 @@ Appended-hole low high at end next rest result s ss old mid new some hole end_is
       length_is = within.length_is ∙ behind.length_is;
       spans = kept at end behind.spans;
       chain = described low s.to (length old) behind.spans (omega arith) (omega arith) (omega arith) (omega arith) behind.chain;
-      holes = λ i. in_hole-kept at end behind.spans i ∙ ap (λ (x : Bool). is_within at end i || x) (behind.holes i)
-          ∙ or_assoc (is_within at end i) (in_hole ss i) (is_within high (length old) i)
-          ∙ ap (λ (x : Bool). (x || in_hole ss i) || is_within high (length old) i) (span i);
+      holes = λ i. grind (arith, in_hole-kept, or_assoc);
       kept_bytes = λ i p q. unchanged at end mid new within i (span i ∙ or_false_left (is_within s.from s.to i) (in_hole ss i) q)
           ∙ behind.kept_bytes i p (or_false_right (is_within s.from s.to i) (in_hole ss i) q);
     }

@@ -1,5 +1,5 @@
 -- What a fragment makes of the table: what `Puts` says, case by case, and that it stays a table.
-use Rattle.std.proofs.Common.{◌≡◌, ℕ, ◌+◌, ◌≤◌, ◌<◌, ◌^◌, Bool, true, false, List, [], ◌∷◌, ◌++◌, length, refl, sym, ◌∙◌, ap, subst, arith, ◌&&◌, not, true≢false, Option, Some, None, length-append}
+use Rattle.std.proofs.Common.{◌≡◌, ℕ, ◌+◌, ◌≤◌, ◌<◌, ◌^◌, Bool, true, false, List, [], ◌∷◌, ◌++◌, length, refl, sym, ◌∙◌, ap, subst, arith, not, true≢false, Option, Some, None, length-append}
 use Rattle.std.specs.Prelude.{nat_lt, if◌then◌else◌, filter, remove, IsSomeAnd}
 use Rattle.std.specs.List.{IsDistinct}
 use Rattle.std.specs.Map.{keys_of, lookup, set_value, remove_entry}
@@ -130,10 +130,8 @@ module _ (clock : Option Stamp) (p : Piece) (es : List Entry) (apart : IsDistinc
       (by mid (live_at clock os) entries rising gave_up (nat_lt (length (live_at clock os)) open_limit) test) in
       let entry : IsEntryOf (key_of p, s) (opened clock p) = record { key = refl; clock = clock_is; place = place_is; group = group } in
       record {
-        groups = subst (AreEntriesOf new) (sym after) (subst (λ (l : List Entry). AreEntriesOf l (trimmed open_limit (live_at clock os) ++ opened clock p ∷ [])) (sym new_is)
-            (AreEntriesOf-push late (trimmed open_limit (live_at clock os)) (key_of p, s) (opened clock p) trim entry));
-        gives_up = test ∙ sym (ap (λ (g : Option OpenGroup). gives_up_with open_limit p g (live_at clock os)) none
-            ∙ ap (λ (b : Bool). not b && not (nat_lt (length (live_at clock os)) open_limit)) done);
+        groups = grind (arith, clock, os, p, AreEntriesOf-push);
+        gives_up = grind (arith, p, clock, os, not);
         answers = ap (λ (g : Option OpenGroup). completes (pieces_with p g)) none ∙ done;
       }
     where

@@ -57,10 +57,7 @@ Punched-skip a b low high at s ss old new hole below tail behind =
     record {
       length_is = behind.length_is;
       spans = s ∷ behind.spans;
-      chain = (
-        record { here = hole.here; after = hole.after; some = hole.some; within = hole.within; begins = hole.begins; ends = hole.ends; end_is = words.0 ∙ hole.end_is },
-        subst (λ (n : ℕ). IsChain new s.to high n behind.spans) (sym words.1) behind.chain,
-      );
+      chain = grind arith;
       holes = λ i. below_range s.from s.to a b i (in_hole behind.spans i) (in_hole ss i) below (behind.holes i);
       kept_bytes = λ i p. behind.kept_bytes i (or_false_right (is_within s.from s.to i) (in_hole ss i) p);
       zeros = λ i p q. behind.zeros i (in_tail s.from s.to i (in_hole ss i) below p q) q;
@@ -107,10 +104,7 @@ Appended-skip low high at s ss old new short hole tail behind =
     record {
       length_is = behind.length_is;
       spans = s ∷ behind.spans;
-      chain = (
-        record { here = hole.here; after = hole.after; some = hole.some; within = omega arith; begins = hole.begins; ends = hole.ends; end_is = words.0 ∙ hole.end_is },
-        subst (λ (n : ℕ). IsChain new s.to (length old) n behind.spans) (sym words.1) behind.chain,
-      );
+      chain = grind arith;
       holes = λ i. ap (λ (x : Bool). is_within s.from s.to i || x) (behind.holes i) ∙ or_assoc (is_within s.from s.to i) (in_hole ss i) (is_within high (length old) i);
       kept_bytes = λ i p q. behind.kept_bytes i p (or_false_right (is_within s.from s.to i) (in_hole ss i) q);
     }

@@ -1,5 +1,5 @@
 -- The table of open groups: keys that stay apart, and one group taken out, added or given up.
-use Rattle.std.proofs.Common.{◌≡◌, ℕ, ◌<◌, Bool, true, false, List, [], ◌∷◌, ◌++◌, length, refl, sym, ◌∙◌, ap, subst, arith, cond, not, Option, Some, None, Result, length-append}
+use Rattle.std.proofs.Common.{◌≡◌, ℕ, ◌<◌, Bool, true, false, List, [], ◌∷◌, ◌++◌, length, refl, ◌∙◌, ap, subst, arith, cond, not, Option, Some, None, Result, length-append}
 use Rattle.std.specs.Prelude.{nat_lt, if◌then◌else◌, remove, drop, IfOk, OnErr, IsSomeAnd}
 use Rattle.std.specs.List.{AllByRecursion, IsDistinct}
 use Rattle.std.specs.Option.{option_map_or}
@@ -59,8 +59,7 @@ none_left key (e ∷ es) h = by (same_key key e.0) refl (none_left key es (IsDis
     others (x ∷ xs) h is = (turned key x.0 (ap (λ (k : Key). same_key k x.0) (same_key-is key e.0 is) ∙ h.0), others xs h.1 is)
 
     by : (b : Bool) → same_key key e.0 ≡ b → NotOf key (remove_entry (same_key key) es) → NotOf key (cond b es (e ∷ remove_entry (same_key key) es))
-    by true is rest = others es (IsDistinct-head same_key e.0 (keys_of es) h) is
-    by false is rest = (turned key e.0 is, rest)
+    by b is rest = grind (arith, others, IsDistinct-head, turned)
 
 IsDistinct-last : (key : Key) (s : GroupState) (es : List Entry) → NotOf key es → IsDistinct same_key (keys_of es) → IsDistinct same_key (keys_of (es ++ (key, s) ∷ []))
 unfolding NotOf
@@ -106,14 +105,7 @@ Looked-found now es e left apart l =
 
     found : (seen : List Entry) → IsDistinct same_key (keys_of (seen ++ e ∷ left)) → entry_at e.0 (seen ++ e ∷ left) ≡ Some e.1
     found [] h = ap (λ (b : Bool). cond b (Some e.1) (entry_at e.0 left)) (itself e.0)
-    found (x ∷ xs) h = by (same_key e.0 x.0) refl (found xs (IsDistinct-tail same_key x.0 (keys_of (xs ++ e ∷ left)) h))
-      where
-        by : (b : Bool) → same_key e.0 x.0 ≡ b → entry_at e.0 (xs ++ e ∷ left) ≡ Some e.1 → cond b (Some x.1) (entry_at e.0 (xs ++ e ∷ left)) ≡ Some e.1
-        by true is rest = absurd (clash (sym (alone e.0 x (xs ++ e ∷ left) h is) ∙ rest))
-          where
-            clash : None ≡ Some e.1 → ⊥
-            clash q = cc
-        by false is rest = rest
+    found (x ∷ xs) h = grind (arith, found xs (IsDistinct-tail same_key x.0 (keys_of (xs ++ e ∷ left)) h), IsDistinct-tail, cond, alone)
 
 -- a group that is put and goes last
 pub itself : (k : Key) → same_key k k ≡ true
