@@ -130,8 +130,8 @@ module _ (clock : Option Stamp) (p : Piece) (es : List Entry) (apart : IsDistinc
       (by mid (live_at clock os) entries rising gave_up (nat_lt (length (live_at clock os)) open_limit) test) in
       let entry : IsEntryOf (key_of p, s) (opened clock p) = record { key = refl; clock = clock_is; place = place_is; group = group } in
       record {
-        groups = grind (arith, clock, os, p, AreEntriesOf-push);
-        gives_up = grind (arith, p, clock, os, not);
+        groups = grind (arith, AreEntriesOf-push);
+        gives_up = grind (arith, not);
         answers = ap (λ (g : Option OpenGroup). completes (pieces_with p g)) none ∙ done;
       }
     where
