@@ -132,9 +132,7 @@ read_items-new order file offset count n rest is = rw is refl
 
 -- the interface that stands last
 slice_get-push : (xs : List Interface) (x : Interface) → slice_get (xs ++ x ∷ []) (length xs) ≡ Some x
-slice_get-push xs x =
-    slice_get-get_or (xs ++ x ∷ []) (length xs) x (omega (arith, length-append xs (x ∷ [])))
-    ∙ ap Some (get_or-append_seam xs x [] x)
+slice_get-push xs x = grind (arith, slice_get-get_or, length-append, get_or-append_seam, get_or-append_seam xs x [] x)
 
 -- Some packets are read again, after those interfaces, where their text ends by byte 2^40.
 abbrev IsReadAgain : Order → Tail → ℕ → List Interface → Option Interface → ℕ → List Numbered → Type 0

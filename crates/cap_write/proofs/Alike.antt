@@ -20,43 +20,37 @@ record Twin {A : Type 0} (P : A → A → Type 0) : Type 0 where
 module _ {A : Type 0} (P : A → A → Type 0) (time : A → Option Stamp) (same : (x y : A) → P x y → time y ≡ time x) where
   twins : (xs ys : List A) → AllZip P xs ys → List (Twin P)
   twins [] [] h = []
-  twins [] (y ∷ ys) h = absurd h
-  twins (x ∷ xs) [] h = absurd h
   twins (x ∷ xs) (y ∷ ys) h = record { one = x; other = y; alike = h.0 } ∷ twins xs ys h.1
+  twins xs ys h = absurd h
 
   twins-one : (xs ys : List A) (h : AllZip P xs ys) → map (λ t. t.one) (twins xs ys h) ≡ xs
   unfolding twins
   twins-one [] [] h = refl
-  twins-one [] (y ∷ ys) h = absurd h
-  twins-one (x ∷ xs) [] h = absurd h
   twins-one (x ∷ xs) (y ∷ ys) h = ap (λ zs. x ∷ zs) (twins-one xs ys h.1)
+  twins-one xs ys h = absurd h
 
   twins-other : (xs ys : List A) (h : AllZip P xs ys) → map (λ t. t.other) (twins xs ys h) ≡ ys
   unfolding twins
   twins-other [] [] h = refl
-  twins-other [] (y ∷ ys) h = absurd h
-  twins-other (x ∷ xs) [] h = absurd h
   twins-other (x ∷ xs) (y ∷ ys) h = ap (λ zs. y ∷ zs) (twins-other xs ys h.1)
+  twins-other xs ys h = absurd h
 
   twin_files : (fs gs : List (List A)) → AllZip (AllZip P) fs gs → List (List (Twin P))
   twin_files [] [] h = []
-  twin_files [] (g ∷ gs) h = absurd h
-  twin_files (f ∷ fs) [] h = absurd h
   twin_files (f ∷ fs) (g ∷ gs) h = twins f g h.0 ∷ twin_files fs gs h.1
+  twin_files fs gs h = absurd h
 
   files-one : (fs gs : List (List A)) (h : AllZip (AllZip P) fs gs) → map (map_track (λ t. t.one)) (map opened (twin_files fs gs h)) ≡ map opened fs
   unfolding twin_files
   files-one [] [] h = refl
-  files-one [] (g ∷ gs) h = absurd h
-  files-one (f ∷ fs) [] h = absurd h
   files-one (f ∷ fs) (g ∷ gs) h = λ i. opened (twins-one f g h.0 i) ∷ files-one fs gs h.1 i
+  files-one fs gs h = absurd h
 
   files-other : (fs gs : List (List A)) (h : AllZip (AllZip P) fs gs) → map (map_track (λ t. t.other)) (map opened (twin_files fs gs h)) ≡ map opened gs
   unfolding twin_files
   files-other [] [] h = refl
-  files-other [] (g ∷ gs) h = absurd h
-  files-other (f ∷ fs) [] h = absurd h
   files-other (f ∷ fs) (g ∷ gs) h = λ i. opened (twins-other f g h.0 i) ∷ files-other fs gs h.1 i
+  files-other fs gs h = absurd h
 
   all-alike : (ts : List (Clocked (Twin P))) → AllZip P (map (λ x. x.item.one) ts) (map (λ x. x.item.other) ts)
   all-alike [] = tt
@@ -96,9 +90,8 @@ module _ {A : Type 0} (Q : A → Type 0) (time : A → Option Stamp) where
 
   first_of : (xs ys : List A) → AllZip (λ x y. Q x × (y ≡ x)) xs ys → AllByRecursion Q xs
   first_of [] [] h = tt
-  first_of [] (y ∷ ys) h = absurd h
-  first_of (x ∷ xs) [] h = absurd h
   first_of (x ∷ xs) (y ∷ ys) h = (h.0.0, first_of xs ys h.1)
+  first_of xs ys h = absurd h
 
   pub merge-all : (fs : List (List A)) → AllByRecursion (AllByRecursion Q) fs → AllByRecursion Q (merge_of time fs)
   merge-all fs h =

@@ -15,7 +15,7 @@ use Rattle.cap_bytes.specs.declared.faults.Rule.TheVariants as rules
 use Rattle.cap_bytes.specs.declared.numbers.Order.{Order}
 use Rattle.cap_source.proofs.Options.{interface_read}
 use Rattle.cap_source.proofs.Resolutions.{from_code_is}
-use Rattle.cap_source.specs.Clocks.{resolution_of, offset_in, no_clock, ok_or, with_resolution, option_read, options_read, interface_by, interface_in}
+use Rattle.cap_source.specs.Clocks.{resolution_of, offset_in, no_clock, option_read, options_read, interface_in}
 use Rattle.cap_source.specs.Contents.{fitting, timed_in, content_in}
 use Rattle.cap_source.specs.declared.contents.Content.TheVariants as contents
 use Rattle.cap_source.specs.declared.contents.Packet.{Packet}
@@ -27,12 +27,6 @@ use Rattle.cap_write.specs.Numbering.{Numbered}
 
 resolution_of-code : (r : Resolution) → resolution_of (code_of r) ≡ Some r
 resolution_of-code r = sym (from_code_is (code_of r) (Some r) ((λ i. r.allowed), (λ a. refl)) refl)
-
--- the option of a resolution
-option_read-resolution : (order : Order) (r : Resolution)
-    → option_read order no_clock 9 (code_of r ∷ []) ≡ Ok (record { resolution = Some r; offset = None })
-unfolding option_read
-option_read-resolution order r = ap (λ o. with_resolution no_clock (ok_or o rules.Resolution)) (resolution_of-code r)
 
 -- an offset as it is written, read back
 offset_in-written : (order : Order) (offset : ℤ) → FitsSigned w64 offset → offset_in order (bytes_of order 8 (cast_unsigned w64 offset)) ≡ Ok offset
@@ -50,8 +44,8 @@ options_read-written : (order : Order) (r : Resolution) (offset : ℤ) (zero : B
     → options_read order no_clock (Ok (9, code_of r ∷ []) ∷ (if zero then [] else Ok (14, bytes_of order 8 (cast_unsigned w64 offset)) ∷ []))
     ≡ Ok (record { resolution = Some r; offset = if zero then None else Some offset })
 unfolding options_read option_read
-options_read-written order r offset true fits is = search (option_read-resolution)
-options_read-written order r offset false fits is = search (option_read-resolution, offset_in-written)
+options_read-written order r offset true fits is = grind (arith, resolution_of-code)
+options_read-written order r offset false fits is = grind (arith, resolution_of-code, offset_in-written)
 
 -- an offset that isn't written is 0
 unwritten : (offset : ℤ) (zero : Bool) → FitsSigned w64 offset → (cast_unsigned w64 offset == 0) ≡ zero → unwrap_or (if zero then None else Some offset) (pos 0) ≡ offset
@@ -67,15 +61,7 @@ not_above a b h = grind (arith, nat_tests)
 -- the interface of a written interface block is that interface
 pub interface_in-written : (before : ℕ) (order : Order) (i : Interface) → before < 1024 → i.link < 2 ^ 16 → i.snaplen < 2 ^ 32 → FitsSigned w64 i.offset
     → interface_in before order (interface_body order i) ≡ Ok i
-interface_in-written before order i few link snaplen fits =
-    let again = interface_again-law order i link snaplen in
-    let body = interface_body order i in
-    let zero = cast_unsigned w64 i.offset == 0 in
-    sym (interface_read before order body few)
-    ∙ (ap (λ o. interface_by order body (options_read order no_clock o)) again.3
-    ∙ (ap (interface_by order body) (options_read-written order i.resolution i.offset zero fits refl)
-    ∙ ap Ok (with_fields i (number order 2 body) (number order 4 (drop 4 body)) (unwrap_or (if zero then None else Some i.offset) (pos 0))
-    again.1 again.2 (unwritten i.offset zero fits refl))))
+interface_in-written before order i few link snaplen fits = grind (arith, interface_again-law order i link snaplen, interface_read, interface_again-law, options_read-written, with_fields, unwrap_or, pos, unwritten)
 
 -- A packet with these fields is one that is read: within the limit, and within its body.
 fitting-whole : (p : Packet) (size : ℕ) → p.captured ≤ 262144 → p.place + p.captured ≤ size → fitting p size ≡ Ok p

@@ -1,14 +1,14 @@
 -- The datagram that a packet completes is the one that the joiner answers.
+use Rattle.std.proofs.lemmas.Bool.Decides.{nat_tests}
+use Rattle.std.proofs.lemmas.Grind.{common_steps}
 use Rattle.std.proofs.Common.{arith, ◌≡◌, ℕ, Bool, true, false, List, [], ◌∷◌, ◌++◌, length, Option, Some, None, if◌then◌else◌, refl, sym, ap, ◌∙◌, subst, append-nil}
 use Rattle.std.specs.Prelude.{OnOk, IfOk, Result, Ok, Err}
 use Rattle.cap_bytes.specs.Printing.{Prints}
 use Rattle.cap_bytes.specs.declared.faults.Fault.{Fault}
 use Rattle.cap_bytes.specs.declared.faults.Rule.{Rule}
 use Rattle.cap_bytes.specs.declared.numbers.Order.{Order}
-use Rattle.cap_ip.specs.Header.{HeaderFields}
 use Rattle.cap_ip.specs.Read.{Reading, found, bad, cut}
-use Rattle.cap_ip.specs.declared.headers.Fragment.{Fragment}
-use Rattle.cap_join.specs.Arrivals.{IsArrived, IsDatagram, IsFragmentOf, IsWhole}
+use Rattle.cap_join.specs.Arrivals.{IsArrived, IsFragmentOf}
 use Rattle.cap_join.specs.Fragments.{Piece}
 use Rattle.cap_join.specs.History.{Event}
 use Rattle.cap_join.specs.declared.arrivals.Arrived.{Arrived}
@@ -21,7 +21,7 @@ use Rattle.cap_write.proofs.Feeding.{plan_of-is, plan_of-next, plan_of-refused}
 use Rattle.cap_write.proofs.Written.{Prints-untimed}
 use Rattle.cap_write.specs.Interfaces.{HasUnits}
 use Rattle.cap_write.specs.Datagrams.{IsFilled, answered, origins_behind}
-use Rattle.cap_write.specs.Joined.{Complete, complete_of, joined_of, completed_by, completed_in, completed, datagram_meta, items_of_packet}
+use Rattle.cap_write.specs.Joined.{Complete, joined_of, completed_in, completed, datagram_meta, items_of_packet}
 use Rattle.cap_write.specs.Numbering.{Origin, with_origin, write_fault, refusal_by, refusal_in, numbered_of}
 use Rattle.cap_write.specs.Texts.{text_behind, one_bytes, text_or, numbered_bytes}
 
@@ -29,16 +29,9 @@ answered-pieces : (ps : List Piece) (arrived : Arrived) → IsFragmentOf ps arri
 unfolding joined_of
 answered-pieces ps arrived h = grind arith
 
-answered-whole : (header : HeaderFields) (captured : List ℕ) (arrived : Arrived) → IsWhole header captured arrived → answered arrived ≡ complete_of header captured header.data_length
-answered-whole header captured arrived h = grind arith
-
-answered-datagram : (o : Option Fragment) (header : HeaderFields) (captured : List ℕ) (clock : Option Stamp) (stamped : Stamped) (events : List Event) (arrived : Arrived)
-    → IsDatagram o header captured clock stamped events arrived → answered arrived ≡ completed_by o header captured clock stamped events
-answered-datagram o header captured clock stamped events arrived h = grind (arith, answered-whole, answered-pieces)
-
 pub answered-is : (r : Reading) (arrived : Arrived) (clock : Option Stamp) (stamped : Stamped) (events : List Event)
     → IsArrived r clock stamped events arrived → answered arrived ≡ completed_in r clock stamped events
-answered-is (found header captured) arrived clock stamped events h = answered-datagram header.fragment header captured clock stamped events arrived h
+answered-is (found header captured) arrived clock stamped events h = grind (arith, answered-pieces, common_steps, nat_tests)
 answered-is bad as_.Bad clock stamped events h = refl
 answered-is bad as_.Cut clock stamped events h = absurd h
 answered-is bad (as_.Whole head bytes) clock stamped events h = absurd h
@@ -150,5 +143,4 @@ unfolding origins_behind
 origins-nothing origins = refl
 
 pub named-none : (order : Order) (origins : List Origin) (items : List Item) → items ≡ [] → (origins ≡ origins_behind origins items) × (refusal_in origins items ≡ None)
-named-none order origins items is =
-    (sym (ap (origins_behind origins) is ∙ origins-nothing origins), ap (refusal_in origins) is ∙ (plan_of-is order origins).refusal_none)
+named-none order origins items is = grind (arith, origins-nothing, plan_of-is, sym (ap (origins_behind origins) is ∙ origins-nothing origins), ap (refusal_in origins) is ∙ (plan_of-is order origins).refusal_none)

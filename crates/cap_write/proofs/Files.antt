@@ -1,5 +1,5 @@
 -- Whole written pcapng files, read again.
-use Rattle.std.proofs.Common.{◌≡◌, ℕ, ◌+◌, ◌≤◌, ◌<◌, ◌^◌, nat_le, List, [], ◌∷◌, ◌++◌, length, true, Some, None, Ok, ap, ◌∙◌, arith, append_assoc, length-append, if◌then◌else◌}
+use Rattle.std.proofs.Common.{◌≡◌, ℕ, ◌+◌, ◌≤◌, ◌<◌, ◌^◌, List, [], ◌∷◌, ◌++◌, length, true, Some, None, Ok, ap, ◌∙◌, arith, append_assoc, length-append, if◌then◌else◌}
 use Rattle.std.proofs.lemmas.Bool.{eq-eqb}
 use Rattle.std.proofs.lemmas.Bool.Decides.{nat_tests}
 use Rattle.cap_blocks.proofs.Again.{section_again-law}
@@ -41,12 +41,9 @@ pub length-section_bytes : (order : Order) → length (section_bytes order) ≡ 
 unfolding block_bytes
 length-section_bytes order = search (length-append, length-bytes_of, length-section_body)
 
-long_enough : (n : ℕ) → 28 ≤ n → nat_le 4 n ≡ true
-long_enough n h = grind (arith, nat_tests)
-
 -- a text that begins with a section header is a pcapng file
 is_pcapng-text : (order : Order) (rest : List ℕ) → is_pcapng (section_bytes order ++ rest) ≡ true
-is_pcapng-text order rest = grind (arith, long_enough, length-append, length-section_bytes, eq-eqb, section_front)
+is_pcapng-text order rest = grind (arith, nat_tests, length-append, length-section_bytes, eq-eqb, section_front)
 
 -- after a section header nothing is described
 behind_section : (order : Order) (tail : Tail) (file : ℕ) (rest : List ℕ)

@@ -8,8 +8,6 @@ use Rattle.cap_blocks.specs.Split as blocks
 use Rattle.cap_blocks.specs.Split.{AreBytes}
 use Rattle.cap_blocks.specs.declared.blocks.Block.{Block}
 use Rattle.cap_bytes.specs.Items as pieces
-use Rattle.cap_bytes.specs.declared.stops.Stop.{Stop}
-use Rattle.cap_bytes.specs.declared.stops.Stop.TheVariants as stops
 use Rattle.cap_bytes.specs.declared.faults.Rule.{Rule}
 use Rattle.cap_bytes.specs.declared.faults.Tail.{Tail}
 use Rattle.cap_pcap.specs.Split as records
@@ -19,7 +17,7 @@ use Rattle.cap_source.proofs.Saying.{OfContent}
 use Rattle.cap_source.specs.Contents.{content_in}
 use Rattle.cap_source.specs.Feed.{Item, packet, refused}
 use Rattle.cap_source.specs.Fields.{FitsInterface}
-use Rattle.cap_source.specs.Items.{Progress, fresh, behind, first_or, first_in, first_from, unless_item, unless_refused, items_at, items_in, items_of_stop, items_from, is_pcapng, pcap_items, interface_of, file_items, file_first}
+use Rattle.cap_source.specs.Items.{Progress, fresh, behind, first_or, first_in, first_from, unless_item, unless_refused, items_at, items_in, items_from, is_pcapng, pcap_items, interface_of, file_items, file_first}
 use Rattle.cap_source.specs.declared.contents.Content.{Content}
 use Rattle.cap_source.specs.declared.contents.Packet.{Packet}
 use Rattle.cap_time.specs.declared.resolutions.Interface.{Interface}
@@ -57,9 +55,6 @@ own_interface : (progress : Progress) (p : Packet) (i : Interface) → HasNumber
     → progress.base + p.number ≡ 0 → p.interface ≡ i
 own_interface progress p i of knows is zero = grind arith
 
-stop-first : (i : Interface) (stop : Stop) → AllByRecursion (IsFirst i) (items_of_stop stop)
-stop-first i stop = grind arith
-
 block-known : (file : ℕ) (i : Interface) (progress : Progress) (block : Block) (body : List ℕ) (content : Result Content Rule) (items : List Item)
     → IfOk content (OfContent IsAny (HasNumber progress.interfaces)) → KnowsFirst progress → progress.first ≡ Some i
     → (KnowsFirst (behind progress content) → (behind progress content).first ≡ Some i → AllByRecursion (IsFirst i) items)
@@ -70,13 +65,12 @@ block-known file i progress block body content items of knows is rest = grind (a
 blocks-known : (file : ℕ) (i : Interface) (progress : Progress) (items : List (pieces.Item Block)) → KnowsFirst progress → progress.first ≡ Some i
     → AllByRecursion (IsFirst i) (items_in file progress items)
 unfolding items_in
-blocks-known file i progress [] knows is = tt
-blocks-known file i progress (pieces.stopped stop ∷ rest) knows is = stop-first i stop
 blocks-known file i progress (pieces.given block body ∷ rest) knows is =
     let content = content_in progress.interfaces block.kind block.order body in
     block-known file i progress block body content (items_in file (behind progress content) rest)
     (content-of progress.interfaces block.kind block.order body) knows is
     (λ knows is. blocks-known file i (behind progress content) rest knows is)
+blocks-known file i progress items knows is = grind arith
 
 block-first : (file : ℕ) (i : Interface) (progress : Progress) (block : Block) (body : List ℕ) (content : Result Content Rule) (first : Option Interface) (items : List Item)
     → IfOk content (OfContent IsAny (HasNumber progress.interfaces)) → KnowsFirst progress → unless_item content progress.first first ≡ Some i
@@ -89,44 +83,36 @@ block-first file i progress block body content first items of knows is later kno
 blocks-first : (file : ℕ) (i : Interface) (progress : Progress) (items : List (pieces.Item Block)) → KnowsFirst progress → first_in progress items ≡ Some i
     → AllByRecursion (IsFirst i) (items_in file progress items)
 unfolding items_in first_in
-blocks-first file i progress [] knows is = tt
-blocks-first file i progress (pieces.stopped stop ∷ rest) knows is = stop-first i stop
 blocks-first file i progress (pieces.given block body ∷ rest) knows is =
     let content = content_in progress.interfaces block.kind block.order body in
     block-first file i progress block body content (first_in (behind progress content) rest) (items_in file (behind progress content) rest)
     (content-of progress.interfaces block.kind block.order body) knows is
     (λ knows is. blocks-first file i (behind progress content) rest knows is)
     (λ knows is. blocks-known file i (behind progress content) rest knows is)
+blocks-first file i progress items knows is = grind arith
 
 -- a pcap file has one interface
 records-first : (file : ℕ) (i : Interface) (items : List (pieces.Item Record)) → AllByRecursion (IsFirst i) (pcap_items file i items)
 unfolding pcap_items
-records-first file i [] = tt
-records-first file i (pieces.stopped stops.End ∷ rest) = tt
-records-first file i (pieces.stopped stops.Cut ∷ rest) = tt
-records-first file i (pieces.stopped (stops.Refused refusal) ∷ rest) = (tt, tt)
 records-first file i (pieces.given r frame ∷ rest) = (λ zero. refl, records-first file i rest)
+records-first file i items = grind arith
 
 -- ---- its fields
-
-first_or-fits : (first : Option Interface) (j : Interface) → IfSome first FitsInterface → FitsInterface j → FitsInterface (first_or first j)
-first_or-fits first j fits new = grind arith
 
 block-first_fits : (progress : Progress) (content : Result Content Rule) (first : Option Interface) → IfOk content (OfContent FitsInterface FitsPacket)
     → AllByRecursion FitsInterface progress.interfaces → IfSome progress.first FitsInterface
     → (AllByRecursion FitsInterface (behind progress content).interfaces → IfSome (behind progress content).first FitsInterface → IfSome first FitsInterface)
     → IfSome (unless_item content progress.first first) FitsInterface
-block-first_fits progress content first of all fits later = grind (arith, one_more, first_or-fits)
+block-first_fits progress content first of all fits later = grind (arith, one_more)
 
 blocks-first_fits : (progress : Progress) (items : List (pieces.Item Block)) → AllByRecursion FitsInterface progress.interfaces → IfSome progress.first FitsInterface
     → AllByRecursion IsOfBytes items → IfSome (first_in progress items) FitsInterface
 unfolding first_in
-blocks-first_fits progress [] all fits are = fits
-blocks-first_fits progress (pieces.stopped stop ∷ rest) all fits are = fits
 blocks-first_fits progress (pieces.given block body ∷ rest) all fits are =
     let content = content_in progress.interfaces block.kind block.order body in
     block-first_fits progress content (first_in (behind progress content) rest) (content-fits progress.interfaces block.kind block.order body all are.0) all fits
     (λ all fits. blocks-first_fits (behind progress content) rest all fits are.1)
+blocks-first_fits progress items all fits are = grind arith
 
 -- ---- the file
 
@@ -137,10 +123,7 @@ pub record IsFirstOf (items : List Item) (i : Interface) : Type 0 where
 
 of_blocks : (file : ℕ) (i : Interface) (items : List (pieces.Item Block)) → AllByRecursion IsOfBytes items → first_in fresh items ≡ Some i
     → IsFirstOf (items_in file fresh items) i
-of_blocks file i items are is = record {
-  fits = subst (λ (f : Option Interface). IfSome f FitsInterface) is (blocks-first_fits fresh items tt tt are);
-  packets = blocks-first file i fresh items (λ zero. refl) is;
-}
+of_blocks file i items are is = grind (arith, blocks-first_fits, blocks-first, blocks-first_fits fresh items tt tt are)
 
 of_records : (file : ℕ) (i own : Interface) (fault : Option Rule) (items : List (pieces.Item Record)) → FitsInterface own → unless_refused fault own ≡ Some i
     → IsFirstOf (pcap_items file own items) i
@@ -176,8 +159,6 @@ none-some a e = cc
 -- where none stands before the next item or the end, none was read before
 none-before : (progress : Progress) (items : List (pieces.Item Block)) → first_in progress items ≡ None → progress.first ≡ None
 unfolding first_in
-none-before progress [] none = none
-none-before progress (pieces.stopped stop ∷ rest) none = none
 none-before progress (pieces.given block body ∷ rest) none =
     let content = content_in progress.interfaces block.kind block.order body in
     by content none (λ later. none-before (behind progress content) rest later)
@@ -185,10 +166,7 @@ none-before progress (pieces.given block body ∷ rest) none =
     by : (content : Result Content Rule) → unless_item content progress.first (first_in (behind progress content) rest) ≡ None
         → (first_in (behind progress content) rest ≡ None → (behind progress content).first ≡ None) → progress.first ≡ None
     by content none before = grind arith
-
-stop-unwritten : (stop : Stop) → numbered [] (items_of_stop stop) ≡ []
-unfolding numbered
-stop-unwritten stop = grind arith
+none-before progress items none = cc
 
 block-unwritten : (file : ℕ) (progress : Progress) (block : Block) (body : List ℕ) (content : Result Content Rule) (first : Option Interface) (items : List Item)
     → IfOk content (OfContent IsAny (HasNumber progress.interfaces)) → progress.interfaces ≡ [] → unless_item content progress.first first ≡ None
@@ -201,14 +179,13 @@ block-unwritten file progress block body content first items of empty none befor
 blocks-unwritten : (file : ℕ) (progress : Progress) (items : List (pieces.Item Block)) → progress.interfaces ≡ [] → first_in progress items ≡ None
     → numbered [] (items_in file progress items) ≡ []
 unfolding numbered items_in first_in
-blocks-unwritten file progress [] empty none = refl
-blocks-unwritten file progress (pieces.stopped stop ∷ rest) empty none = stop-unwritten stop
 blocks-unwritten file progress (pieces.given block body ∷ rest) empty none =
     let content = content_in progress.interfaces block.kind block.order body in
     block-unwritten file progress block body content (first_in (behind progress content) rest) (items_in file (behind progress content) rest)
     (content-of progress.interfaces block.kind block.order body) empty none
     (λ none. none-before (behind progress content) rest none)
     (λ empty none. blocks-unwritten file (behind progress content) rest empty none)
+blocks-unwritten file progress items empty none = grind arith
 
 records-unwritten : (tail : Tail) (file : ℕ) (bytes : List ℕ) (own : Interface) → unless_refused (records.header_fault 0 bytes) own ≡ None
     → numbered [] (pcap_items file own (records.file_items tail file 0 bytes)) ≡ []

@@ -1,6 +1,6 @@
 -- Merging in rounds writes what merging at once writes.
 use Rattle.std.proofs.Common.{rules, ◌≡◌, ℕ, suc, ◌+◌, ◌<◌, ◌≤◌, Bool, List, [], ◌∷◌, ◌++◌, length, refl, sym, ap, ◌∙◌, subst, arith, inl, inr, Option, Some, None, is_none}
-use Rattle.std.specs.Prelude.{map, ⊤, ◌&&◌, ◌==◌, unwrap_or, if◌then◌else◌}
+use Rattle.std.specs.Prelude.{map, ⊤, unwrap_or, if◌then◌else◌}
 use Rattle.std.specs.List.{AllZip, AllByRecursion, flat_map}
 use Rattle.std.specs.Option.{option_map}
 use Rattle.std.proofs.lemmas.Bool.Decides.{nat_tests}
@@ -16,7 +16,7 @@ use Rattle.cap_write.specs.Rounds.{in_file, numbered_files, run_of, merged_packe
 use Rattle.cap_merge.proofs.Rounds.{files_in}
 use Rattle.cap_merge.proofs.Rounds as merged_rounds
 use Rattle.cap_merge.proofs.RunLaws as run_laws
-use Rattle.cap_write.proofs.Renaming.{IsOneToOne, Renamed, renamed-implied, numbered-renamed, refusal-renamed}
+use Rattle.cap_write.proofs.Renaming.{IsOneToOne, Renamed, numbered-renamed, refusal-renamed}
 use Rattle.cap_write.proofs.UsedOrigins.{all_origins, number-given, number-kept, GroupOrigins, IsOfGroup, IsOfGroups, groups-apart}
 use Rattle.cap_write.proofs.Alike.{merge_of, merge-alike, merge-all}
 
@@ -32,15 +32,13 @@ through_items (x ∷ xs) = grind (arith, through_items xs)
 -- what comes after a refusal isn't written
 numbered_through : (ns : List Origin) (xs : List Item) → numbered ns (through_first is_refusal xs) ≡ numbered ns xs
 unfolding numbered
-numbered_through ns [] = refl
 numbered_through ns (packet m f ∷ xs) = ap (numbered_or (write_fault ns m) (numbered_of ns m f)) (numbered_through (with_origin ns m) xs)
-numbered_through ns (refused r ∷ xs) = refl
+numbered_through ns xs = cc
 
 refusal_through : (ns : List Origin) (xs : List Item) → refusal_in ns (through_first is_refusal xs) ≡ refusal_in ns xs
 unfolding refusal_in
-refusal_through ns [] = refl
 refusal_through ns (packet m f ∷ xs) = ap (refusal_or (write_fault ns m) m) (refusal_through (with_origin ns m) xs)
-refusal_through ns (refused r ∷ xs) = refl
+refusal_through ns xs = cc
 
 run_is : (files : List (List Item)) → run_of files ≡ through_first is_refusal (merge_of item_time (numbered_files 1 files))
 unfolding run_of
@@ -63,18 +61,12 @@ record IsMoved (p q : ℕ) (a b : Origin) : Type 0 where
   file : b.0 + p ≡ a.0 + q
   instance : b.1 ≡ a.1
 
-same_tests : (a b c d p q : ℕ) → b + p ≡ a + q → d + p ≡ c + q → (b == d) ≡ (a == c)
-same_tests a b c d p q e h = grind (arith, nat_tests)
-
 moved_apart : (p q : ℕ) → IsOneToOne (IsMoved p q)
-moved_apart p q a b c d h k = λ i. same_tests a.0 b.0 c.0 d.0 p q h.file k.file i && (h.instance i == k.instance i)
-
-item_moved : (p q n m : ℕ) → m + p ≡ n + q → (x : Item) → Renamed (IsMoved p q) (in_file n x) (in_file m x)
-item_moved p q n m e x = grind arith
+moved_apart p q a b c d h k = grind (arith, nat_tests)
 
 items_moved : (p q n m : ℕ) → m + p ≡ n + q → (xs : List Item) → AllZip (Renamed (IsMoved p q)) (map (in_file n) xs) (map (in_file m) xs)
 items_moved p q n m e [] = tt
-items_moved p q n m e (x ∷ xs) = (item_moved p q n m e x, items_moved p q n m e xs)
+items_moved p q n m e (x ∷ xs) = grind (arith, items_moved p q n m e xs)
 
 files_moved : (p q n m : ℕ) → m + p ≡ n + q → (files : List (List Item)) → AllZip (AllZip (Renamed (IsMoved p q))) (numbered_files n files) (numbered_files m files)
 files_moved p q n m e [] = tt
@@ -124,12 +116,6 @@ timed_by : (ns : List Origin) (m : Meta) → write_fault ns m ≡ None → Some 
 unfolding write_fault
 timed_by ns m e = timed m.units (is_full ns m) e
 
--- a packet as the file of the group has it
-group_item : (file place count : ℕ) (ns : List Origin) (m : Meta) (f : List ℕ) (xs : List Item) (y : Item)
-    → write_fault ns m ≡ None → IsItemOf (numbered_of ns m f) y → InFiles file (file + count) (packet m f)
-    → Renamed (IsOfGroup file place (record { count = count; origins = all_origins (with_origin ns m) xs })) (packet m f) (in_file place y)
-group_item file place count ns m f xs y e w h = grind (arith, all_origins, number-kept, number-given, timed_by)
-
 group_next : (file place count : ℕ) (ns : List Origin) (m : Meta) (f : List ℕ) (xs ys : List Item) (fault : Option Rule)
     → write_fault ns m ≡ fault → refusal_or fault m (refusal_in (with_origin ns m) xs) ≡ None
     → AllZip IsItemOf (numbered_or fault (numbered_of ns m f) (numbered (with_origin ns m) xs)) ys
@@ -139,18 +125,16 @@ group_next : (file place count : ℕ) (ns : List Origin) (m : Meta) (f : List �
     → AllZip (Renamed (IsOfGroup file place (record { count = count; origins = all_origins (with_origin ns m) xs }))) (packet m f ∷ xs) (map (in_file place) ys)
 group_next file place count ns m f xs ys (Some rule) w e z h deeper = absurd (cc)
 group_next file place count ns m f xs [] None w e z h deeper = absurd z
-group_next file place count ns m f xs (y ∷ ys) None w e z h deeper = (group_item file place count ns m f xs y w z.0 h, deeper ys e z.1)
+group_next file place count ns m f xs (y ∷ ys) None w e z h deeper = grind (arith, all_origins, number-kept, number-given, timed_by)
 
 group_items : (file place count : ℕ) (ns : List Origin) (xs ys : List Item) → refusal_in ns xs ≡ None → AllZip IsItemOf (numbered ns xs) ys
     → AllByRecursion (InFiles file (file + count)) xs
     → AllZip (Renamed (IsOfGroup file place (record { count = count; origins = all_origins ns xs }))) xs (map (in_file place) ys)
 unfolding numbered refusal_in
-group_items file place count ns [] [] e z h = tt
-group_items file place count ns [] (y ∷ ys) e z h = absurd z
 group_items file place count ns (packet m f ∷ xs) ys e z h =
     group_next file place count ns m f xs ys (write_fault ns m) refl e z h.0
     (λ zs d w. group_items file place count (with_origin ns m) xs zs d w h.1)
-group_items file place count ns (refused r ∷ xs) ys e z h = absurd (cc)
+group_items file place count ns xs ys e z h = grind arith
 
 origins_of : ℕ → List (List Item) → GroupOrigins
 origins_of file files = record { count = length files; origins = all_origins [] (merge_of item_time (numbered_files file files)) }
@@ -181,29 +165,23 @@ grouped_files file [] = refl
 grouped_files file (g ∷ gs) = search (grouped_files (file + length g) gs, numbered_both)
 
 zip_implied : (R S : Origin → Origin → Type 0) → ((a b : Origin) → R a b → S a b) → (xs ys : List Item) → AllZip (Renamed R) xs ys → AllZip (Renamed S) xs ys
-zip_implied R S f [] [] h = tt
-zip_implied R S f [] (y ∷ ys) h = absurd h
-zip_implied R S f (x ∷ xs) [] h = absurd h
-zip_implied R S f (x ∷ xs) (y ∷ ys) h = (renamed-implied R S f x y h.0, zip_implied R S f xs ys h.1)
+zip_implied R S f (x ∷ xs) (y ∷ ys) h = grind (arith, zip_implied R S f xs ys h.1)
+zip_implied R S f xs ys h = grind arith
 
 zips_implied : (R S : Origin → Origin → Type 0) → ((a b : Origin) → R a b → S a b) → (fs gs : List (List Item)) → AllZip (AllZip (Renamed R)) fs gs → AllZip (AllZip (Renamed S)) fs gs
-zips_implied R S f [] [] h = tt
-zips_implied R S f [] (y ∷ ys) h = absurd h
-zips_implied R S f (x ∷ xs) [] h = absurd h
 zips_implied R S f (x ∷ xs) (y ∷ ys) h = (zip_implied R S f x y h.0, zips_implied R S f xs ys h.1)
+zips_implied R S f xs ys h = grind arith
 
 groups_alike : (file place : ℕ) (groups : List (List (List Item))) (files : List (List Item)) → AllZip IsMergeOf groups files
     → AllZip (AllZip (Renamed (IsOfGroups file place (all_origins_of file groups)))) (map (merge_of item_time) (grouped file groups)) (numbered_files place files)
 unfolding grouped all_origins_of origins_of
-groups_alike file place [] [] h = tt
-groups_alike file place [] (f ∷ fs) h = absurd h
-groups_alike file place (g ∷ gs) [] h = absurd h
 groups_alike file place (g ∷ gs) (f ∷ fs) h = (
   zip_implied (IsOfGroup file place (origins_of file g)) (IsOfGroups file place (all_origins_of file (g ∷ gs))) (λ a b r. inl r)
       (merge_of item_time (numbered_files file g)) (map (in_file place) f) (group_alike file place g f h.0),
   zips_implied (IsOfGroups (file + length g) (suc place) (all_origins_of (file + length g) gs)) (IsOfGroups file place (all_origins_of file (g ∷ gs))) (λ a b r. inr r)
       (map (merge_of item_time) (grouped (file + length g) gs)) (numbered_files (suc place) fs) (groups_alike (file + length g) (suc place) gs fs h.1),
 )
+groups_alike file place gs fs h = grind arith
 
 -- the merge of the groups' files, and that of all files, item by item
 rounds_alike : (groups : List (List (List Item))) (files : List (List Item)) → AllZip IsMergeOf groups files
@@ -215,18 +193,7 @@ rounds_alike groups files h =
     (merge-alike (Renamed R) item_time (same_time R) (map (merge_of item_time) (grouped 1 groups)) (numbered_files 1 files) (groups_alike 1 1 groups files h))
 
 pub file_rounds-law : FileRoundsLaw
-file_rounds-law groups files h =
-    let R = IsOfGroups 1 1 (all_origins_of 1 groups) in
-    let whole = flat_map (λ g. g) groups in
-    let apart = groups-apart 1 1 (all_origins_of 1 groups) in
-    let alike = rounds_alike groups files h in (
-      packets_are files
-          ∙ numbered-renamed R apart [] [] tt (merge_of item_time (numbered_files 1 whole)) (merge_of item_time (numbered_files 1 files)) alike
-          ∙ sym (packets_are whole),
-      ap (option_map (λ f. f.rule)) (refusal_is files)
-          ∙ refusal-renamed R apart [] [] tt (merge_of item_time (numbered_files 1 whole)) (merge_of item_time (numbered_files 1 files)) alike
-          ∙ sym (ap (option_map (λ f. f.rule)) (refusal_is whole)),
-    )
+file_rounds-law groups files h = search (groups-apart 1 1 (all_origins_of 1 groups), rounds_alike groups files h, packets_are, numbered-renamed, all_origins_of, groups-apart, merge_of, rounds_alike, refusal_is, refusal-renamed)
 
 -- what a merge writes, as the items of a file, is what it writes
 made : (ns : List Numbered) → AllZip IsItemOf ns (file_of ns)

@@ -55,13 +55,9 @@ records-again h tail file offset (p ∷ ps) held limit =
         ≡ items_with offset (if fits h.unit p then p ∷ early h.unit ps else []) stops.End
     by b is later few = grind (arith, records_form, spelled-again, ltb-true, length-spelled, record_read-law, length-append, items_from-none)
 
--- Packets in the written form are held, and all their seconds fit.
-units_written : (unit : Fraction) (u : ℕ) → u / in_second unit < 2 ^ 32 → u < 2 ^ 64
-units_written unit u h = grind arith
-
 pub held-written : (unit : Fraction) (ps : List Packet) → AllWritten unit ps → AllHeld ps
 held-written unit [] w = tt
-held-written unit (p ∷ ps) w = (units_written unit p.units w.0, w.1, w.2, held-written unit ps w.3)
+held-written unit (p ∷ ps) w = grind (arith, held-written unit ps w.3)
 
 pub early-written : (unit : Fraction) (ps : List Packet) → AllWritten unit ps → early unit ps ≡ ps
 early-written unit [] w = refl

@@ -6,8 +6,6 @@ use Rattle.std.proofs.lemmas.Option.{get_or_from_slice_get, slice_get_within}
 use Rattle.cap_blocks.specs.Split as blocks
 use Rattle.cap_blocks.specs.declared.blocks.Block.{Block}
 use Rattle.cap_bytes.specs.Items as pieces
-use Rattle.cap_bytes.specs.declared.stops.Stop.{Stop}
-use Rattle.cap_bytes.specs.declared.stops.Stop.TheVariants as stops
 use Rattle.cap_bytes.specs.declared.faults.Rule.{Rule}
 use Rattle.cap_bytes.specs.declared.numbers.Order.{Order}
 use Rattle.cap_pcap.specs.Split as records
@@ -15,7 +13,7 @@ use Rattle.cap_pcap.specs.declared.records.Record.{Record}
 use Rattle.cap_source.proofs.Saying.{OfContent, content-holds}
 use Rattle.cap_source.specs.Contents.{content_in}
 use Rattle.cap_source.specs.Feed.{Item}
-use Rattle.cap_source.specs.Items.{Progress, fresh, behind, items_at, items_in, items_of_stop, items_from, is_pcapng, pcap_items, interface_of}
+use Rattle.cap_source.specs.Items.{Progress, fresh, behind, items_at, items_in, items_from, is_pcapng, pcap_items, interface_of}
 use Rattle.cap_source.specs.declared.contents.Content.{Content}
 use Rattle.cap_source.specs.declared.contents.Content.TheVariants as contents
 use Rattle.cap_source.specs.declared.contents.Packet.{Packet}
@@ -59,9 +57,6 @@ nth-of : (past interfaces later all : List Interface) (k : ℕ) (i : Interface) 
     → i ≡ nth all (length past + k)
 nth-of past interfaces later all k i is whole = grind (arith, slice_get_within, get_or_from_slice_get, get_or-append-add, get_or-append, length-append, get_or)
 
-stop-alike : (file : ℕ) (given : ℕ → Interface) (stop : Stop) → AllAlike file given (items_of_stop stop)
-stop-alike file given stop = grind arith
-
 block-alike : (file : ℕ) (all past : List Interface) (progress : Progress) (block : Block) (body : List ℕ) (content : Result Content Rule) (later : List Interface) (items : List Item)
     → IfOk content (OfContent IsAny (HasNumber progress.interfaces)) → length past ≡ progress.base
     → (past ++ progress.interfaces) ++ added content later ≡ all
@@ -72,21 +67,17 @@ block-alike file all past progress block body content later items of base whole 
 blocks-alike : (file : ℕ) (all past : List Interface) (progress : Progress) (items : List (pieces.Item Block)) → length past ≡ progress.base
     → (past ++ progress.interfaces) ++ future progress items ≡ all → AllAlike file (nth all) (items_in file progress items)
 unfolding items_in
-blocks-alike file all past progress [] base whole = tt
-blocks-alike file all past progress (pieces.stopped stop ∷ rest) base whole = stop-alike file (nth all) stop
 blocks-alike file all past progress (pieces.given block body ∷ rest) base whole =
     let content = content_in progress.interfaces block.kind block.order body in
     block-alike file all past progress block body content (future (behind progress content) rest) (items_in file (behind progress content) rest)
     (content-of progress.interfaces block.kind block.order body) base whole
     (λ past base whole. blocks-alike file all past (behind progress content) rest base whole)
+blocks-alike file all past progress items base whole = grind arith
 
 records-alike : (file : ℕ) (i : Interface) (items : List (pieces.Item Record)) → AllAlike file (λ k. i) (pcap_items file i items)
 unfolding pcap_items
-records-alike file i [] = tt
-records-alike file i (pieces.stopped stops.End ∷ rest) = tt
-records-alike file i (pieces.stopped stops.Cut ∷ rest) = tt
-records-alike file i (pieces.stopped (stops.Refused refusal) ∷ rest) = tt
 records-alike file i (pieces.given r frame ∷ rest) = (refl, refl, records-alike file i rest)
+records-alike file i items = grind arith
 
 pub one_interface-law : OneInterface
 unfolding items_from

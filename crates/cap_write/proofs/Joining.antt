@@ -35,7 +35,6 @@ pub behind : (order : Order) (origins : List Origin) (items rest : List Item) �
     → (text_behind order origins (items ++ rest) ≡ text_behind order origins items ++ text_behind order (origins_behind origins items) rest)
     × (refusal_in origins (items ++ rest) ≡ refusal_in (origins_behind origins items) rest)
 unfolding origins_behind
-behind order origins [] rest none = (ap (λ l. l ++ text_behind order origins rest) (sym (plan_of-is order origins).text_none), refl)
 behind order origins (packet meta frame ∷ items) rest none = by (write_fault origins meta) refl (behind order (with_origin origins meta) items rest)
   where
     by : (fault : Option Rule) → write_fault origins meta ≡ fault
@@ -55,7 +54,7 @@ behind order origins (packet meta frame ∷ items) rest none = by (write_fault o
               ∙ (sym (append_assoc line (text_behind order (with_origin origins meta) items) later) ∙ ap (λ l. l ++ later) (sym (next.text items)))),
           next.refusal (items ++ rest) ∙ both.1,
         )
-behind order origins (refused r ∷ items) rest none = absurd (none-some r (sym none ∙ refusal-first origins r items))
+behind order origins items rest none = grind (arith, plan_of-is, none-some, refusal-first)
 
 text-first : (order : Order) (origins : List Origin) (r : Refusal) (items : List Item) → text_behind order origins (refused r ∷ items) ≡ []
 unfolding numbered packets_bytes
@@ -121,8 +120,7 @@ pub joined-first : (mid shown new : List Part) (meta : Meta) (frame : List ℕ) 
     → joined_items place events (run_of mid)
     ≡ items_of_packet place events clock meta frame ++ joined_items (place + 1) (events_after place events clock meta frame) (run_of new)
 unfolding joined_items
-joined-first mid shown new meta frame clock place events head same begins dropped =
-    ap (joined_items place events) (run-first mid shown new meta frame clock head same begins dropped)
+joined-first mid shown new meta frame clock place events head same begins dropped = grind (arith, run-first, run-first mid shown new meta frame clock head same begins dropped)
 
 pub joined-at-first : (mid shown : List Part) (meta : Meta) (frame : List ℕ) (clock : Option Stamp) (place : ℕ) (events : List Event)
     → (feed_of mid).items ≡ packet meta frame ∷ drop 1 (feed_of mid).items → run_of shown ≡ run_of mid → BeginsAt clock (run_of shown)

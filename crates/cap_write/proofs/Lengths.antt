@@ -1,5 +1,7 @@
 -- The data of a joined datagram isn't longer than that of the longest.
-use Rattle.std.proofs.Common.{◌≡◌, ℕ, ◌≤◌, Bool, false, nat_lt, List, [], ◌∷◌, length, Option, IsSome, IfSome, arith}
+use Rattle.std.proofs.lemmas.Bool.Decides.{nat_tests}
+use Rattle.std.proofs.lemmas.Grind.{common_steps}
+use Rattle.std.proofs.Common.{◌≡◌, ℕ, ◌≤◌, Bool, false, nat_lt, List, ◌∷◌, length, Option, IsSome, IfSome, arith}
 use Rattle.std.proofs.lemmas.List.FromFn.{length-map-range_with_len}
 use Rattle.cap_ip.proofs.Shapes.{IsPiece-fits, IfFound-ended, IfFound-steps, length-part, le-whole}
 use Rattle.cap_ip.specs.Fields.{data_length, is_fragment, offset}
@@ -8,7 +10,7 @@ use Rattle.cap_ip.specs.Read.{Reading, found, bad, cut, read_of, ended, fields_o
 use Rattle.cap_ip.specs.declared.headers.Fragment.{Fragment}
 use Rattle.cap_ip.specs.declared.headers.Key.{Key}
 use Rattle.cap_join.proofs.Grouping.{greatest_end-short, total_of-reached, IsShaped-piece_of}
-use Rattle.cap_join.specs.Arrivals.{IsArrived, IsDatagram, IsFragmentOf, IsWhole}
+use Rattle.cap_join.specs.Arrivals.{IsArrived}
 use Rattle.cap_join.specs.ByteMap.{data_of}
 use Rattle.cap_join.specs.Fragments.{Piece, IsShaped, AreShaped}
 use Rattle.cap_join.specs.History.{Event, OpenGroup, group_at, live_at, pieces_with, joined_pieces, state_of}
@@ -36,10 +38,8 @@ read-piece bytes whole = search (IfFound-steps, nat_lt, ended, IfFound-ended, fo
 
 -- the open groups' fragments are shaped
 found_shaped : (key : Key) (now : Option Stamp) (es : List Entry) (os : List OpenGroup) → AreEntriesOf es os → IfSome (group_at key (live_at now os)) (λ o. AreShaped o.pieces)
-found_shaped key now [] [] h = tt
-found_shaped key now [] (o ∷ os) h = absurd h
-found_shaped key now (e ∷ es) [] h = absurd h
 found_shaped key now (e ∷ es) (o ∷ os) h = grind (arith, found_shaped key now es os h.1)
+found_shaped key now es os h = grind arith
 
 with_shaped : (p : Piece) (o : Option OpenGroup) → IsShaped p → IfSome o (λ o. AreShaped o.pieces) → AreShaped (pieces_with p o)
 with_shaped p o s h = grind arith
@@ -53,19 +53,9 @@ short_data : (ps : List Piece) → AreShaped ps → length (data_of ps) ≤ 6551
 unfolding data_of
 short_data ps shaped = grind (arith, length-map-range_with_len, total_of-reached, greatest_end-short)
 
-short-pieces : (ps : List Piece) (arrived : Arrived) → AreShaped ps → IsFragmentOf ps arrived → IsShort arrived
-short-pieces ps arrived shaped h = grind (arith, short_data)
-
-short-whole : (header : HeaderFields) (captured : List ℕ) (arrived : Arrived) → IsWhole header captured arrived → IsShort arrived
-short-whole header captured arrived h = grind arith
-
-short-datagram : (o : Option Fragment) (header : HeaderFields) (captured : List ℕ) (clock : Option Stamp) (stamped : Stamped) (events : List Event) (joiner : JoinerState) (arrived : Arrived)
-    → header.fragment ≡ o → IfSome o (IsPiece (length captured)) → StandsFor joiner events → IsDatagram o header captured clock stamped events arrived → IsShort arrived
-short-datagram o header captured clock stamped events joiner arrived is piece stands h = grind (arith, short-whole, short-pieces, joined_shaped, IsShaped-piece_of)
-
 short-bad : (arrived : Arrived) (r : Reading) (clock : Option Stamp) (stamped : Stamped) (events : List Event) (joiner : JoinerState) → IfFound r HasPiece → StandsFor joiner events
     → IsArrived r clock stamped events arrived → IsShort arrived
-short-bad arrived (found header captured) clock stamped events joiner piece stands h = grind (arith, short-datagram)
+short-bad arrived (found header captured) clock stamped events joiner piece stands h = grind (arith, short_data, joined_shaped, IsShaped-piece_of, common_steps, nat_tests)
 short-bad as_.Bad bad clock stamped events joiner piece stands h = tt
 short-bad as_.Cut bad clock stamped events joiner piece stands h = tt
 short-bad (as_.Whole head bytes) bad clock stamped events joiner piece stands h = tt

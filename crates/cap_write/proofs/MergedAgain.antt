@@ -1,10 +1,9 @@
 -- A merged file, read again.
-use Rattle.std.proofs.Common.{◌≡◌, ◌==◌, ◌&&◌, ℕ, suc, ◌+◌, ◌≤◌, ◌<◌, map, nat_le, not, slice_get, List, [], ◌∷◌, ◌++◌, length, Bool, true, false, Option, Some, None, is_none, refl, sym, ap, ◌∙◌, subst, arith, length-append, if◌then◌else◌}
+use Rattle.std.proofs.Common.{◌≡◌, ◌==◌, ◌&&◌, ℕ, suc, ◌+◌, ◌≤◌, ◌<◌, map, nat_le, not, slice_get, List, [], ◌∷◌, ◌++◌, length, Bool, true, false, Option, Some, None, is_none, refl, sym, ap, ◌∙◌, subst, arith, length-append}
 use Rattle.std.proofs.lemmas.Bool.{eq-eqb, ne_eqb, false≢true}
 use Rattle.std.specs.List.{list_any, position_or_len}
 use Rattle.cap_bytes.specs.declared.faults.Rule.{Rule}
-use Rattle.cap_bytes.specs.declared.faults.Rule.TheVariants.{NoTime, InterfaceLimit}
-use Rattle.cap_source.specs.Feed.{Item, packet, refused}
+use Rattle.cap_source.specs.Feed.{Item, packet}
 use Rattle.cap_source.specs.declared.packets.Meta.{Meta}
 use Rattle.cap_time.specs.declared.resolutions.Interface.{Interface}
 use Rattle.cap_write.proofs.Places.{position_or_len-none, position_or_len-some}
@@ -42,16 +41,12 @@ given_all-push : (given : Origin → Interface) (origins : List Origin) (a : Ori
 given_all-push given [] a = refl
 given_all-push given (b ∷ origins) a = ap (λ l. given b ∷ l) (given_all-push given origins a)
 
--- how a packet comes after the origins that were used: its interface was used, or takes the next number
-pub number-used : (origins : List Origin) (meta : Meta) → is_used origins meta ≡ true → (number_of origins meta == length origins) ≡ false
-number-used origins meta used = grind (arith, position_or_len-some, ne_eqb)
-
 pub number-next : (origins : List Origin) (meta : Meta) → is_used origins meta ≡ false → (number_of origins meta == length origins) ≡ true
 number-next origins meta used = eq-eqb (number_of origins meta) (length origins) (position_or_len-none (is_origin (origin_of meta)) origins used)
 
 described-given : (given : Origin → Interface) (origins : List Origin) (meta : Meta) (frame : List ℕ) → meta.interface ≡ given (origin_of meta)
     → described (given_all given origins) (numbered_of origins meta frame) ≡ given_all given (with_origin origins meta)
-described-given given origins meta frame interface = grind (arith, length-given, number-used, number-next, given_all-push)
+described-given given origins meta frame interface = grind (arith, length-given, position_or_len-some, ne_eqb, number-next, given_all-push)
 
 known-given : (given : Origin → Interface) (origins : List Origin) (meta : Meta) → meta.interface ≡ given (origin_of meta)
     → (number_of origins meta == length (given_all given origins)) ≡ false
@@ -62,8 +57,6 @@ known-given given origins meta interface other = grind (arith, slice_get, at_pla
 pub IsNumbered-given : (given : Origin → Interface) (origins : List Origin) (items : List Item) → AllHave given items
     → IsNumbered (given_all given origins) (numbered origins items)
 unfolding numbered
-IsNumbered-given given origins [] have = tt
-IsNumbered-given given origins (refused refusal ∷ items) have = tt
 IsNumbered-given given origins (packet meta frame ∷ items) have =
     by (write_fault origins meta) (IsNumbered-given given (with_origin origins meta) items have.1)
   where
@@ -71,29 +64,23 @@ IsNumbered-given given origins (packet meta frame ∷ items) have =
         → IsNumbered (given_all given origins) (numbered_or fault (numbered_of origins meta frame) (numbered (with_origin origins meta) items))
     by (Some rule) later = tt
     by None later = search (known-given, described-given)
+IsNumbered-given given origins items have = cc
 
 -- their fields fit
 pub AllFit-given : (given : Origin → Interface) (origins : List Origin) (items : List Item) → AllHave given items → AllFit (numbered origins items)
 unfolding numbered
-AllFit-given given origins [] have = tt
-AllFit-given given origins (refused refusal ∷ items) have = tt
 AllFit-given given origins (packet meta frame ∷ items) have = grind (arith, AllFit-given given (with_origin origins meta) items have.1)
-
--- a packet that isn't refused leaves room for its interface
-full_by : (untimed full : Bool) → (if untimed then Some NoTime else if full then Some InterfaceLimit else None) ≡ None → full ≡ false
-full_by untimed full is = grind arith
+AllFit-given given origins items have = cc
 
 not_full : (origins : List Origin) (meta : Meta) → write_fault origins meta ≡ None → is_full origins meta ≡ false
 unfolding write_fault
-not_full origins meta is = full_by (is_none meta.units) (is_full origins meta) is
+not_full origins meta is = grind (arith, is_none)
 
 room_by : (count : ℕ) (full : Bool) → nat_le 1024 count ≡ full → (full && true) ≡ false → count < 1024
 room_by count full is h = grind arith
 
 pub room_left : (origins : List Origin) (meta : Meta) → write_fault origins meta ≡ None → is_used origins meta ≡ false → length origins < 1024
-room_left origins meta none used =
-    room_by (length origins) (nat_le 1024 (length origins)) refl
-    (ap (λ u. nat_le 1024 (length origins) && not u) (sym used) ∙ not_full origins meta none)
+room_left origins meta none used = grind (arith, room_by, not, not_full, ap (λ u. nat_le 1024 (length origins) && not u) (sym used) ∙ not_full origins meta none)
 
 with_origin-room : (origins : List Origin) (meta : Meta) → write_fault origins meta ≡ None → length origins ≤ 1024 → length (with_origin origins meta) ≤ 1024
 with_origin-room origins meta none few = grind (arith, room_left, length-append)
@@ -102,8 +89,6 @@ with_origin-room origins meta none few = grind (arith, room_left, length-append)
 pub all_described-given : (given : Origin → Interface) (origins : List Origin) (items : List Item) → AllHave given items → length origins ≤ 1024
     → length (all_described (given_all given origins) (numbered origins items)) ≤ 1024
 unfolding numbered
-all_described-given given origins [] have few = omega (arith, few, length-given given origins)
-all_described-given given origins (refused refusal ∷ items) have few = omega (arith, few, length-given given origins)
 all_described-given given origins (packet meta frame ∷ items) have few =
     by (write_fault origins meta) refl (λ more. all_described-given given (with_origin origins meta) items have.1 more)
   where
@@ -114,3 +99,4 @@ all_described-given given origins (packet meta frame ∷ items) have few =
     by None is later =
         subst (λ l. length (all_described l (numbered (with_origin origins meta) items)) ≤ 1024) (sym (described-given given origins meta frame have.0.interface))
         (later (with_origin-room origins meta is few))
+all_described-given given origins items have few = grind (arith, length-given)

@@ -66,9 +66,8 @@ front Q ends [] h = tt
 front Q ends (x ∷ xs) h = grind (arith, front Q ends xs h.1)
 
 all_have : (least : ℕ) (given : Origin → Interface) (items : List Item) → AllByRecursion (IsOfFile least given) items → AllHave given items
-all_have least given [] h = tt
-all_have least given (refused refusal ∷ items) h = tt
 all_have least given (packet meta frame ∷ items) h = (h.0.1, all_have least given items h.1)
+all_have least given items h = cc
 
 all_frames : (tail : Tail) (file : ℕ) (files : List (List ℕ)) → AllByRecursion (AllByRecursion HasFrame) (items_of_files tail file files)
 all_frames tail file [] = tt

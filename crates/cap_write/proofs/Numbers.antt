@@ -1,6 +1,5 @@
 -- What refuses a packet, and what doesn't.
-use Rattle.std.proofs.Common.{◌≡◌, ℕ, List, true, false, Option, Some, None, IsSome, is_none, if◌then◌else◌}
-use Rattle.cap_bytes.specs.declared.faults.Rule.{Rule}
+use Rattle.std.proofs.Common.{◌≡◌, List, true, false, Some, None, IsSome, arith}
 use Rattle.cap_bytes.specs.declared.faults.Rule.TheVariants.{NoTime, InterfaceLimit}
 use Rattle.cap_source.specs.declared.packets.Meta.{Meta}
 use Rattle.cap_write.specs.Numbering.{Origin, is_full, write_fault}
@@ -14,10 +13,7 @@ pub write_fault-none : (origins : List Origin) (meta : Meta) → IsSome meta.uni
 unfolding write_fault
 write_fault-none origins meta known full = cc
 
-by_none : (units : Option ℕ) (rest : Option Rule) → units ≡ None → (if is_none units then Some NoTime else rest) ≡ Some NoTime
-by_none units rest is = cc
-
 -- the first is that of a packet without a time
 pub write_fault-untimed : (origins : List Origin) (meta : Meta) → meta.units ≡ None → write_fault origins meta ≡ Some NoTime
 unfolding write_fault
-write_fault-untimed origins meta is = by_none meta.units (if is_full origins meta then Some InterfaceLimit else None) is
+write_fault-untimed origins meta is = grind arith

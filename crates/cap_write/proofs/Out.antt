@@ -8,16 +8,12 @@ use Rattle.cap_pcap.specs.Grammar.{Packet, packet_size}
 use Rattle.cap_pcap.specs.Split as records
 use Rattle.cap_pcap.specs.declared.headers.PcapHeader.{PcapHeader}
 use Rattle.cap_bytes.specs.declared.stops.Stop.{Stop}
-use Rattle.cap_bytes.specs.declared.stops.Stop.TheVariants as stops
-use Rattle.cap_source.specs.Feed.{Item, packet}
 use Rattle.cap_source.specs.Items.{pcap_items, interface_of}
 use Rattle.cap_source.specs.declared.packets.Meta.{Meta}
 use Rattle.cap_time.specs.Stamp.{stamp_in}
 use Rattle.cap_time.specs.Unit.{in_second}
-use Rattle.cap_time.specs.declared.resolutions.Interface.{Interface}
 use Rattle.cap_time.specs.declared.stamps.Unit.{Unit as Fraction}
-use Rattle.cap_write.proofs.Packed.{number_one, number_all, keep_one, keep_all}
-use Rattle.cap_write.proofs.Records.{fault_by-timed}
+use Rattle.cap_write.proofs.Packed.{number_one, number_all, keep_all}
 use Rattle.cap_write.proofs.Trips.{units_of-unit, fraction_of-header, whole_time-header, in_range-pos}
 use Rattle.cap_write.specs.Laws.{kept, record_form, records_form, is_late, timely, late_in, read_items, meta_again}
 use Rattle.cap_write.specs.Numbering.{refusal_at, refusal_or}
@@ -37,7 +33,7 @@ early unit (p ∷ ps) = if fits unit p then p ∷ early unit ps else []
 fault-read : (h : PcapHeader) (meta : Meta) (p : Packet) → meta.interface ≡ interface_of h → meta.units ≡ Some p.units
     → record_fault (interface_of h) meta ≡ (if fits h.unit p then None else Some TimeRange)
 unfolding record_fault
-fault-read h meta p interface units = grind (arith, fault_by-timed, eq-eqb, fraction_of-header, whole_time-header, in_range-pos)
+fault-read h meta p interface units = grind (arith, eq-eqb, fraction_of-header, whole_time-header, in_range-pos)
 
 line-read : (order : Order) (h : PcapHeader) (meta : Meta) (p : Packet) → meta.interface ≡ interface_of h → meta.units ≡ Some p.units → meta.original ≡ p.original
     → packet_record order (interface_of h) meta p.frame ≡ record_form order h.unit p
@@ -92,17 +88,9 @@ records_refusal-read h order file offset count (p ∷ ps) =
     (records_refusal-read h order file (place + length (packet_part order n)) (count_after count n) ps)
     ∙ ap (λ b. if b then Some (refusal_at meta TimeRange) else late_in read) (sym (is_late-header h p.units))))
 
-keep_by : (b : Bool) (i : Interface) (p : Packet) (ps : List Packet) (meta : Meta) (items : List Item) → keep_one i p ≡ record { interface = meta.interface; units = meta.units; captured = meta.captured; original = meta.original; frame = p.frame }
-    → kept items ≡ keep_all i ps
-    → kept (if not b then [] else packet meta p.frame ∷ items) ≡ keep_all i (if b then p ∷ ps else [])
-unfolding kept
-keep_by b i p ps meta items one rest = grind arith
-
 -- the packets before the first that is late
 pub timely-packets : (h : PcapHeader) (file offset : ℕ) (ps : List Packet) (stop : Stop)
     → kept (timely (pcap_items file (interface_of h) (records.items_with offset ps stop))) ≡ keep_all (interface_of h) (early h.unit ps)
 unfolding timely pcap_items kept
-timely-packets h file offset [] stops.End = refl
-timely-packets h file offset [] stops.Cut = refl
-timely-packets h file offset [] (stops.Refused refusal) = refl
-timely-packets h file offset (p ∷ ps) stop = search (timely-packets h file (offset + packet_size p) ps stop, timely, kept, is_late-header, keep_by)
+timely-packets h file offset (p ∷ ps) stop = grind (arith, timely-packets h file (offset + packet_size p) ps stop, timely, kept, is_late-header)
+timely-packets h file offset ps stop = grind arith

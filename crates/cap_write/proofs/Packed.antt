@@ -40,44 +40,34 @@ stop_refusal (stops.Refused refusal) = Some refusal
 pub numbered-packets : (file : ℕ) (i : Interface) (offset : ℕ) (ps : List Packet) (stop : Stop)
     → numbered (one_origin file) (pcap_items file i (records.items_with offset ps stop)) ≡ number_all i ps
 unfolding numbered pcap_items write_fault
-numbered-packets file i offset [] stops.End = refl
-numbered-packets file i offset [] stops.Cut = refl
-numbered-packets file i offset [] (stops.Refused refusal) = refl
 numbered-packets file i offset (p ∷ ps) stop = grind (arith, numbered-packets file i (offset + packet_size p) ps stop)
+numbered-packets file i offset ps stop = grind arith
 
 -- and nothing is refused but what ended them
 pub refusal-packets : (file : ℕ) (i : Interface) (offset : ℕ) (ps : List Packet) (stop : Stop)
     → refusal_in (one_origin file) (pcap_items file i (records.items_with offset ps stop)) ≡ stop_refusal stop
 unfolding refusal_in pcap_items write_fault
-refusal-packets file i offset [] stops.End = refl
-refusal-packets file i offset [] stops.Cut = refl
-refusal-packets file i offset [] (stops.Refused refusal) = refl
 refusal-packets file i offset (p ∷ ps) stop = grind (arith, refusal-packets file i (offset + packet_size p) ps stop)
+refusal-packets file i offset ps stop = grind arith
 
 pub refusal_of-packets : (file : ℕ) (i : Interface) (offset : ℕ) (ps : List Packet) (stop : Stop)
     → refusal_of (pcap_items file i (records.items_with offset ps stop)) ≡ stop_refusal stop
 unfolding refusal_of pcap_items
-refusal_of-packets file i offset [] stops.End = refl
-refusal_of-packets file i offset [] stops.Cut = refl
-refusal_of-packets file i offset [] (stops.Refused refusal) = refl
 refusal_of-packets file i offset (p ∷ ps) stop = refusal_of-packets file i (offset + packet_size p) ps stop
+refusal_of-packets file i offset ps stop = grind arith
 
 pub kept-packets : (file : ℕ) (i : Interface) (offset : ℕ) (ps : List Packet) (stop : Stop)
     → kept (pcap_items file i (records.items_with offset ps stop)) ≡ keep_all i ps
 unfolding kept pcap_items
-kept-packets file i offset [] stops.End = refl
-kept-packets file i offset [] stops.Cut = refl
-kept-packets file i offset [] (stops.Refused refusal) = refl
 kept-packets file i offset (p ∷ ps) stop = ap (λ l. keep_one i p ∷ l) (kept-packets file i (offset + packet_size p) ps stop)
+kept-packets file i offset ps stop = grind arith
 
 -- and as they are read again
 pub kept-read : (order : Order) (file offset count : ℕ) (i : Interface) (ps : List Packet)
     → kept (read_items order file offset count (number_all i ps)) ≡ keep_all i ps
 unfolding kept read_items
 kept-read order file offset count i [] = refl
-kept-read order file offset count i (p ∷ ps) = ap (λ l. keep_one i p ∷ l)
-    (kept-read order file (offset + length (interface_part order count (number_one i p)) + length (packet_part order (number_one i p)))
-    (count_after count (number_one i p)) i ps)
+kept-read order file offset count i (p ∷ ps) = grind (arith, kept-read order file (offset + length (interface_part order count (number_one i p)) + length (packet_part order (number_one i p))) (count_after count (number_one i p)) i ps)
 
 -- they are numbered after their interface
 pub IsNumbered-packets : (i : Interface) (ps : List Packet) → IsNumbered (i ∷ []) (number_all i ps)

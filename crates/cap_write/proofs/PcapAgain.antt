@@ -133,17 +133,14 @@ never_refused first refusal items none = absurd (some-none refusal (sym (refuses
 records-are : (order : Order) (first : Interface) (items : List Item) → records_refusal first items ≡ None
     → records_bytes order first items ≡ records_form order (fraction_of first) (forms_of first items)
 unfolding records_bytes
-records-are order first [] none = refl
-records-are order first (refused refusal ∷ items) none = never_refused first refusal items none
 records-are order first (packet meta frame ∷ items) none =
     let g = goes first meta frame items none in
     ap (λ f. text_or f (packet_record order first meta frame ++ records_bytes order first items)) g.unrefused
     ∙ (λ i. line_is order first meta frame (timed first meta g.unrefused) i ++ records-are order first items g.rest i)
+records-are order first items none = grind (arith, never_refused)
 
 all-written : (first : Interface) (items : List Item) → AllByRecursion ItemFits items → records_refusal first items ≡ None
     → AllWritten (fraction_of first) (forms_of first items)
-all-written first [] fit none = tt
-all-written first (refused refusal ∷ items) fit none = never_refused first refusal items none
 all-written first (packet meta frame ∷ items) fit none =
     let g = goes first meta frame items none in
     let t = timed first meta g.unrefused in
@@ -151,6 +148,7 @@ all-written first (packet meta frame ∷ items) fit none =
     let quotient : units_in (fraction_of first) (written_time first meta) / d ≡ t.seconds =
     ap (λ u. u / d) (units_are first meta t) ∙ div-mul-add t.seconds d t.rest (whole first meta t).below in
     (omega (arith, quotient, t.few), fit.0.original, omega (arith, fit.0.frame.captured, fit.0.frame.limit), all-written first items fit.1 g.rest)
+all-written first items fit none = grind (arith, never_refused)
 
 -- and what they are when they are read again
 same_packet : (order : Order) (first : Interface) (file offset : ℕ) (meta : Meta) (frame : List ℕ) → IsTimed first meta → length frame ≡ meta.captured

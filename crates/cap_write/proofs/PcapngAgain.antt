@@ -8,7 +8,7 @@ use Rattle.cap_bytes.specs.declared.numbers.Order.{Order}
 use Rattle.cap_blocks.proofs.Items.{items_from-none}
 use Rattle.cap_source.proofs.Fields.{fields_fit-law}
 use Rattle.cap_source.proofs.Frames.{frames_fit-law}
-use Rattle.cap_source.specs.Feed.{Item, packet, refused, refusal_of}
+use Rattle.cap_source.specs.Feed.{Item, packet, refusal_of}
 use Rattle.cap_source.specs.Fields.{ItemFits}
 use Rattle.cap_source.specs.Items.{file_items, file_first, first_in}
 use Rattle.cap_time.specs.declared.resolutions.Interface.{Interface}
@@ -28,9 +28,8 @@ abbrev of_instance : (ℕ → Interface) → Origin → Interface
 of_instance given origin = given origin.1
 
 have_all : (file : ℕ) (given : ℕ → Interface) (items : List Item) → AllAlike file given items → AllByRecursion ItemFits items → AllHave (of_instance given) items
-have_all file given [] alike fit = tt
-have_all file given (refused refusal ∷ items) alike fit = tt
 have_all file given (packet meta frame ∷ items) alike fit = grind (arith, have_all file given items alike.2 fit.1)
+have_all file given items alike fit = cc
 
 -- the same, the first of them known
 abbrev with_first : Interface → (ℕ → Interface) → Origin → Interface
@@ -38,9 +37,8 @@ with_first i given origin = if origin.1 == 0 then i else given origin.1
 
 have_first : (file : ℕ) (i : Interface) (given : ℕ → Interface) (items : List Item) → AllAlike file given items → AllByRecursion (IsFirst i) items
     → AllByRecursion ItemFits items → AllHave (with_first i given) items
-have_first file i given [] alike first fit = tt
-have_first file i given (refused refusal ∷ items) alike first fit = tt
 have_first file i given (packet meta frame ∷ items) alike first fit = grind (arith, have_first file i given items alike.2 first.1 fit.1)
+have_first file i given items alike first fit = cc
 
 -- What is read again of some packets that were numbered after some origins.
 record IsReadAgain (origins others : List Origin) (items again : List Item) : Type 0 where

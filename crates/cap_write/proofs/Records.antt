@@ -1,5 +1,5 @@
 -- The packets of a feed, written one by one in the form of pcap.
-use Rattle.std.proofs.Common.{arith, ◌≡◌, ℕ, not, List, Bool, true, Option, Some, None, is_none, Result, Err, if◌then◌else◌}
+use Rattle.std.proofs.Common.{arith, ◌≡◌, ℕ, not, List, Bool, Option, Some, None, is_none, Result, Err, if◌then◌else◌}
 use Rattle.cap_bytes.specs.Device.{Writer}
 use Rattle.cap_bytes.specs.declared.faults.Fault.{Fault}
 use Rattle.cap_bytes.specs.declared.faults.Fault.TheVariants.{Refused}
@@ -14,7 +14,7 @@ use Rattle.cap_time.specs.declared.resolutions.Interface.{Interface}
 use Rattle.cap_time.specs.declared.stamps.Unit.{Unit as Fraction}
 use Rattle.cap_write.specs.Interfaces.{HasUnits}
 use Rattle.cap_write.specs.Numbering.{refusal_at}
-use Rattle.cap_write.specs.Pcap.{fraction_of, whole_time, time_fault, units_fault, record_fault, packet_record, records_bytes, records_refusal}
+use Rattle.cap_write.specs.Pcap.{fraction_of, units_fault, record_fault, packet_record, records_bytes, records_refusal}
 use Rattle.cap_write.specs.Texts.{text_or}
 use Rattle.cap_write.specs.Times.{HasTime, HasRecord}
 use Rattle.cap_write.specs.declared.pcap.Time.{Time}
@@ -22,10 +22,6 @@ use Rattle.cap_write.specs.declared.pcap.Time.{Time}
 abbrev pub fault_by : Option ℕ → Bool → Fraction → Interface → Option Rule
 fault_by units same fraction interface =
     if is_none units then Some NoTime else if not same then Some LinkMixed else units_fault fraction interface units
-
-pub fault_by-timed : (units : Option ℕ) (n : ℕ) (same : Bool) (fraction : Fraction) (interface : Interface) → units ≡ Some n → same ≡ true
-    → fault_by units same fraction interface ≡ time_fault (whole_time fraction interface n)
-fault_by-timed units n same fraction interface is one = cc
 
 -- a packet without a time
 pub HasRecord-untimed : (first : Interface) (meta : Meta) (fault : Fault) → HasUnits meta (Err fault) → HasRecord first meta (Err fault)

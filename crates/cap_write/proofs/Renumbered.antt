@@ -1,23 +1,22 @@
 -- The packets of a written file, numbered again.
-use Rattle.std.proofs.Common.{rules, ◌≡◌, ◌==◌, ◌&&◌, ℕ, zero, suc, ◌+◌, ◌≤◌, ◌<◌, map, min, nat_le, nat_lt, not, List, [], ◌∷◌, ◌++◌, length, Bool, true, false, Option, Some, None, refl, sym, ap, ◌∙◌, arith, length-append, if◌then◌else◌}
+use Rattle.std.proofs.lemmas.Grind.{common_steps}
+use Rattle.std.proofs.Common.{rules, ◌≡◌, ◌==◌, ◌&&◌, ℕ, zero, suc, ◌+◌, ◌≤◌, ◌<◌, map, min, nat_le, nat_lt, not, List, [], ◌∷◌, ◌++◌, length, Bool, true, false, Some, None, refl, sym, ap, ◌∙◌, arith, length-append, if◌then◌else◌}
 use Rattle.std.proofs.lemmas.Bool.{eq-eqb, ne_eqb, false≢true, lt-ltb, ltb-true, ltb-false}
 use Rattle.std.proofs.lemmas.Bool.Decides.{nat_tests}
 use Rattle.std.proofs.lemmas.List.Folds.{position_or_len_push}
 use Rattle.std.specs.List.{list_any, position_or_len}
 use Rattle.indexmap.specs.IndexSet.{insert_key}
-use Rattle.cap_bytes.specs.declared.faults.Rule.{Rule}
 use Rattle.cap_bytes.specs.declared.faults.Rule.TheVariants.{InterfaceLimit}
 use Rattle.cap_bytes.specs.declared.numbers.Order.{Order}
-use Rattle.cap_source.specs.Feed.{Item, packet, refused}
+use Rattle.cap_source.specs.Feed.{Item, packet}
 use Rattle.cap_source.specs.Items.{file_items}
-use Rattle.cap_source.specs.declared.packets.Meta.{Meta}
 use Rattle.cap_write.proofs.Feeding.{count_after-is}
 use Rattle.cap_write.proofs.Files.{merged-again}
-use Rattle.cap_write.proofs.MergedAgain.{number-used, room_left, IsNumbered-given, AllFit-given, all_described-given}
+use Rattle.cap_write.proofs.MergedAgain.{room_left, IsNumbered-given, AllFit-given, all_described-given}
 use Rattle.cap_write.proofs.Places.{position_or_len-none, position_or_len-some}
 use Rattle.cap_write.specs.Laws.{read_items, meta_again, instances, numbers, measured, MergedAgain}
 use Rattle.cap_source.specs.Feed.{refusal_of}
-use Rattle.cap_write.specs.Numbering.{Origin, is_origin, number_of, with_origin, write_fault, Numbered, numbered_of, numbered_or, numbered, refusal_or, refusal_in}
+use Rattle.cap_write.specs.Numbering.{Origin, is_origin, with_origin, write_fault, Numbered, numbered_of, numbered_or, numbered, refusal_or, refusal_in}
 use Rattle.cap_write.specs.Texts.{interface_part, packet_part, count_after, merged_bytes}
 
 -- the origins of that many interfaces of one file
@@ -29,17 +28,10 @@ length-file_origins : (file count : ℕ) → length (file_origins file count) �
 length-file_origins file zero = refl
 length-file_origins file (suc k) = length-append (file_origins file k) ((file, k) ∷ []) ∙ omega (arith, length-file_origins file k)
 
-own_file : (file k m : ℕ) → is_origin (file, k) (file, m) ≡ (k == m)
-own_file file k m = ap (λ b. b && (k == m)) (eq-eqb file file refl)
-
-least_by : (k m : ℕ) (here same : Bool) → (min k m == m) ≡ here → (k == m) ≡ same
-    → (if here then m + (if same then 0 else 1) else min k m) ≡ min k (suc m)
-least_by k m here same is e = grind arith
-
 -- where one of them stands
 place_of : (file k count : ℕ) → position_or_len (is_origin (file, k)) (file_origins file count) ≡ min k count
 place_of file k zero = omega arith
-place_of file k (suc m) = grind (arith, place_of file k m, position_or_len_push, length-file_origins, min, own_file, least_by)
+place_of file k (suc m) = grind (arith, place_of file k m, position_or_len_push, length-file_origins, min, eq-eqb)
 
 -- whether it stands there
 used_of : (file k count : ℕ) (used : Bool) → list_any (is_origin (file, k)) (file_origins file count) ≡ used → nat_lt k count ≡ used
@@ -78,12 +70,6 @@ never b = grind arith
 
 few_left : (n : ℕ) → n < 1024 → nat_le 1024 n ≡ false
 few_left n h = grind (arith, nat_tests)
-
-number-most : (origins : List Origin) (meta : Meta) → number_of origins meta ≤ length origins
-number-most origins meta = grind (arith, position_or_len-some, position_or_len-none)
-
-next_room : (origins : List Origin) (meta : Meta) → write_fault origins meta ≡ None → (number_of origins meta == length origins) ≡ true → length origins < 1024
-next_room origins meta none next = grind (arith, false≢true, number-used, room_left)
 
 -- which isn't refused
 unrefused : (file place count : ℕ) (n : Numbered) → n.number ≤ count → ((n.number == count) ≡ true → count < 1024)
@@ -149,14 +135,8 @@ numbers-measured (n ∷ rest) = ap (λ l. n.number ∷ l) (numbers-measured rest
 -- what is numbered is in order
 pub InOrder-numbered : (origins : List Origin) (items : List Item) → InOrder (length origins) (numbered origins items)
 unfolding numbered
-InOrder-numbered origins [] = tt
-InOrder-numbered origins (refused refusal ∷ items) = tt
-InOrder-numbered origins (packet meta frame ∷ items) = by (write_fault origins meta) refl (InOrder-numbered (with_origin origins meta) items)
-  where
-    by : (fault : Option Rule) → write_fault origins meta ≡ fault → InOrder (length (with_origin origins meta)) (numbered (with_origin origins meta) items)
-        → InOrder (length origins) (numbered_or fault (numbered_of origins meta frame) (numbered (with_origin origins meta) items))
-    by (Some rule) is later = tt
-    by None is later = search (number-most, next_room, count_after-is)
+InOrder-numbered origins (packet meta frame ∷ items) = grind (arith, common_steps, InOrder-numbered (with_origin origins meta) items, position_or_len-some, position_or_len-none, false≢true, ne_eqb, room_left, count_after-is)
+InOrder-numbered origins items = cc
 
 -- What is written of a list is read again as what was numbered of it.
 pub merged_again-law : MergedAgain

@@ -16,7 +16,7 @@ use Rattle.cap_pcap.specs.Split as records
 use Rattle.cap_pcap.specs.Split.{items_with}
 use Rattle.cap_bytes.specs.declared.stops.Stop.{Stop}
 use Rattle.cap_bytes.specs.declared.stops.Stop.TheVariants as stops
-use Rattle.cap_pcap.proofs.Again.{flipped, flips_bytes, header_at-text, header_again-law}
+use Rattle.cap_pcap.proofs.Again.{flips_bytes, header_at-text, header_again-law}
 use Rattle.cap_pcap.specs.Grammar.{Packet, magic_of, header_bytes}
 use Rattle.cap_pcap.specs.declared.headers.PcapHeader.{PcapHeader}
 use Rattle.cap_source.proofs.Fields.{AllHeld, AreBytes-drop, held-splits, below_header}
@@ -32,7 +32,7 @@ use Rattle.cap_write.proofs.Packed.{number_one, number_all, stop_refusal, number
 use Rattle.cap_write.proofs.Trips.{fraction_of-header}
 use Rattle.cap_write.specs.Laws.{kept, timely, late_in, read_items, record_form, records_form, AllWritten, RoundTrip, SameBytes}
 use Rattle.cap_write.specs.Numbering.{Numbered}
-use Rattle.cap_write.specs.Pcap.{header_of, pcap_bytes, pcap_refusal, records_bytes, records_refusal}
+use Rattle.cap_write.specs.Pcap.{pcap_bytes, pcap_refusal, records_refusal}
 use Rattle.cap_source.specs.Feed.{refusal_of}
 use Rattle.cap_write.specs.Texts.{packet_part, count_after, packets_bytes, front_bytes, pcapng_bytes, pcapng_refusal}
 
@@ -40,15 +40,10 @@ use Rattle.cap_write.specs.Texts.{packet_part, count_after, packets_bytes, front
 other_magic : (unit : Fraction) (n : ℕ) → n ≡ magic_of unit → (n == section_kind) ≡ false
 other_magic unit n is = grind arith
 
-other_flipped : (unit : Fraction) (n : ℕ) → n ≡ flipped unit → (n == section_kind) ≡ false
-other_flipped unit n is = grind arith
-
 no_section : (header : PcapHeader) (order : Order) → header.order ≡ order → header.snaplen < 2 ^ 32 → header.link < 2 ^ 16
     → (number Big 4 (header_bytes header) == section_kind) ≡ false
-no_section header Big is snaplen link =
-    let s = (header_again-law header snaplen link).0 in
-    other_magic header.unit (number Big 4 (header_bytes header)) (subst (λ o. number o 4 (header_bytes header) ≡ magic_of header.unit) is s.magic)
-no_section header Little is snaplen link = search (other_flipped, flips_bytes)
+no_section header Big is snaplen link = grind (arith, (header_again-law header snaplen link).0, other_magic, header_again-law)
+no_section header Little is snaplen link = grind (arith, flips_bytes)
 
 and_false : (b : Bool) → (b && false) ≡ false
 and_false b = grind arith
@@ -114,9 +109,6 @@ accepted tail file bytes are plain none = by (records.header_fault 0 bytes) refl
 abbrev pub header_with : Order → PcapHeader → PcapHeader
 header_with order h = record { order = order; unit = h.unit; snaplen = h.snaplen; link = h.link }
 
-header_of-with : (order : Order) (h : PcapHeader) → header_of order (interface_of h) ≡ header_with order h
-header_of-with order h = ap (λ (u : Fraction). record { order = order; unit = u; snaplen = h.snaplen; link = h.link }) (fraction_of-header h)
-
 -- what is written as pcap is no longer than what is written as pcapng
 length-record : (order : Order) (unit : Fraction) (p : Packet) → length (record_form order unit p) ≡ 16 + length p.frame
 length-record order unit p = simp (length-append, length-bytes_of) refl
@@ -159,9 +151,7 @@ written_once order tail file bytes h a = grind (arith, numbered-packets, refusal
 out_bytes : (back order : Order) (h : PcapHeader) (file offset : ℕ) (ps : List Packet)
     → pcap_bytes back (Some (interface_of h)) (read_items order file offset 1 (number_all (interface_of h) ps))
     ≡ header_bytes (header_with back h) ++ records_form back h.unit (early h.unit ps)
-out_bytes back order h file offset ps =
-    ap (λ x. header_bytes x ++ records_bytes back (interface_of h) (read_items order file offset 1 (number_all (interface_of h) ps))) (header_of-with back h)
-    ∙ ap (λ l. header_bytes (header_with back h) ++ l) (records_bytes-read back h order file offset 1 ps)
+out_bytes back order h file offset ps = grind (arith, number_all, fraction_of-header, records_bytes-read)
 
 out_items : (back : Order) (h : PcapHeader) (tail : Tail) (file : ℕ) (ps : List Packet) → h.snaplen < 2 ^ 32 → h.link < 2 ^ 16 → AllHeld ps
     → 24 + length (records_form back h.unit (early h.unit ps)) ≤ 2 ^ 40
@@ -206,9 +196,7 @@ comes_back back order tail tail_again file file_again bytes h a limit =
     record {
       read = read;
       first = first;
-      out =
-          ap (λ f. pcap_bytes back f (file_items tail_again file_again text)) first
-          ∙ (ap (pcap_bytes back (Some i)) read ∙ out_bytes back order h file_again place ps);
+      out = grind (arith, out_bytes);
       short =
           omega (
             arith,

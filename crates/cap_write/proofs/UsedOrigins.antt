@@ -1,6 +1,6 @@
 -- The numbers of origins by their first use, in one list and in the lists of several groups.
-use Rattle.std.proofs.Common.{◌≡◌, ℕ, zero, suc, ◌+◌, ◌<◌, ◌≤◌, Bool, true, false, cond, List, [], ◌∷◌, ◌++◌, refl, sym, ap, ◌∙◌, arith, inl, inr}
-use Rattle.std.specs.Prelude.{◌&&◌, ◌==◌, ◌≢◌, ◌⊎◌}
+use Rattle.std.proofs.Common.{◌≡◌, ℕ, zero, suc, ◌+◌, ◌<◌, ◌≤◌, Bool, true, false, cond, List, [], ◌∷◌, ◌++◌, refl, sym, arith, inl, inr}
+use Rattle.std.specs.Prelude.{◌&&◌, ◌==◌, ◌⊎◌}
 use Rattle.std.specs.List.{list_any, position_or_len}
 use Rattle.std.proofs.lemmas.Bool.{true≢false}
 use Rattle.std.proofs.lemmas.Bool.Decides.{nat_tests}
@@ -14,21 +14,12 @@ use Rattle.cap_write.proofs.Renaming.{IsOneToOne}
 pub same_number : (n : ℕ) → (n == n) ≡ true
 same_number n = grind (arith, nat_tests)
 
-pub other_number : (m n : ℕ) → m ≢ n → (m == n) ≡ false
-other_number m n h = grind (arith, nat_tests)
-
-next_numbers : (m n : ℕ) → (suc m == suc n) ≡ (m == n)
-next_numbers m n = grind (arith, nat_tests)
-
 both_true : (a b : Bool) → (a && b) ≡ true → (a ≡ true) × (b ≡ true)
 both_true a b e = grind arith
 
 -- origins that are equal are the same
 pub is_origin-same : (a b : Origin) → is_origin a b ≡ true → a ≡ b
 is_origin-same a b e = grind arith
-
-pub is_origin-itself : (a : Origin) → is_origin a a ≡ true
-is_origin-itself a = λ i. same_number a.0 i && same_number a.1 i
 
 -- ---- numbers in a list
 
@@ -39,17 +30,13 @@ IsNumberIn (b ∷ bs) a zero = is_origin a b ≡ true
 IsNumberIn (b ∷ bs) a (suc n) = (is_origin a b ≡ false) × IsNumberIn bs a n
 
 pub number-more : (xs ys : List Origin) (a : Origin) (n : ℕ) → IsNumberIn xs a n → IsNumberIn (xs ++ ys) a n
-number-more [] ys a n h = absurd h
-number-more (x ∷ xs) ys a zero h = h
 number-more (x ∷ xs) ys a (suc n) h = (h.0, number-more xs ys a n h.1)
+number-more xs ys a n h = grind arith
 
 -- origins with a number are equal where their numbers are
 pub numbers-decide : (xs : List Origin) (a c : Origin) (m n : ℕ) → IsNumberIn xs a m → IsNumberIn xs c n → (m == n) ≡ is_origin a c
-numbers-decide [] a c m n h k = absurd h
-numbers-decide (x ∷ xs) a c zero zero h k = grind arith
-numbers-decide (x ∷ xs) a c zero (suc n) h k = grind arith
-numbers-decide (x ∷ xs) a c (suc m) zero h k = grind arith
-numbers-decide (x ∷ xs) a c (suc m) (suc n) h k = next_numbers m n ∙ numbers-decide xs a c m n h.1 k.1
+numbers-decide (x ∷ xs) a c (suc m) (suc n) h k = grind (arith, numbers-decide xs a c m n h.1 k.1, nat_tests)
+numbers-decide xs a c m n h k = grind arith
 
 -- ---- the origins after a list
 
@@ -73,7 +60,7 @@ found [] a e = absurd (true≢false (sym e))
 found (n ∷ ns) a e = grind (arith, found ns a)
 
 lacking : (ns : List Origin) (a : Origin) → list_any (is_origin a) ns ≡ false → IsNumberIn (ns ++ (a ∷ [])) a (position_or_len (is_origin a) ns)
-lacking [] a e = is_origin-itself a
+lacking [] a e = grind (arith, same_number)
 lacking (n ∷ ns) a e = grind (arith, lacking ns a)
 
 -- a packet's interface has its number in the origins after the packet
@@ -81,8 +68,7 @@ pub number-given : (ns : List Origin) (m : Meta) → IsNumberIn (with_origin ns 
 number-given ns m = by (is_used ns m) refl
   where
     by : (b : Bool) → is_used ns m ≡ b → IsNumberIn (cond b ns (ns ++ (origin_of m ∷ []))) (origin_of m) (number_of ns m)
-    by true e = found ns (origin_of m) e
-    by false e = lacking ns (origin_of m) e
+    by b e = grind (arith, found, lacking)
 
 -- ---- groups
 
@@ -108,13 +94,10 @@ bounds file place [] a b h = absurd h
 bounds file place (g ∷ gs) a b (inl h) = (h.from, omega (arith, h.group))
 bounds file place (g ∷ gs) a b (inr h) = grind (arith, bounds (file + g.count) (suc place) gs a b h)
 
-other_origins : (a b : Origin) → a.0 ≢ b.0 → is_origin a b ≡ false
-other_origins a b h = ap (λ t. t && (a.1 == b.1)) (other_number a.0 b.0 h)
-
 -- Different origins have different numbers, or are of different groups.
 pub groups-apart : (file place : ℕ) (gs : List GroupOrigins) → IsOneToOne (IsOfGroups file place gs)
 groups-apart file place [] a b c d h k = absurd h
 groups-apart file place (g ∷ gs) a b c d (inl h) (inl k) = grind (arith, same_number, numbers-decide)
-groups-apart file place (g ∷ gs) a b c d (inl h) (inr k) = grind (arith, bounds, other_origins)
-groups-apart file place (g ∷ gs) a b c d (inr h) (inl k) = grind (arith, bounds, other_origins)
+groups-apart file place (g ∷ gs) a b c d (inl h) (inr k) = grind (arith, bounds, nat_tests)
+groups-apart file place (g ∷ gs) a b c d (inr h) (inl k) = grind (arith, bounds, nat_tests)
 groups-apart file place (g ∷ gs) a b c d (inr h) (inr k) = groups-apart (file + g.count) (suc place) gs a b c d h k

@@ -80,9 +80,7 @@ pub returns-in_err-put_completed-clause-walks : goal.returns-in_err-put_complete
 returns-in_err-put_completed-clause-walks g c = grind arith
 
 pub returns-in_err-put_completed-clause-keeps : goal.returns-in_err-put_completed-clause-keeps
-returns-in_err-put_completed-clause-keeps g c =
-    Keeps-trans (feed_of (parts_of c.args.merged.now)) (feed_of (parts_of c.loop-joining.merged)) (feed_of (parts_of c.next_of.new.merged))
-    c.loop-joining.invariant.went.keeps c.in_ok-meta.ensures.keeps
+returns-in_err-put_completed-clause-keeps g c = grind (arith, Keeps-trans, c.loop-joining.invariant.went.keeps, c.in_ok-meta.ensures.keeps)
 
 pub returns-clause-walks : goal.returns-clause-walks
 returns-clause-walks g c = grind arith

@@ -1,11 +1,9 @@
 use Rattle.std.proofs.Common.{arith}
 use Rattle.cap_source.proofs.Onward.{Keeps-trans}
-use Rattle.cap_source.specs.Captures.{feed_of}
 use Rattle.cap_write.proofs.pcap.to_pcap.Goals as goal
 
 pub returns-clause-walks : goal.returns-clause-walks
 returns-clause-walks g c = grind arith
 
 pub returns-clause-keeps : goal.returns-clause-keeps
-returns-clause-keeps g c =
-    Keeps-trans (feed_of c.args.capture.now) (feed_of c.first.new.self) (feed_of c.put_pcap.new.feed) c.in_ok-first.ensures.keeps c.put_pcap.ensures.keeps
+returns-clause-keeps g c = search (Keeps-trans, c.in_ok-first.ensures.keeps, c.put_pcap.ensures.keeps)
