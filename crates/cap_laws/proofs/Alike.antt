@@ -1,6 +1,6 @@
 -- Runs whose packets have clocks of the same times, and the same interfaces, units, lengths and bytes, have the same report, but for the
 -- lines of the files: what is told of files and of places in them may differ.
-use Rattle.std.proofs.Common.{arith, ◌≡◌, ℕ, ◌+◌, List, [], ◌∷◌, ◌++◌, length, refl, ◌∙◌, ap, Option}
+use Rattle.std.proofs.Common.{arith, ◌≡◌, ℕ, ◌+◌, List, ◌∷◌, ◌++◌, length, refl, ◌∙◌, ap, Option}
 use Rattle.std.proofs.lemmas.List.Elements.{length_all_zip}
 use Rattle.std.specs.List.{AllZip}
 use Rattle.std.specs.Prelude.{nat_lt, if◌then◌else◌}
@@ -17,7 +17,7 @@ use Rattle.cap_source.specs.Feed.{Item, packet, refused}
 use Rattle.cap_talks.specs.Classes.{classes, classes_in, groups_of}
 use Rattle.cap_talks.specs.CountedUnits.{first_unit, unit_by, unit_at, listed, units_of}
 use Rattle.cap_talks.specs.ReportText.{body_text, bytes_of, truncated_of, with_item, taken_after}
-use Rattle.cap_talks.specs.Taken.{Taken, Look, plain, datagram, fragment, look, stamped_of, events_with, events_of}
+use Rattle.cap_talks.specs.Taken.{Taken, Look, plain, datagram, fragment, look, events_with, events_of}
 use Rattle.cap_time.specs.declared.stamps.Stamp.{Stamp}
 use Rattle.cap_laws.proofs.LikeReports.{LikeItems, RunsLike, refusals-like}
 use Rattle.cap_laws.specs.Reports.{SameReport}
@@ -49,9 +49,6 @@ RunsAlike = AllZip (λ a b. AlikeItems a.clock b.clock a.item b.item)
 alike-length : (xs ys : List Taken) → AreAlike xs ys → length xs ≡ length ys
 alike-length = length_all_zip IsAlike
 
-alike-stamped : (n m : ℕ) (x y : Taken) → n ≡ m → IsAlike x y → stamped_of n x.meta ≡ stamped_of m y.meta
-alike-stamped n m x y e h = grind arith
-
 alike-look : (n m : ℕ) (x y : Taken) → n ≡ m → IsAlike x y → look n x ≡ look m y
 unfolding look
 alike-look n m x y e h = grind arith
@@ -63,10 +60,8 @@ events-with l c d es fs e h = grind arith
 
 alike-events : (xs ys : List Taken) → AreAlike xs ys → AllZip IsSameEvent (events_of xs) (events_of ys)
 unfolding events_of
-alike-events [] [] h = tt
-alike-events [] (y ∷ ys) h = absurd h
-alike-events (x ∷ xs) [] h = absurd h
 alike-events (x ∷ xs) (y ∷ ys) h = grind (arith, alike-events xs ys h.1, alike-look, alike-length, events-with)
+alike-events xs ys h = grind arith
 
 alike-groups : (xs ys : List Taken) → AreAlike xs ys → groups_of xs ≡ groups_of ys
 alike-groups xs ys h = (same-groups open_limit (events_of xs) (events_of ys) (alike-events xs ys h)).completed
@@ -74,10 +69,8 @@ alike-groups xs ys h = (same-groups open_limit (events_of xs) (events_of ys) (al
 -- ---- classes and units
 
 alike-classes_in : (groups : List (List Piece)) (xs ys : List Taken) → AreAlike xs ys → classes_in groups xs ≡ classes_in groups ys
-alike-classes_in groups [] [] h = refl
-alike-classes_in groups [] (y ∷ ys) h = absurd h
-alike-classes_in groups (x ∷ xs) [] h = absurd h
 alike-classes_in groups (x ∷ xs) (y ∷ ys) h = grind (arith, alike-classes_in groups xs ys h.1, alike-look, alike-length)
+alike-classes_in groups xs ys h = grind arith
 
 alike-classes : (xs ys : List Taken) → AreAlike xs ys → classes xs ≡ classes ys
 unfolding classes
@@ -90,28 +83,22 @@ unit-by (fragment p) s c d es fs e h = ap (λ (ps : List Piece). first_unit (if_
 
 alike-unit : (xs ys : List Taken) (x y : Taken) → AreAlike xs ys → IsAlike x y → unit_at xs x ≡ unit_at ys y
 unfolding unit_at
-alike-unit xs ys x y h k = grind (arith, alike-length, unit-by, alike-events, alike-look, alike-stamped)
+alike-unit xs ys x y h k = grind (arith, alike-length, unit-by, alike-events, alike-look)
 
 alike-units : (xs ys : List Taken) → AreAlike xs ys → units_of xs ≡ units_of ys
 unfolding units_of
-alike-units [] [] h = refl
-alike-units [] (y ∷ ys) h = absurd h
-alike-units (x ∷ xs) [] h = absurd h
 alike-units (x ∷ xs) (y ∷ ys) h = λ i. alike-units xs ys h.1 i ++ listed (alike-unit xs ys x y h.1 h.0 i)
+alike-units xs ys h = grind arith
 
 -- ---- the lines
 
 alike-bytes : (xs ys : List Taken) → AreAlike xs ys → bytes_of xs ≡ bytes_of ys
-alike-bytes [] [] h = refl
-alike-bytes [] (y ∷ ys) h = absurd h
-alike-bytes (x ∷ xs) [] h = absurd h
 alike-bytes (x ∷ xs) (y ∷ ys) h = λ i. alike-bytes xs ys h.1 i + h.0.original i
+alike-bytes xs ys h = grind arith
 
 alike-truncated : (xs ys : List Taken) → AreAlike xs ys → truncated_of xs ≡ truncated_of ys
-alike-truncated [] [] h = refl
-alike-truncated [] (y ∷ ys) h = absurd h
-alike-truncated (x ∷ xs) [] h = absurd h
 alike-truncated (x ∷ xs) (y ∷ ys) h = λ i. alike-truncated xs ys h.1 i + (if nat_lt (length (h.0.frame i)) (h.0.original i) then 1 else 0)
+alike-truncated xs ys h = grind arith
 
 alike-body : (xs ys : List Taken) → AreAlike xs ys → body_text xs ≡ body_text ys
 unfolding body_text
@@ -132,20 +119,16 @@ with_alike c d a b xs ys h k = grind arith
 
 taken-alike : (as_ bs : List (Clocked Item)) (xs ys : List Taken) → RunsAlike as_ bs → AreAlike xs ys → AreAlike (taken_after xs as_) (taken_after ys bs)
 unfolding taken_after
-taken-alike [] [] xs ys h k = k
-taken-alike [] (b ∷ bs) xs ys h k = absurd h
-taken-alike (a ∷ as_) [] xs ys h k = absurd h
 taken-alike (a ∷ as_) (b ∷ bs) xs ys h k = grind (arith, taken-alike as_ bs (with_item a.clock a.item xs) (with_item b.clock b.item ys) h.1 (with_alike a.clock b.clock a.item b.item xs ys h.0 k))
+taken-alike as_ bs xs ys h k = grind arith
 
 -- such packets are like each other also where times may take other forms, on which refusals do not depend
 like-items : (c d : Option Stamp) (a b : Item) → AlikeItems c d a b → LikeItems c d a b
 like-items c d a b h = grind (arith, clock_total)
 
 runs-like : (as_ bs : List (Clocked Item)) → RunsAlike as_ bs → RunsLike as_ bs
-runs-like [] [] h = tt
-runs-like [] (b ∷ bs) h = absurd h
-runs-like (a ∷ as_) [] h = absurd h
 runs-like (a ∷ as_) (b ∷ bs) h = (like-items a.clock b.clock a.item b.item h.0, runs-like as_ bs h.1)
+runs-like as_ bs h = grind arith
 
 pub same-report : (run again : List (Clocked Item)) → RunsAlike again run → SameReport run again
 same-report run again h = search (alike-body, taken-alike, refusals-like, runs-like)

@@ -1,5 +1,5 @@
 -- The items of a file under another number are the same but for that number.
-use Rattle.std.proofs.Common.{arith, ◌≡◌, ℕ, zero, suc, Bool, cond, List, [], ◌∷◌, drop, refl, ap, ◌∙◌, Option, Some, None, Result}
+use Rattle.std.proofs.Common.{arith, ◌≡◌, ℕ, zero, suc, Bool, cond, List, ◌∷◌, drop, refl, ap, ◌∙◌, Option, Some, None, Result}
 use Rattle.std.specs.Prelude.{map, option_map}
 use Rattle.cap_bytes.specs.Items as pieces
 use Rattle.cap_bytes.specs.declared.faults.Rule.{Rule}
@@ -34,10 +34,6 @@ stop_by-in : (inside : Bool) (tail : Tail) (n m offset : ℕ) (rule : Rule)
 unfolding stop_in
 stop_by-in inside tail n m offset rule = grind arith
 
-mapped_stop : (inside : Bool) (tail : Tail) (n m offset : ℕ) (fault : Option Rule)
-    → option_map (pieces.stop_by inside tail n offset) fault ≡ option_map (stop_in n) (option_map (pieces.stop_by inside tail m offset) fault)
-mapped_stop inside tail n m offset fault = grind (arith, stop_by-in)
-
 chosen_stop : (b : Bool) (n : ℕ) (o p : Option Stop) → o ≡ option_map (stop_in n) p
     → cond b (Some stops.End) o ≡ option_map (stop_in n) (cond b (Some stops.End) p)
 unfolding stop_in
@@ -46,7 +42,7 @@ chosen_stop b n o p e = grind arith
 stop_where-in : (inside : Bool) (tail : Tail) (n m offset : ℕ) (bytes : List ℕ) (fault : Option Rule)
     → pieces.stop_where inside tail n offset bytes fault ≡ option_map (stop_in n) (pieces.stop_where inside tail m offset bytes fault)
 unfolding pieces.stop_where
-stop_where-in inside tail n m offset bytes fault = search (chosen_stop, mapped_stop)
+stop_where-in inside tail n m offset bytes fault = grind (arith, chosen_stop, stop_by-in)
 
 item_or-in : {P : Type 0} (n : ℕ) (o p : Option Stop) (x : P) (f : List ℕ) (xs ys : List (pieces.Item P))
     → o ≡ option_map (stop_in n) p → xs ≡ map (item_in n) ys
@@ -82,9 +78,8 @@ record_items tail n m offset bytes = search (refused_or, drop, items_by-in, stop
 pcap_numbered : (n m : ℕ) (interface : Interface) (xs : List (pieces.Item Record))
     → pcap_items n interface (map (item_in n) xs) ≡ map (in_file n) (pcap_items m interface xs)
 unfolding pcap_items item_in
-pcap_numbered n m interface [] = refl
 pcap_numbered n m interface (pieces.given r f ∷ xs) = cc (pcap_numbered n m interface xs)
-pcap_numbered n m interface (pieces.stopped s ∷ xs) = stop_items n s
+pcap_numbered n m interface xs = grind (arith, stop_items)
 
 -- ---- blocks
 
@@ -100,12 +95,8 @@ content_items n m progress block body content xs ys e = grind arith
 pcapng_numbered : (n m : ℕ) (progress : Progress) (xs : List (pieces.Item Block))
     → items_in n progress (map (item_in n) xs) ≡ map (in_file n) (items_in m progress xs)
 unfolding items_in item_in
-pcapng_numbered n m progress [] = refl
-pcapng_numbered n m progress (pieces.stopped s ∷ xs) = stop_items n s
-pcapng_numbered n m progress (pieces.given block body ∷ xs) =
-    let content = content_in progress.interfaces block.kind block.order body in
-    content_items n m progress block body content (items_in n (behind progress content) (map (item_in n) xs)) (items_in m (behind progress content) xs)
-    (pcapng_numbered n m (behind progress content) xs)
+pcapng_numbered n m progress (pieces.given block body ∷ xs) = grind (arith, content_items, item_in, pcapng_numbered n m (behind progress (content_in progress.interfaces block.kind block.order body)) xs)
+pcapng_numbered n m progress xs = grind (arith, stop_items)
 
 -- ---- files
 

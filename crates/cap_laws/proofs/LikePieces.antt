@@ -12,7 +12,6 @@ use Rattle.cap_join.specs.History.{Event}
 use Rattle.cap_join.specs.Holes.{is_within}
 use Rattle.cap_join.specs.declared.datagrams.Stamped.{Stamped}
 use Rattle.cap_talks.specs.Classes.{has_place}
-use Rattle.cap_time.specs.declared.stamps.Stamp.{Stamp}
 
 -- ---- frames
 
@@ -37,9 +36,6 @@ earlier-like a b c d h k = grind (arith, one-of, before_same)
 later-like : (a b c d : Option Stamped) → LikeFrames a b → LikeFrames c d → LikeFrames (later a c) (later b d)
 later-like a b c d h k = grind (arith, one-of, before_same)
 
-timed-like : (s t : Stamped) → IsLikeFrame s t → (a b : Option Stamp) → IsSameTime a b → LikeFrames (timed s a) (timed t b)
-timed-like s t h a b e = grind arith
-
 -- ---- fragments
 
 -- Two fragments are the same but for their frames.
@@ -54,44 +50,32 @@ abbrev pub Like : List Piece → List Piece → Type 0
 Like = AllZip IsLike
 
 first-like : (ps qs : List Piece) → Like ps qs → LikeFrames (first_frame ps) (first_frame qs)
-first-like [] [] h = tt
-first-like [] (q ∷ qs) h = absurd h
-first-like (p ∷ ps) [] h = absurd h
-first-like (p ∷ ps) (q ∷ qs) h = search (first-like ps qs h.1, earlier-like, timed, timed-like)
+first-like (p ∷ ps) (q ∷ qs) h = grind (arith, first-like ps qs h.1, earlier-like, timed)
+first-like ps qs h = grind arith
 
 last-like : (ps qs : List Piece) → Like ps qs → LikeFrames (last_frame ps) (last_frame qs)
-last-like [] [] h = tt
-last-like [] (q ∷ qs) h = absurd h
-last-like (p ∷ ps) [] h = absurd h
-last-like (p ∷ ps) (q ∷ qs) h = search (last-like ps qs h.1, later-like, timed, timed-like)
+last-like (p ∷ ps) (q ∷ qs) h = grind (arith, last-like ps qs h.1, later-like, timed)
+last-like ps qs h = grind arith
 
 covered-like : (ps qs : List Piece) → Like ps qs → (k : ℕ) → is_covered ps k ≡ is_covered qs k
-covered-like [] [] h k = refl
-covered-like [] (q ∷ qs) h k = absurd h
-covered-like (p ∷ ps) [] h k = absurd h
 covered-like (p ∷ ps) (q ∷ qs) h k = λ i. is_within (h.0.start i) (h.0.start i + length (h.0.bytes i)) (8 * k) || covered-like ps qs h.1 k i
+covered-like ps qs h k = grind arith
 
 covers-like : (ps qs : List Piece) → Like ps qs → (n : ℕ) → covers_below ps n ≡ covers_below qs n
 covers-like ps qs h zero = refl
 covers-like ps qs h (suc n) = λ i. covered-like ps qs h n i && covers-like ps qs h n i
 
 total-like : (ps qs : List Piece) → Like ps qs → total_of ps ≡ total_of qs
-total-like [] [] h = refl
-total-like [] (q ∷ qs) h = absurd h
-total-like (p ∷ ps) [] h = absurd h
 total-like (p ∷ ps) (q ∷ qs) h = λ i. if h.0.more i then total-like ps qs h.1 i else Some (h.0.start i + length (h.0.bytes i))
+total-like ps qs h = grind arith
 
 pub header-like : (ps qs : List Piece) → Like ps qs → header_of ps ≡ header_of qs
-header-like [] [] h = refl
-header-like [] (q ∷ qs) h = absurd h
-header-like (p ∷ ps) [] h = absurd h
 header-like (p ∷ ps) (q ∷ qs) h = λ i. if h.0.start i == 0 then Some (h.0.header i) else header-like ps qs h.1 i
+header-like ps qs h = grind arith
 
 byte-like : (ps qs : List Piece) → Like ps qs → (k : ℕ) → byte_at ps k ≡ byte_at qs k
-byte-like [] [] h k = refl
-byte-like [] (q ∷ qs) h k = absurd h
-byte-like (p ∷ ps) [] h k = absurd h
 byte-like (p ∷ ps) (q ∷ qs) h k = cc (byte-like ps qs h.1 k)
+byte-like ps qs h k = grind arith
 
 pub completes-like : (ps qs : List Piece) → Like ps qs → completes ps ≡ completes qs
 unfolding completes
@@ -102,16 +86,12 @@ unfolding data_of
 data-like ps qs h = λ i. option_map_or (λ n. map (λ k. byte-like ps qs h k i) (range_with_len 0 n)) (total-like ps qs h i) []
 
 pub original-like : (ps qs : List Piece) → Like ps qs → original_bytes ps ≡ original_bytes qs
-original-like [] [] h = refl
-original-like [] (q ∷ qs) h = absurd h
-original-like (p ∷ ps) [] h = absurd h
 original-like (p ∷ ps) (q ∷ qs) h = λ i. original-like ps qs h.1 i + h.0.stamped.original i
+original-like ps qs h = grind arith
 
 pub place-like : (n m : ℕ) (ps qs : List Piece) → n ≡ m → Like ps qs → has_place n ps ≡ has_place m qs
-place-like n m [] [] e h = refl
-place-like n m [] (q ∷ qs) e h = absurd h
-place-like n m (p ∷ ps) [] e h = absurd h
 place-like n m (p ∷ ps) (q ∷ qs) e h = λ i. (h.0.stamped.place i == e i) || place-like n m ps qs e h.1 i
+place-like n m ps qs e h = grind arith
 
 pub frames-like : (ps qs : List Piece) → Like ps qs → LikeFrames (first_frame ps) (first_frame qs) × LikeFrames (last_frame ps) (last_frame qs)
 frames-like ps qs h = (first-like ps qs h, last-like ps qs h)

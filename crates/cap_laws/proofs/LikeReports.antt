@@ -1,12 +1,12 @@
 -- Runs whose packets have the same links, lengths, bytes and times, maybe in other forms, have the same report, but for the forms of times.
+use Rattle.std.proofs.lemmas.Bool.Decides.{nat_tests}
+use Rattle.std.proofs.lemmas.Grind.{common_steps}
 use Rattle.std.proofs.Common.{arith, ◌≡◌, ℕ, ◌+◌, Bool, false, List, [], ◌∷◌, length, refl, sym, Option}
 use Rattle.std.proofs.lemmas.List.Elements.{length_all_zip}
 use Rattle.std.specs.List.{AllZip}
 use Rattle.std.specs.Option.{option_map_or}
 use Rattle.std.specs.Prelude.{nat_lt, if◌then◌else◌}
 use Rattle.cap_ip.specs.Header.{HeaderFields}
-use Rattle.cap_ip.specs.Read.{Reading, found, bad, cut, read_of}
-use Rattle.cap_ip.specs.declared.headers.Fragment.{Fragment}
 use Rattle.cap_join.specs.Completed.{if_complete}
 use Rattle.cap_join.proofs.AlikeGroups.{if_complete-alike, zip-both}
 use Rattle.cap_join.specs.EqualClocks.{IsSameTime}
@@ -22,7 +22,7 @@ use Rattle.cap_talks.specs.Classes.{class_by, class_in, class_of, classes, class
 use Rattle.cap_talks.specs.CountedUnits.{unit_by, unit_at, listed, units_of, is_limit_at, counted_in}
 use Rattle.cap_talks.specs.ReportText.{body_text, bytes_of, truncated_of, with_item, taken_after, refusal_here}
 use Rattle.cap_talks.specs.Talks.Rows.{is_refused, talk_limit}
-use Rattle.cap_talks.specs.Taken.{Taken, Look, plain, datagram, fragment, look_at, look_in, look_by, look, stamped_of, events_with, events_of}
+use Rattle.cap_talks.specs.Taken.{Taken, Look, plain, datagram, fragment, look_at, look, events_with, events_of}
 use Rattle.cap_talks.specs.Talks.{key_of, rows_of}
 use Rattle.cap_talks.specs.declared.classes.Class.TheVariants as class
 use Rattle.cap_talks.specs.declared.talks.units.CountedUnit.{CountedUnit}
@@ -70,27 +70,16 @@ piece-like : (header : HeaderFields) (captured : List ℕ) (s t : Stamped) → I
 unfolding piece_of
 piece-like header captured s t h = record { header = refl; start = refl; more = refl; bytes = refl; stamped = h }
 
-by-like : (f : Option Fragment) (header : HeaderFields) (captured : List ℕ) (s t : Stamped) → IsLikeFrame s t → LikeLook (look_by f header captured s) (look_by f header captured t)
-by-like f header captured s t h = grind (arith, piece-like)
-
-in-like : (r : Reading) (s t : Stamped) → IsLikeFrame s t → LikeLook (look_in r s) (look_in r t)
-in-like (found header captured) s t h = by-like header.fragment header captured s t h
-in-like bad s t h = refl
-in-like cut s t h = refl
-
 at-like : (c : Carried) (whole : Bool) (s t : Stamped) → IsLikeFrame s t → LikeLook (look_at c whole s) (look_at c whole t)
-at-like (ipv4 bytes) whole s t h = in-like (read_of bytes whole) s t h
+at-like (ipv4 bytes) whole s t h = grind (arith, piece-like, common_steps, nat_tests)
 at-like other_link whole s t h = refl
 at-like not_ipv4 whole s t h = refl
 at-like short whole s t h = refl
 at-like ends whole s t h = refl
 
-stamped-like : (n m : ℕ) (x y : Taken) → n ≡ m → IsLikeTaken x y → IsLikeFrame (stamped_of n x.meta) (stamped_of m y.meta)
-stamped-like n m x y e h = record { time = h.time; place = e; original = h.original }
-
 look-like : (n m : ℕ) (x y : Taken) → n ≡ m → IsLikeTaken x y → LikeLook (look n x) (look m y)
 unfolding look
-look-like n m x y e h = grind (arith, at-like, stamped-like)
+look-like n m x y e h = grind (arith, at-like)
 
 taken-length : (xs ys : List Taken) → LikeTaken xs ys → length xs ≡ length ys
 taken-length = length_all_zip IsLikeTaken
@@ -103,10 +92,8 @@ events-with l k c d es fs e t h = grind arith
 
 events-like : (xs ys : List Taken) → LikeTaken xs ys → AllZip LikeEvent (events_of xs) (events_of ys)
 unfolding events_of
-events-like [] [] h = tt
-events-like [] (y ∷ ys) h = absurd h
-events-like (x ∷ xs) [] h = absurd h
 events-like (x ∷ xs) (y ∷ ys) h = search (events-like xs ys h.1, events-with, look-like, taken-length)
+events-like xs ys h = grind arith
 
 groups-like : (xs ys : List Taken) → LikeTaken xs ys → AllZip Like (groups_of xs) (groups_of ys)
 groups-like xs ys h = (events-groups open_limit (events_of xs) (events_of ys) (events-like xs ys h)).completed
@@ -118,60 +105,45 @@ unfolding group_class
 group-class ps qs h = grind (arith, data-like, header-like)
 
 class-in : (gs ks : List (List Piece)) (n m : ℕ) → AllZip Like gs ks → n ≡ m → class_in gs n ≡ class_in ks m
-class-in [] [] n m h e = refl
-class-in [] (k ∷ ks) n m h e = absurd h
-class-in (g ∷ gs) [] n m h e = absurd h
 class-in (g ∷ gs) (k ∷ ks) n m h e = grind (arith, class-in gs ks n m h.1 e, place-like, group-class)
+class-in gs ks n m h e = grind arith
 
 class-by : (gs ks : List (List Piece)) (l k : Look) → AllZip Like gs ks → LikeLook l k → class_by gs l ≡ class_by ks k
 class-by gs ks l k h e = grind (arith, class-in)
 
 classes-in : (gs ks : List (List Piece)) (xs ys : List Taken) → AllZip Like gs ks → LikeTaken xs ys → classes_in gs xs ≡ classes_in ks ys
-classes-in gs ks [] [] g h = refl
-classes-in gs ks [] (y ∷ ys) g h = absurd h
-classes-in gs ks (x ∷ xs) [] g h = absurd h
 classes-in gs ks (x ∷ xs) (y ∷ ys) g h = search (classes-in gs ks xs ys g h.1, class-by, look-like, taken-length)
+classes-in gs ks xs ys g h = grind arith
 
 classes-like : (xs ys : List Taken) → LikeTaken xs ys → classes xs ≡ classes ys
 unfolding classes
 classes-like xs ys h = classes-in (groups_of xs) (groups_of ys) xs ys (groups-like xs ys h) h
 
 counted-like : (gs ks : List (List Piece)) → AllZip Like gs ks → counted_in gs ≡ counted_in ks
-counted-like [] [] h = refl
-counted-like [] (k ∷ ks) h = absurd h
-counted-like (g ∷ gs) [] h = absurd h
 counted-like (g ∷ gs) (k ∷ ks) h = λ i. (if Rattle.cap_talks.specs.Classes.is_class class.Counted (group-class g k h.0 i) then 1 else 0) + counted-like gs ks h.1 i
+counted-like gs ks h = grind arith
 
 -- ---- units
 
 unit-by : (l k : Look) (s t : Stamped) (c d : Option Stamp) (es fs : List Event) → LikeLook l k → IsLikeFrame s t → IsSameTime c d → AllZip LikeEvent es fs
     → LikeUnit (unit_by l s c es) (unit_by k t d fs)
-unit-by (plain k) (plain l) s t c d es fs e f u h = tt
-unit-by (datagram i b) (datagram j a) s t c d es fs e f u h = grind arith
 unit-by (fragment p) (fragment q) s t c d es fs e f u h =
     let ps = joined_pieces c p (state_of open_limit es) in
     let qs = joined_pieces d q (state_of open_limit fs) in
     first_unit-like (if_complete ps) (if_complete qs) (if_complete-alike IsLike pieces-alike ps qs ((events-groups open_limit es fs h).joined c d p q u e))
-unit-by (plain k) (datagram j a) s t c d es fs e f u h = absurd e
-unit-by (plain k) (fragment q) s t c d es fs e f u h = absurd e
-unit-by (datagram i b) (plain l) s t c d es fs e f u h = absurd e
-unit-by (datagram i b) (fragment q) s t c d es fs e f u h = absurd e
-unit-by (fragment p) (plain l) s t c d es fs e f u h = absurd e
-unit-by (fragment p) (datagram j a) s t c d es fs e f u h = absurd e
+unit-by l k s t c d es fs e f u h = grind arith
 
 unit-at : (xs ys : List Taken) (x y : Taken) → LikeTaken xs ys → IsLikeTaken x y → LikeUnit (unit_at xs x) (unit_at ys y)
 unfolding unit_at
-unit-at xs ys x y h k = search (taken-length, unit-by, look-like, stamped-like, events-like)
+unit-at xs ys x y h k = grind (arith, taken-length, unit-by, look-like, events-like)
 
 listed-like : (u v : Option CountedUnit) → LikeUnit u v → LikeUnits (listed u) (listed v)
 listed-like u v h = grind arith
 
 units-like : (xs ys : List Taken) → LikeTaken xs ys → LikeUnits (units_of xs) (units_of ys)
 unfolding units_of
-units-like [] [] h = tt
-units-like [] (y ∷ ys) h = absurd h
-units-like (x ∷ xs) [] h = absurd h
 units-like (x ∷ xs) (y ∷ ys) h = search (units-like xs ys h.1, zip-both, listed, listed-like, unit-at)
+units-like xs ys h = grind arith
 
 talks-like : (xs ys : List Taken) → LikeTaken xs ys → AllZip IsSameTalk (rows_of (units_of xs)) (rows_of (units_of ys))
 talks-like xs ys h = rows-like (units_of xs) (units_of ys) (units-like xs ys h)
@@ -179,16 +151,12 @@ talks-like xs ys h = rows-like (units_of xs) (units_of ys) (units-like xs ys h)
 -- ---- the lines
 
 bytes-like : (xs ys : List Taken) → LikeTaken xs ys → bytes_of xs ≡ bytes_of ys
-bytes-like [] [] h = refl
-bytes-like [] (y ∷ ys) h = absurd h
-bytes-like (x ∷ xs) [] h = absurd h
 bytes-like (x ∷ xs) (y ∷ ys) h = λ i. bytes-like xs ys h.1 i + h.0.original i
+bytes-like xs ys h = grind arith
 
 truncated-like : (xs ys : List Taken) → LikeTaken xs ys → truncated_of xs ≡ truncated_of ys
-truncated-like [] [] h = refl
-truncated-like [] (y ∷ ys) h = absurd h
-truncated-like (x ∷ xs) [] h = absurd h
 truncated-like (x ∷ xs) (y ∷ ys) h = λ i. truncated-like xs ys h.1 i + (if nat_lt (length (h.0.frame i)) (h.0.original i) then 1 else 0)
+truncated-like xs ys h = grind arith
 
 lines-like : (xs ys : List Taken) → LikeTaken xs ys → counts_text xs ≡ counts_text ys
 lines-like xs ys h = grind (arith, taken-length, bytes-like, truncated-like, classes-like, counted-like, groups-like, events-groups, events-like, length_all_zip, talks-like)
@@ -210,9 +178,7 @@ limit-like xs ys x y h k = limit-by xs ys (unit_at xs x) (unit_at ys y) h (unit-
 refused-here : (c d : Option Stamp) (a b : Item) (xs ys : List Taken) (p q : Option Place) → LikeItems c d a b → LikeTaken xs ys → p ≡ q
     → place_or (length xs) (refusal_here xs c a) p ≡ place_or (length ys) (refusal_here ys d b) q
 refused-here c d (packet m f) (packet n g) xs ys p q h k e = grind (arith, limit-like, taken-length)
-refused-here c d (packet m f) (refused r) xs ys p q h k e = absurd h
-refused-here c d (refused o) (packet n g) xs ys p q h k e = absurd h
-refused-here c d (refused o) (refused r) xs ys p q h k e = absurd h
+refused-here c d a b xs ys p q h k e = grind arith
 
 -- ---- runs
 
@@ -221,17 +187,13 @@ with-like c d a b xs ys h k = grind arith
 
 taken-like : (as_ bs : List (Clocked Item)) (xs ys : List Taken) → RunsLike as_ bs → LikeTaken xs ys → LikeTaken (taken_after xs as_) (taken_after ys bs)
 unfolding taken_after
-taken-like [] [] xs ys h k = k
-taken-like [] (b ∷ bs) xs ys h k = absurd h
-taken-like (a ∷ as_) [] xs ys h k = absurd h
 taken-like (a ∷ as_) (b ∷ bs) xs ys h k = grind (arith, taken-like as_ bs (with_item a.clock a.item xs) (with_item b.clock b.item ys) h.1 (with-like a.clock b.clock a.item b.item xs ys h.0 k))
+taken-like as_ bs xs ys h k = grind arith
 
 pub refusals-like : (as_ bs : List (Clocked Item)) (xs ys : List Taken) → RunsLike as_ bs → LikeTaken xs ys → refused_after xs as_ ≡ refused_after ys bs
 unfolding refused_after
-refusals-like [] [] xs ys h k = refl
-refusals-like [] (b ∷ bs) xs ys h k = absurd h
-refusals-like (a ∷ as_) [] xs ys h k = absurd h
 refusals-like (a ∷ as_) (b ∷ bs) xs ys h k = search (refusals-like as_ bs (with_item a.clock a.item xs) (with_item b.clock b.item ys) h.1 (with-like a.clock b.clock a.item b.item xs ys h.0 k), refused-here, with-like)
+refusals-like as_ bs xs ys h k = grind arith
 
 pub same-but-forms : (run again : List (Clocked Item)) → RunsLike run again → SameButForms run again
 same-but-forms run again h =

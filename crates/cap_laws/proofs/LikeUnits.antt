@@ -1,10 +1,10 @@
 -- Units and conversations of packets that have the same times, maybe in other forms.
-use Rattle.std.proofs.Common.{arith, ◌≡◌, ℕ, ◌+◌, Bool, List, [], ◌∷◌, length, refl, ap, subst, not, Option, Some, None, Equal}
+use Rattle.std.proofs.Common.{arith, ◌≡◌, ℕ, ◌+◌, Bool, List, [], ◌∷◌, length, ap, not, Option, Some, None, Equal}
 use Rattle.std.proofs.lemmas.List.Elements.{length_all_zip}
 use Rattle.std.specs.List.{AllZip}
 use Rattle.std.specs.Map.{lookup}
 use Rattle.std.specs.Option.{option_map}
-use Rattle.std.specs.Ordering.{is_gt, is_lt, nat_cmp, ordering_then}
+use Rattle.std.specs.Ordering.{is_lt, nat_cmp, ordering_then}
 use Rattle.std.specs.Prelude.{filter, is_some, map, option_and_then, if◌then◌else◌}
 use Rattle.cap_ip.specs.Header.{HeaderFields}
 use Rattle.cap_ip.specs.Transport.{transport_of}
@@ -16,8 +16,8 @@ use Rattle.cap_join.specs.declared.datagrams.Stamped.{Stamped}
 use Rattle.cap_merge.specs.Clock.{clock_cmp}
 use Rattle.cap_talks.specs.CountedUnits.{first_unit, group_unit, unit_of}
 use Rattle.cap_talks.specs.Talks.Rows.{is_refused}
-use Rattle.cap_talks.specs.Talks.{Talk, bytes_of, by_time, by_time_down, earlier_frame, frame_time, frames_of, greatest_frame, is_forward, key_of, keys_of, later_frame, least_frame, place_or, row_of, rows_of, same_talk, units_of}
-use Rattle.cap_talks.specs.Talks.Units.{end_cmp, ends_of, timed_frame}
+use Rattle.cap_talks.specs.Talks.{Talk, bytes_of, by_time, by_time_down, earlier_frame, frames_of, greatest_frame, key_of, keys_of, later_frame, least_frame, place_or, row_of, rows_of, same_talk, units_of}
+use Rattle.cap_talks.specs.Talks.Units.{ends_of, timed_frame}
 use Rattle.cap_talks.specs.declared.talks.rows.TalkKey.{TalkKey}
 use Rattle.cap_talks.specs.declared.talks.units.CountedUnit.{CountedUnit}
 use Rattle.cap_talks.specs.declared.talks.units.End.{End}
@@ -70,9 +70,7 @@ with-like ps qs bytes header h = grind (arith, between, length_all_zip, original
 
 pub group-like : (ps qs : List Piece) → Like ps qs → LikeUnit (group_unit ps) (group_unit qs)
 unfolding group_unit
-group-like ps qs h =
-    subst (λ (u : Option CountedUnit). LikeUnit (unit_with ps (data_of ps) (header_of ps)) u)
-    (λ i. unit_with qs (data-like ps qs h i) (header-like ps qs h i)) (with-like ps qs (data_of ps) (header_of ps) h)
+group-like ps qs h = grind (arith, data-like, header-like, with-like, with-like ps qs (data_of ps) (header_of ps) h)
 
 pub first_unit-like : (gs ks : List (List Piece)) → AllZip Like gs ks → LikeUnit (first_unit gs) (first_unit ks)
 first_unit-like gs ks h = grind (arith, group-like)
@@ -82,82 +80,54 @@ first_unit-like gs ks h = grind (arith, group-like)
 abbrev pub LikeUnits : List CountedUnit → List CountedUnit → Type 0
 LikeUnits = AllZip IsLikeUnit
 
-forward-like : (u v : CountedUnit) → IsLikeUnit u v → is_forward u ≡ is_forward v
-forward-like u v h = λ i. not (is_gt (end_cmp (h.source i) (h.destination i)))
-
 pub key-like : (u v : CountedUnit) → IsLikeUnit u v → key_of u ≡ key_of v
 key-like u v h = cc
 
 filtered : (s : CountedUnit → Bool) → ((u v : CountedUnit) → IsLikeUnit u v → s u ≡ s v) → (us vs : List CountedUnit) → LikeUnits us vs → LikeUnits (filter s us) (filter s vs)
-filtered s same [] [] h = tt
-filtered s same [] (v ∷ vs) h = absurd h
-filtered s same (u ∷ us) [] h = absurd h
 filtered s same (u ∷ us) (v ∷ vs) h = grind (arith, filtered s same us vs h.1)
+filtered s same us vs h = grind arith
 
 keys-like : (us vs : List CountedUnit) → LikeUnits us vs → keys_of us ≡ keys_of vs
-keys-like [] [] h = refl
-keys-like [] (v ∷ vs) h = absurd h
-keys-like (u ∷ us) [] h = absurd h
 keys-like (u ∷ us) (v ∷ vs) h = λ i. key-like u v h.0 i ∷ filter (λ key. not (same_talk (key-like u v h.0 i) key)) (keys-like us vs h.1 i)
+keys-like us vs h = grind arith
 
 bytes-like : (us vs : List CountedUnit) → LikeUnits us vs → bytes_of us ≡ bytes_of vs
-bytes-like [] [] h = refl
-bytes-like [] (v ∷ vs) h = absurd h
-bytes-like (u ∷ us) [] h = absurd h
 bytes-like (u ∷ us) (v ∷ vs) h = λ i. h.0.bytes i + bytes-like us vs h.1 i
+bytes-like us vs h = grind arith
 
 counts-like : (us vs : List CountedUnit) → LikeUnits us vs → frames_of us ≡ frames_of vs
-counts-like [] [] h = refl
-counts-like [] (v ∷ vs) h = absurd h
-counts-like (u ∷ us) [] h = absurd h
 counts-like (u ∷ us) (v ∷ vs) h = λ i. h.0.frames i + counts-like us vs h.1 i
+counts-like us vs h = grind arith
 
 one-of : (s t x y : TimedFrame) → LikeTimed (Some s) (Some t) → LikeTimed (Some x) (Some y) → (b c : Bool) → b ≡ c
     → LikeTimed (if b then Some s else Some x) (if c then Some t else Some y)
 one-of s t x y h k b c e = grind arith
 
 earlier-like : (a b c d : Option TimedFrame) → LikeTimed a b → LikeTimed c d → LikeTimed (earlier_frame a c) (earlier_frame b d)
-earlier-like None None c d h k = k
-earlier-like None (Some y) c d h k = absurd h
-earlier-like (Some x) None c d h k = absurd h
-earlier-like (Some x) (Some y) None None h k = h
-earlier-like (Some x) (Some y) None (Some t) h k = absurd k
-earlier-like (Some x) (Some y) (Some s) None h k = absurd k
 earlier-like (Some x) (Some y) (Some s) (Some t) h k =
     one-of s t x y k h (is_lt (by_time s x)) (is_lt (by_time t y))
     (λ i. is_lt (ordering_then (cmp_same (Some s.time) (Some t.time) (Some x.time) (Some y.time) k.0 h.0 i) (nat_cmp (k.1 i) (h.1 i))))
+earlier-like a b c d h k = grind arith
 
 later-like : (a b c d : Option TimedFrame) → LikeTimed a b → LikeTimed c d → LikeTimed (later_frame a c) (later_frame b d)
-later-like None None c d h k = k
-later-like None (Some y) c d h k = absurd h
-later-like (Some x) None c d h k = absurd h
-later-like (Some x) (Some y) None None h k = h
-later-like (Some x) (Some y) None (Some t) h k = absurd k
-later-like (Some x) (Some y) (Some s) None h k = absurd k
 later-like (Some x) (Some y) (Some s) (Some t) h k =
     one-of s t x y k h (is_lt (by_time_down s x)) (is_lt (by_time_down t y))
     (λ i. is_lt (ordering_then (cmp_same (Some x.time) (Some y.time) (Some s.time) (Some t.time) h.0 k.0 i) (nat_cmp (k.1 i) (h.1 i))))
+later-like a b c d h k = grind arith
 
 least-like : (us vs : List CountedUnit) → LikeUnits us vs → LikeTimed (least_frame us) (least_frame vs)
-least-like [] [] h = tt
-least-like [] (v ∷ vs) h = absurd h
-least-like (u ∷ us) [] h = absurd h
 least-like (u ∷ us) (v ∷ vs) h = earlier-like u.first v.first (least_frame us) (least_frame vs) h.0.first (least-like us vs h.1)
+least-like us vs h = grind arith
 
 greatest-like : (us vs : List CountedUnit) → LikeUnits us vs → LikeTimed (greatest_frame us) (greatest_frame vs)
-greatest-like [] [] h = tt
-greatest-like [] (v ∷ vs) h = absurd h
-greatest-like (u ∷ us) [] h = absurd h
 greatest-like (u ∷ us) (v ∷ vs) h = later-like u.last v.last (greatest_frame us) (greatest_frame vs) h.0.last (greatest-like us vs h.1)
-
-time-like : (a b : Option TimedFrame) → LikeTimed a b → clock_cmp (frame_time a) (frame_time b) ≡ Equal
-time-like a b h = grind arith
+greatest-like us vs h = grind arith
 
 place-like : (a b : Option TimedFrame) → LikeTimed a b → place_or a 0 ≡ place_or b 0
 place-like a b h = grind arith
 
 row-like : (key : TalkKey) (us vs : List CountedUnit) → LikeUnits us vs → IsSameTalk (key, row_of us) (key, row_of vs)
-row-like key us vs h = grind (arith, filtered, forward-like, least-like, greatest-like, counts-like, bytes-like, time-like, place-like)
+row-like key us vs h = grind (arith, filtered, not, least-like, greatest-like, counts-like, bytes-like, place-like)
 
 rows-at : (keys : List TalkKey) (us vs : List CountedUnit) → LikeUnits us vs
     → AllZip IsSameTalk (map (λ key. (key, row_of (units_of key us))) keys) (map (λ key. (key, row_of (units_of key vs))) keys)
@@ -173,10 +143,8 @@ unfolding rows_of
 rows-like us vs h = grind (arith, keys-like, rows-at)
 
 found-like : (key : TalkKey) (xs ys : List Talk) → AllZip IsSameTalk xs ys → is_some (lookup (same_talk key) xs) ≡ is_some (lookup (same_talk key) ys)
-found-like key [] [] h = refl
-found-like key [] (y ∷ ys) h = absurd h
-found-like key (x ∷ xs) [] h = absurd h
 found-like key (x ∷ xs) (y ∷ ys) h = grind (arith, found-like key xs ys h.1)
+found-like key xs ys h = grind arith
 
 pub refused-like : (limit : ℕ) (key other : TalkKey) (xs ys : List Talk) → key ≡ other → AllZip IsSameTalk xs ys → is_refused limit xs key ≡ is_refused limit ys other
 refused-like limit key other xs ys e h = grind (arith, found-like, length_all_zip)

@@ -1,5 +1,5 @@
 -- The run of one file is the file, each item with the greatest time so far.
-use Rattle.std.proofs.Common.{◌≡◌, List, [], ◌∷◌, refl, ◌∙◌, ap, Option, Some, None}
+use Rattle.std.proofs.Common.{◌≡◌, List, [], ◌∷◌, refl, ◌∙◌, ap, Option, Some, None, arith}
 use Rattle.std.specs.Prelude.{map}
 use Rattle.cap_bytes.specs.declared.faults.Refusal.{Refusal}
 use Rattle.cap_merge.specs.Clock.{later}
@@ -8,7 +8,7 @@ use Rattle.cap_merge.specs.MergedList.{merged-next, merged-none}
 use Rattle.cap_merge.specs.Parts.{item_time, is_refusal}
 use Rattle.cap_source.specs.Times.{meta_time}
 use Rattle.cap_merge.specs.Run.{Clocked, merged, through_first}
-use Rattle.cap_source.specs.Feed.{Item, packet, refused, refusal_of}
+use Rattle.cap_source.specs.Feed.{Item, packet, refusal_of}
 use Rattle.cap_time.specs.declared.stamps.Stamp.{Stamp}
 
 -- the items of a file, after which it has reached a clock, each with its own
@@ -29,11 +29,9 @@ some-none r e = cc
 -- without a refusal, all of them
 all-items : (clock : Option Stamp) (xs : List Item) → refusal_of xs ≡ None → map (λ x. x.item) (through_first (λ x. is_refusal x.item) (clocked_from item_time clock xs)) ≡ xs
 unfolding refusal_of
-all-items clock [] none = refl
 all-items clock (packet meta frame ∷ xs) none = ap (λ l. packet meta frame ∷ l) (all-items (later clock (meta_time meta)) xs none)
-all-items clock (refused r ∷ xs) none = absurd (some-none r none)
+all-items clock xs none = grind (arith, some-none)
 
 -- The run of one file without a refusal has the file's items.
 pub run-one : (items : List Item) → refusal_of items ≡ None → run_of_lists (items ∷ []) ≡ items
-run-one items none =
-    ap (λ xs. map (λ x. x.item) (through_first (λ x. is_refusal x.item) xs)) (merged-one item_time None items) ∙ all-items None items none
+run-one items none = search (merged-one, all-items)

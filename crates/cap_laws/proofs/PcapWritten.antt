@@ -9,7 +9,7 @@ use Rattle.cap_merge.specs.Clock.{clock_cmp, later}
 use Rattle.cap_merge.specs.Files.{clocked_run, run_of_lists}
 use Rattle.cap_merge.specs.Parts.{item_time, is_refusal}
 use Rattle.cap_merge.specs.Run.{Clocked, opened, run}
-use Rattle.cap_source.specs.Feed.{Item, packet, refused, refusal_of}
+use Rattle.cap_source.specs.Feed.{Item, packet, refusal_of}
 use Rattle.cap_source.specs.Items.{file_first, file_items}
 use Rattle.cap_time.specs.declared.stamps.Stamp.{Stamp}
 use Rattle.cap_write.specs.Laws.{PcapAgain, SamePackets}
@@ -22,21 +22,13 @@ use Rattle.cap_laws.specs.Forms.{PcapReport}
 -- neither of two lists of such packets has a refusal
 never-first : (items again : List Item) → AllZip SamePackets items again → refusal_of items ≡ None
 unfolding refusal_of
-never-first [] [] h = refl
-never-first [] (b ∷ bs) h = absurd h
-never-first (a ∷ as_) [] h = absurd h
 never-first (packet m f ∷ as_) (packet n g ∷ bs) h = never-first as_ bs h.1
-never-first (packet m f ∷ as_) (refused r ∷ bs) h = absurd h.0
-never-first (refused q ∷ as_) (b ∷ bs) h = absurd h.0
+never-first as_ bs h = grind arith
 
 never-again : (items again : List Item) → AllZip SamePackets items again → refusal_of again ≡ None
 unfolding refusal_of
-never-again [] [] h = refl
-never-again [] (b ∷ bs) h = absurd h
-never-again (a ∷ as_) [] h = absurd h
 never-again (packet m f ∷ as_) (packet n g ∷ bs) h = never-again as_ bs h.1
-never-again (packet m f ∷ as_) (refused r ∷ bs) h = absurd h.0
-never-again (refused q ∷ as_) (b ∷ bs) h = absurd h.0
+never-again as_ bs h = grind arith
 
 -- ---- clocks
 
@@ -55,10 +47,8 @@ items-like c d a b e h = grind arith
 
 runs-like : (t u : Option Stamp) (as_ bs : List (Clocked Item)) → clock_cmp t u ≡ Equal → ClocksAreTold item_time t as_ → ClocksAreTold item_time u bs
     → AllZip SamePackets (map (λ x. x.item) as_) (map (λ x. x.item) bs) → RunsLike as_ bs
-runs-like t u [] [] e h k w = tt
-runs-like t u [] (b ∷ bs) e h k w = absurd w
-runs-like t u (a ∷ as_) [] e h k w = absurd w
 runs-like t u (a ∷ as_) (b ∷ bs) e h k w = search (runs-like (later t (item_time a.item)) (later u (item_time b.item)) as_ bs, later-same, times, told_twice, items-like)
+runs-like t u as_ bs e h k w = grind arith
 
 pub pcap-report : PcapAgain → PcapReport
 pcap-report again-law order tail tail_again bytes are none short =

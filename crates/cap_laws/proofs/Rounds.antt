@@ -1,5 +1,5 @@
 -- Merging the files that merges of groups wrote gives the bytes of one merge.
-use Rattle.std.proofs.Common.{◌≡◌, ℕ, suc, ◌+◌, List, [], ◌∷◌, ◌++◌, refl, sym, ◌∙◌, ap, arith, Option, Some, None, false}
+use Rattle.std.proofs.Common.{◌≡◌, ℕ, ◌+◌, List, [], ◌∷◌, ◌++◌, refl, sym, ◌∙◌, ap, arith, Option, Some, None, false}
 use Rattle.std.specs.List.{AllZip, AllByRecursion, flat_map}
 use Rattle.std.specs.Prelude.{map, is_none, unwrap_or}
 use Rattle.std.proofs.lemmas.List.{map-append}
@@ -7,7 +7,7 @@ use Rattle.cap_blocks.specs.Grammar.{section_bytes}
 use Rattle.cap_bytes.specs.declared.faults.Refusal.{Refusal}
 use Rattle.cap_bytes.specs.declared.faults.Tail.{Tail}
 use Rattle.cap_merge.specs.Files.{items_of_files, run_of_lists, run_of_files}
-use Rattle.cap_source.specs.Feed.{Item, packet, refused}
+use Rattle.cap_source.specs.Feed.{Item, packet}
 use Rattle.cap_source.specs.Items.{file_items}
 use Rattle.cap_write.specs.Laws.{MergeLaw, instances, numbers}
 use Rattle.cap_write.specs.Numbering.{Origin, numbered, refusal_in, with_origin}
@@ -21,12 +21,9 @@ use Rattle.cap_laws.specs.Rounds.{Group, IsMerged, group_bytes, refused_by, Roun
 abbrev items_each : Tail → List (List ℕ) → List (List Item)
 items_each tail files = map (file_items tail 1) files
 
-next_number : (file : ℕ) → suc file ≡ file + 1
-next_number file = omega arith
-
 numbered-each : (tail : Tail) (file : ℕ) (files : List (List ℕ)) → numbered_files file (items_each tail files) ≡ items_of_files tail file files
 numbered-each tail file [] = refl
-numbered-each tail file (bytes ∷ files) = grind (arith, numbered-each tail (file + 1) files, file-numbered, next_number)
+numbered-each tail file (bytes ∷ files) = grind (arith, numbered-each tail (file + 1) files, file-numbered)
 
 run-each : (tail : Tail) (files : List (List ℕ)) → run_of (items_each tail files) ≡ run_of_files tail files
 unfolding run_of run_of_files
@@ -40,27 +37,19 @@ timed units e = grind arith
 some-none : (r : Refusal) → Some r ≡ None → ⊥
 some-none r e = cc
 
-tails : (a b : ℕ) (xs ys : List ℕ) → a ∷ xs ≡ b ∷ ys → (a ≡ b) × (xs ≡ ys)
-tails a b xs ys e = (cc, cc)
-
 -- where each packet is written, and its instance is its number, the items are those of what is written
 items-are : (origins : List Origin) (items : List Item) → refusal_in origins items ≡ None → instances items ≡ numbers (numbered origins items)
     → AllZip IsItemOf (numbered origins items) items
 unfolding numbered instances
-items-are origins [] none same = tt
-items-are origins (refused r ∷ items) none same = absurd (some-none r (sym (refuses origins r items) ∙ none))
-items-are origins (packet meta frame ∷ items) none same = grind (arith, items-are (with_origin origins meta) items, goes, tails, instances, numbers)
+items-are origins (packet meta frame ∷ items) none same = grind (arith, items-are (with_origin origins meta) items, goes, instances, numbers)
+items-are origins items none same = grind (arith, some-none, refuses)
 
 -- ---- groups
-
-merge-of : MergeLaw → (tail tail_again : Tail) (group : Group) → IsMerged tail group
-    → IsMergeOf (items_each tail group.files) (file_items tail_again 1 (group_bytes tail group))
-merge-of law tail tail_again group is = grind (arith, run-each, items-are)
 
 merges-of : MergeLaw → (tail tail_again : Tail) (groups : List Group) → AllByRecursion (IsMerged tail) groups
     → AllZip IsMergeOf (map (λ group. items_each tail group.files) groups) (items_each tail_again (map (group_bytes tail) groups))
 merges-of law tail tail_again [] are = tt
-merges-of law tail tail_again (group ∷ groups) are = (merge-of law tail tail_again group are.0, merges-of law tail tail_again groups are.1)
+merges-of law tail tail_again (group ∷ groups) are = grind (arith, merges-of law tail tail_again groups are.1, run-each, items-are)
 
 all-files : (tail : Tail) (groups : List Group)
     → flat_map (λ files. files) (map (λ group. items_each tail group.files) groups) ≡ items_each tail (flat_map (λ group. group.files) groups)

@@ -1,5 +1,5 @@
 -- Runs of which the same packets are written have the same report: a packet's clock is told by the greatest time so far.
-use Rattle.std.proofs.Common.{arith, ◌≡◌, Bool, List, [], ◌∷◌, refl, sym, ap, subst, Option, None, Equal}
+use Rattle.std.proofs.Common.{arith, ◌≡◌, Bool, List, ◌∷◌, sym, ap, subst, Option, None, Equal}
 use Rattle.std.specs.List.{AllZip}
 use Rattle.std.specs.Ordering.{is_lt}
 use Rattle.std.specs.Prelude.{map, if◌then◌else◌}
@@ -36,10 +36,8 @@ alike-twins c d i j e h = grind arith
 
 runs-alike : (t u : Option Stamp) (as_ bs : List (Clocked Item)) → clock_cmp t u ≡ Equal → ClocksAreTold item_time t as_ → ClocksAreTold item_time u bs
     → AllZip TwinItems (map (λ x. x.item) as_) (map (λ x. x.item) bs) → RunsAlike as_ bs
-runs-alike t u [] [] e h k w = tt
-runs-alike t u [] (b ∷ bs) e h k w = absurd w
-runs-alike t u (a ∷ as_) [] e h k w = absurd w
 runs-alike t u (a ∷ as_) (b ∷ bs) e h k w = search (runs-alike (later t (item_time a.item)) (later u (item_time b.item)) as_ bs, later_equal, twin_times, told_twice, alike-twins)
+runs-alike t u as_ bs e h k w = grind arith
 
 -- Of the runs of two lists of files the same packets are written, after those interfaces, and none is refused.
 pub record IsRewritten (origins others : List Origin) (files again : List (List Item)) : Type 0 where
@@ -53,11 +51,7 @@ back_again origins others files again is = record { accepted = is.accepted_again
 -- Such runs are alike,
 pub rewritten-alike : (origins others : List Origin) (files again : List (List Item)) → IsRewritten origins others files again
     → RunsAlike (run item_time is_refusal (map opened files)) (run item_time is_refusal (map opened again))
-rewritten-alike origins others files again is =
-    let run_now = run item_time is_refusal (map opened files) in
-    let run_again = run item_time is_refusal (map opened again) in
-    runs-alike None None run_now run_again refl (run-clocks item_time is_refusal files) (run-clocks item_time is_refusal again)
-    (twins origins others (run_of_lists files) (run_of_lists again) is.accepted is.accepted_again (sym is.packets))
+rewritten-alike origins others files again is = grind (arith, runs-alike, run-clocks, twins, run-clocks item_time is_refusal files, run-clocks item_time is_refusal again)
 
 -- and have the same report.
 pub same-run : (origins others : List Origin) (files again : List (List Item)) → IsRewritten origins others files again

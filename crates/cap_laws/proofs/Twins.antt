@@ -1,5 +1,5 @@
 -- Lists of packets that are written alike, where nothing is refused, have the same packets but for what is told of files.
-use Rattle.std.proofs.Common.{arith, ◌≡◌, ℕ, Bool, false, List, [], ◌∷◌, refl, sym, ◌∙◌, Option, Some, None}
+use Rattle.std.proofs.Common.{arith, ◌≡◌, ℕ, Bool, false, List, [], ◌∷◌, refl, Option, Some, None}
 use Rattle.std.specs.List.{AllZip}
 use Rattle.std.specs.Prelude.{is_none, unwrap_or, if◌then◌else◌}
 use Rattle.cap_bytes.specs.declared.faults.Refusal.{Refusal}
@@ -48,9 +48,6 @@ goes origins meta frame items none = grind (arith, some-none, time_of)
 same_units : (a b : Option ℕ) → is_none a ≡ false → is_none b ≡ false → unwrap_or a 0 ≡ unwrap_or b 0 → a ≡ b
 same_units a b h k e = grind arith
 
-empty-more : {A : Type 0} (x : A) (xs : List A) → [] ≡ x ∷ xs → ⊥
-empty-more x xs e = cc
-
 heads : {A : Type 0} (x y : A) (xs ys : List A) → x ∷ xs ≡ y ∷ ys → (x ≡ y) × (xs ≡ ys)
 heads x y xs ys e = (cc, cc)
 
@@ -64,10 +61,5 @@ refuses origins r items = refl
 
 -- Lists of which the same packets are written, and none is refused, are such packets one by one.
 pub twins : (origins others : List Origin) (xs ys : List Item) → refusal_in origins xs ≡ None → refusal_in others ys ≡ None → numbered origins xs ≡ numbered others ys → AllZip TwinItems xs ys
-twins origins others [] [] h k e = tt
-twins origins others [] (packet n g ∷ ys) h k e = grind (arith, goes, empty-more, nothing)
-twins origins others [] (refused r ∷ ys) h k e = absurd (none-some r (sym k ∙ refuses others r ys))
-twins origins others (packet m f ∷ xs) [] h k e = grind (arith, goes, empty-more, nothing)
-twins origins others (refused q ∷ xs) ys h k e = absurd (none-some q (sym h ∙ refuses origins q xs))
-twins origins others (packet m f ∷ xs) (refused r ∷ ys) h k e = absurd (none-some r (sym k ∙ refuses others r ys))
 twins origins others (packet m f ∷ xs) (packet n g ∷ ys) h k e = grind (arith, twins (with_origin origins m) (with_origin others n) xs ys, goes, heads, same_units)
+twins origins others xs ys h k e = grind (arith, goes, nothing, none-some, refuses)

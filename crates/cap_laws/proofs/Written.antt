@@ -1,5 +1,5 @@
 -- The report and the run of the file that a merge writes, and of a file that is written as pcapng.
-use Rattle.std.proofs.Common.{arith, ◌≡◌, ℕ, ◌≤◌, ◌^◌, List, [], ◌∷◌, length, refl, Option, Some, None}
+use Rattle.std.proofs.Common.{arith, ◌≡◌, ℕ, ◌≤◌, ◌^◌, List, [], ◌∷◌, length, Some, None}
 use Rattle.std.specs.List.{AllByRecursion}
 use Rattle.cap_blocks.specs.Split.{AreBytes}
 use Rattle.cap_bytes.specs.declared.faults.Refusal.{Refusal}
@@ -7,17 +7,16 @@ use Rattle.cap_bytes.specs.declared.faults.Tail.{Tail}
 use Rattle.cap_bytes.specs.declared.numbers.Order.{Order}
 use Rattle.cap_merge.specs.Files.{clocked_run, items_of_files, run_of_files}
 use Rattle.cap_merge.specs.Run.{Clocked}
-use Rattle.cap_source.specs.Feed.{Item, packet, refused, refusal_of}
+use Rattle.cap_source.specs.Feed.{Item, packet, refusal_of}
 use Rattle.cap_source.specs.Items.{file_first, file_items}
-use Rattle.cap_time.specs.declared.stamps.Stamp.{Stamp}
 use Rattle.cap_write.specs.Laws.{MergeLaw, PcapngAgain}
 use Rattle.cap_write.specs.Numbering.{Origin, refusal_in, with_origin}
 use Rattle.cap_write.specs.Texts.{first_origins, merged_refusal, merged_bytes, pcapng_refusal, pcapng_bytes}
 use Rattle.cap_laws.proofs.OneFile.{run-one}
-use Rattle.cap_laws.proofs.Alike.{AlikeItems, RunsAlike}
+use Rattle.cap_laws.proofs.Alike.{RunsAlike}
 use Rattle.cap_laws.proofs.SameRun.{IsRewritten, rewritten-alike, same-run}
 use Rattle.cap_laws.specs.Reports.{MergedReport, PcapngReport}
-use Rattle.cap_laws.specs.Runs.{MergedRun, PcapngRun, SameItems, SameRun}
+use Rattle.cap_laws.specs.Runs.{MergedRun, PcapngRun, SameRun}
 
 -- ---- a merge
 
@@ -33,9 +32,7 @@ merged-rewritten merge-law order tail tail_again files bytes none short = grind 
 
 pub merged-report : MergeLaw → MergedReport
 unfolding merged_items
-merged-report merge-law order tail tail_again files bytes none short =
-    same-run [] [] (items_of_files tail 1 files) (merged_items order tail tail_again files ∷ [])
-    (merged-rewritten merge-law order tail tail_again files bytes none short)
+merged-report merge-law order tail tail_again files bytes none short = search (same-run, merged_items, merged-rewritten, merged-rewritten merge-law order tail tail_again files bytes none short)
 
 -- ---- a file as pcapng
 
@@ -45,9 +42,8 @@ some-none r e = cc
 -- where each packet is written, the file isn't refused
 unrefused : (origins : List Origin) (items : List Item) → refusal_in origins items ≡ None → refusal_of items ≡ None
 unfolding refusal_in refusal_of
-unrefused origins [] none = refl
-unrefused origins (refused r ∷ items) none = none
 unrefused origins (packet meta frame ∷ items) none = grind (arith, unrefused (with_origin origins meta) items)
+unrefused origins items none = cc
 
 pcapng_items : (order : Order) (tail tail_again : Tail) (bytes : List ℕ) → List Item
 pcapng_items order tail tail_again bytes = file_items tail_again 1 (pcapng_bytes order 1 (file_first tail 1 bytes) (file_items tail 1 bytes))
@@ -62,21 +58,13 @@ pcapng-rewritten again-law order tail tail_again bytes are none short = grind (a
 
 pub pcapng-report : PcapngAgain → PcapngReport
 unfolding pcapng_items
-pcapng-report again-law order tail tail_again bytes are none short =
-    let origins = first_origins 1 (file_first tail 1 bytes) in
-    same-run origins origins (file_items tail 1 bytes ∷ []) (pcapng_items order tail tail_again bytes ∷ [])
-    (pcapng-rewritten again-law order tail tail_again bytes are none short)
+pcapng-report again-law order tail tail_again bytes are none short = search (same-run, pcapng_items, pcapng-rewritten, pcapng-rewritten again-law order tail tail_again bytes are none short)
 
 -- ---- runs
 
-same-items : (c d : Option Stamp) (x y : Item) → AlikeItems c d x y → SameItems c d x y
-same-items c d x y h = grind arith
-
 same-runs : (xs ys : List (Clocked Item)) → RunsAlike xs ys → SameRun xs ys
-same-runs [] [] h = tt
-same-runs [] (y ∷ ys) h = absurd h
-same-runs (x ∷ xs) [] h = absurd h
-same-runs (x ∷ xs) (y ∷ ys) h = (same-items x.clock y.clock x.item y.item h.0, same-runs xs ys h.1)
+same-runs (x ∷ xs) (y ∷ ys) h = grind (arith, same-runs xs ys h.1)
+same-runs xs ys h = grind arith
 
 -- the run of files of some bytes, and that of a file of which the same packets are written
 run-again : (tail tail_again : Tail) (origins others : List Origin) (files : List (List ℕ)) (text : List ℕ)
@@ -86,14 +74,8 @@ run-again tail tail_again origins others files text is = search (same-runs, rewr
 
 pub merged-run : MergeLaw → MergedRun
 unfolding merged_items
-merged-run merge-law order tail tail_again files bytes none short =
-    run-again tail tail_again [] [] files (merged_bytes order (run_of_files tail files))
-    (merged-rewritten merge-law order tail tail_again files bytes none short)
+merged-run merge-law order tail tail_again files bytes none short = grind (arith, run-again, merged-rewritten, merged-rewritten merge-law order tail tail_again files bytes none short)
 
 pub pcapng-run : PcapngAgain → PcapngRun
 unfolding pcapng_items
-pcapng-run again-law order tail tail_again bytes are none short =
-    let first = file_first tail 1 bytes in
-    let origins = first_origins 1 first in
-    run-again tail tail_again origins origins (bytes ∷ []) (pcapng_bytes order 1 first (file_items tail 1 bytes))
-    (pcapng-rewritten again-law order tail tail_again bytes are none short)
+pcapng-run again-law order tail tail_again bytes are none short = search (run-again, pcapng-rewritten, pcapng-rewritten again-law order tail tail_again bytes are none short)
