@@ -18,14 +18,13 @@ use Rattle.cap_talks.specs.Talks.Rows.{TalksState, frames_in, bytes_in, is_refus
 use Rattle.cap_talks.specs.Talks.Rows as talks
 use Rattle.cap_talks.specs.Talks.{frames_of, bytes_of, key_of, rows_of}
 use Rattle.cap_talks.specs.declared.talks.units.CountedUnit.{CountedUnit}
-use Rattle.cap_time.specs.declared.stamps.Stamp.{Stamp}
 use Rattle.cap_talks.proofs.Frames.{frames-counted}
 use Rattle.cap_talks.proofs.Steps.{one-class}
 use Rattle.cap_talks.proofs.Tallying.{unit-waiting, enough-waiting, Stands-joined, state, unit-is, Stands-plain, Stands-datagram, Stands-kept, Stands-waiting}
 use Rattle.cap_talks.specs.Talks.Adding.{datagram_unit, datagram_class, is_over}
 use Rattle.cap_join.specs.Completed.{if_complete, completed_of}
 use Rattle.cap_talks.specs.Classes.{class_of, sum_of}
-use Rattle.cap_talks.specs.Taken.{Taken, Look, plain, datagram, fragment, look, stamped_of, events_with, events_of}
+use Rattle.cap_talks.specs.Taken.{Taken, plain, datagram, fragment, look, stamped_of, events_of}
 use Rattle.std.specs.Prelude.{Err}
 use Rattle.cap_talks.specs.declared.tallies.TallyFault.{TallyFault}
 use Rattle.cap_talks.specs.Tallies.{LimitBy, TallyState, Stands, IsSoundTally, Fits, Looks, one_if, counted_one, with_frames, with_group}
@@ -45,8 +44,7 @@ sum-taken t xs next h = ap sum_of h.classes ∙ (one-class xs).sum ∙ sym h.pla
 -- the frames of the conversations are among them
 pub frames-taken : (t : TallyState) (xs : List Taken) (next : Option Taken) → ((us : List CountedUnit) → frames_in (rows_of us) ≡ frames_of us) → Stands t xs next
     → frames_in t.talks.rows ≤ t.place
-frames-taken t xs next sums h =
-    omega (arith, ap frames_in h.talks.rows, sums (units_of xs), frames-counted xs, (one-class xs).sum, h.place)
+frames-taken t xs next sums h = grind (arith, ap frames_in h.talks.rows, sums (units_of xs), frames-counted xs, (one-class xs).sum, h.place)
 
 fit : (place joined : ℕ) (counts other : ClassCounts) (t : TalksState) (j : JoinerState) (w : Option Datagram) (xs : List Taken) (next : Option Taken) → w ≡ None → other ≡ counts
     → Stands (state place counts joined t j None) xs next → Stands (state place other joined t j w) xs next
@@ -192,13 +190,10 @@ joined-of put d ps is h = subst (λ (q : Put). IsAnswer q ps) is h
 
 -- ---- a datagram that waits
 
-events-few : (l : Look) (clock : Option Stamp) (es : List Event) → length (events_with l clock es) ≤ length es + 1
-events-few l clock es = grind arith
-
 events-taken : (xs : List Taken) → length (events_of xs) ≤ length xs
 unfolding events_of
 events-taken [] = omega arith
-events-taken (x ∷ xs) = omega (arith, events-few (look (length xs) x) x.clock (events_of xs), events-taken xs)
+events-taken (x ∷ xs) = grind (arith, events-taken xs)
 
 counted-more : (ps : List Piece) (groups : List (List Piece)) → counted_in (if_complete ps ++ groups) ≤ counted_in groups + 1
 counted-more ps groups = grind arith

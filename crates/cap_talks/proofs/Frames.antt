@@ -39,14 +39,7 @@ units-more x xs l is = grind (arith, frames_of-more, listed)
 module _ (x : Taken) (xs : List Taken) where
   with_look : (l : Look) → look (length xs) x ≡ l → frames_of (units_of xs) ≤ times class.Counted (classes xs) → frames_of (units_of (x ∷ xs)) ≤ times class.Counted (classes (x ∷ xs))
   with_look (plain c) is h = omega (arith, units-more x xs (plain c) is, ap (times class.Counted) (classes-plain x xs c is), h)
-  with_look (datagram header captured) is h =
-      omega (
-        arith,
-        units-more x xs (datagram header captured) is,
-        ap (times class.Counted) (classes-datagram x xs header captured is),
-        frames_whole header captured (stamped_of (length xs) x.meta),
-        h,
-      )
+  with_look (datagram header captured) is h = grind (arith, units-more x xs (datagram header captured) is, ap (times class.Counted) (classes-datagram x xs header captured is), frames_whole header captured (stamped_of (length xs) x.meta), h)
   with_look (fragment p) is h = by (completes joined) refl
     where
       joined : List Piece

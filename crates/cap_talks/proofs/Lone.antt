@@ -1,5 +1,5 @@
 -- In a run clocks never fall, places rise, and no fragment is a whole datagram by itself.
-use Rattle.std.proofs.Common.{◌≡◌, ℕ, ◌+◌, ◌≤◌, ◌<◌, Bool, true, false, List, [], ◌∷◌, length, refl, sym, ap, arith, ◌||◌, not, true≢false, Option, Some, None, Ordering}
+use Rattle.std.proofs.Common.{◌≡◌, ℕ, ◌+◌, ◌≤◌, ◌<◌, Bool, true, false, List, [], ◌∷◌, length, refl, ap, arith, ◌||◌, not, true≢false, Option, Some, None, Ordering}
 use Rattle.std.specs.Prelude.{◌==◌, if◌then◌else◌, map}
 use Rattle.std.specs.Option.{option_map_or}
 use Rattle.std.specs.Ordering.{is_lt, is_gt, ordering_reverse}
@@ -12,7 +12,6 @@ use Rattle.cap_join.specs.ByteMap.{completes, covers_below, holds, blocks}
 use Rattle.cap_join.proofs.Grouping.{covers_below-some}
 use Rattle.cap_join.specs.Fragments.{Piece, piece_of, end_of}
 use Rattle.cap_join.specs.declared.datagrams.Stamped.{Stamped}
-use Rattle.cap_link.specs.Seen.{Carried, ipv4, other_link, not_ipv4, short, cut as ends}
 use Rattle.cap_join.specs.Frames.{is_before}
 use Rattle.cap_join.specs.Joiners.{open_limit}
 use Rattle.cap_join.specs.Places.{latest_clock, next_place, AreInOrder}
@@ -28,7 +27,7 @@ use Rattle.cap_talks.proofs.Recount.{place_of}
 use Rattle.cap_talks.specs.Classes.{classes, classes_in}
 use Rattle.cap_talks.specs.InOrder.{ByPlaces}
 use Rattle.cap_talks.specs.ReportText.{with_item, taken_after}
-use Rattle.cap_talks.specs.Taken.{Taken, events_with, events_of, Look, plain, datagram, fragment, look_by, look_in, look_at, look}
+use Rattle.cap_talks.specs.Taken.{Taken, events_with, events_of, Look, plain, datagram, fragment, look_by, look_in, look}
 
 -- a fragment after which more follow, or that doesn't begin at 0
 lone : (p : Piece) → (p.more || not (p.start == 0)) ≡ true → completes (p ∷ []) ≡ false
@@ -36,12 +35,11 @@ unfolding completes
 lone p h = by p.more (p.start == 0) refl h
   where
     by : (m z : Bool) → (p.start == 0) ≡ z → (m || not z) ≡ true → option_map_or (λ n. covers_below (p ∷ []) (blocks n)) (if m then None else Some (end_of p)) false ≡ false
-    by true z e k = refl
-    by false true e k = absurd (true≢false (sym k))
     by false false e k =
         let far : 0 < p.start = grind (arith, nat_tests) in
         let out : holds p 0 ≡ false = grind (arith, nat_tests) in
         covers_below-some (p ∷ []) (blocks (end_of p)) 0 (omega (arith, far)) (ap (λ (b : Bool). b || false) out)
+    by m z e k = grind (arith, true≢false)
 
 -- what was found is what the bytes spell
 found_fields : (bytes : List ℕ) (whole : Bool) (h : HeaderFields) (x : List ℕ) → read_of bytes whole ≡ found h x → fields_of bytes ≡ h
@@ -73,17 +71,9 @@ part_in (found h x) bytes whole s e = part_of-by h.fragment bytes h x s (found_f
 part_in bad bytes whole s e = tt
 part_in cut bytes whole s e = tt
 
-part_at : (c : Carried) (whole : Bool) (s : Stamped) → IsPart (look_at c whole s)
-unfolding IsPart
-part_at (ipv4 bytes) whole s = part_in (read_of bytes whole) bytes whole s refl
-part_at other_link whole s = tt
-part_at not_ipv4 whole s = tt
-part_at short whole s = tt
-part_at ends whole s = tt
-
 pub no-lone : (place : ℕ) (x : Taken) (p : Piece) → look place x ≡ fragment p → completes (p ∷ []) ≡ false
 unfolding look IsPart
-no-lone place x p is = grind (arith, part_at)
+no-lone place x p is = grind (arith, part_in)
 
 -- ---- the events of a run are in order
 

@@ -4,15 +4,13 @@ use Rattle.std.specs.Prelude.{if◌then◌else◌, map}
 use Rattle.std.specs.List.{find}
 use Rattle.std.specs.Option.{option_map_or}
 use Rattle.cap_ip.specs.Header.{HeaderFields}
-use Rattle.cap_ip.specs.Read.{Reading, found, bad, cut, read_of}
+use Rattle.cap_ip.specs.Read.{Reading, found, bad, cut}
 use Rattle.cap_ip.specs.declared.headers.Fragment.{Fragment}
 use Rattle.cap_join.specs.Fragments.{Piece, piece_of}
-use Rattle.cap_join.specs.History.{Event}
 use Rattle.cap_join.specs.declared.datagrams.Stamped.{Stamped}
-use Rattle.cap_link.specs.Seen.{Carried, ipv4, other_link, not_ipv4, short, cut as ends}
 use Rattle.cap_talks.specs.Classes.{class_by, class_in, classes_in, group_class, has_place, is_class, times}
 use Rattle.cap_join.specs.Completed.{one_at, occurs, occurs_in, comes}
-use Rattle.cap_talks.specs.Taken.{Taken, Look, plain, datagram, fragment, look_by, look_in, look_at, look, events_with, events_of}
+use Rattle.cap_talks.specs.Taken.{Taken, Look, plain, datagram, fragment, look_by, look_in, look, events_of}
 use Rattle.cap_talks.specs.declared.classes.Class.{Class}
 use Rattle.cap_talks.specs.declared.classes.Class.TheVariants as class
 
@@ -45,37 +43,21 @@ place_in (found header captured) s = place_by header.fragment header captured s
 place_in bad s = tt
 place_in cut s = tt
 
-place_at : (c : Carried) (whole : Bool) (s : Stamped) → HasPlace s.place (look_at c whole s)
-place_at (ipv4 bytes) whole s = place_in (read_of bytes whole) s
-place_at other_link whole s = tt
-place_at not_ipv4 whole s = tt
-place_at short whole s = tt
-place_at ends whole s = tt
-
 pub place_of : (place : ℕ) (x : Taken) → HasPlace place (look place x)
 unfolding look
-place_of place x = search (place_at)
-
--- a place is that of one packet
-here_one : (n m : ℕ) (l : Look) (ls : List Look) → HasPlace m l → (n < m → here n ls ≤ 1) → (m ≤ n → here n ls ≡ 0)
-    → (n < m + 1 → here n (l ∷ ls) ≤ 1) × (m + 1 ≤ n → here n (l ∷ ls) ≡ 0)
-here_one n m l ls is below above = grind arith
+place_of place x = grind (arith, place_in)
 
 pub here_few : (n : ℕ) (xs : List Taken) → (n < length xs → here n (looks xs) ≤ 1) × (length xs ≤ n → here n (looks xs) ≡ 0)
 here_few n [] = (λ h. omega arith, λ h. refl)
-here_few n (x ∷ xs) = grind (arith, here_few n xs, here_one, place_of)
+here_few n (x ∷ xs) = grind (arith, here_few n xs, place_of)
 
 pub here_once : (n : ℕ) (xs : List Taken) → here n (looks xs) ≤ 1
 here_once n xs = grind (arith, here_few)
 
--- the fragments that come are those of the packets
-comes_with : (n : ℕ) (l : Look) (clock : _) (events : List Event) (ls : List Look) → comes n events ≡ here n ls → comes n (events_with l clock events) ≡ here n (l ∷ ls)
-comes_with n l clock events ls h = grind arith
-
 pub comes_here : (n : ℕ) (xs : List Taken) → comes n (events_of xs) ≡ here n (looks xs)
 unfolding events_of
 comes_here n [] = refl
-comes_here n (x ∷ xs) = comes_with n (look (length xs) x) x.clock (events_of xs) (looks xs) (comes_here n xs)
+comes_here n (x ∷ xs) = grind (arith, comes_here n xs)
 
 -- ---- a group among some packets
 

@@ -28,15 +28,7 @@ pub record Reporting (old new : TableState) : Type 0 where
   pub endings : IsTrue (feed_of old.parts).told → (file : ℕ) → (feed_of new.parts).endings file ≡ (feed_of old.parts).endings file
 
 pub Reporting-begin : (t : TableState) → Reporting t t
-Reporting-begin t = record {
-  taken = [];
-  went = Went-none (feed_of t.parts);
-  files = refl;
-  stands = λ h. h;
-  text = λ h. refl;
-  refusal = λ h s. refl;
-  endings = λ h file. refl;
-}
+Reporting-begin t = grind (arith, Went-none)
 
 -- the refusal of a run that begins with a packet
 refusal-packet : (xs : List Taken) (x : Taken) (run : List (Clocked Item)) (b : Bool) → is_limit_at xs x ≡ b

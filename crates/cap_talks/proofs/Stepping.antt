@@ -1,21 +1,21 @@
 -- One step of a table.
-use Rattle.std.proofs.Common.{◌≡◌, ℕ, ◌≤◌, Bool, true, false, List, [], ◌∷◌, drop, map, refl, sym, ◌∙◌, ap, subst, ◌&&◌, true≢false, Option, Some, None, Err, IsTrue, inl}
+use Rattle.std.proofs.Common.{◌≡◌, ℕ, ◌≤◌, Bool, true, false, List, [], ◌∷◌, drop, map, refl, sym, ◌∙◌, ap, subst, ◌&&◌, true≢false, Option, Some, None, Err, IsTrue}
 use Rattle.std.specs.Prelude.{is_some, if◌then◌else◌, IfSome}
 use Rattle.std.specs.List.{range_with_len}
 use Rattle.cap_bytes.specs.declared.faults.Fault.{Fault}
-use Rattle.cap_bytes.specs.declared.faults.Fault.TheVariants.{Refused, Read, Write, Memory}
+use Rattle.cap_bytes.specs.declared.faults.Fault.TheVariants.{Read, Memory}
 use Rattle.cap_bytes.specs.declared.faults.Refusal.{Refusal}
 use Rattle.cap_join.specs.declared.datagrams.Datagram.{Datagram}
 use Rattle.cap_join.specs.Joiners.{JoinerState}
 use Rattle.cap_merge.specs.Merge.{LearnsBy, LearnsAll}
-use Rattle.cap_merge.specs.Parts.{Part, feed_of, run_of, clock_of, known_of, is_known, head_by, first_of, BeginsAt, KeepsRun}
+use Rattle.cap_merge.specs.Parts.{Part, feed_of, run_of, clock_of, known_of, is_known, head_by, first_of, BeginsAt}
 use Rattle.cap_merge.specs.Run.{Clocked}
-use Rattle.cap_source.specs.Feed.{Feed, Item, packet, refused, Leads, IsFeed, GivesHead, KeepsItems, IsPacket, IsPacketOf, IfPacket, HasFile}
+use Rattle.cap_source.specs.Feed.{Feed, Item, packet, refused, Leads, IsFeed, GivesHead, IsPacket, IsPacketOf, IfPacket, HasFile}
 use Rattle.cap_source.specs.declared.feeds.Head.{Head}
 use Rattle.cap_source.specs.declared.feeds.Head.TheVariants as heads
 use Rattle.cap_source.specs.declared.packets.Meta.{Meta}
 use Rattle.cap_time.specs.declared.stamps.Stamp.{Stamp}
-use Rattle.cap_talks.specs.Stepping.{next_by, next_taken, TableStands, Steps}
+use Rattle.cap_talks.specs.Stepping.{next_by, next_taken, TableStands}
 use Rattle.cap_talks.specs.Taken.{Taken}
 use Rattle.cap_talks.specs.Files.Totals.{TotalsState}
 use Rattle.cap_talks.specs.Tallies.{TallyState, Joins, Stands}
@@ -24,13 +24,12 @@ use Rattle.cap_talks.specs.Tallies.{TallyState, Joins, Stands}
 
 all_known : (ps qs : List Part) → LearnsAll ps qs → is_known ps ≡ true → qs ≡ ps
 all_known [] [] h k = refl
-all_known [] (q ∷ qs) h k = absurd h
-all_known (p ∷ ps) [] h k = absurd h
 all_known (p ∷ ps) (q ∷ qs) h k = by p.lane.head h.0 k (all_known ps qs h.1)
   where
     by : (o : Option Head) → LearnsBy o p q → (is_some o && is_known ps) ≡ true → (is_known ps ≡ true → qs ≡ ps) → q ∷ qs ≡ p ∷ ps
     by None l k rest = absurd (true≢false (sym k))
     by (Some head) l k rest = λ i. l i ∷ rest k i
+all_known ps qs h k = absurd h
 
 known-some : (ps : List Part) (head : Head) → (feed_of ps).known ≡ Some head → is_known ps ≡ true
 unfolding feed_of known_of
@@ -156,27 +155,9 @@ pub failed : (totals : TotalsState) (tally : TallyState) (done : Bool) (ps qs : 
 failed totals tally done ps qs fault xs gives h = record { totals = h.totals; tally = stands-unknown tally ps xs (next_taken qs) (before (feed_of ps) (feed_of qs) fault gives) h.tally }
   where
     before : (old new : Feed) (fault : Fault) → GivesHead old (Err fault) new → old.known ≡ None
-    before old new (Refused r) h = absurd h
     before old new (Read file offset) h = h.before
-    before old new Write h = absurd h
     before old new Memory h = h.before
-
--- what a step answers if what comes next can't be told
-pub Steps-fault : (totals : TotalsState) (tally : TallyState) (done : Bool) (ps qs : List Part) (fault : Fault) → GivesHead (feed_of ps) (Err fault) (feed_of qs)
-    → (IsTrue (feed_of ps).told → KeepsItems (feed_of ps) (Err fault) (feed_of qs)) → (IsTrue (feed_of ps).told → KeepsRun ps (Err fault) qs)
-    → Steps (record { parts = ps; totals = totals; tally = tally; done = done }) (Err fault) (record { parts = qs; totals = totals; tally = tally; done = done })
-Steps-fault totals tally done ps qs (Refused r) gives items run = absurd gives
-Steps-fault totals tally done ps qs (Read file offset) gives items run = record {
-  breaks = gives;
-  stays = record { stands = λ xs. failed totals tally done ps qs (Read file offset) xs gives; going = refl };
-}
-Steps-fault totals tally done ps qs Write gives items run = absurd gives
-Steps-fault totals tally done ps qs Memory gives items run = record {
-  cause = inl gives;
-  goes = gives.goes;
-  same = λ t. record { run = run t; endings = (items t).endings };
-  stays = record { stands = λ xs. failed totals tally done ps qs Memory xs gives; going = refl };
-}
+    before old new fault h = absurd h
 
 -- ---- what is true of a packet that comes next
 

@@ -42,16 +42,11 @@ module _ (x : Taken) (xs : List Taken) (p : Piece) (is : look (length xs) x ≡ 
   abbrev pub joined : List Piece
   joined = joined_pieces x.clock p (state_of open_limit (events_of xs))
 
-  own_place : p.stamped.place ≡ length xs
-  own_place = rw is at (place_of (length xs) x)
-
   before : (n : ℕ) → occurs_in n (groups_of xs) ≤ here n (looks xs)
   before n = omega (arith, once open_limit n (events_of xs), comes_here n xs)
 
   own : class_in (groups_of xs) p.stamped.place ≡ class.Unjoined
-  own =
-      unjoined p.stamped.place (groups_of xs)
-      (let none = (here_few p.stamped.place xs).1 (omega (arith, own_place)) in omega (arith, none, before p.stamped.place))
+  own = grind (arith, unjoined, p, xs, here_few, is, place_of, x, before)
 
   -- one that completes no group
   pub classes-kept : completes joined ≡ false → classes (x ∷ xs) ≡ class.Unjoined ∷ classes xs

@@ -7,7 +7,7 @@ use Rattle.cap_join.specs.Joiners.{JoinerState, StandsFor, open_limit}
 use Rattle.cap_join.specs.declared.datagrams.Datagram.{Datagram}
 use Rattle.cap_talks.specs.CountedUnits.{given_up_in}
 use Rattle.cap_talks.specs.Taken.{Taken, fragment, look, events_of, events_with}
-use Rattle.cap_talks.specs.Tallies.{TallyState, WaitsFor, Joins, Stands, IsSoundTally, one_if}
+use Rattle.cap_talks.specs.Tallies.{TallyState, WaitsFor, Stands, IsSoundTally, one_if}
 use Rattle.cap_talks.proofs.Lone.{no-lone}
 use Rattle.cap_talks.proofs.Room.{few-open, waiting-room}
 
@@ -36,16 +36,9 @@ left-by d j xs next w =
       given_up = stands.given_up ∙ ap (λ s. s.given_up) is ∙ room.1;
     }
 
--- no more groups are held than may be open
-groups-by : (w : Option Datagram) (j : JoinerState) (xs : List Taken) (next : Option Taken) → Joins w j xs next → length j.groups + one_if w ≤ open_limit
-groups-by w j xs next h = grind (arith, lengths, few-open, left-by)
-
 pub groups-few : (t : TallyState) → IsSoundTally t → length t.joiner.groups + one_if t.waiting ≤ open_limit
-groups-few t s = groups-by t.waiting t.joiner s.taken s.next s.stands.joins
-
-given-by : (w : Option Datagram) (j : JoinerState) (xs : List Taken) (next : Option Taken) → Joins w j xs next → j.given_up ≡ given_up_in xs
-given-by w j xs next h = grind (arith, left-by)
+groups-few t s = grind (arith, lengths, few-open, left-by)
 
 -- the groups that were given up are those of the packets that were taken
 pub given-up : (t : TallyState) (xs : List Taken) (next : Option Taken) → Stands t xs next → t.joiner.given_up ≡ given_up_in xs
-given-up t xs next h = given-by t.waiting t.joiner xs next h.joins
+given-up t xs next h = grind (arith, left-by)

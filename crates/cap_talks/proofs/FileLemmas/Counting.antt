@@ -1,11 +1,10 @@
 -- The packets of a file, counted one by one.
-use Rattle.std.proofs.Common.{◌≡◌, ◌≤◌, ◌<◌, ◌+◌, ◌*◌, ◌^◌, ℕ, cond, nat_lt, List, [], ◌∷◌, ◌++◌, drop, refl, sym, ap, ◌∙◌, arith, Some, None, option_map, IsTrue, Ok, Err, append-nil, append_assoc, length-append, Bool}
+use Rattle.std.proofs.Common.{◌≡◌, ◌≤◌, ◌<◌, ◌+◌, ◌*◌, ◌^◌, ℕ, cond, nat_lt, List, [], ◌∷◌, ◌++◌, drop, sym, ap, ◌∙◌, arith, Some, None, option_map, IsTrue, Ok, Err, append-nil, append_assoc, length-append}
 use Rattle.std.specs.Option.{option_map_or}
 use Rattle.cap_bytes.specs.declared.faults.Fault.{Fault}
 use Rattle.cap_source.proofs.Onward.{Went, Went-none, Went-more}
 use Rattle.cap_source.specs.Feed.{Feed, Item, packet, Keeps, Passes, refusal_of}
-use Rattle.cap_source.specs.ReadFaults.{FailsAs}
-use Rattle.cap_source.specs.Walk.{GivesPacket, ShowsItem, Walks}
+use Rattle.cap_source.specs.Walk.{GivesPacket, ShowsItem}
 use Rattle.cap_source.specs.declared.packets.Meta.{Meta}
 use Rattle.cap_talks.specs.Files.Counting.{packets_of, original_bytes, truncated_packets, last_packet, counted, with_packet}
 use Rattle.cap_talks.specs.Files.Reading.{CountsAll}
@@ -22,9 +21,8 @@ truncated-more [] meta = omega arith
 truncated-more (m ∷ metas) meta = omega (arith, truncated-more metas meta)
 
 last-more : (metas : List Meta) (meta : Meta) → last_packet (metas ++ meta ∷ []) ≡ Some meta
-last-more [] meta = refl
-last-more (m ∷ []) meta = refl
 last-more (m ∷ n ∷ metas) meta = last-more (n ∷ metas) meta
+last-more metas meta = cc
 
 -- one packet more
 pub counted-more : (metas : List Meta) (meta : Meta) → counted (metas ++ meta ∷ []) ≡ with_packet (counted metas) meta
@@ -56,20 +54,7 @@ pub record IsCounted (old new : Feed) (counts : Counts) : Type 0 where
 
 pub counted-none : (feed : Feed) (counts : Counts) → feed.left ≤ 2 ^ 40 → counts ≡ counted [] → IsCounted feed feed counts
 unfolding counted
-counted-none feed counts few is = record {
-  taken = [];
-  counts_is = is;
-  few = rw is (omega (arith, few));
-  sums = rw is (omega arith);
-  truncated = rw is (omega arith);
-  went = Went-none feed;
-  files = refl;
-  told = λ t. t;
-  can_fail = λ t. t;
-  packets = λ t. refl;
-  refusal = λ t. refl;
-  endings = λ t file. refl;
-}
+counted-none feed counts few is = grind (arith, Went-none)
 
 packets-first : (meta : Meta) (frame : List ℕ) (items rest : List Item) → items ≡ packet meta frame ∷ rest → packets_of items ≡ meta ∷ packets_of rest
 unfolding packets_of
@@ -120,8 +105,3 @@ pub counted-fault : (fault : Fault) (old mid shown new : Feed) (counts : Counts)
     → (IsTrue mid.told → ShowsItem mid (Err fault) shown) → CountsAll old (Err fault) new
 unfolding refusal_of
 counted-fault fault old mid shown new counts c t shows = grind arith
-
--- A read of the file of that number fails.
-pub fails-as : (A : Type 0) (old new : Feed) (number : ℕ) (can_fail : Bool) (fault : Fault) → old.files ≡ number ∷ [] → old.can_fail ≡ can_fail
-    → Walks {A = Counts} old (Err fault) new → FailsAs {A = A} number can_fail (Err fault)
-fails-as A old new number can_fail fault files can w = grind arith

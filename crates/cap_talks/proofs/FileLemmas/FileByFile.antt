@@ -1,50 +1,41 @@
 -- Files that are read one by one.
-use Rattle.std.proofs.lemmas.Bool.Decides.{nat_tests}
-use Rattle.std.proofs.lemmas.Grind.{common_steps}
-use Rattle.std.proofs.Common.{◌≡◌, ◌<◌, ◌≤◌, ◌+◌, ℕ, zero, suc, Bool, true, List, [], ◌∷◌, ◌++◌, length, map, take, drop, get_or, refl, sym, ap, arith, Option, Some, None, Result, Ok, Err, append-nil, append_assoc}
-use Rattle.std.specs.Prelude.{◌&&◌, IsOkUnless, Vec}
+use Rattle.std.proofs.Common.{◌≡◌, ◌<◌, ◌+◌, ℕ, suc, Bool, true, List, [], ◌∷◌, ◌++◌, length, map, take, drop, get_or, arith, Option, None, Ok, Err, append_assoc}
+use Rattle.std.specs.Prelude.{◌&&◌, Vec}
 use Rattle.std.specs.List.{list_all, list_any}
 use Rattle.std.specs.declared.alloc.Global.{Global}
 use Rattle.cap_bytes.specs.declared.faults.Fault.{Fault}
-use Rattle.cap_bytes.specs.declared.faults.Fault.TheVariants.{Write}
 use Rattle.cap_bytes.specs.declared.faults.Refusal.{Refusal}
 use Rattle.cap_bytes.specs.declared.faults.Tail.{Tail}
 use Rattle.cap_source.specs.ReadFaults.{FailsAs, FailsOf}
 use Rattle.cap_source.specs.Items.{file_items}
-use Rattle.cap_source.specs.Feed.{Feed, refusal_of}
+use Rattle.cap_source.specs.Feed.{refusal_of}
 use Rattle.cap_talks.specs.Files.Lines.{or_else, first_refusal}
-use Rattle.cap_talks.specs.Files.Reading.{counted_files, CountsAll, CountsFile, CountsFiles, FailsFirst}
+use Rattle.cap_talks.specs.Files.Reading.{counted_files, CountsFile, CountsFiles}
 use Rattle.cap_talks.specs.declared.files.Counted.{Counted}
 
 bytes-at : {R : Type 0} (coming : R → List ℕ) (all : List R) (place : ℕ) (x : R) → x ≡ get_or all place x → place < length all
     → drop place (map coming all) ≡ coming x ∷ drop (suc place) (map coming all)
-bytes-at coming [] place x is within = absurd (omega arith)
-bytes-at coming (y ∷ all) zero x is within = ap (λ z. coming z ∷ map coming all) (sym is)
 bytes-at coming (y ∷ all) (suc place) x is within = bytes-at coming all place x is (omega arith)
+bytes-at coming all place x is within = grind arith
 
 pub all-at : {R : Type 0} (test : R → Bool) (all : List R) (place : ℕ) (x : R) → x ≡ get_or all place x → place < length all
     → list_all test all ≡ true → test x ≡ true
-all-at test [] place x is within t = absurd (omega arith)
-all-at test (y ∷ all) zero x is within t = grind arith
 all-at test (y ∷ all) (suc place) x is within t = all-at test all place x is (omega arith) (second (test y) (list_all test all) t)
   where
     second : (a b : Bool) → (a && b) ≡ true → b ≡ true
     second a b h = grind arith
+all-at test all place x is within t = grind arith
 
 pub any-at : {R : Type 0} (test : R → Bool) (all : List R) (place : ℕ) (x : R) → x ≡ get_or all place x → place < length all
     → test x ≡ true → list_any test all ≡ true
-any-at test [] place x is within t = absurd (omega arith)
-any-at test (y ∷ all) zero x is within t = cc
 any-at test (y ∷ all) (suc place) x is within t = grind (arith, any-at test all place x is (omega arith) t)
+any-at test all place x is within t = grind arith
 
 -- What was read of some files, of which the first n were read, and what is still to be read of the others.
 pub record AreRead (tail : Tail) (all : List (List ℕ)) (place : ℕ) (read : List Counted) : Type 0 where
   pub counted : read ++ counted_files tail (1 + place) (drop place all) ≡ counted_files tail 1 all
   pub refusal : first_refusal tail (1 + place) (drop place all) ≡ first_refusal tail 1 all
   pub before : first_refusal tail 1 (take place all) ≡ None
-
-pub read-none : (tail : Tail) (all : List (List ℕ)) → AreRead tail all 0 []
-read-none tail all = record { counted = refl; refusal = refl; before = refl }
 
 or_else-none : (a b : Option Refusal) → or_else a b ≡ None → (a ≡ None) × (b ≡ None)
 or_else-none a b h = grind arith
@@ -53,10 +44,8 @@ or_else-none a b h = grind arith
 before-more : (tail : Tail) (file : ℕ) (all : List (List ℕ)) (place : ℕ) (bytes : List ℕ) (rest : List (List ℕ)) → drop place all ≡ bytes ∷ rest
     → first_refusal tail file (take place all) ≡ None → refusal_of (file_items tail (file + place) bytes) ≡ None
     → first_refusal tail file (take (suc place) all) ≡ None
-before-more tail file [] zero bytes rest is none here = refl
-before-more tail file [] (suc place) bytes rest is none here = refl
-before-more tail file (y ∷ all) zero bytes rest is none here = grind arith
 before-more tail file (y ∷ all) (suc place) bytes rest is none here = grind (arith, before-more tail (file + 1) all place bytes rest is)
+before-more tail file all place bytes rest is none here = grind arith
 
 -- one file more is read
 pub read-more : {R : Type 0} (coming : R → List ℕ) (tail : Tail) (all : List R) (place : ℕ) (x : R) (read : List Counted) (it : Counted)
@@ -64,38 +53,13 @@ pub read-more : {R : Type 0} (coming : R → List ℕ) (tail : Tail) (all : List
     → AreRead tail (map coming all) (place + 1) (read ++ it ∷ [])
 read-more coming tail all place x read it is within r e = grind (arith, bytes-at, append_assoc, take, before-more)
 
--- all files are read
-pub read-all : (tail : Tail) (all : List (List ℕ)) (place : ℕ) (read : List Counted) → length all ≤ place → AreRead tail all place read
-    → (first_refusal tail 1 all ≡ None) × (read ≡ counted_files tail 1 all)
-read-all tail all place read past r = grind (arith, common_steps, nat_tests, append-nil)
-
--- one of them is refused
-pub read-refused : {R : Type 0} (coming : R → List ℕ) (tail : Tail) (all : List R) (place : ℕ) (x : R) (read : List Counted) (refusal : Refusal)
-    → x ≡ get_or all place x → place < length all → AreRead tail (map coming all) place read → refusal_of (file_items tail (1 + place) (coming x)) ≡ Some refusal
-    → first_refusal tail 1 (map coming all) ≡ Some refusal
-read-refused coming tail all place x read refusal is within r e = grind (arith, bytes-at)
-
 -- what is answered where a file can't be counted
 pub read-fault : {R : Type 0} (coming : R → List ℕ) (tail : Tail) (all : List R) (place : ℕ) (x : R) (read : List Counted) (fault : Fault)
     → x ≡ get_or all place x → place < length all → AreRead tail (map coming all) place read → CountsFile tail (1 + place) (coming x) (Err fault)
     → CountsFiles tail (map coming all) (Err fault)
-read-fault coming tail all place x read fault is within r e = grind (arith, read-refused, take)
+read-fault coming tail all place x read fault is within r e = grind (arith, bytes-at, take)
 
 -- a read of one of them fails
 pub fails : {R : Type 0} (can_fail : R → Bool) (all : List R) (place : ℕ) (x : R) (fault : Fault) → x ≡ get_or all place x → place < length all
     → FailsAs {A = Counted} (1 + place) (can_fail x) (Err fault) → FailsOf {A = Vec Counted Global} (length all) (list_any can_fail all) (Err fault)
 fails can_fail all place x fault is within f = grind (arith, any-at)
-
--- the file of that number can't be counted
-pub faults-as : (tail : Tail) (file : ℕ) (bytes : List ℕ) (old new : Feed) (can_fail : Bool) (fault : Fault) → old.items ≡ file_items tail file bytes
-    → CountsAll old (Err fault) new → FailsAs {A = Counted} file can_fail (Err fault) → CountsFile tail file bytes (Err fault)
-faults-as tail file bytes old new can_fail fault is e f = grind arith
-
--- no file before it is refused
-pub first-of-fault : (A : Type 0) (tail : Tail) (files : List (List ℕ)) (fault : Fault) → CountsFiles tail files (Err fault)
-    → FailsFirst {A = A} tail files (Err fault)
-first-of-fault A tail files fault e = grind arith
-
--- and where all were counted no read fails
-pub first-of-written : (tail : Tail) (files : List (List ℕ)) (result : Result (Unit {0}) Fault) → IsOkUnless result Write → FailsFirst tail files result
-first-of-written tail files result other = grind arith

@@ -1,5 +1,6 @@
 -- The lines of files, written one by one.
-use Rattle.std.proofs.Common.{◌≡◌, ◌<◌, ◌≤◌, ◌+◌, ℕ, zero, suc, List, [], ◌∷◌, ◌++◌, length, take, drop, get_or, IsTrue, IsOkUnless, refl, sym, ap, ◌∙◌, subst, arith, Option, Some, None, Result, Err, length-append, take_at, drop_at}
+use Rattle.std.proofs.lemmas.Grind.{common_steps}
+use Rattle.std.proofs.Common.{◌≡◌, ◌<◌, ◌≤◌, ◌+◌, ℕ, suc, List, [], ◌∷◌, ◌++◌, length, take, drop, get_or, IsTrue, IsOkUnless, refl, sym, ap, ◌∙◌, subst, arith, Option, Some, None, Result, length-append, take_at, drop_at}
 use Rattle.cap_bytes.proofs.Putting.{Putting, Putting-more, Putting-front}
 use Rattle.cap_bytes.specs.Device.{Writer}
 use Rattle.cap_bytes.specs.Printing.{Prints, PrintsFront}
@@ -7,23 +8,20 @@ use Rattle.cap_bytes.specs.declared.faults.Fault.{Fault}
 use Rattle.cap_bytes.specs.declared.faults.Fault.TheVariants.{Write}
 use Rattle.cap_bytes.specs.declared.faults.Refusal.{Refusal}
 use Rattle.cap_bytes.specs.declared.faults.Tail.{Tail}
-use Rattle.cap_talks.specs.Files.Lines.{file_text, files_text, file_texts, info_text, first_refusal}
-use Rattle.cap_talks.specs.Files.Reading.{counted_texts, counted_files, CountsFiles}
+use Rattle.cap_talks.specs.Files.Lines.{file_text, files_text, file_texts, info_text}
+use Rattle.cap_talks.specs.Files.Reading.{counted_texts, counted_files}
 use Rattle.cap_talks.specs.Telling.{Tells}
 use Rattle.cap_talks.specs.declared.files.Counted.{Counted}
 
 -- the line of the file at a place, and those after it
 pub texts-at : (all : List Counted) (place file : ℕ) (it : Counted) → it ≡ get_or all place it → place < length all
     → counted_texts file (drop place all) ≡ file_text file it.counts (Some it.ending) ++ counted_texts (file + 1) (drop (suc place) all)
-texts-at [] place file it is within = absurd (omega arith)
-texts-at (c ∷ all) zero file it is within = ap (λ (w : Counted). file_text file w.counts (Some w.ending) ++ counted_texts (file + 1) all) (sym is)
 texts-at (c ∷ all) (suc place) file it is within = texts-at all place file it is (omega arith)
+texts-at all place file it is within = grind arith
 
 pub texts-none : (all : List Counted) (place file : ℕ) → length all ≤ place → counted_texts file (drop place all) ≡ []
-texts-none [] zero file past = refl
-texts-none [] (suc place) file past = refl
-texts-none (c ∷ all) zero file past = absurd (omega arith)
 texts-none (c ∷ all) (suc place) file past = texts-none all place file (omega arith)
+texts-none all place file past = grind (arith, common_steps)
 
 -- one line more is written
 pub lines-more : (from mid to : Writer) (all : List Counted) (place : ℕ) (it : Counted) (line : List ℕ) → it ≡ get_or all place it → place < length all
@@ -70,8 +68,3 @@ info-counted tail files all is = grind (arith, files-counted, texts-counted)
 pub tells-printed : (text : List ℕ) (refusal : Option Refusal) (old : List ℕ) (result : Result (Unit {0}) Fault) (new : List ℕ) → refusal ≡ None
     → IsOkUnless result Write → Prints text None old result new → Tells text refusal old result new
 tells-printed text refusal old result new none fault p = grind arith
-
--- nothing is written before the files were read
-pub tells-fault : (text : List ℕ) (tail : Tail) (files : List (List ℕ)) (held : List ℕ) (fault : Fault) → CountsFiles tail files (Err fault)
-    → Tells text (first_refusal tail 1 files) held (Err fault) held
-tells-fault text tail files held fault e = grind arith

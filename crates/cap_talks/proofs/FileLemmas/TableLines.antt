@@ -1,4 +1,5 @@
 -- The lines of the files of a table, written one by one.
+use Rattle.std.proofs.lemmas.Grind.{common_steps}
 use Rattle.std.proofs.Common.{◌≡◌, ◌<◌, ◌≤◌, ◌+◌, ◌==◌, ◌||◌, ℕ, zero, suc, Bool, List, [], ◌∷◌, ◌++◌, length, take, drop, get_or, IsTrue, refl, sym, ap, ◌∙◌, subst, arith, Option, length-append, take_at, drop_at}
 use Rattle.std.specs.List.{flat_map, list_any, range_with_len}
 use Rattle.cap_bytes.proofs.Putting.{Putting, Putting-more, Putting-front}
@@ -16,15 +17,12 @@ use Rattle.cap_talks.specs.declared.files.counts.Counts.{Counts}
 -- the line of the file at a place, and those after it
 lines-at : (e : Option (ℕ → Ending)) (all : List Counts) (place file : ℕ) (it : Counts) → it ≡ get_or all place it → place < length all
     → lines_from e file (drop place all) ≡ file_text file it (ending_at e file) ++ lines_from e (file + 1) (drop (suc place) all)
-lines-at e [] place file it is within = absurd (omega (arith, within))
-lines-at e (c ∷ all) zero file it is within = ap (λ (w : Counts). file_text file w (ending_at e file) ++ lines_from e (file + 1) all) (sym is)
 lines-at e (c ∷ all) (suc place) file it is within = lines-at e all place file it is (omega (arith, within))
+lines-at e all place file it is within = grind arith
 
 pub lines-none : (e : Option (ℕ → Ending)) (all : List Counts) (place file : ℕ) → length all ≤ place → lines_from e file (drop place all) ≡ []
-lines-none e [] zero file past = refl
-lines-none e [] (suc place) file past = refl
-lines-none e (c ∷ all) zero file past = absurd (omega (arith, past))
 lines-none e (c ∷ all) (suc place) file past = lines-none e all place file (omega (arith, past))
+lines-none e all place file past = grind (arith, common_steps)
 
 split : (e : Option (ℕ → Ending)) (all : List Counts) (place : ℕ) (it : Counts) (line : List ℕ) → it ≡ get_or all place it → place < length all
     → line ≡ file_text (place + 1) it (ending_at e (place + 1))
@@ -54,14 +52,10 @@ pub lines-front : (e : Option (ℕ → Ending)) (from mid : Writer) (held : List
     → line ≡ file_text (place + 1) it (ending_at e (place + 1))
     → Putting from mid (lines_from e 1 all) (lines_from e (place + 1) (drop place all)) → IsTrue from.told → held ≡ mid.held ++ take n line
     → PrintsFront (lines_from e 1 all) from.held held
-lines-front e from mid held all place it line n is within text p t wrote =
-    Putting-front from mid held (lines_from e 1 all) line (lines_from e (place + 1 + 1) (drop (suc place) all)) n
-    (subst (Putting from mid (lines_from e 1 all)) (split e all place it line is within text) p) t wrote
+lines-front e from mid held all place it line n is within text p t wrote = search (Putting-front, split, subst (Putting from mid (lines_from e 1 all)) (split e all place it line is within text) p)
 
 -- a file of that number is one of them
 pub is-numbered : (first count place : ℕ) → place < count → HasFile (range_with_len first count) (first + place)
-is-numbered first zero place within = absurd (omega (arith, within))
-is-numbered first (suc count) zero within = grind arith
 is-numbered first (suc count) (suc place) within = by (first == first + suc place) (subst (HasFile (range_with_len (first + 1) count)) next (is-numbered (first + 1) count place (omega (arith, within))))
   where
     next : first + 1 + place ≡ first + suc place
@@ -69,6 +63,7 @@ is-numbered first (suc count) (suc place) within = by (first == first + suc plac
 
     by : (b : Bool) → HasFile (range_with_len (first + 1) count) (first + suc place) → IsTrue (b || list_any (λ f. f == first + suc place) (range_with_len (first + 1) count))
     by b h = grind arith
+is-numbered first count place within = grind arith
 
 -- the lines of what is counted of each file are those of the report
 pub lines-counted : (e : Option (ℕ → Ending)) (xs : List Taken) (first count : ℕ) → lines_from e first (counts_from first count xs) ≡ flat_map (file_line e xs) (range_with_len first count)

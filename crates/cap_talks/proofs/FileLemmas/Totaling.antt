@@ -34,16 +34,13 @@ pub counts-more : (xs : List Taken) (x : Taken) (first count place : ℕ) → x.
     → counts_from first count (x ∷ xs)
     ≡ slice_set (counts_from first count xs) place (with_packet (slice_index_or (counts_from first count xs) place (counted [])) x.meta)
 counts-more xs x first zero place is within = absurd (omega (arith, within))
-counts-more xs x first (suc count) zero is within =
-    let same : (x.meta.file == first) ≡ true = grind (arith, nat_tests, is) in
-    λ i. own xs x first same i ∷ apart xs x (first + 1) count (omega (arith, is)) i
+counts-more xs x first (suc count) zero is within = grind (arith, nat_tests, is, own, apart)
 counts-more xs x first (suc count) (suc place) is within = search (rules, counts-more xs x (first + 1) count place (omega (arith, is)) (omega (arith, within)))
 
 pub counts-at : (xs : List Taken) (first count place : ℕ) → place < count
     → slice_index_or (counts_from first count xs) place (counted []) ≡ counted (metas_of (first + place) xs)
-counts-at xs first zero place within = absurd (omega (arith, within))
-counts-at xs first (suc count) zero within = ap (λ (n : ℕ). counted (metas_of n xs)) (let e : first ≡ first + 0 = omega arith in e)
 counts-at xs first (suc count) (suc place) within = grind (arith, counts-at xs (first + 1) count place (omega (arith, within)))
+counts-at xs first count place within = grind arith
 
 -- ---- all of them fit
 
@@ -100,16 +97,6 @@ refilled xs ws e = take_at ws (drop (length ws) xs) (length xs) e
 pub sound-more : (t u : TotalsState) (x : Taken) → IsSoundTotals t → ((xs : List Taken) → TotalsStand t xs → TotalsStand u (x ∷ xs))
     → t.packets < 2 ^ 45 → u.packets ≡ t.packets + 1 → x.meta.original < 2 ^ 32 → length u.files ≡ length t.files → IsSoundTotals u
 sound-more t u x s more few packets short files = grind arith
-
--- the sums with one packet more fit
-pub sum-fits : (t : TotalsState) (n : ℕ) → IsSoundTotals t → t.packets < 2 ^ 45 → n < 2 ^ 32 → t.bytes + n < 2 ^ 128
-sum-fits t n s few short = omega (arith, bytes-few s.taken s.short, s.stands.bytes, s.stands.packets, few, short)
-
-pub truncated-fits : (t : TotalsState) (n : ℕ) → IsSoundTotals t → t.packets < 2 ^ 45 → n ≤ 1 → t.truncated + n < 2 ^ 64
-truncated-fits t n s few one = omega (arith, truncated-all s.taken, s.stands.truncated, s.stands.packets, few, one)
-
-pub at-most-one : (b : Bool) (n : ℕ) → n ≡ (if b then 1 else 0) → n ≤ 1
-at-most-one b n is = grind arith
 
 -- nothing was taken
 none-counted : (first count : ℕ) → replicate count (counted []) ≡ counts_from first count []

@@ -1,5 +1,5 @@
 -- The frames that give the printed times are the first in their order.
-use Rattle.std.proofs.Common.{◌≡◌, Bool, true, false, cond, List, [], ◌∷◌, refl, sym, subst, arith, Contains, Ordering, Option, Some, None}
+use Rattle.std.proofs.Common.{◌≡◌, Bool, true, false, cond, List, [], ◌∷◌, refl, arith, Contains, Ordering, Option, Some}
 use Rattle.std.specs.Cmp.{IsTotalOrder}
 use Rattle.std.specs.List.{AllByRecursion}
 use Rattle.std.specs.Ordering.{is_lt, ordering_reverse}
@@ -14,9 +14,6 @@ all-map : {X : Type 0} {P Q : X → Type 0} → ((x : X) → P x → Q x) → (x
 all-map f [] h = h
 all-map f (x ∷ xs) h = (f x h.0, all-map f xs h.1)
 
-not_below_itself : (r : Ordering) → r ≡ ordering_reverse r → is_lt r ≡ false
-not_below_itself r e = grind arith
-
 not_turned : (r s : Ordering) → r ≡ ordering_reverse s → is_lt s ≡ true → is_lt r ≡ false
 not_turned r s e h = grind arith
 
@@ -25,17 +22,16 @@ module _ (cmp : TimedFrame → TimedFrame → Ordering) (total : IsTotalOrder cm
   here x fs = Contains-get_or (x ∷ fs) 0 x (omega arith)
 
   itself : (x : TimedFrame) → is_lt (cmp x x) ≡ false
-  itself x = not_below_itself (cmp x x) (total.antisymm x x)
+  itself x = grind (arith, cmp, total)
 
   -- one frame more, or none
   first-more : (a : Option TimedFrame) (fs : List TimedFrame) (r : Option TimedFrame) → IsFirstIn cmp fs r → IsFirstIn cmp (with_frame a fs) (chosen cmp a r)
-  first-more None fs r h = h
-  first-more (Some x) fs None h = (here x fs, (itself x, subst (λ l. AllByRecursion (λ o. is_lt (cmp o x) ≡ false) l) (sym h) tt))
   first-more (Some x) fs (Some y) h = by (is_lt (cmp y x)) refl
     where
       by : (t : Bool) → is_lt (cmp y x) ≡ t → IsFirstIn cmp (x ∷ fs) (cond t (Some y) (Some x))
       by true is = (Contains-append_right (x ∷ []) fs y h.0, (not_turned (cmp x y) (cmp y x) (total.antisymm x y) is, h.1))
       by false is = (here x fs, (itself x, all-map (λ o n. not_trans cmp total o y x n is) fs h.1))
+  first-more a fs r h = grind (arith, here, itself, cmp)
 
 pub frame_law : (units : List CountedUnit) → FrameLaw units
 frame_law [] = record { first = refl; last = refl }

@@ -2,8 +2,7 @@
 use Rattle.std.proofs.Common.{arith, ◌≡◌, Bool, true, false, cond, not, ◌&&◌, ◌||◌, refl, sym, ap, ◌∙◌, true≢false, Ordering, Equal}
 use Rattle.std.specs.Prelude.{◌==◌}
 use Rattle.std.specs.Cmp.{IsTotalOrder}
-use Rattle.std.specs.Ordering.{is_gt, nat_cmp, ordering_reverse}
-use Rattle.std.specs.Option.{option_cmp}
+use Rattle.std.specs.Ordering.{is_gt, ordering_reverse}
 use Rattle.std.specs.Cmp.Lexicographic.{options_total}
 use Rattle.std.proofs.lemmas.Cmp.{then_total, on_total, nat_cmp_total}
 use Rattle.std.proofs.lemmas.Map.Lookups.{CmpEqualImpliesEq}
@@ -16,9 +15,6 @@ use Rattle.cap_talks.specs.declared.talks.units.End.{End}
 
 end_total : IsTotalOrder end_cmp
 end_total = then_total (on_total (λ e. e.address) nat_cmp_total) (on_total (λ e. e.port) (options_total nat_cmp_total))
-
-exact_ports : CmpEqualImpliesEq (option_cmp nat_cmp)
-exact_ports h' x1 h = grind arith
 
 -- ends that compare alike are one
 exact_ends : CmpEqualImpliesEq end_cmp

@@ -1,5 +1,6 @@
 -- The lines of conversations, written one by one.
-use Rattle.std.proofs.Common.{◌≡◌, ◌<◌, ◌≤◌, ◌+◌, ℕ, zero, suc, List, [], ◌∷◌, ◌++◌, length, take, drop, IsTrue, refl, sym, ap, ◌∙◌, subst, arith, length-append, take_at, drop_at}
+use Rattle.std.proofs.lemmas.Grind.{common_steps}
+use Rattle.std.proofs.Common.{◌≡◌, ◌<◌, ◌≤◌, ◌+◌, ℕ, suc, List, [], ◌∷◌, ◌++◌, length, take, drop, IsTrue, refl, sym, ap, ◌∙◌, subst, arith, length-append, take_at, drop_at}
 use Rattle.cap_bytes.proofs.Putting.{Putting, Putting-more, Putting-front}
 use Rattle.cap_bytes.specs.Device.{Writer}
 use Rattle.cap_bytes.specs.Printing.{PrintsFront}
@@ -8,15 +9,12 @@ use Rattle.cap_talks.specs.Talks.Lines.{line_at, talk_texts}
 
 -- the line of the conversation at a place, and those after it
 lines-at : (all : List Talk) (place : ℕ) → place < length all → talk_texts (drop place all) ≡ line_at all place ++ talk_texts (drop (suc place) all)
-lines-at [] place within = absurd (omega arith)
-lines-at (t ∷ all) zero within = refl
 lines-at (t ∷ all) (suc place) within = lines-at all place (omega arith)
+lines-at all place within = grind arith
 
 pub lines-none : (all : List Talk) (place : ℕ) → length all ≤ place → talk_texts (drop place all) ≡ []
-lines-none [] zero past = refl
-lines-none [] (suc place) past = refl
-lines-none (t ∷ all) zero past = absurd (omega arith)
 lines-none (t ∷ all) (suc place) past = lines-none all place (omega arith)
+lines-none all place past = grind (arith, common_steps)
 
 split_at_line : (all : List Talk) (place : ℕ) (line : List ℕ) → place < length all → line ≡ line_at all place
     → talk_texts (drop place all) ≡ line ++ talk_texts (drop (suc place) all)
@@ -43,6 +41,4 @@ line-more from mid to all place line within text p wrote told cannot =
 pub line-front : (from mid : Writer) (held : List ℕ) (all : List Talk) (place : ℕ) (line : List ℕ) (n : ℕ) → place < length all → line ≡ line_at all place
     → Putting from mid (talk_texts all) (talk_texts (drop place all)) → IsTrue from.told → held ≡ mid.held ++ take n line
     → PrintsFront (talk_texts all) from.held held
-line-front from mid held all place line n within text p t wrote =
-    Putting-front from mid held (talk_texts all) line (talk_texts (drop (suc place) all)) n
-    (subst (Putting from mid (talk_texts all)) (split_at_line all place line within text) p) t wrote
+line-front from mid held all place line n within text p t wrote = search (Putting-front, split_at_line, subst (Putting from mid (talk_texts all)) (split_at_line all place line within text) p)

@@ -64,14 +64,10 @@ length-more key w (talk ∷ rows) = by (same_talk key talk.0) (length-more key w
         ≡ suc (length rows) + cond (is_some (cond t (Some talk.1) (lookup (same_talk key) rows))) 0 1
     by t rest = grind arith
 
-few-more : (limit : ℕ) (key : TalkKey) (w : TalkRow) (rows : List Talk) → length rows ≤ limit → false ≡ is_refused limit rows key
-    → length (insert_entry same_talk rows key w) ≤ limit
-few-more limit key w rows few open_ = grind (arith, is_some, length-more, ltb-true)
-
 -- the table stays within its limit, whatever is answered
 pub few-kept : (limit : ℕ) (result : Result (Unit {0}) TalksFault) (old new : List Talk) (unit : CountedUnit) → OnOk result (new ≡ with_talk old unit)
     → is_limit result ≡ is_refused limit old (key_of unit) → OnErr result (new ≡ old) → length old ≤ limit → length new ≤ limit
-few-kept limit result old new unit more refused kept few = grind (arith, few-more)
+few-kept limit result old new unit more refused kept few = grind (arith, length-more, ltb-true)
 
 -- a unit is added to its conversation's row where it stands
 pub there-more : (key : TalkKey) (rows : List Talk) (place : ℕ) (unit : CountedUnit) (new : List Talk) → Some place ≡ position (same_talk key) (keys_of rows)

@@ -1,5 +1,5 @@
 -- All rows together count each unit once.
-use Rattle.std.proofs.Common.{◌+◌, List, [], ◌∷◌, ◌++◌, refl, sym, ap, subst, ◌∙◌, append_assoc, append-nil}
+use Rattle.std.proofs.Common.{List, [], ◌∷◌, ◌++◌, refl, sym, ap, subst, append_assoc, append-nil, arith}
 use Rattle.cap_talks.proofs.TalkLemmas.RowSums.{frames_in-more, bytes_in-more}
 use Rattle.cap_talks.proofs.TalkLemmas.Talking.{rows-more, frames-more, bytes-more}
 use Rattle.cap_talks.specs.Talks.Rows.{frames_in, bytes_in}
@@ -13,10 +13,7 @@ sums-none = record { frames = refl; bytes = refl }
 
 -- one unit more
 sums-more : (units : List CountedUnit) (u : CountedUnit) → SumLaw units → SumLaw (units ++ u ∷ [])
-sums-more units u s = record {
-  frames = sym (ap frames_in (rows-more units u)) ∙ frames_in-more (rows_of units) u ∙ ap (λ n. n + u.frames) s.frames ∙ sym (frames-more units u);
-  bytes = sym (ap bytes_in (rows-more units u)) ∙ bytes_in-more (rows_of units) u ∙ ap (λ n. n + u.bytes) s.bytes ∙ sym (bytes-more units u);
-}
+sums-more units u s = grind (arith, rows-more, frames_in-more, frames-more, bytes_in-more, bytes-more, ap frames_in (rows-more units u), frames-more units u, ap bytes_in (rows-more units u), bytes-more units u)
 
 sums-behind : (units rest : List CountedUnit) → SumLaw units → SumLaw (units ++ rest)
 sums-behind units [] s = subst SumLaw (sym (append-nil units)) s

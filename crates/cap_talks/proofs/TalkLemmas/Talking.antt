@@ -2,8 +2,7 @@
 use Rattle.std.proofs.lemmas.Bool.Decides.{nat_tests}
 use Rattle.std.proofs.lemmas.Grind.{common_steps}
 use Rattle.std.proofs.Common.{◌≡◌, ℕ, ◌+◌, Bool, true, false, cond, not, ◌&&◌, List, [], ◌∷◌, ◌++◌, filter, map, refl, sym, ap, ◌∙◌, true≢false, arith, Option, Some, append-nil}
-use Rattle.std.specs.Prelude.{◌==◌, nat_eq}
-use Rattle.std.specs.Option.{option_eq}
+use Rattle.std.specs.Prelude.{◌==◌}
 use Rattle.std.specs.Map.{lookup}
 use Rattle.indexmap.specs.IndexMap.{insert_entry}
 use Rattle.std.proofs.lemmas.Bool.{eq-eqb}
@@ -20,14 +19,11 @@ use Rattle.cap_talks.specs.declared.talks.units.End.{End}
 same_number : (n : ℕ) → (n == n) ≡ true
 same_number n = eq-eqb n n refl
 
-same_port : (a : Option ℕ) → option_eq nat_eq a a ≡ true
-same_port a = grind arith
-
 pub and_true : (x y : Bool) → x ≡ true → y ≡ true → (x && y) ≡ true
 and_true x y h k = ap (λ b. b && y) h ∙ k
 
 pub same_end-self : (a : End) → same_end a a ≡ true
-same_end-self a = and_true (a.address == a.address) (option_eq nat_eq a.port a.port) (same_number a.address) (same_port a.port)
+same_end-self a = grind (arith, and_true, same_number)
 
 same_talk-self : (a : TalkKey) → same_talk a a ≡ true
 same_talk-self a = grind arith

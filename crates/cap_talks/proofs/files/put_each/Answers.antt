@@ -1,7 +1,6 @@
-use Rattle.std.proofs.Common.{◌∙◌, ◌+◌, refl, arith, rules}
+use Rattle.std.proofs.Common.{◌∙◌, rules}
 use Rattle.std.proofs.lemmas.Result.{err_from_is_err_and}
 use Rattle.cap_bytes.proofs.Putting.{Putting-all}
-use Rattle.cap_talks.specs.Files.Reading.{counted_texts}
 use Rattle.cap_talks.proofs.FileLemmas.Printing.{lines-more, lines-front, texts-none}
 use Rattle.cap_talks.proofs.files.put_each.Goals as goal
 
@@ -26,8 +25,4 @@ loop-place-preserved g c =
     }
 
 pub returns-clause-text : goal.returns-clause-text
-returns-clause-text g c = λ w. (
-  refl,
-  Putting-all _ _ (counted_texts 1 c.args.counted.now) _ c.loop-place.invariant.putting
-      (texts-none c.args.counted.now c.loop-place.place (c.loop-place.place + 1) (omega (arith, c.loop-place-test.false))) w,
-)
+returns-clause-text g c = λ w. search (Putting-all, texts-none, c.loop-place.invariant.putting, c.loop-place-test.false)

@@ -16,11 +16,7 @@ add_at-requires-clause-bytes c =
     omega (arith, same, within, c.requires.bytes)
 
 pub returns-in-Some-clause-entries : goal.returns-in-Some-clause-entries
-returns-in-Some-clause-entries c =
-    there-more c.of-key.result c.args.rows.now.entries c.in-Some.place c.args.unit.now c.add_at.new.rows.entries c.in-Some.ensures.index c.in-Some.ensures.value
-    c.of-key.ensures c.add_at.ensures
+returns-in-Some-clause-entries c = search (there-more, c.in-Some.ensures.index, c.in-Some.ensures.value, c.of-key.ensures, c.add_at.ensures)
 
 pub returns-in-None-clause-entries : goal.returns-in-None-clause-entries
-returns-in-None-clause-entries c =
-    on_ok c.add_row.result (new-more c.of-key.result c.args.rows.now.entries c.args.unit.now c.add_row.new.rows.entries c.in-None.ensures.found c.of-key.ensures)
-    c.add_row.ensures.entries
+returns-in-None-clause-entries c = search (on_ok, new-more, c.in-None.ensures.found, c.of-key.ensures, c.add_row.ensures.entries)

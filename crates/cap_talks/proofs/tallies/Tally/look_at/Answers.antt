@@ -121,5 +121,4 @@ returns-in_ok-add_unit-in-Datagram-clause-looks c =
 -- a fragment
 
 pub take_fragment-requires-clause-look : goal.take_fragment-requires-clause-look
-take_fragment-requires-clause-look c = λ place.
-    sym (c.look.ensures.value c.args.packet.now.clock place) ∙ ap (λ s. look_of s (stamped_of place c.args.packet.now.meta.now)) c.in-Fragment.is
+take_fragment-requires-clause-look c = λ place. grind (arith, c.look.ensures.value, c.in-Fragment.is)

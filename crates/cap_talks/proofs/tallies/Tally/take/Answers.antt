@@ -1,6 +1,5 @@
-use Rattle.std.proofs.Common.{◌≡◌, false, ◌∷◌, List, Some, Err, subst}
+use Rattle.std.proofs.Common.{◌≡◌, false, ◌∷◌, List, Some, Err, arith}
 use Rattle.std.specs.Prelude.{OnOk, Result, Ok, Option}
-use Rattle.cap_talks.specs.Looking.{taken_of}
 use Rattle.cap_talks.specs.Taken.{Taken}
 use Rattle.cap_talks.specs.Tallies.{TallyState, Stands, Looks}
 use Rattle.cap_talks.specs.CountedUnits.{is_limit_at}
@@ -15,11 +14,7 @@ taken_on old mid new x (Ok u) f h = λ xs s. h xs x (f xs s)
 taken_on old mid new x (Err e) f h = tt
 
 pub returns-then-is_waiting-clause-stands : goal.returns-then-is_waiting-clause-stands
-returns-then-is_waiting-clause-stands c =
-    taken_on c.args.self.now c.args.self.now c.take_waiting.new.self (taken_of c.args.packet.now) c.take_waiting.result (λ xs s. s) c.take_waiting.ensures.stands
+returns-then-is_waiting-clause-stands c = grind (arith, taken_on, c.take_waiting.ensures.stands)
 
 pub returns-then-branch-clause-stands : goal.returns-then-branch-clause-stands
-returns-then-branch-clause-stands c =
-    let x = taken_of c.args.packet.now in
-    taken_on c.args.self.now c.look_at.new.self c.take_waiting-then-branch.new.self x c.take_waiting-then-branch.result
-    (subst (λ b. Looks c.args.self.now x b c.look_at.new.self) c.if-branch.true c.in_ok-look_at.ensures.looks) c.take_waiting-then-branch.ensures.stands
+returns-then-branch-clause-stands c = grind (arith, taken_on, c.if-branch.true, c.in_ok-look_at.ensures.looks, c.take_waiting-then-branch.ensures.stands)

@@ -49,9 +49,7 @@ pub returns-in_err-add_unit-clause-limit : goal.returns-in_err-add_unit-clause-l
 returns-in_err-add_unit-clause-limit c = grind (arith, err_from_is_err_and, limit-by, limit-waiting)
 
 pub with_group-self-inside-requires-clause-unjoined : goal.with_group-self-inside-requires-clause-unjoined
-with_group-self-inside-requires-clause-unjoined c =
-    let s = c.self.invariant in
-    enough-for (tally_view c.self.inside) c.in-Some.datagram s.taken s.next c.in-Some.is s.stands
+with_group-self-inside-requires-clause-unjoined c = search (enough-for, c.self.invariant.taken, c.self.invariant.next, c.in-Some.is, c.self.invariant.stands)
 
 pub with_group-self-inside-requires-clause-few : goal.with_group-self-inside-requires-clause-few
 with_group-self-inside-requires-clause-few c = search (rules, sum-taken)

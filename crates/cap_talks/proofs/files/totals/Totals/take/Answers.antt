@@ -1,27 +1,20 @@
-use Rattle.std.proofs.Common.{◌≡◌, ◌+◌, ◌-◌, ◌^◌, ◌<◌, [], None, length, arith, rules, refl, ap, ◌∙◌, subst, nat_lt}
+use Rattle.std.proofs.Common.{◌≡◌, ◌+◌, ◌-◌, ◌^◌, ◌<◌, [], None, length, arith, rules, refl, ap, ◌∙◌, subst}
 use Rattle.std.specs.Prelude.{slice_set, slice_index_or}
 use Rattle.cap_talks.specs.Files.Counting.{counted, with_packet}
 use Rattle.cap_talks.specs.Looking.{taken}
 use Rattle.cap_talks.specs.Files.Totals.{TotalsState}
 use Rattle.cap_talks.specs.Files.TotalsView.{totals_view}
-use Rattle.cap_talks.proofs.FileLemmas.Totaling.{has-room, stands-more, sound-more, refilled, sum-fits, truncated-fits, at-most-one}
+use Rattle.cap_talks.proofs.FileLemmas.Totaling.{has-room, stands-more, sound-more, refilled, bytes-few, truncated-all}
 use Rattle.cap_talks.proofs.files.totals.Totals.take.Goals as goal
 
 pub take_at-requires-clause-room : goal.take_at-requires-clause-room
 take_at-requires-clause-room c = grind (arith, has-room)
 
 pub overflow_add-self-2 : goal.overflow_add-self-2
-overflow_add-self-2 c =
-    let t = totals_view c.self.inside in
-    let few : t.packets < 2 ^ 45 = omega (arith, ap (λ (n : TotalsState). n.packets) c.self.view_is, c.requires.few) in
-    let short : c.args.meta.now.original < 2 ^ 32 = search rules in
-    omega (arith, c.from.ensures, sum-fits t c.args.meta.now.original c.self.invariant few short)
+overflow_add-self-2 c = grind (arith, bytes-few)
 
 pub overflow_add-self-3 : goal.overflow_add-self-3
-overflow_add-self-3 c =
-    let t = totals_view c.self.inside in
-    let few : t.packets < 2 ^ 45 = omega (arith, ap (λ (n : TotalsState). n.packets) c.self.view_is, c.requires.few) in
-    omega (arith, truncated-fits t c.one_if.result c.self.invariant few (at-most-one (nat_lt (length c.args.frame.now) c.args.meta.now.original) c.one_if.result c.one_if.ensures))
+overflow_add-self-3 c = grind (arith, truncated-all)
 
 pub invariant_of-self : goal.invariant_of-self
 invariant_of-self c =
