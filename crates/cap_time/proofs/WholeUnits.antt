@@ -1,11 +1,11 @@
 -- When a time is a whole number of other units.
-use Rattle.std.proofs.Common.{◌≡◌, ℕ, ◌+◌, ◌*◌, ◌/◌, ◌%◌, ◌<◌, refl, sym, ap, ◌∙◌, arith, ℤ, Equal}
-use Rattle.std.proofs.lemmas.Nat.{mod-mul-add}
+use Rattle.std.proofs.Common.{◌≡◌, ℕ, ◌+◌, ◌*◌, ◌/◌, ◌%◌, ◌<◌, refl, sym, ap, subst, ◌∙◌, arith, ℤ, Equal}
+use Rattle.std.proofs.lemmas.Nat.{div-mul-add, mod-mul-add}
 use Rattle.std.specs.Ordering.{int_cmp, nat_cmp}
 use Rattle.std.specs.Cmp.{ranked}
 use Rattle.cap_time.specs.Time.{time_at, IsWhole, IsNeverWhole}
 use Rattle.cap_time.specs.TimeLaws.{time_cmp-units}
-use Rattle.std.specs.Prelude.{Bool, Some, None, MatchOption, ◌==◌, if◌then◌else◌}
+use Rattle.std.specs.Prelude.{Bool, Option, Some, None, MatchOption, ◌==◌, if◌then◌else◌}
 use Rattle.cap_time.specs.declared.stamps.Stamp.{Stamp}
 use Rattle.cap_time.specs.Stamp.{seconds_of, numerator_of, denominator_of, time_of, whole_of}
 use Rattle.cap_time.specs.StampLaws.{both_equal}
@@ -18,10 +18,6 @@ whole_below n d e h p = grind arith
 
 pub whole_here : (s : ℤ) (n d e : ℕ) → n < d → 0 < e → n * e % d ≡ 0 → IsWhole e (time_at n d s) s (n * e / d)
 whole_here s n d e h p exact = grind (arith, whole_below, time_cmp-units)
-
--- the same, for numbers that equal these
-pub whole_here_as : (s z : ℤ) (n d e top bottom : ℕ) → n < d → 0 < e → z ≡ s → top ≡ n * e → bottom ≡ d → top % bottom ≡ 0 → IsWhole e (time_at n d s) z (top / bottom)
-whole_here_as s z n d e top bottom h p same top_is bottom_is exact = grind (arith, whole_here)
 
 pub whole_nowhere : (s : ℤ) (n d e : ℕ) → n < d → ¬ (n * e % d ≡ 0) → (z : ℤ) (u : ℕ) → ¬ (IsWhole e (time_at n d s) z u)
 whole_nowhere s n d e h inexact z u whole =
@@ -44,3 +40,13 @@ whole_case e a p b test = grind (arith, whole_here, whole_nowhere)
 pub whole_of_pair : (e : ℕ) (a : Stamp) → 0 < e
     → MatchOption {T = ℤ × ℕ} (whole_of e a) (IsNeverWhole e (time_of a)) (λ w. IsWhole e (time_of a) w.0 w.1)
 whole_of_pair e a p = whole_case e a p (numerator_of a * e % denominator_of a == 0) refl
+
+-- units of the size that they have already
+pub whole_same : (n d e : ℕ) → n < d → d ≡ e → Some n ≡ (if n * e % d == 0 then Some (n * e / d) else None)
+whole_same n d e h same = grind (arith, mod-mul-add n d 0, div-mul-add n d 0)
+
+pub whole_some : (e u : ℕ) (z : ℤ) (a : Stamp) → 0 < e → whole_of e a ≡ Some (z, u) → IsWhole e (time_of a) z u
+whole_some e u z a p is = grind (arith, whole_of_pair e a p)
+
+pub whole_none : (e : ℕ) (a : Stamp) → 0 < e → whole_of e a ≡ None → IsNeverWhole e (time_of a)
+whole_none e a p is = grind (arith, whole_of_pair e a p)

@@ -1,5 +1,5 @@
 //! Stamps: exact times, which keep the form in which their interface counted them.
-ghost use Rattle.std.specs.Prelude.{◌≡◌, ◌<◌, ◌≤ℤ◌, ◌<ℤ◌, ◌^◌, pos, neg_ℤ, IfSome, IfNone};
+ghost use Rattle.std.specs.Prelude.{◌≡◌, ◌==◌, ◌<◌, ◌*◌, ◌/◌, ◌%◌, ◌≤ℤ◌, ◌<ℤ◌, ◌^◌, pos, neg_ℤ, Some, None, IfSome, IfNone, if◌then◌else◌};
 
 mod order;
 
@@ -38,6 +38,25 @@ pub struct Stamp {
     numerator: u64,
     denominator: u64,
     ghost fraction: { numerator < denominator },
+}
+
+// How many units, of which a second has `in_second`, a fraction of a second is, if that is a whole number.
+#[tactic(auto, using(crate::proofs::WholeUnits::whole_units))]
+fn whole_units(numerator: u64, denominator: u64, in_second: u32) -> Option<u32>
+    requires fraction { numerator < denominator }
+    requires second { 0 < in_second }
+    ensures { result ≡ (if numerator * in_second % denominator == 0 then Some (numerator * in_second / denominator) else None) }
+{
+    if denominator == u64::from(in_second) {
+        return Some(numerator as u32);
+    }
+    let scaled = u128::from(numerator) * u128::from(in_second);
+    let denominator = u128::from(denominator);
+    if scaled % denominator == 0 {
+        Some((scaled / denominator) as u32)
+    } else {
+        None
+    }
 }
 
 impl Stamp {
@@ -104,18 +123,14 @@ impl Stamp {
 
     /// The time as whole seconds, which may be below 0, and whole units, fewer than a second has;
     /// `None` where no such two numbers are that time.
-    #[tactic(auto, using(crate::proofs::WholeUnits::whole_units))]
     pub fn whole_in(self, unit: Unit) -> Option<(i128, u32)>
         ensures value { result ≡ whole_of (in_second unit) self }
         ensures whole { IfSome result (λ w. IsWhole (in_second unit) (time_of self) w.0 w.1) }
         ensures inexact { IfNone result (IsNeverWhole (in_second unit) (time_of self)) }
     {
-        let scaled = u128::from(self.numerator) * u128::from(unit.in_second());
-        let denominator = u128::from(self.denominator);
-        if scaled % denominator == 0 {
-            Some((self.seconds, (scaled / denominator) as u32))
-        } else {
-            None
+        match whole_units(self.numerator, self.denominator, unit.in_second()) {
+            Some(units) => Some((self.seconds, units)),
+            None => None,
         }
     }
 }

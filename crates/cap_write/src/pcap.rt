@@ -30,7 +30,8 @@ struct Time {
 fn fraction_of(first: &Interface) -> Unit
     ensures { result ≡ fraction_of first.now }
 {
-    if MICROSECONDS % first.resolution.units() == 0 {
+    let units = first.resolution.units();
+    if units == MICROSECONDS || MICROSECONDS % units == 0 {
         Unit::Micro
     } else {
         Unit::Nano
