@@ -121,7 +121,7 @@ impl<F: PacketFeed> Table<F> {
             meta,
             frame,
         };
-        match self.tally.take(&packet) {
+        match self.tally.take(packet) {
             Ok(()) => {
                 self.totals.take(time, meta, frame);
                 self.merged.pass();

@@ -158,7 +158,7 @@ impl Tally {
     #[inline(never)]
     fn take_fragment(
         &mut self,
-        packet: &RunPacket<'_>,
+        packet: RunPacket<'_>,
         header: Header,
         bytes: &[u8],
     ) -> Result<bool, TallyFault>
@@ -166,8 +166,8 @@ impl Tally {
         requires few { self.old.place < 2 ^ 62 }
         requires fragment { IsSome header.fragment }
         requires whole { length bytes.now ≡ header.data_length }
-        requires look { (place : ℕ) → look place (taken_of packet.now) ≡ fragment (piece_of header bytes.now (stamped_of place packet.now.meta.now)) }
-        ensures looks { IfOk result (λ waits. Looks self.old (taken_of packet.now) waits self.new) }
+        requires look { (place : ℕ) → look place (taken_of packet) ≡ fragment (piece_of header bytes.now (stamped_of place packet.meta.now)) }
+        ensures looks { IfOk result (λ waits. Looks self.old (taken_of packet.entry) waits self.new) }
         ensures waits { IfOk result (λ waits. WaitsIf self.new.waiting waits) }
         ensures place { IfOk result (λ waits. self.new.place ≡ (if waits then self.old.place else self.old.place + 1)) }
         ensures fault { IfErr result (λ e. e ≡ Memory) }
@@ -189,14 +189,14 @@ impl Tally {
 
     // Looks at the packet that comes next, while no datagram waits. It is counted, or it completes a datagram, which waits from then
     // on; the answer is whether one does.
-    fn look_at(&mut self, packet: &RunPacket<'_>) -> Result<bool, TallyFault>
+    fn look_at(&mut self, packet: RunPacket<'_>) -> Result<bool, TallyFault>
         requires none { self.old.waiting ≡ None }
         requires few { self.old.place < 2 ^ 62 }
-        ensures looks { IfOk result (λ waits. Looks self.old (taken_of packet.now) waits self.new) }
+        ensures looks { IfOk result (λ waits. Looks self.old (taken_of packet.entry) waits self.new) }
         ensures waits { IfOk result (λ waits. WaitsIf self.new.waiting waits) }
         ensures place { IfOk result (λ waits. self.new.place ≡ (if waits then self.old.place else self.old.place + 1)) }
-        ensures limit { IfErr result (λ e. (xs : List Taken) → Stands self.old xs (Some (taken_of packet.now))
-            → LimitBy (Err e) (is_limit_at xs (taken_of packet.now))) }
+        ensures limit { IfErr result (λ e. (xs : List Taken) → Stands self.old xs (Some (taken_of packet.entry))
+            → LimitBy (Err e) (is_limit_at xs (taken_of packet.entry))) }
         ensures err { OnErr result (self.new ≡ self.old) }
     {
         let stamped = stamped_of(self.place, packet.time, packet.meta);
@@ -250,16 +250,16 @@ impl Tally {
     /// `Limit` comes exactly if it completes a unit of a new conversation and there are 1,048,576 already, `Memory` if a
     /// growth was refused. Both leave the counts as they were, and the same call may be made again; a datagram that the packet joined is kept
     /// for it.
-    pub fn take(&mut self, packet: &RunPacket<'_>) -> Result<(), TallyFault>
+    pub fn take(&mut self, packet: RunPacket<'_>) -> Result<(), TallyFault>
         requires few { self.old.place < 2 ^ 62 }
-        ensures stands { OnOk result (Looks self.old (taken_of packet.now) false self.new) }
-        ensures limit { IfErr result (λ e. (xs : List Taken) → Stands self.old xs (Some (taken_of packet.now))
-            → LimitBy (Err e) (is_limit_at xs (taken_of packet.now))) }
+        ensures stands { OnOk result (Looks self.old (taken_of packet.entry) false self.new) }
+        ensures limit { IfErr result (λ e. (xs : List Taken) → Stands self.old xs (Some (taken_of packet.entry))
+            → LimitBy (Err e) (is_limit_at xs (taken_of packet.entry))) }
         ensures none { OnOk result (self.new.waiting ≡ None) }
         ensures place { OnOk result (self.new.place ≡ self.old.place + 1) }
         ensures same { OnErr result (self.new.place ≡ self.old.place) }
-        ensures err { OnErr result ((xs : List Taken) → Stands self.old xs (Some (taken_of packet.now))
-            → Stands self.new xs (Some (taken_of packet.now))) }
+        ensures err { OnErr result ((xs : List Taken) → Stands self.old xs (Some (taken_of packet.entry))
+            → Stands self.new xs (Some (taken_of packet.entry))) }
     {
         if self.is_waiting() {
             return self.take_waiting();

@@ -28,18 +28,18 @@ with_frames-self-inside-requires c =
 pub invariant_of-self : goal.invariant_of-self
 invariant_of-self c =
     let t = tally_view c.self.inside in
-    let x = taken_of c.args.packet.now in
+    let x = taken_of c.args.packet in
     sound-plain t x (ap (λ (n : TallyState). n.waiting) c.self.view_is ∙ c.requires.none) c.self.invariant
     (omega (arith, c.requires.few, ap (λ (n : TallyState). n.place) c.self.view_is)) c.in-Plain.class
-    (λ place. sym (c.look.ensures.value c.args.packet.now.clock place) ∙ ap (λ s. look_of s (stamped_of place c.args.packet.now.meta.now)) c.in-Plain.is) _ c.with_frames-self-inside.ensures
+    (λ place. sym (c.look.ensures.value c.args.packet.clock place) ∙ ap (λ s. look_of s (stamped_of place c.args.packet.meta.now)) c.in-Plain.is) _ c.with_frames-self-inside.ensures
 
 pub returns-in-Plain-clause-looks : goal.returns-in-Plain-clause-looks
 returns-in-Plain-clause-looks c =
     let t = tally_view c.self.inside in
-    let x = taken_of c.args.packet.now in
+    let x = taken_of c.args.packet in
     rw (← c.self.view_is)
     (looks-plain t x (ap (λ (n : TallyState). n.waiting) c.self.view_is ∙ c.requires.none) c.in-Plain.class
-    (λ place. sym (c.look.ensures.value c.args.packet.now.clock place) ∙ ap (λ s. look_of s (stamped_of place c.args.packet.now.meta.now)) c.in-Plain.is) _ c.with_frames-self-inside.ensures)
+    (λ place. sym (c.look.ensures.value c.args.packet.clock place) ∙ ap (λ s. look_of s (stamped_of place c.args.packet.meta.now)) c.in-Plain.is) _ c.with_frames-self-inside.ensures)
 
 -- a whole datagram
 
@@ -63,13 +63,13 @@ pub returns-in_err-add_unit-in-Datagram-clause-limit : goal.returns-in_err-add_u
 returns-in_err-add_unit-in-Datagram-clause-limit c =
     let p = err_from_is_err_and c.from_residual.result c.from_residual.ensures.1 in
     let t = tally_view c.self.inside in
-    let x = taken_of c.args.packet.now in
+    let x = taken_of c.args.packet in
     rw (p.1, p.2, ← c.self.view_is) (λ xs h.
     limit-by c.in_err-add_unit-in-Datagram.field-0.0 _ _
-    (limit-is t x xs (Some x) (whole_unit c.in-Datagram.header c.in-Datagram.captured.now (stamped_of t.place c.args.packet.now.meta.now)) h
+    (limit-is t x xs (Some x) (whole_unit c.in-Datagram.header c.in-Datagram.captured.now (stamped_of t.place c.args.packet.meta.now)) h
     (unit-is x xs (datagram c.in-Datagram.header c.in-Datagram.captured.now)
-    (sym (c.look.ensures.value c.args.packet.now.clock (length xs)) ∙ ap (λ s. look_of s (stamped_of (length xs) c.args.packet.now.meta.now)) c.in-Datagram.is)
-    ∙ ap (λ (n : ℕ). whole_unit c.in-Datagram.header c.in-Datagram.captured.now (stamped_of n c.args.packet.now.meta.now)) (sym h.place)))
+    (sym (c.look.ensures.value c.args.packet.clock (length xs)) ∙ ap (λ s. look_of s (stamped_of (length xs) c.args.packet.meta.now)) c.in-Datagram.is)
+    ∙ ap (λ (n : ℕ). whole_unit c.in-Datagram.header c.in-Datagram.captured.now (stamped_of n c.args.packet.meta.now)) (sym h.place)))
     (subst (λ u. LimitBy (Err c.in_err-add_unit-in-Datagram.field-0.0) (is_over t.talks.rows u))
     (c.whole_unit.ensures ∙ ap (whole_unit c.in-Datagram.header c.in-Datagram.captured.now) c.stamped_of-stamped.ensures) c.in_err-add_unit-in-Datagram.ensures.limit))
 
@@ -83,7 +83,7 @@ pub invariant_of-self-in-Datagram : goal.invariant_of-self-in-Datagram
 invariant_of-self-in-Datagram c =
     let t = tally_view c.self.inside in
     let s = c.self.invariant in
-    let x = taken_of c.args.packet.now in
+    let x = taken_of c.args.packet in
     let e = c.in_ok-add_unit-in-Datagram.ensures in
     let header = c.in-Datagram.header in
     let captured = c.in-Datagram.captured.now in
@@ -91,7 +91,7 @@ invariant_of-self-in-Datagram c =
     let original : c.stamped_of-stamped.result.original < 4294967296 = search rules in
     let one = numbers-whole header captured c.stamped_of-stamped.result original in
     sound-datagram t x (ap (λ (n : TallyState). n.waiting) c.self.view_is ∙ c.requires.none) header captured
-    (λ place. sym (c.look.ensures.value c.args.packet.now.clock place) ∙ ap (λ s. look_of s (stamped_of place c.args.packet.now.meta.now)) c.in-Datagram.is)
+    (λ place. sym (c.look.ensures.value c.args.packet.clock place) ∙ ap (λ s. look_of s (stamped_of place c.args.packet.meta.now)) c.in-Datagram.is)
     c.add_unit.new.talks c.flush.new.self
     (λ us stands. subst (λ u. StandsFor c.add_unit.new.talks (us ++ listed u)) unit (e.stands us stands))
     (λ es stands. subst (λ (k : Key). joiners.StandsFor c.flush.new.self (flushes k ∷ es)) c.key-in-Datagram.ensures (c.flush.ensures.stands es stands))
@@ -103,14 +103,14 @@ invariant_of-self-in-Datagram c =
 pub returns-in_ok-add_unit-in-Datagram-clause-looks : goal.returns-in_ok-add_unit-in-Datagram-clause-looks
 returns-in_ok-add_unit-in-Datagram-clause-looks c =
     let t = tally_view c.self.inside in
-    let x = taken_of c.args.packet.now in
+    let x = taken_of c.args.packet in
     let e = c.in_ok-add_unit-in-Datagram.ensures in
     let header = c.in-Datagram.header in
     let captured = c.in-Datagram.captured.now in
     let unit = c.whole_unit.ensures ∙ ap (whole_unit header captured) c.stamped_of-stamped.ensures in
     rw (← c.self.view_is)
     (looks-datagram t x (ap (λ (n : TallyState). n.waiting) c.self.view_is ∙ c.requires.none) header captured
-    (λ place. sym (c.look.ensures.value c.args.packet.now.clock place) ∙ ap (λ s. look_of s (stamped_of place c.args.packet.now.meta.now)) c.in-Datagram.is)
+    (λ place. sym (c.look.ensures.value c.args.packet.clock place) ∙ ap (λ s. look_of s (stamped_of place c.args.packet.meta.now)) c.in-Datagram.is)
     c.add_unit.new.talks c.flush.new.self
     (λ us stands. subst (λ u. StandsFor c.add_unit.new.talks (us ++ listed u)) unit (e.stands us stands))
     (λ es stands. subst (λ (k : Key). joiners.StandsFor c.flush.new.self (flushes k ∷ es)) c.key-in-Datagram.ensures (c.flush.ensures.stands es stands))

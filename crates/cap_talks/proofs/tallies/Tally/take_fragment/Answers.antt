@@ -17,15 +17,15 @@ with_frames-self-inside-requires c = search (rules, sum-taken)
 pub invariant_of-self-in-Kept : goal.invariant_of-self-in-Kept
 invariant_of-self-in-Kept c =
     let t = tally_view c.self.inside in
-    let x = taken_of c.args.packet.now in
+    let x = taken_of c.args.packet in
     let e = c.in_ok-put_fragment.ensures in
-    let p = λ (place : ℕ). piece_of c.args.header c.args.bytes.now (stamped_of place c.args.packet.now.meta.now) in
+    let p = λ (place : ℕ). piece_of c.args.header c.args.bytes.now (stamped_of place c.args.packet.meta.now) in
     let own = c.stamped_of-stamped.ensures in
     sound-kept t x (ap (λ (n : TallyState). n.waiting) c.self.view_is ∙ c.requires.none) p
     c.requires.look
     c.put_fragment.new.joiner
-    (λ es stands. subst (λ s. joiners.StandsFor c.put_fragment.new.joiner (arrives c.args.packet.now.clock (piece_of c.args.header c.args.bytes.now s) ∷ es)) own (e.stands es stands))
-    (λ es stands. kept-of _ (joined_pieces c.args.packet.now.clock (p t.place) (state_of open_limit es)) c.in-Kept.is (subst (λ s. IsAnswer c.in_ok-put_fragment.field-0 (joined_pieces c.args.packet.now.clock (piece_of c.args.header c.args.bytes.now s) (state_of open_limit es))) own (e.answer es stands)))
+    (λ es stands. subst (λ s. joiners.StandsFor c.put_fragment.new.joiner (arrives c.args.packet.clock (piece_of c.args.header c.args.bytes.now s) ∷ es)) own (e.stands es stands))
+    (λ es stands. kept-of _ (joined_pieces c.args.packet.clock (p t.place) (state_of open_limit es)) c.in-Kept.is (subst (λ s. IsAnswer c.in_ok-put_fragment.field-0 (joined_pieces c.args.packet.clock (piece_of c.args.header c.args.bytes.now s) (state_of open_limit es))) own (e.answer es stands)))
     _ c.with_frames-self-inside.ensures
     c.self.invariant (omega (arith, c.requires.few, ap (λ (n : TallyState). n.place) c.self.view_is))
     (omega (arith, e.next, ap (λ s. s.place) own))
@@ -33,44 +33,44 @@ invariant_of-self-in-Kept c =
 pub returns-in-Kept-clause-looks : goal.returns-in-Kept-clause-looks
 returns-in-Kept-clause-looks c =
     let t = tally_view c.self.inside in
-    let x = taken_of c.args.packet.now in
+    let x = taken_of c.args.packet in
     let e = c.in_ok-put_fragment.ensures in
-    let p = λ (place : ℕ). piece_of c.args.header c.args.bytes.now (stamped_of place c.args.packet.now.meta.now) in
+    let p = λ (place : ℕ). piece_of c.args.header c.args.bytes.now (stamped_of place c.args.packet.meta.now) in
     let own = c.stamped_of-stamped.ensures in
     rw (← c.self.view_is)
     (looks-kept t x (ap (λ (n : TallyState). n.waiting) c.self.view_is ∙ c.requires.none) p
     c.requires.look
     c.put_fragment.new.joiner
-    (λ es stands. subst (λ s. joiners.StandsFor c.put_fragment.new.joiner (arrives c.args.packet.now.clock (piece_of c.args.header c.args.bytes.now s) ∷ es)) own (e.stands es stands))
-    (λ es stands. kept-of _ (joined_pieces c.args.packet.now.clock (p t.place) (state_of open_limit es)) c.in-Kept.is (subst (λ s. IsAnswer c.in_ok-put_fragment.field-0 (joined_pieces c.args.packet.now.clock (piece_of c.args.header c.args.bytes.now s) (state_of open_limit es))) own (e.answer es stands)))
+    (λ es stands. subst (λ s. joiners.StandsFor c.put_fragment.new.joiner (arrives c.args.packet.clock (piece_of c.args.header c.args.bytes.now s) ∷ es)) own (e.stands es stands))
+    (λ es stands. kept-of _ (joined_pieces c.args.packet.clock (p t.place) (state_of open_limit es)) c.in-Kept.is (subst (λ s. IsAnswer c.in_ok-put_fragment.field-0 (joined_pieces c.args.packet.clock (piece_of c.args.header c.args.bytes.now s) (state_of open_limit es))) own (e.answer es stands)))
     _ c.with_frames-self-inside.ensures)
 
 pub invariant_of-self-in-Joined : goal.invariant_of-self-in-Joined
 invariant_of-self-in-Joined c =
     let t = tally_view c.self.inside in
-    let x = taken_of c.args.packet.now in
+    let x = taken_of c.args.packet in
     let e = c.in_ok-put_fragment.ensures in
-    let p = λ (place : ℕ). piece_of c.args.header c.args.bytes.now (stamped_of place c.args.packet.now.meta.now) in
+    let p = λ (place : ℕ). piece_of c.args.header c.args.bytes.now (stamped_of place c.args.packet.meta.now) in
     let own = c.stamped_of-stamped.ensures in
     sound-waiting t x (ap (λ (n : TallyState). n.waiting) c.self.view_is ∙ c.requires.none) p
     c.requires.look
     c.put_fragment.new.joiner
-    (λ es stands. subst (λ s. joiners.StandsFor c.put_fragment.new.joiner (arrives c.args.packet.now.clock (piece_of c.args.header c.args.bytes.now s) ∷ es)) own (e.stands es stands))
+    (λ es stands. subst (λ s. joiners.StandsFor c.put_fragment.new.joiner (arrives c.args.packet.clock (piece_of c.args.header c.args.bytes.now s) ∷ es)) own (e.stands es stands))
     c.in-Joined.datagram
-    (λ es stands. joined-of _ c.in-Joined.datagram (joined_pieces c.args.packet.now.clock (p t.place) (state_of open_limit es)) c.in-Joined.is (subst (λ s. IsAnswer c.in_ok-put_fragment.field-0 (joined_pieces c.args.packet.now.clock (piece_of c.args.header c.args.bytes.now s) (state_of open_limit es))) own (e.answer es stands)))
+    (λ es stands. joined-of _ c.in-Joined.datagram (joined_pieces c.args.packet.clock (p t.place) (state_of open_limit es)) c.in-Joined.is (subst (λ s. IsAnswer c.in_ok-put_fragment.field-0 (joined_pieces c.args.packet.clock (piece_of c.args.header c.args.bytes.now s) (state_of open_limit es))) own (e.answer es stands)))
     c.self.invariant (omega (arith, e.next, ap (λ s. s.place) own)) (subst FitsPut c.in-Joined.is e.fits)
 
 pub returns-in-Joined-clause-looks : goal.returns-in-Joined-clause-looks
 returns-in-Joined-clause-looks c =
     let t = tally_view c.self.inside in
-    let x = taken_of c.args.packet.now in
+    let x = taken_of c.args.packet in
     let e = c.in_ok-put_fragment.ensures in
-    let p = λ (place : ℕ). piece_of c.args.header c.args.bytes.now (stamped_of place c.args.packet.now.meta.now) in
+    let p = λ (place : ℕ). piece_of c.args.header c.args.bytes.now (stamped_of place c.args.packet.meta.now) in
     let own = c.stamped_of-stamped.ensures in
     rw (← c.self.view_is)
     (looks-waiting t x (ap (λ (n : TallyState). n.waiting) c.self.view_is ∙ c.requires.none) p
     c.requires.look
     c.put_fragment.new.joiner
-    (λ es stands. subst (λ s. joiners.StandsFor c.put_fragment.new.joiner (arrives c.args.packet.now.clock (piece_of c.args.header c.args.bytes.now s) ∷ es)) own (e.stands es stands))
+    (λ es stands. subst (λ s. joiners.StandsFor c.put_fragment.new.joiner (arrives c.args.packet.clock (piece_of c.args.header c.args.bytes.now s) ∷ es)) own (e.stands es stands))
     c.in-Joined.datagram
-    (λ es stands. joined-of _ c.in-Joined.datagram (joined_pieces c.args.packet.now.clock (p t.place) (state_of open_limit es)) c.in-Joined.is (subst (λ s. IsAnswer c.in_ok-put_fragment.field-0 (joined_pieces c.args.packet.now.clock (piece_of c.args.header c.args.bytes.now s) (state_of open_limit es))) own (e.answer es stands))))
+    (λ es stands. joined-of _ c.in-Joined.datagram (joined_pieces c.args.packet.clock (p t.place) (state_of open_limit es)) c.in-Joined.is (subst (λ s. IsAnswer c.in_ok-put_fragment.field-0 (joined_pieces c.args.packet.clock (piece_of c.args.header c.args.bytes.now s) (state_of open_limit es))) own (e.answer es stands))))
