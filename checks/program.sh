@@ -191,7 +191,7 @@ if command -v script > /dev/null; then
     slowly 'progress beside a file' "$far" "$report" "$(printf '%q ' "$program" report slow) > written"
     slowly 'no progress beside a pipe' '' "$report" "$(printf '%q ' "$program" report slow) | cat > written"
     head -c 43 "$one" > "$work/half"; one=$work/half
-    slowly 'progress, then a fault' "$far"$'refused: file 1 offset 24 rule 3 cut\r  slow: it ends inside a file header, or inside a record or block, which --allow-cut drops\r' '' \
+    slowly 'progress, then a fault' "$far"$'refused: file 1 offset 24 rule 3 cut\r  slow: it is cut off: --allow-cut drops a last record or block, but not a file header\r' '' \
         "$(printf '%q ' "$program" info slow)"
     one=$work/one.pcap
 fi

@@ -131,7 +131,7 @@ Example: capt join -o whole.pcapng morning.pcap evening.pcapng";
 
 pub(crate) const ALLOW_CUT_HELP: &str = "Drop a last packet or block that is cut off";
 
-pub(crate) const ORDER_HELP: &str = "Byte order (default little)";
+pub(crate) const ORDER_HELP: &str = "Byte order, default little";
 
 pub(crate) const TO_HELP: &str = "The format of OUT";
 
