@@ -1,5 +1,5 @@
 -- What the body of a block is refused by, and its total length after it.
-use Rattle.std.proofs.Common.{◌≡◌, ℕ, ◌-◌, ◌≤◌, ◌<◌, ◌==◌, not, List, ◌++◌, length, take, drop, Option, Some, None, IsSome, Bool, true, false, IsTrue, Ok, refl, sym, ◌∙◌, ap, subst, arith, drop-drop, length-append, length-drop, nat_lt}
+use Rattle.std.proofs.Common.{◌≡◌, ℕ, ◌-◌, ◌≤◌, ◌<◌, ◌==◌, not, List, ◌++◌, length, take, drop, Option, Some, None, Bool, true, false, IsTrue, Ok, refl, sym, ◌∙◌, ap, subst, arith, drop-drop, length-append, length-drop, nat_lt}
 use Rattle.std.proofs.lemmas.Bool.Decides.{nat_tests}
 use Rattle.std.proofs.lemmas.List.{take-append-drop, drop-append-le}
 use Rattle.cap_bytes.specs.Number.{number}
@@ -170,6 +170,3 @@ SeesBody-skipped block old mid new last f unknown d told n trailer p = record {
         ∙ (drop-drop 4 (block.total - 4) (coming old) ∙ ap (λ k. drop k (coming old)) (omega (arith, f.least)))))),
   );
 }
-
-some_is : (o : Option ℕ) (n : ℕ) → o ≡ Some n → IsSome o
-some_is o n e = rw e refl

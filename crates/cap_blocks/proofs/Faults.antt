@@ -71,7 +71,7 @@ pub first_fault-section : (bytes : List ℕ) → first_fault None bytes ≡ None
 unfolding first_fault
 first_fault-section bytes h = grind (arith, nat_tests)
 
--- where neither of two conditions is met
+-- if neither of two conditions is met
 pub or_else-none : (a b : Option Rule) → or_else a b ≡ None → (a ≡ None) × (b ≡ None)
 or_else-none a b h = grind arith
 
@@ -130,7 +130,7 @@ pub block_fault-body : (section : Option Order) (offset : ℕ) (bytes : List ℕ
 unfolding block_fault
 block_fault-body section offset bytes fault none is = rw (none, is) refl
 
--- nothing ends the blocks where a whole one stands
+-- nothing ends the blocks if a whole one stands
 pub stop_at-whole : (section : Option Order) (tail : Tail) (file offset : ℕ) (bytes : List ℕ) → 0 < length bytes
     → block_fault section offset bytes ≡ None → stop_at section tail file offset bytes ≡ None
 stop_at-whole section tail file offset bytes some is = search (stop_where-whole, is_some)

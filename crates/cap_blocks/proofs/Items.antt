@@ -14,7 +14,7 @@ use Rattle.cap_blocks.proofs.Faults.{FieldsFit-from_stop_at, total-least}
 advances : Advances blocks
 advances section tail file offset bytes is = grind (arith, FieldsFit-from_stop_at, total-least)
 
--- Where something ends the blocks, that is the one item.
+-- If something ends the blocks, that is the one item.
 pub items_from-stop : (section : Option Order) (tail : Tail) (file offset : ℕ) (bytes : List ℕ) (stop : Stop)
     → stop_at section tail file offset bytes ≡ Some stop → items_from section tail file offset bytes ≡ stopped stop ∷ []
 items_from-stop section tail file offset bytes stop is = items.items_in-stop blocks tail file section offset bytes stop is

@@ -58,7 +58,7 @@ section_kind_big bytes h = grind (arith, nat_tests)
 magic_reads : (order : Order) (bytes : List ℕ) → is_ordered order bytes ≡ true → number order 4 (drop 8 bytes) ≡ order_magic
 magic_reads order bytes h = grind (arith, nat_tests)
 
--- where a kind is that of a section header
+-- if a kind is that of a section header
 section_told : (order : Order) (bytes : List ℕ) → Plain bytes → kind_at order bytes ≡ section_kind → is_section bytes ≡ true
 section_told order bytes fits is = same _ _ (fits.kinds order Big is)
 
@@ -123,7 +123,7 @@ follows_at None bytes fits first = fits.kinds Big (own_order bytes) (section_kin
 follows_at (Some section) bytes fits first = λ other.
     order_kept section bytes (is_section bytes) refl (λ is. other (fits.kinds Big (order_at (Some section) bytes) (section_kind_big bytes is)))
 
--- where a block stands, as the bytes tell it
+-- if a block stands, as the bytes tell it
 pub Begins-at : (section : Option Order) (offset : ℕ) (bytes : List ℕ) → Plain bytes → block_fault section offset bytes ≡ None
     → Begins section offset (piece_at section bytes) bytes
 Begins-at section offset bytes fits none =

@@ -104,7 +104,7 @@ begins_goes section tail file offset bytes p fits b =
     let r = Reads-spelled section offset p bytes (plain bytes fits) b in
     stop_at-whole section tail file offset bytes (omega (arith, r.whole)) r.none
 
--- what ends the blocks where none begins
+-- what ends the blocks if none begins
 ends : (section : Option Order) (tail : Tail) (file offset : ℕ) (bytes : List ℕ) (stop : Option Stop) → stop_at section tail file offset bytes ≡ stop
     → AreBytes bytes → ((piece : Piece) → Begins section offset piece bytes → ⊥)
     → (s : Stop) × (stop_at section tail file offset bytes ≡ Some s) × (items_from section tail file offset bytes ≡ stopped s ∷ [])

@@ -84,7 +84,7 @@ abbrev pub option_bytes : Order → ℕ → List ℕ → List ℕ
 option_bytes order code value =
     bytes_of order 2 code ++ bytes_of order 2 (length value) ++ value ++ replicate (padded (length value) - length value) 0
 
--- the options of an interface: its resolution, its offset where that isn't 0, in two's complement, and the
+-- the options of an interface: its resolution, its offset if that isn't 0, in two's complement, and the
 -- end (draft-ietf-opsawg-pcapng, 4.2).
 abbrev pub offset_option : Order → ℕ → List ℕ
 offset_option order seconds = if seconds == 0 then [] else option_bytes order 14 (bytes_of order 8 seconds)

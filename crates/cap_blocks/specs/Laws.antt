@@ -42,7 +42,7 @@ BlockRead =
     ≡ given (block_of offset piece) piece.body
     ∷ items_from (Some piece.order) tail file (offset + piece_size piece) (drop (piece_size piece) bytes)
 
--- Where nothing ends the blocks, the bytes at the front spell one.
+-- If nothing ends the blocks, the bytes at the front spell one.
 abbrev pub BlockThere : Type 0
 BlockThere =
     (section : Option Order) (tail : Tail) (file offset : ℕ) (bytes : List ℕ) → AreBytes bytes

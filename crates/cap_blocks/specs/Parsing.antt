@@ -77,7 +77,7 @@ abbrev pub LooksAtBody : Block → State → Result (Option Rule) Fault → Stat
 LooksAtBody block old (Ok fault) new = SeesBody block fault old new
 LooksAtBody block old (Err fault) new = FailsBy 524288 ((is_known block.kind ≡ true) × (old.room < block.total)) old fault new
 
--- the same of a block that is skipped, where no fault but that of a read comes, which may fail after the block's
+-- the same of a block that is skipped, if no fault but that of a read comes, which may fail after the block's
 -- beginning
 abbrev pub SkipsBody : Block → State → Result (Option Rule) Fault → State → Type 0
 SkipsBody block old (Ok fault) new = SeesBody block fault old new

@@ -17,7 +17,7 @@ use Rattle.cap_blocks.specs.declared.blocks.Block.{Block}
 abbrev pub items_of : State Order → List (Item Block)
 items_of reader = items_by_stop reader.stop (items_from reader.known reader.tail reader.file reader.offset reader.coming)
 
--- A block is given, whose bytes stand at the front of the bytes to come. Its body is lent where its kind
+-- A block is given, whose bytes stand at the front of the bytes to come. Its body is lent if its kind
 -- is known.
 pub record GivesBlock (old : State Order) (block : Block) (new : State Order) : Type 0 where
   pub gives : Gives (Some block.order) block.total old new

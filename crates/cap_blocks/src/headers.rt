@@ -70,7 +70,7 @@ fn order_of(section: Option<Order>, bytes: &[u8]) -> Option<Order>
 }
 
 /// The block that stands at the front of some bytes, which begin at `offset`, as far as its first 12
-/// bytes tell it. Where there is none, the first rule that they break; `Rule::Cut` where they are too
+/// bytes tell it. If there is none, the first rule that they break; `Rule::Cut` if they are too
 /// few. The order is that of the section that is being read, if one is.
 pub fn header_of(section: Option<Order>, offset: u64, bytes: &[u8]) -> Result<Block, Rule>
     requires { offset ≤ 2 ^ 40 }
@@ -101,7 +101,7 @@ pub fn header_of(section: Option<Order>, offset: u64, bytes: &[u8]) -> Result<Bl
     })
 }
 
-// Whether the blocks end where these bytes are all that is left.
+// Whether the blocks end if these bytes are all that is left.
 fn is_end(section: Option<Order>, bytes: &[u8]) -> bool
     ensures { result ≡ (is_some section && (length bytes.now == 0)) }
 {

@@ -25,7 +25,7 @@ pub fn items()
     ensures block { ItemsAtBlock }
 {}
 
-/// Bytes that spell a block are read as that block, whatever follows them, and where nothing ends the
+/// Bytes that spell a block are read as that block, whatever follows them, and if nothing ends the
 /// blocks one is spelled.
 pub fn read_whole()
     ensures spelled { BlockRead }

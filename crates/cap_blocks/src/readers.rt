@@ -21,7 +21,7 @@ pub struct BlockReader<R: Source> {
     tail: Tail,
     // the order of the section that is being read
     section: Option<Order>,
-    // the total length of the block that was given last, where the window still shows it
+    // the total length of the block that was given last, if the window still shows it
     given: Option<u32>,
     stop: Option<Stop>,
 }
@@ -39,7 +39,7 @@ impl<R: Source> Model for BlockReader<R> {
     ghost invariant = { λ r. IsSound r.given (length r.window.shown) r.window.offset r.window.held };
 }
 
-// Looks for a block at the front of a window, which shows it whole then where its kind is known, and has
+// Looks for a block at the front of a window, which then shows it whole if its kind is known, and has
 // passed it otherwise.
 fn look_for_block<R: Source>(
     window: &mut Window<R>,
@@ -123,7 +123,7 @@ impl<R: Source> BlockReader<R> {
 
     /// The next block, or `None` at the end of the file, which comes again then. `body` lends the body of
     /// a block of a known kind; one of another kind is skipped, and its trailer looked at. Bytes that are
-    /// no block are refused, now and at each later call; where the tail is accepted, a rest that is cut is
+    /// no block are refused, now and at each later call; if the tail is accepted, a rest that is cut is
     /// dropped instead, which is the end, but never within the first section header. `Memory` leaves what
     /// is to come. A read that fails is told with the offset at which the block begins, and comes again.
     pub fn next_block(&mut self) -> Result<Option<Block>, Fault>

@@ -19,7 +19,7 @@ const END_OPTION: u16 = 0;
 
 /// Writes a section header of version 1.0, whose section length is left open and which has no
 /// options: 28 bytes (draft-ietf-opsawg-pcapng, 4.1). Answers `Fault::Write`, and no other fault,
-/// where the writer failed: a prefix of the bytes is written then.
+/// if the writer failed: a prefix of the bytes is written then.
 pub fn put_section<W: Sink>(writer: &mut W, order: Order) -> Result<(), Fault>
     ensures bytes { IsTrue (W.tells_held writer.old)
         → Puts (W.held writer.old) result (W.held writer.new) (section_bytes order) }
@@ -45,8 +45,8 @@ fn section_header(order: Order) -> BlockBuffer
 }
 
 /// Writes an interface block (draft-ietf-opsawg-pcapng, 4.2) with the resolution as the option
-/// `if_tsresol` and, where it isn't 0, the offset as the option `if_tsoffset`: 32 bytes, or 44 with the
-/// offset. Answers `Fault::Write`, and no other fault, where the writer failed: a prefix of the bytes is
+/// `if_tsresol` and, if it isn't 0, the offset as the option `if_tsoffset`: 32 bytes, or 44 with the
+/// offset. Answers `Fault::Write`, and no other fault, if the writer failed: a prefix of the bytes is
 /// written then.
 pub fn put_interface<W: Sink>(
     writer: &mut W,
@@ -97,7 +97,7 @@ fn total_of(seconds: u64) -> u32
     if seconds == 0 { 32 } else { 44 }
 }
 
-// Puts an interface's offset into a buffer, where it isn't 0.
+// Puts an interface's offset into a buffer, if it isn't 0.
 fn add_offset(buffer: &mut BlockBuffer, order: Order, seconds: u64)
     requires { length buffer.old + 12 ≤ 44 }
     ensures bytes { buffer.new ≡ buffer.old ++ offset_option order seconds }
@@ -113,7 +113,7 @@ fn add_offset(buffer: &mut BlockBuffer, order: Order, seconds: u64)
 /// Writes an enhanced packet block (draft-ietf-opsawg-pcapng, 4.3) without options: the number of the
 /// interface, the time in its units, and the captured bytes of a packet of the `original` length. It
 /// takes 32 bytes and the captured bytes, padded to a multiple of 4. Answers `Fault::Write`, and no other
-/// fault, where the writer failed: a prefix of the bytes is written then.
+/// fault, if the writer failed: a prefix of the bytes is written then.
 pub fn put_packet<W: Sink>(
     writer: &mut W,
     order: Order,

@@ -28,7 +28,7 @@ pub stop_where-whole : (inside : Bool) (tail : Tail) (file offset : ℕ) (bytes 
 unfolding stop_where
 stop_where-whole inside tail file offset bytes fault some is = let there = not_empty inside (length bytes) some in rw (there, is) refl
 
--- where nothing ends them, no condition is met
+-- if nothing ends them, no condition is met
 pub no_fault : (inside : Bool) (tail : Tail) (file offset : ℕ) (bytes : List ℕ) (fault : Option Rule)
     → stop_where inside tail file offset bytes fault ≡ None → fault ≡ None
 unfolding stop_where
@@ -44,7 +44,7 @@ rule_told tail file offset bytes fault refusal h = grind arith
 pub IsStopAt-stop_by : (inside : Bool) (tail : Tail) (file offset : ℕ) (rule : Rule) → IsStopAt inside tail file offset (stop_by inside tail file offset rule)
 IsStopAt-stop_by inside tail file offset rule = grind arith
 
--- a piece takes bytes, which are there, where nothing ends the pieces
+-- a piece takes bytes, which are there, if nothing ends the pieces
 abbrev pub Advances : {K P : Type 0} → Format K P → Type 0
 Advances {K} {P} format =
     (known : K) (tail : Tail) (file offset : ℕ) (bytes : List ℕ) → format.stop known tail file offset bytes ≡ None
@@ -63,7 +63,7 @@ module _ {K P : Type 0} (format : Format K P) (tail : Tail) (file : ℕ) where
   unfolding items_by
   items_by-piece n known offset bytes is = rw is refl
 
-  -- where something ends the pieces, that is the one item
+  -- if something ends the pieces, that is the one item
   pub items_in-stop : (known : K) (offset : ℕ) (bytes : List ℕ) (stop : Stop)
       → format.stop known tail file offset bytes ≡ Some stop → items_in format known tail file offset bytes ≡ stopped stop ∷ []
   unfolding items_in
@@ -86,7 +86,7 @@ module _ {K P : Type 0} (format : Format K P) (tail : Tail) (file : ℕ) where
         (λ next later rest few enough. items_by-enough m n next later rest few enough)
     items_by-enough m n known offset bytes p q = grind arith
 
-    -- where nothing does, a piece is the first item, and those of the bytes after it follow
+    -- if nothing does, a piece is the first item, and those of the bytes after it follow
     pub items_in-piece : (known : K) (offset : ℕ) (bytes : List ℕ) → format.stop known tail file offset bytes ≡ None
         → items_in format known tail file offset bytes ≡ given (format.piece known offset bytes) (format.lent known bytes)
         ∷ items_in format (format.next known bytes) tail file (offset + format.size known bytes) (drop (format.size known bytes) bytes)

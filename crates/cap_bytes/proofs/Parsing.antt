@@ -14,20 +14,13 @@ use Rattle.cap_bytes.proofs.Items.{stop_where-end, stop_where-fault, IsStopAt-st
 pub none_from : {A : Type 0} (o : Option A) → ((x : A) → o ≡ Some x → ⊥) → o ≡ None
 none_from o not = grind arith
 
--- what is said of an option of which it is known what it is
-pub if_none : {A : Type 0} (o : Option A) (P : Type 0) → o ≡ None → P → IfNone o P
-if_none o P e g = grind arith
-
 pub from_none : {A : Type 0} (o : Option A) (P : Type 0) → o ≡ None → IfNone o P → P
 from_none o P e g = grind arith
-
-pub if_some : {A : Type 0} (o : Option A) (P : A → Type 0) → o ≡ None → IfSome o P
-if_some o P e = cc
 
 pub from_some : {A : Type 0} (o : Option A) (x : A) (P : A → Type 0) → o ≡ Some x → IfSome o P → P x
 from_some o x P e g = grind arith
 
--- where the input ends, what is shown is all that comes
+-- if the input ends, what is shown is all that comes
 pub all_shown : (old new : State) → Shows old new → (IsTrue old.told → new.unread ≡ []) → IsTrue old.told → coming old ≡ new.shown
 all_shown old new s none t = sym (s.coming_same t) ∙ (ap (λ l. new.shown ++ l) (none t) ∙ append-nil new.shown)
 
@@ -57,7 +50,7 @@ pub FailsBy-later : (size : ℕ) (First Second : Type 0) (a b c : State) (f : Fa
     → FailsBy size Second b f c → FailsBy size First a f c
 FailsBy-later size First Second a b c f p named told cannot room lacks was = grind (arith, Shows-trans)
 
--- some bytes are to come where some are shown
+-- some bytes are to come if some are shown
 pub some_left : (inside : Bool) (old new : State) → Shows old new → 0 < length new.shown → IsTrue old.told → (inside && (length (coming old) == 0)) ≡ false
 some_left inside old new s some t = grind (arith, length-append)
 

@@ -28,7 +28,7 @@ pub Putting-more : (old mid new : Writer) (bytes rest : List ℕ) (n : ℕ)
     → Putting old new bytes (drop n rest)
 Putting-more old mid new bytes rest n p fits more told cannot = grind (arith, common_steps, take-add)
 
--- Where nothing is left to write, all is written.
+-- If nothing is left to write, all is written.
 pub Putting-all : (from to : Writer) (text rest : List ℕ) → Putting from to text rest → rest ≡ [] → IsTrue from.told → to.held ≡ from.held ++ text
 Putting-all from to text rest p none t =
     p.written t

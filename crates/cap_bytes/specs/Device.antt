@@ -3,13 +3,13 @@ use Rattle.std.specs.Prelude.{◌≡◌, ◌<◌, ◌||◌, ℕ, List, [], ◌++
 use Rattle.cap_bytes.specs.declared.faults.Fault.{Fault}
 use Rattle.cap_bytes.specs.declared.devices.Broken.{Broken}
 
--- A reader gave the front of the buffer, and none only at its end or where there is no room. Where it
+-- A reader gave the front of the buffer, and none only at its end or without room. If it
 -- failed it gave none.
 abbrev pub Takes : List ℕ → Result ℕ Broken → List ℕ → List ℕ → Type 0
 Takes old (Ok n) new buffer = (old ≡ take n buffer ++ new) × (n ≡ 0 → 0 < length buffer → old ≡ [])
 Takes old (Err _) new buffer = new ≡ old
 
--- A writer took the first n bytes. Where it failed it took none.
+-- A writer took the first n bytes. If it failed it took none.
 abbrev pub Gives : List ℕ → Result ℕ Broken → List ℕ → List ℕ → Type 0
 Gives old (Ok n) new bytes = new ≡ old ++ take n bytes
 Gives old (Err _) new bytes = new ≡ old

@@ -9,7 +9,7 @@ use Rattle.cap_bytes.specs.declared.faults.Tail.TheVariants.{Accept}
 use Rattle.cap_bytes.specs.declared.stops.Stop.{Stop}
 use Rattle.cap_bytes.specs.declared.stops.Stop.TheVariants as stops
 
--- What ends the pieces where a rule is broken: a rest that is cut is dropped where that is asked for, but only
+-- What ends the pieces if a rule is broken: a rest that is cut is dropped if that is asked for, but only
 -- inside a file, after what it begins with.
 abbrev pub stop_by : Bool → Tail → ℕ → ℕ → Rule → Stop
 stop_by true Accept file offset Cut = stops.Cut
@@ -22,7 +22,7 @@ stop_where inside tail file offset bytes fault =
     if inside && (length bytes == 0) then Some stops.End else option_map (stop_by inside tail file offset) fault
 
 -- What may end the pieces of the bytes from `offset` on: they end, or a rest that is cut is dropped, only inside a
--- file; and such a rest is dropped where that is asked for, and refused where it isn't.
+-- file; and such a rest is dropped if that is asked for, and refused if it isn't.
 abbrev pub IsStopAt : Bool → Tail → ℕ → ℕ → Stop → Type 0
 IsStopAt inside tail file offset stops.End = IsTrue inside
 IsStopAt inside tail file offset stops.Cut = IsTrue inside × (tail ≡ Accept)
@@ -46,7 +46,7 @@ pub data Item (P : Type 0) : Type 0 where
   given : P → List ℕ → Item P
   stopped : Stop → Item P
 
--- what comes where something ends the pieces, and where nothing does
+-- what comes if something ends the pieces, and if nothing does
 abbrev pub item_or : {P : Type 0} → Option Stop → Item P → List (Item P) → List (Item P)
 item_or (Some stop) item rest = stopped stop ∷ []
 item_or None item rest = item ∷ rest
@@ -78,7 +78,7 @@ abbrev pub items_by_stop : {P : Type 0} → Option Stop → List (Item P) → Li
 items_by_stop (Some stop) items = stopped stop ∷ []
 items_by_stop None items = items
 
--- What a call for a piece does to them, where a piece is taken from them in this way.
+-- What a call for a piece does to them, if a piece is taken from them in this way.
 abbrev pub TakesItem : {P : Type 0} → (P → Type 0) → List (Item P) → Result (Option P) Fault → List (Item P) → Type 0
 TakesItem Takes old (Ok (Some piece)) new = Takes piece
 TakesItem Takes old (Ok None) new = (stop : Stop) × IsEnd stop × (old ≡ stopped stop ∷ []) × (new ≡ old)

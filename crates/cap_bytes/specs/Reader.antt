@@ -11,7 +11,7 @@ use Rattle.cap_bytes.specs.declared.stops.Stop.{Stop}
 use Rattle.cap_bytes.specs.declared.stops.Stop.TheVariants as stops
 
 -- A reader of the file of that number, which gives its pieces: records, or blocks. `known` is what is known of the
--- file, once that was read: a pcap file's header, or the order of a pcapng file's section. The bytes to come, where
+-- file, once that was read: a pcap file's header, or the order of a pcapng file's section. The bytes to come, if
 -- the device tells them, begin at `offset`: after the pieces that were given. `lent` is what is shown of the piece
 -- that was given last, until the next is asked for. `stop` is what ended the pieces, once something has. `broken` is
 -- where the piece began at which a read failed, once one has. `held` bytes are kept in the window, which has room

@@ -4,7 +4,7 @@ use Rattle.cap_bytes.specs.declared.buffers.Discarded.{Discarded}
 use Rattle.cap_bytes.specs.declared.buffers.Filling.{Filling}
 use Rattle.cap_bytes.specs.declared.buffers.Filling.TheVariants.{Whole, Ended, Failed}
 
--- a reader: whether it tells the bytes to come, which they are, how many it gives at a time at most, where it tells that,
+-- a reader: whether it tells the bytes to come, which they are, how many it gives at a time at most, if it tells that,
 -- whether it has failed, whether it can
 pub record SourceState : Type 0 where
   pub told : Bool
@@ -32,7 +32,7 @@ pub record Reads (old new : SourceState) (front whole : List ℕ) : Type 0 where
   pub most : new.most ≡ old.most
   pub cannot : IsTrue new.can_fail → IsTrue old.can_fail
 
--- Fewer than n bytes and one read more: where a read gives that many at most, no read began with n bytes.
+-- Fewer than n bytes and one read more: if a read gives that many at most, no read began with n bytes.
 abbrev pub IsWithin : Option ℕ → ℕ → ℕ → Type 0
 IsWithin None n count = ⊤
 IsWithin (Some most) n count = count < n + most

@@ -5,7 +5,7 @@ use Rattle.cap_bytes.specs.declared.faults.Fault.{Fault}
 use Rattle.cap_bytes.specs.declared.faults.Fault.TheVariants.{Refused, Read, Write, Memory}
 
 -- A window shows the bytes `shown` of the input, which begin at `offset`. After them come those that
--- the reader still gives, `unread`, where it tells them, at most `most` at a time, where it tells that. `broken` is the offset at which a read failed,
+-- the reader still gives, `unread`, if it tells them, at most `most` at a time, if it tells that. `broken` is the offset at which a read failed,
 -- once one has. `held` bytes are kept in its buffer, which has room for `room`.
 pub record State : Type 0 where
   pub file : ℕ
@@ -75,7 +75,7 @@ pub record Breaks (old : State) (file offset : ℕ) (new : State) : Type 0 where
   pub failed : IsTrue new.failed
   pub can_fail : IsTrue old.can_fail
 
--- The next n bytes are there, or the input ends before them. A read fails only where fewer are shown.
+-- The next n bytes are there, or the input ends before them. A read fails only if fewer are shown.
 abbrev pub Needs : ℕ → State → Result Bool Fault → State → Type 0
 Needs n old (Ok true) new = Shows old new × (n ≤ length new.shown)
 Needs n old (Ok false) new = Shows old new × (length new.shown < n) × (IsTrue old.told → new.unread ≡ [])

@@ -65,7 +65,7 @@ fn fill<R: Source>(reader: &mut R, buffer: &mut [u8], end: usize, n: usize) -> (
 }
 
 /// Makes the buffer at least n bytes long. Its first bytes stay. An `Err` changes nothing, and comes
-/// only where the buffer is shorter.
+/// only if the buffer is shorter.
 pub fn make_room(buffer: &mut Vec<u8>, n: usize) -> Result<(), AllocError>
     requires limit { n ≤ LIMIT }
     requires bounded { vec_len buffer.old ≤ LIMIT }

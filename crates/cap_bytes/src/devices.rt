@@ -9,7 +9,7 @@ use crate::faults::Fault;
 pub struct Broken;
 
 /// What bytes come from or go to. It says whether it has failed, so that a contract can say that
-/// a fault comes only where a device failed.
+/// a fault comes only if a device failed.
 pub trait Device: Drop {
     /// Whether it has failed so far.
     ghost has_failed: { Self → Bool };
@@ -27,14 +27,14 @@ pub trait Source: Device {
     /// Whether it tells the bytes to come.
     ghost tells_coming: { Self → Bool };
 
-    /// The bytes to come, where it tells them.
+    /// The bytes to come, if it tells them.
     ghost coming: { Self → List ℕ };
 
-    /// How many bytes it gives at a time at most, where it tells that.
+    /// How many bytes it gives at a time at most, if it tells that.
     ghost most: { Self → Option ℕ };
 
-    /// Puts the next bytes at the front of `buffer`, and answers how many they are: 0 where none
-    /// are left, or where there is no room.
+    /// Puts the next bytes at the front of `buffer`, and answers how many they are: 0 if none
+    /// are left, or if there is no room.
     fn take(&mut self, buffer: &mut [u8]) -> Result<usize, Broken>
         ensures count { IfOk result (λ n. n ≤ length buffer.new) }
         ensures few { IfSome (most self.old) (λ most. IfOk result (λ n. n ≤ most)) }
@@ -52,7 +52,7 @@ pub trait Sink: Device {
     /// Whether it tells the bytes that it holds.
     ghost tells_held: { Self → Bool };
 
-    /// The bytes that it holds, where it tells them.
+    /// The bytes that it holds, if it tells them.
     ghost held: { Self → List ℕ };
 
     /// Takes some of the first bytes, and answers how many: of some bytes at least one.
@@ -68,7 +68,7 @@ pub trait Sink: Device {
 }
 
 /// Writes all the bytes, in as many calls of `give` as it takes. Answers `Fault::Write`, and no
-/// other fault, where the writer failed: a prefix of the bytes is written then.
+/// other fault, if the writer failed: a prefix of the bytes is written then.
 pub fn put_all<W: Sink>(writer: &mut W, bytes: &[u8]) -> Result<(), Fault>
     ensures bytes { IsTrue (W.tells_held writer.old)
         → Puts (W.held writer.old) result (W.held writer.new) bytes.now }

@@ -140,7 +140,7 @@ impl Sink for Room {
     }
 }
 
-// Appends as many of the first bytes as the vector's capacity has room for, and answers how many. Fails where there
+// Appends as many of the first bytes as the vector's capacity has room for, and answers how many. Fails if there
 // are some and it has none.
 fn append(vector: &mut Vec<u8>, bytes: &[u8]) -> Result<usize, Broken>
     ensures full { IsErr result ↔ ((0 < length bytes.now) × (vec_capacity vector.old ≡ vec_len vector.old)) }

@@ -16,7 +16,7 @@ pub enum Stop {
 }
 
 impl Stop {
-    /// What ends the pieces where a rule is broken. A rest that is cut may be dropped only `inside` a
+    /// What ends the pieces if a rule is broken. A rest that is cut may be dropped only `inside` a
     /// file, after what it begins with.
     pub fn by(inside: bool, tail: Tail, refusal: Refusal) -> Stop
         ensures { result ≡ stop_by inside tail refusal.file refusal.offset refusal.rule }

@@ -65,7 +65,7 @@ impl<R: Source> Window<R> {
         }
     }
 
-    /// Reads on until the next n bytes are shown, and no further: where they are, nothing changes.
+    /// Reads on until the next n bytes are shown, and no further; if they are already, nothing changes.
     /// Answers whether they are shown: if not, the input ends first. `Memory` leaves the bytes to come.
     #[inline(always)]
     pub fn need(&mut self, n: usize) -> Result<bool, Fault>
@@ -82,7 +82,7 @@ impl<R: Source> Window<R> {
         self.need_more(n)
     }
 
-    // The same, where fewer bytes are shown or a read has failed.
+    // The same, if fewer bytes are shown or a read has failed.
     #[inline(never)]
     fn need_more(&mut self, n: usize) -> Result<bool, Fault>
         requires limit { n ≤ 524288 }
@@ -101,7 +101,7 @@ impl<R: Source> Window<R> {
         }
     }
 
-    // The same, where fewer bytes are shown and no read has failed.
+    // The same, if fewer bytes are shown and no read has failed.
     fn read_further(&mut self, n: usize) -> Result<bool, Fault>
         requires limit { n ≤ 524288 }
         requires fewer { length self.old.shown ≤ n }

@@ -106,7 +106,7 @@ fn counted(alloc: Global, length: usize) -> Result<Vec<u8>, Fail> {
     Ok(bytes)
 }
 
-// Drops n bytes where they are shown.
+// Drops n bytes if they are shown.
 fn pass_shown<R: Source>(window: &mut Window<R>, n: usize) -> bool {
     if window.offset() <= 1 << 30 && n <= 1 << 20 && n <= window.bytes().len() {
         window.pass(n);
@@ -115,7 +115,7 @@ fn pass_shown<R: Source>(window: &mut Window<R>, n: usize) -> bool {
     false
 }
 
-// A call again, where the first was refused memory: what a growth refused in turn leaves.
+// A call again, after the first ran out of memory: what a growth refused in turn leaves.
 fn need<R: Source>(window: &mut Window<R>, n: usize) -> Result<bool, Fault>
     requires { n ≤ 524288 }
 {

@@ -329,7 +329,7 @@ fn old_groups_in_any_order_of_clocks(rt: HostRuntime) -> Result<(), Fail> {
     Ok(())
 }
 
-/// Puts a packet, and once more where memory was refused: the joiner is then as it was.
+/// Puts a packet, and once more if it ran out of memory: the joiner is then as it was.
 fn put_again(rt: &impl Abort, run: &mut Run, clock: u64, packet: &[u8]) -> Result<Put, JoinFault> {
     let open = run.joiner.open_count();
     let held = run.joiner.held_bytes();

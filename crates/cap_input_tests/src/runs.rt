@@ -50,7 +50,7 @@ fn at(rt: &impl Abort, microseconds: u64) -> Stamp
     Stamp::new(microseconds, &interface)
 }
 
-/// The time of a number of microseconds, where there is one.
+/// The time of a number of microseconds, if there is one.
 fn time_at(rt: &impl Abort, clock: Option<u64>) -> Option<Stamp>
     ensures { IfSome result (λ c. seconds_of c <ℤ pos (2 ^ 65)) }
 {

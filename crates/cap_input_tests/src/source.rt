@@ -61,7 +61,7 @@ fn carried(rt: &impl Abort, offset: u64, format: Format) -> Meta {
     }
 }
 
-// What comes next, where it is no packet or that packet with those bytes, which is passed.
+// What comes next, if it is no packet or that packet with those bytes, which is passed.
 fn takes<F: PacketFeed>(
     rt: &impl Abort,
     feed: &mut F,
@@ -323,7 +323,7 @@ fn refused_files(rt: HostRuntime) -> Result<(), Fail> {
     Ok(())
 }
 
-// A rest that is cut is dropped where that is asked for.
+// A rest that is cut is dropped if that is asked for.
 #[test]
 fn cut_rest(rt: HostRuntime) -> Result<(), Fail> {
     let pieces = Pieces::new(CARRY_PCAP.split_at(43).0.to_vec(rt.alloc())?, 1, None);
@@ -364,7 +364,7 @@ fn failing_reads(rt: HostRuntime) -> Result<(), Fail> {
     Ok(())
 }
 
-// The head, asked again where a growth was refused.
+// The head, asked again after a growth was refused.
 fn asked<F: PacketFeed>(feed: &mut F) -> Result<Head, Fault> {
     match feed.head() {
         Err(Fault::Memory) => feed.head(),

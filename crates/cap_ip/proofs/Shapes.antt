@@ -1,9 +1,7 @@
 -- What holds of a header that was found.
-use Rattle.std.proofs.Common.{◌≡◌, ◌<◌, ◌≤◌, ◌+◌, ◌%◌, ◌-◌, ℕ, Bool, true, false, ◌&&◌, ◌||◌, ◌==◌, not, nat_lt, List, length, get_or, take, drop, Some, None, IsSome, IfSome, if◌then◌else◌, refl, arith, length-drop, length-take}
-use Rattle.std.proofs.lemmas.List.{get_or-drop}
+use Rattle.std.proofs.Common.{◌≡◌, ◌≤◌, ◌+◌, ◌%◌, ◌-◌, ℕ, Bool, true, false, ◌&&◌, ◌||◌, ◌==◌, not, nat_lt, List, length, take, drop, Some, None, IsSome, IfSome, if◌then◌else◌, refl, arith, length-drop, length-take}
 use Rattle.std.proofs.lemmas.Bool.Decides.{nat_tests}
-use Rattle.cap_bytes.specs.Number.{number}
-use Rattle.cap_ip.specs.Fields.{data_length, header_length, total_length, offset}
+use Rattle.cap_ip.specs.Fields.{data_length, offset}
 use Rattle.cap_ip.specs.declared.headers.Fragment.{Fragment}
 use Rattle.cap_ip.specs.Header.{HeaderFields, IsPiece, IsWellFormed}
 use Rattle.cap_ip.specs.Read.{ended, fields_of, fragment_of, data_of, lacks_data, is_misfit, is_partial, Reading, IfFound, IsShaped}
@@ -43,14 +41,3 @@ IsShaped-found bytes form whole = grind (arith, length-take, length-part, le-who
 -- what the seven steps answer, over plain tests
 pub IfFound-steps : (short malformed headless overstated misfit partial : Bool) (end : Reading) (header : HeaderFields) (captured : List ℕ) (P : HeaderFields → List ℕ → Type 0) → IfFound end P → (malformed ≡ false → misfit ≡ false → partial ≡ false → P header captured) → IfFound (if short then end else (if malformed then Reading.bad else (if headless then end else (if overstated then Reading.bad else (if misfit then Reading.bad else (if partial then Reading.cut else Reading.found header captured)))))) P
 IfFound-steps short malformed headless overstated misfit partial end header captured P at_end last = grind arith
-
--- a total length has 16 bits
-pub total_length-le : (bytes : List ℕ) → ((i : ℕ) → get_or bytes i 0 < 256) → total_length bytes ≤ 65535
-unfolding total_length number
-total_length-le bytes fit =
-    let first = fit 2 in let second = fit 3 in rw (get_or-drop 2 bytes 0 0, get_or-drop 2 bytes 1 0) (omega arith)
-
--- the data has at most 65,515 bytes where the header has at least 20
-pub data_length-le : (bytes : List ℕ) → ((i : ℕ) → get_or bytes i 0 < 256) → 20 ≤ header_length bytes → data_length bytes ≤ 65515
-unfolding data_length
-data_length-le bytes fit least = omega (arith, total_length-le bytes fit)

@@ -10,7 +10,7 @@ pub record HeaderFields : Type 0 where
   pub data_length : ℕ
   pub fragment : Option Fragment
 
--- a fragment of a datagram: some data that begins at a whole block of 8 bytes, ends at one where more
+-- a fragment of a datagram: some data that begins at a whole block of 8 bytes, ends at one if more
 -- follow, and lies in the 65,515 bytes that a datagram's data can have (RFC 791, 3.1)
 pub record IsPiece (data_length : ℕ) (f : Fragment) : Type 0 where
   pub all : f.length ≡ data_length

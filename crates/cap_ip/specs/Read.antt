@@ -77,7 +77,7 @@ read_of bytes whole =
     else (if is_partial bytes then Reading.cut  -- 6
     else Reading.found (fields_of bytes) (data_of bytes))))))  -- 7
 
--- a well-formed header, whose data isn't longer than it says, and is whole where it is a fragment
+-- a well-formed header, whose data isn't longer than it says, and is whole if it is a fragment
 pub record IsShaped (header : HeaderFields) (captured : List ℕ) : Type 0 where
   pub form : IsWellFormed header
   pub within : length captured ≤ header.data_length

@@ -15,7 +15,7 @@ use std::marker::Model;
 const LEAST_HEADER: u16 = 20;
 /// The version of an IPv4 packet.
 const VERSION: u8 = 4;
-/// A fragment's data begins at a multiple of that many bytes, and ends at one where more follow.
+/// A fragment's data begins at a multiple of that many bytes, and ends at one if more follow.
 const BLOCK: u32 = 8;
 /// The most data of a datagram: 65,535 bytes less the shortest header.
 const LONGEST_DATA: u32 = 65_515;
@@ -38,7 +38,7 @@ pub struct Key {
 pub struct Fragment {
     /// The place of the first byte, a multiple of 8.
     pub start: u32,
-    /// The number of bytes, at least 1; a multiple of 8 where more follow.
+    /// The number of bytes, at least 1; a multiple of 8 if more follow.
     pub length: u32,
     /// Whether more fragments follow: the flag MF.
     pub more: bool,
@@ -150,7 +150,7 @@ fn is_overstated(bytes: &[u8], captured_whole: bool) -> bool
     captured_whole && lacks_data(bytes)
 }
 
-/// A fragment's data is empty, or doesn't end at a whole block where more follow, or lies beyond the
+/// A fragment's data is empty, or doesn't end at a whole block if more follow, or lies beyond the
 /// longest datagram.
 #[tactic(auto, unfolding(crate::specs::Read::is_misfit))]
 fn is_misfit(bytes: &[u8]) -> bool
@@ -217,12 +217,12 @@ impl Header {
     ///
     /// The first of these that holds (RFC 791, 3.1):
     ///
-    /// 1. fewer than 20 bytes: `Bad` where captured whole, else `Cut`;
+    /// 1. fewer than 20 bytes: `Bad` if captured whole, else `Cut`;
     /// 2. the version isn't 4, the header's length is below 20, or the total length below the
     ///    header's: `Bad`;
-    /// 3. fewer bytes than the header's length: `Bad` where captured whole, else `Cut`;
+    /// 3. fewer bytes than the header's length: `Bad` if captured whole, else `Cut`;
     /// 4. captured whole, and fewer bytes than the total length: `Bad`;
-    /// 5. a fragment without data, or whose data's length isn't a multiple of 8 where more follow, or
+    /// 5. a fragment without data, or whose data's length isn't a multiple of 8 if more follow, or
     ///    that ends past 65,515: `Bad`;
     /// 6. a fragment of fewer bytes than the total length: `Cut`;
     /// 7. else the header, with the data up to the total length or the last byte.

@@ -26,7 +26,7 @@ from_on : (x y n : Stamp) → is_gt (stamp_cmp x y) ≡ false → is_lt (stamp_c
 from_on x y n upto late =
     ap is_lt (stamp_cmp_total.antisymm y n) ∙ back (stamp_cmp n y) (stamp_upto_trans n x y (stamp_upto_turned x n late) upto)
 
--- where the sooner of two deadlines isn't past, neither is
+-- if the sooner of two deadlines isn't past, neither is
 sooner-first : (a b now : Option Stamp) → is_past (sooner a b) now ≡ false → is_past a now ≡ false
 sooner-first (Some a) (Some b) (Some n) h = by (is_lt (stamp_cmp b a)) refl h
   where
@@ -43,7 +43,7 @@ sooner-second (Some a) (Some b) (Some n) h = by (is_lt (stamp_cmp b a)) refl h
     by false is p = from_on a b n (stamp_upto_turned b a is) p
 sooner-second a b now h = cc
 
--- where none is too old all stay
+-- if none is too old all stay
 pub live-all : (now : Option Stamp) (es : List Entry) → NoneOld now es → live_entries now es ≡ es
 live-all now [] h = refl
 live-all now (e ∷ es) h = cc (live-all now es h.1)
@@ -169,11 +169,11 @@ turn_behind : (seen left : List Entry) → AreInTurn (seen ++ left) → AreInTur
 turn_behind [] left h = h
 turn_behind (e ∷ seen) left h = turn_behind seen left h.1
 
--- where the groups are in order, none after one that isn't too old is
+-- if the groups are in order, none after one that isn't too old is
 pub Looked-turn : (now : Option Stamp) (es : List Entry) (e : Entry) (left : List Entry) → AreInTurn es → IsSome e.1.clock → is_too_old e.1.clock now ≡ false → Looked now es (e ∷ left) → NoneOld now es
 Looked-turn now es e left turn some fresh l = grind (arith, turn_behind, NoneOld-append)
 
--- Where a deadline isn't past and no group of some is too old, none of the table is.
+-- If a deadline isn't past and no group of some is too old, none of the table is.
 abbrev pub Leaves : Option Stamp → List Entry → List Entry → Type 0
 Leaves deadline left es = (now : Option Stamp) → is_past deadline now ≡ false → NoneOld now left → NoneOld now es
 
@@ -181,6 +181,6 @@ Leaves deadline left es = (now : Option Stamp) → is_past deadline now ≡ fals
 pub Leaves-more : (deadline : Option Stamp) (e : Entry) (left es : List Entry) → Leaves deadline (e ∷ left) es → Leaves (sooner deadline (deadline_of e.1.clock)) left es
 Leaves-more deadline e left es h = grind (arith, sooner-first, sooner-second)
 
--- where the groups are in order, no more need be
+-- if the groups are in order, no more need be
 pub Leaves-turn : (deadline : Option Stamp) (e : Entry) (left es : List Entry) → IsSome e.1.clock → AreInTurn (e ∷ left) → Leaves deadline (e ∷ left) es → IsDeadline (sooner deadline (deadline_of e.1.clock)) es
 Leaves-turn deadline e left es some turn h = grind (arith, sooner-second, sooner-first)

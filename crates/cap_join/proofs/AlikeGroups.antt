@@ -1,4 +1,4 @@
--- What fragments make of the open groups, where they are alike, one by one, and their clocks are of the same times.
+-- What fragments make of the open groups, if they are alike, one by one, and their clocks are of the same times.
 use Rattle.std.proofs.Common.{arith, ◌≡◌, ℕ, ◌+◌, Bool, false, List, [], ◌∷◌, ◌++◌, length, refl, ◌∙◌, ap, not, true≢false, ◌&&◌, Option, Some, None, Equal}
 use Rattle.std.proofs.lemmas.List.Elements.{length_all_zip, AllZip-push}
 use Rattle.std.specs.Prelude.{nat_lt, nat_le, if◌then◌else◌, filter}

@@ -3,7 +3,7 @@ use Rattle.std.proofs.Common.{◌≡◌, ℕ, ◌+◌, ◌%◌, ◌<◌, ◌≤�
 use Rattle.std.specs.Prelude.{slice_index}
 use Rattle.cap_join.specs.Holes.{Span, is_within, in_hole, word_at, IsHole, IsChain, kept}
 
--- a number stays where its four bytes do
+-- a number stays if its four bytes do
 pub word_at-same : (xs ys : List ℕ) (at : ℕ) → ((k : ℕ) → at ≤ k → k < at + 4 → slice_index ys k ≡ slice_index xs k) → word_at ys at ≡ word_at xs at
 unfolding word_at
 word_at-same xs ys at same = grind arith
@@ -12,7 +12,7 @@ word_at-same xs ys at same = grind arith
 pub IsHole-block : (bytes : List ℕ) (low high at : ℕ) (s : Span) → IsHole bytes low high at s → s.from + 8 ≤ s.to
 IsHole-block bytes low high at s h = omega (arith, h.some, h.begins, h.ends)
 
--- a chain stays where the bytes from its lowest place on do
+-- a chain stays if the bytes from its lowest place on do
 pub IsChain-same : (xs ys : List ℕ) (low high at : ℕ) (ss : List Span) → ((k : ℕ) → low ≤ k → slice_index ys k ≡ slice_index xs k) → IsChain xs low high at ss → IsChain ys low high at ss
 IsChain-same xs ys low high at [] same h = h
 IsChain-same xs ys low high at (s ∷ ss) same h = grind (arith, IsChain-same xs ys s.to high (word_at xs (s.from + 4)) ss, word_at-same)

@@ -1,5 +1,5 @@
 -- Entries of the table and the open groups that they are, one by one, under what a step does to the table.
-use Rattle.std.proofs.Common.{arith, ◌≡◌, suc, Bool, true, false, List, [], ◌∷◌, length, refl, sym, ◌∙◌, ap, subst, cond, ◌&&◌, not, Option, Some, None}
+use Rattle.std.proofs.Common.{arith, ◌≡◌, suc, Bool, true, false, List, [], ◌∷◌, length, refl, sym, ◌∙◌, ap, subst, cond, not, Option, Some, None}
 use Rattle.std.specs.List.{AllByRecursion, IsDistinct}
 use Rattle.std.specs.Map.{keys_of, lookup, set_value}
 use Rattle.std.specs.Option.{option_map_or}
@@ -16,12 +16,6 @@ use Rattle.cap_join.specs.Tables.{entry_at, live_entries, has_live}
 pub set_value-same : {K X : Type 0} (test : K → Bool) (es : List (K × X)) (w : X) → lookup test es ≡ Some w → set_value test es w ≡ es
 set_value-same test [] w h = refl
 set_value-same {K} {X} test (e ∷ es) w h = grind (arith, set_value-same test es w)
-
-and_left : (x y : Bool) → (x && y) ≡ true → x ≡ true
-and_left x y h = grind arith
-
-and_right : (x y : Bool) → (x && y) ≡ true → y ≡ true
-and_right x y h = grind arith
 
 -- keys that name the same datagram are one
 pub same_key-is : (a b : Key) → same_key a b ≡ true → a ≡ b
@@ -63,7 +57,7 @@ pub AreEntriesOf-live : (now : Option Stamp) (es : List Entry) (os : List OpenGr
 AreEntriesOf-live now (e ∷ es) (o ∷ os) h = grind (arith, AreEntriesOf-live now es os h.1)
 AreEntriesOf-live now es os h = grind arith
 
--- a key's group is found among those that aren't too old, where it isn't
+-- a key's group is found among those that aren't too old, if it isn't
 pub group_at-live : (key : Key) (now : Option Stamp) (o : OpenGroup) (os : List OpenGroup) → group_at key os ≡ Some o → not (is_too_old o.clock now) ≡ true
     → group_at key (live_at now os) ≡ Some o
 group_at-live key now o [] h live = h

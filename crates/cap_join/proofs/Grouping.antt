@@ -60,7 +60,7 @@ greatest_end-short (p ∷ ps) shaped = grind (arith, greatest_end-short ps shape
 pub Maps-short : (xs : List ℕ) (hole : ℕ) (ps : List Piece) → Maps xs hole ps → length xs ≤ 65520
 Maps-short xs hole ps m = omega (arith, m.length_is, greatest_end-short ps m.shaped)
 
--- the length, where it is known, is one that the fragments reach, and isn't 0
+-- the length, if it is known, is one that the fragments reach, and isn't 0
 pub total_of-reached : (ps : List Piece) (n : ℕ) → AreShaped ps → total_of ps ≡ Some n → (n ≤ greatest_end ps) × (0 < n)
 total_of-reached [] n shaped h = cc
 total_of-reached (p ∷ ps) n shaped h = grind (arith, total_of-reached ps n shaped.1)
@@ -80,7 +80,7 @@ covers_below-each ps n k h p = grind (arith, covers_below-some)
 flipped : (x : Bool) → not x ≡ false → x ≡ true
 flipped x e = grind arith
 
--- a datagram is complete where no hole begins below its length
+-- a datagram is complete if no hole begins below its length
 module _ (xs : List ℕ) (hole n : ℕ) (ps : List Piece) (m : Maps xs hole ps) (reached : n ≤ greatest_end ps) where
   covered_below : n ≤ hole → (k : ℕ) → k < blocks n → is_covered ps k ≡ true
   covered_below h k p =
@@ -122,7 +122,7 @@ Maps-data xs hole n ps m total done =
     shorter : (a b : ℕ) → a ≤ b → min a b ≡ a
     shorter a b h = omega arith
 
--- where the first block is covered, a fragment begins at 0
+-- if the first block is covered, a fragment begins at 0
 pub header_of-covered : (ps : List Piece) (d : HeaderFields) → is_covered ps 0 ≡ true → IfSome (header_of ps) (λ h. d ≡ h) → header_of ps ≡ Some d
 header_of-covered [] d h e = absurd (true≢false (sym h))
 header_of-covered (p ∷ ps) d h e = grind (arith, header_of-covered ps d)

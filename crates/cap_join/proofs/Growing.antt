@@ -9,12 +9,12 @@ use Rattle.cap_join.proofs.Chains.{word_at-same, IsHole-block, in_hole-above}
 or_left : (x y : Bool) → x ≡ true → (x || y) ≡ true
 or_left x y h = cc
 
--- a chain stays where the bytes of its holes do
+-- a chain stays if the bytes of its holes do
 pub IsChain-apart : (xs ys : List ℕ) (low high at : ℕ) (ss : List Span) → ((k : ℕ) → in_hole ss k ≡ true → slice_index ys k ≡ slice_index xs k) → IsChain xs low high at ss → IsChain ys low high at ss
 IsChain-apart xs ys low high at [] same h = h
 IsChain-apart xs ys low high at (s ∷ ss) same h = grind (arith, IsChain-apart xs ys s.to high (word_at xs (s.from + 4)) ss, IsHole-block, or_left, word_at-same)
 
--- a chain stays where bytes are added after it
+-- a chain stays if bytes are added after it
 pub IsChain-front : (xs ys : List ℕ) (low high at : ℕ) (ss : List Span) → ((k : ℕ) → k < high → slice_index ys k ≡ slice_index xs k) → IsChain xs low high at ss → IsChain ys low high at ss
 IsChain-front xs ys low high at ss same chain = grind (arith, IsChain-apart, in_hole-above)
 

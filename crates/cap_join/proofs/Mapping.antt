@@ -1,7 +1,7 @@
 -- What a buffer holds once one more fragment is put into it.
 use Rattle.std.proofs.lemmas.Bool.Decides.{nat_tests}
 use Rattle.std.proofs.lemmas.Grind.{common_steps}
-use Rattle.std.proofs.Common.{◌≡◌, ℕ, ◌-◌, ◌*◌, ◌/◌, ◌<◌, ◌≤◌, Bool, true, false, List, [], ◌∷◌, length, refl, arith, max, ◌&&◌, ◌||◌, not}
+use Rattle.std.proofs.Common.{◌≡◌, ℕ, ◌-◌, ◌*◌, ◌/◌, ◌<◌, ◌≤◌, Bool, true, false, List, [], ◌∷◌, length, refl, arith, max, ◌||◌, not}
 use Rattle.std.specs.Prelude.{slice_index}
 use Rattle.std.proofs.lemmas.Bool.{cases_lt}
 use Rattle.cap_join.specs.Holes.{Span, is_within, in_hole, ChangesWithin, Punched}
@@ -20,9 +20,6 @@ uncovered_beyond (p ∷ ps) k h = grind (arith, uncovered_beyond ps k (omega ari
 pub byte_at-uncovered : (ps : List Piece) (i : ℕ) → AreShaped ps → is_covered ps (i / 8) ≡ false → byte_at ps i ≡ 0
 byte_at-uncovered [] i shaped h = refl
 byte_at-uncovered (p ∷ ps) i shaped h = grind (arith, byte_at-uncovered ps i shaped.1 (or_false_right (holds p (8 * (i / 8))) (is_covered ps (i / 8)) h))
-
-and_right : (x y : Bool) → (x && not y) ≡ true → y ≡ false
-and_right x y h = grind arith
 
 or_first : (x y : Bool) → (x || y) ≡ true → y ≡ false → x ≡ true
 or_first x y h k = grind arith

@@ -194,7 +194,7 @@ but_lower place low high (o ∷ os) lt u = grind (arith, but_lower place (o.plac
 pub but_first : (low high : ℕ) (o : OpenGroup) (os : List OpenGroup) → Up low high (o ∷ os) → but_gone (Some o.place) (o ∷ os) ≡ os
 but_first low high o os u = grind (arith, but_lower)
 
--- the groups that stay where one may be given up
+-- the groups that stay if one may be given up
 pub trimmed-but : (limit low high : ℕ) (os : List OpenGroup) → 0 < limit → Up low high os
     → trimmed limit os ≡ but_gone (if not (nat_lt (length os) limit) then lowest os else None) os
 trimmed-but limit low high os some u = by (nat_lt (length os) limit) refl os u

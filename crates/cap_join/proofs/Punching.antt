@@ -53,10 +53,7 @@ IsChain-here xs low high at (s ∷ ss) h =
 pub within-below : (a b i : ℕ) → is_within a b i ≡ true → i < b
 within-below a b i h = grind arith
 
-outside : (x : Bool) → x ≡ (x && not false)
-outside x = grind arith
-
--- nothing is filled where the holes begin after the range
+-- nothing is filled if the holes begin after the range
 pub Punched-none : (a b low high at : ℕ) (xs : List ℕ) (ss : List Span) → b ≤ at → IsChain xs low high at ss → Punched a b xs ss low high at xs
 Punched-none a b low high at xs ss h chain = grind (arith, within-below, in_hole-below, IsChain-here)
 

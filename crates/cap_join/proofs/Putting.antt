@@ -47,9 +47,6 @@ entry_at-live : (key : Key) (now : Option Stamp) (s : GroupState) (es : List Ent
 entry_at-live key now s [] h live = h
 entry_at-live key now s (e ∷ es) h live = grind (arith, entry_at-live key now s es)
 
-first_none : (key : Key) (es : List Entry) → entry_at key es ≡ None → entry_at key (remove es 0) ≡ None
-first_none key es h = grind arith
-
 -- the group with the fragment is the one that is found afterwards
 pub found_after : (key : Key) (p : Piece) (now : Option Stamp) (es mid : List Entry) (complete : Bool) (a : PutsAt key p es complete mid) → has_live key now es ≡ true
     → entry_at key (live_entries now mid) ≡ Some a.after

@@ -71,7 +71,7 @@ begins_here : (xs : List ℕ) (low high at : ℕ) (ss : List Span) → at < no_h
 begins_here xs low high at [] near chain = absurd (omega (arith, chain))
 begins_here xs low high at (s ∷ ss) near chain = inl (sym chain.0.here, chain.0.within)
 
--- What is left once a range is filled, where one of the holes that are left is known.
+-- What is left once a range is filled, if one of the holes that are left is known.
 pub record PunchedFrom (a b : ℕ) (old : List ℕ) (ss : List Span) (low high at last : ℕ) (new : List ℕ) : Type 0 where
   pub punched : Punched a b old ss low high at new
   pub begins : Begins high last punched.spans

@@ -102,7 +102,7 @@ Rises-push low high higher (f ∷ es) e le at few up h = grind (arith, Rises-pus
 pub Rises-first : (low high : ℕ) (es : List Entry) → Rises low high es → Rises low high (remove es 0)
 Rises-first low high es h = grind (arith, Rises-wider)
 
--- where places rise, the oldest group is the first
+-- if places rise, the oldest group is the first
 all_above : (place low high : ℕ) (es : List Entry) (os : List OpenGroup) → place ≤ low → AreEntriesOf es os → Rises low high es → list_all (λ q. nat_le place q.place) os ≡ true
 all_above place low high (e ∷ es) (o ∷ os) le h r = grind (arith, all_above place (e.1.place + 1) high es os (omega arith) h.1 r.3)
 all_above place low high es os le h r = grind arith

@@ -6,12 +6,12 @@ use Rattle.cap_time.specs.Stamp.{stamp_cmp, stamp_plus}
 use Rattle.cap_join.specs.Frames.{wait, is_before, is_too_old}
 use Rattle.cap_join.specs.Joiners.{Entry}
 
--- the last time at which a group isn't too old, where its first fragment has a clock
+-- the last time at which a group isn't too old, if its first fragment has a clock
 abbrev pub deadline_of : Option Stamp → Option Stamp
 deadline_of None = None
 deadline_of (Some clock) = Some (stamp_plus clock wait)
 
--- a deadline is before a clock; where there is none it never is
+-- a deadline is before a clock; if there is none it never is
 abbrev pub is_past : Option Stamp → Option Stamp → Bool
 is_past None now = false
 is_past (Some deadline) now = is_before (Some deadline) now

@@ -32,7 +32,7 @@ IsWhole header captured (as_.Whole h bytes) = (h ≡ header) × (bytes.now ≡ c
 IsWhole header captured as_.Kept = ⊥
 IsWhole header captured (as_.Joined d) = ⊥
 
--- A fragment came: a datagram exactly where its group completes.
+-- A fragment came: a datagram exactly if its group completes.
 abbrev pub IsFragmentOf : List Piece → Arrived → Type 0
 IsFragmentOf pieces as_.Bad = ⊥
 IsFragmentOf pieces as_.Cut = ⊥

@@ -43,7 +43,7 @@ blocks n = (n + 7) / 8
 unfoldable pub completes : List Piece → Bool
 completes ps = option_map_or (λ n. covers_below ps (blocks n)) (total_of ps) false
 
--- the bytes below the length, where it is known
+-- the bytes below the length, if it is known
 unfoldable pub data_of : List Piece → List ℕ
 data_of ps = option_map_or (λ n. map (byte_at ps) (range_with_len 0 n)) (total_of ps) []
 

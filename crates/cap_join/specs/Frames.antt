@@ -16,7 +16,7 @@ abbrev pub original_bytes : List Piece → ℕ
 original_bytes [] = 0
 original_bytes (p ∷ ps) = original_bytes ps + p.stamped.original
 
--- a frame, where it has a time
+-- a frame, if it has a time
 abbrev pub timed : Stamped → Option Stamp → Option Stamped
 timed frame None = None
 timed frame (Some time) = Some frame
@@ -34,7 +34,7 @@ later last None = last
 later None (Some frame) = Some frame
 later (Some last) (Some frame) = if is_before last.time frame.time then Some frame else Some last
 
--- the frame of the least time, of equal times that of the lowest place; none where no frame has a time
+-- the frame of the least time, of equal times that of the lowest place; none if no frame has a time
 abbrev pub first_frame : List Piece → Option Stamped
 first_frame [] = None
 first_frame (p ∷ ps) = earlier (first_frame ps) (timed p.stamped p.stamped.time)

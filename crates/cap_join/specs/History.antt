@@ -57,7 +57,7 @@ extended p os = map (λ o. if same_key (key_of p) o.key then with_piece p o else
 abbrev pub without_oldest : List OpenGroup → List OpenGroup
 without_oldest os = filter (λ o. not (list_all (λ q. nat_le o.place q.place) os)) os
 
--- the groups, of which one is given up where as many are open as may be
+-- the groups, of which one is given up if as many are open as may be
 abbrev pub trimmed : ℕ → List OpenGroup → List OpenGroup
 trimmed limit os = if nat_lt (length os) limit then os else without_oldest os
 
@@ -66,7 +66,7 @@ abbrev pub pieces_with : Piece → Option OpenGroup → List Piece
 pieces_with p None = p ∷ []
 pieces_with p (Some o) = p ∷ o.pieces
 
--- the groups after a fragment, where the one that it joins is found among those that aren't too old: a group that completes is none
+-- the groups after a fragment, if the one that it joins is found among those that aren't too old: a group that completes is none
 abbrev pub opens_with : ℕ → Option Stamp → Piece → Option OpenGroup → List OpenGroup → List OpenGroup
 opens_with limit clock p None os = if completes (p ∷ []) then os else trimmed limit os ++ opened clock p ∷ []
 opens_with limit clock p (Some o) os = if completes (p ∷ o.pieces) then without (key_of p) os else extended p os
@@ -99,6 +99,6 @@ unfoldable pub state_of : ℕ → List Event → State
 state_of limit [] = record { opens = []; given_up = 0 }
 state_of limit (e ∷ es) = step limit e (state_of limit es)
 
--- the fragments of a key's open group after some events, none where it has none
+-- the fragments of a key's open group after some events, none if it has none
 unfoldable pub group_of : ℕ → List Event → Key → Option OpenGroup
 group_of limit es key = group_at key (state_of limit es).opens

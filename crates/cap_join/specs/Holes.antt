@@ -65,7 +65,7 @@ pub record ChangesWithin (from to : ℕ) (old new : List ℕ) : Type 0 where
   pub below : (i : ℕ) → i < from → slice_index new i ≡ slice_index old i
   pub above : (i : ℕ) → to ≤ i → slice_index new i ≡ slice_index old i
 
--- A place and the holes after it, where some bytes are left of a hole.
+-- A place and the holes after it, if some bytes are left of a hole.
 abbrev pub kept : ℕ → ℕ → List Span → List Span
 kept from to ss = if nat_lt from to then record { from = from; to = to } ∷ ss else ss
 

@@ -39,12 +39,12 @@ AreEntriesOf [] (o ∷ os) = ⊥
 AreEntriesOf (e ∷ es) [] = ⊥
 AreEntriesOf (e ∷ es) (o ∷ os) = IsEntryOf e o × AreEntriesOf es os
 
--- A joiner stands for some events where it keeps the groups that are open after them.
+-- A joiner stands for some events if it keeps the groups that are open after them.
 pub record StandsFor (j : JoinerState) (events : List Event) : Type 0 where
   pub groups : AreEntriesOf j.groups (state_of open_limit events).opens
   pub given_up : j.given_up ≡ (state_of open_limit events).given_up
 
--- What a fragment's answer says: a datagram exactly where its group completes.
+-- What a fragment's answer says: a datagram exactly if its group completes.
 abbrev pub IsAnswer : Put → List Piece → Type 0
 IsAnswer Kept ps = completes ps ≡ false
 IsAnswer (Joined d) ps = (completes ps ≡ true) × IsDatagramOf d ps

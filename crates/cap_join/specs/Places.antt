@@ -35,7 +35,7 @@ abbrev pub group_by : Option Stamp → Piece → Option OpenGroup → OpenGroup
 group_by clock p None = opened clock p
 group_by clock p (Some group) = if is_too_old group.clock clock then opened clock p else with_piece p group
 
--- the group that goes on, where its first fragment is the one at a place
+-- the group that goes on, if its first fragment is the one at a place
 abbrev pub first_at : ℕ → Option OpenGroup → List OpenGroup
 first_at own None = []
 first_at own (Some group) = if group.place == own then group ∷ [] else []
@@ -58,7 +58,7 @@ place_in (Some group) = Some group.place
 abbrev pub lowest : List OpenGroup → Option ℕ
 lowest os = place_in (find (λ o. list_all (λ q. nat_le o.place q.place) os) os)
 
--- the place of the group that is given up at a fragment: at one that is its own first, where as many groups are open as may be
+-- the place of the group that is given up at a fragment: at one that is its own first, if as many groups are open as may be
 abbrev pub given_up_at : ℕ → ℕ → OpenGroup → List OpenGroup → Option ℕ
 given_up_at limit own group os = if (group.place == own) && not (nat_lt (length os) limit) then lowest os else None
 

@@ -42,7 +42,7 @@ pub record OverlapMap : Type 0 where
 abbrev pub opening : ℕ → Event
 opening n = arrives None (piece_at n n 0 true (0 ∷ 0 ∷ 0 ∷ 0 ∷ 0 ∷ 0 ∷ 0 ∷ 0 ∷ []))
 
--- Where two groups may be open the third gives up the first; and a flush drops its group.
+-- If two groups may be open the third gives up the first; and a flush drops its group.
 pub record OpenLimit : Type 0 where
   pub given_up : (state_of 2 (opening 2 ∷ opening 1 ∷ opening 0 ∷ [])).given_up ≡ 1
   pub first : group_of 2 (opening 2 ∷ opening 1 ∷ opening 0 ∷ []) (key_numbered 0) ≡ None

@@ -12,7 +12,7 @@ use Rattle.cap_join.specs.Groups.{GroupState, IsGroupOf}
 use Rattle.cap_join.specs.History.{OpenGroup, same_key, key_of, live_at, group_at, pieces_with, opens_with, gives_up_with}
 use Rattle.cap_join.specs.Joiners.{Entry, AreEntriesOf, IsAnswer, open_limit}
 
--- the groups of a table; where none was opened there is none
+-- the groups of a table; if none was opened there is none
 abbrev pub entries_of : Option (List Entry) → List Entry
 entries_of None = []
 entries_of (Some es) = es

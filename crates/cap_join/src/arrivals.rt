@@ -33,7 +33,7 @@ impl Joiner {
     /// its frame. Its place is above those of all packets that were taken before. A whole datagram drops the open group of
     /// its key, whatever its data is; a fragment is put; a bad or a cut packet changes nothing.
     ///
-    /// `Memory` comes where a growth was refused, and leaves the joiner as it was; no other fault is answered.
+    /// `Memory` comes if a growth was refused, and leaves the joiner as it was; no other fault is answered.
     pub fn take<'a>(
         &mut self,
         clock: Option<Stamp>,

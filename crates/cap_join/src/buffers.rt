@@ -29,7 +29,7 @@ fn grow(buffer: &mut Vec<u8>, holes: HoleList, size: u32) -> Result<HoleList, Al
     Ok(add_hole(buffer.as_mut_slice(), holes, length as u32))
 }
 
-/// Puts a fragment's data into a buffer, which grows where that ends after it. Answers where the holes
+/// Puts a fragment's data into a buffer, which grows if that ends after it. Answers where the holes
 /// begin now. An `Err` changes nothing.
 pub(crate) fn put_data(
     buffer: &mut Vec<u8>,

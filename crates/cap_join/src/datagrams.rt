@@ -9,7 +9,7 @@ use cap_time::Stamp;
 /// length in bytes.
 #[derive(Clone, Copy, Debug)]
 pub struct Stamped {
-    /// The frame's own time; `None` where it has none.
+    /// The frame's own time; `None` if it has none.
     pub time: Option<Stamp>,
     /// The frame's place in the list of packets, counted from 0.
     pub place: u64,
@@ -44,10 +44,10 @@ pub struct Datagram {
     pub frames: u64,
     /// The sum of their frames' original lengths.
     pub bytes: u128,
-    /// The frame of the least time, of equal times that of the lowest place; `None` where no frame has
+    /// The frame of the least time, of equal times that of the lowest place; `None` if no frame has
     /// a time.
     pub first: Option<Stamped>,
-    /// The frame of the greatest time, of equal times that of the lowest place; `None` where no frame
+    /// The frame of the greatest time, of equal times that of the lowest place; `None` if no frame
     /// has a time.
     pub last: Option<Stamped>,
 }

@@ -48,7 +48,7 @@ impl Model for Group {
     ghost invariant = { IsSoundGroup };
 }
 
-// The frame, where it has a time.
+// The frame, if it has a time.
 fn timed(frame: Stamped) -> Option<Stamped>
     ensures { result ≡ timed frame frame.time }
 {

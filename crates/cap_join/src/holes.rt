@@ -50,7 +50,7 @@ fn put_word(bytes: &mut [u8], at: usize, value: u32)
     bytes[at + 3] = (value / 16_777_216) as u8;
 }
 
-// Describes the part of a hole from a place up to another, where there is one, with the next hole after
+// Describes the part of a hole from a place up to another, if there is one, with the next hole after
 // it, and answers where the holes begin now.
 fn keep(bytes: &mut [u8], from: u32, to: u32, next: u32) -> u32
     requires within { to ≤ length bytes.old }

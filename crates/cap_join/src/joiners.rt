@@ -20,7 +20,7 @@ use std::marker::Model;
 /// A fragment joins the open group of its key, unless the clock of the group's first fragment and 30
 /// seconds are before the fragment's clock; then it opens a new group. A first fragment without a clock
 /// never grows old. Of a byte that several fragments have the latest counts. A group is complete, and
-/// is one no more, where a fragment after which none follows has told its length, and each block of 8
+/// is one no more, if a fragment after which none follows has told its length, and each block of 8
 /// bytes below that is covered. At most 1,024 groups are open: a fragment that would open one more gives
 /// up the one whose first fragment has the lowest place.
 ///
@@ -64,7 +64,7 @@ impl Joiner {
     /// Puts a fragment at a clock: its header, all of its data, and what is told of its frame. Its place
     /// is above those of all fragments that were put before. Groups that are too old are dropped.
     ///
-    /// The answer is the datagram where the fragment's group is complete with it. `Memory` comes where
+    /// The answer is the datagram if the fragment's group is complete with it. `Memory` comes if
     /// a growth was refused, and leaves the joiner as it was; no other fault is answered.
     pub fn put(
         &mut self,
@@ -128,7 +128,7 @@ impl Joiner {
     }
 
     /// The greatest length of an open group's buffer, in bytes: the greatest end of the group's fragments,
-    /// rounded up to whole blocks of 8. At most 65,520; 0 where none is open.
+    /// rounded up to whole blocks of 8. At most 65,520; 0 if none is open.
     pub fn held_bytes(&self) -> usize
         ensures value { result ≡ most_bytes self.now.groups }
         ensures stands { (events : List Event) → StandsFor self.now events → result ≡ held_of (state_of open_limit events).opens }

@@ -334,7 +334,7 @@ fn make_table(table: &mut Option<Table>, alloc: Global) -> Result<(), AllocError
 }
 
 /// Puts a fragment at a clock: into the group of its key, unless that is too old, else into a new one.
-/// Groups that are too old are dropped, and the oldest is given up where a new one would be too many:
+/// Groups that are too old are dropped, and the oldest is given up if a new one would be too many:
 /// answers whether it was. An `Err` leaves the groups as they were.
 pub(crate) fn put_fragment(
     table: &mut Option<Table>,

@@ -122,7 +122,7 @@ unfolding taken_after
 taken-alike (a ∷ as_) (b ∷ bs) xs ys h k = grind (arith, taken-alike as_ bs (with_item a.clock a.item xs) (with_item b.clock b.item ys) h.1 (with_alike a.clock b.clock a.item b.item xs ys h.0 k))
 taken-alike as_ bs xs ys h k = grind arith
 
--- such packets are like each other also where times may take other forms, on which refusals do not depend
+-- such packets are like each other also if times may take other forms, on which refusals do not depend
 like-items : (c d : Option Stamp) (a b : Item) → AlikeItems c d a b → LikeItems c d a b
 like-items c d a b h = grind (arith, clock_total)
 

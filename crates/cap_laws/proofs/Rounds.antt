@@ -37,7 +37,7 @@ timed units e = grind arith
 some-none : (r : Refusal) → Some r ≡ None → ⊥
 some-none r e = cc
 
--- where each packet is written, and its instance is its number, the items are those of what is written
+-- if each packet is written, and its instance is its number, the items are those of what is written
 items-are : (origins : List Origin) (items : List Item) → refusal_in origins items ≡ None → instances items ≡ numbers (numbered origins items)
     → AllZip IsItemOf (numbered origins items) items
 unfolding numbered instances

@@ -48,7 +48,7 @@ pub record SameButForms (run again : List (Clocked Item)) : Type 0 where
   pub talks : AllZip IsSameTalk (rows_of (units_of (taken_after [] run))) (rows_of (units_of (taken_after [] again)))
   pub refused : refused_at again ≡ refused_at run
 
--- The pcap file that is written of one file, where nothing is refused and it is at most 2^40 bytes long, has the file's report, but for
+-- The pcap file that is written of one file, if nothing is refused and it is at most 2^40 bytes long, has the file's report, but for
 -- the forms of times.
 abbrev pub PcapReport : Type 0
 PcapReport =

@@ -41,7 +41,7 @@ pub record SameReport (run again : List (Clocked Item)) : Type 0 where
   pub lines : body_text (taken_after [] again) ≡ body_text (taken_after [] run)
   pub refused : refused_at again ≡ refused_at run
 
--- The file that a merge of some files writes, where nothing is refused and it is at most 2^40 bytes long, has the report of the files.
+-- The file that a merge of some files writes, if nothing is refused and it is at most 2^40 bytes long, has the report of the files.
 abbrev pub MergedReport : Type 0
 MergedReport =
     (order : Order) (tail tail_again : Tail) (files : List (List ℕ)) → AllByRecursion AreBytes files

@@ -33,7 +33,7 @@ SameItems clock clock_again (refused refusal) again = ⊥
 abbrev pub SameRun : List (Clocked Item) → List (Clocked Item) → Type 0
 SameRun = AllZip (λ x y. SameItems x.clock y.clock x.item y.item)
 
--- The file that a merge of some files writes, where nothing is refused and it is at most 2^40 bytes long, has the run of the files.
+-- The file that a merge of some files writes, if nothing is refused and it is at most 2^40 bytes long, has the run of the files.
 abbrev pub MergedRun : Type 0
 MergedRun =
     (order : Order) (tail tail_again : Tail) (files : List (List ℕ)) → AllByRecursion AreBytes files

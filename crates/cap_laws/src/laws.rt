@@ -6,10 +6,10 @@ ghost use Rattle.cap_laws.specs.Runs.{MergedRun, PcapngRun};
 
 use cap_write::laws::{merged_again, pcap_again, pcapng_again, rounds_law};
 
-/// Where `write_merged` writes the run of some files, whatever bytes these hold, with no refusal and in at most
+/// If `write_merged` writes the run of some files, whatever bytes these hold, with no refusal and in at most
 /// 2^40 bytes, the report over the one file that it wrote has the lines of the report over those files, byte for
 /// byte, but for the lines of the files: `total`, `frames`, `joined`, `talks` and each `talk` line. Or both are
-/// refused, by the same rule, after as many packets of the run. This holds also where clocks run back.
+/// refused, by the same rule, after as many packets of the run. This holds also if clocks run back.
 pub fn merged_report()
     ensures { MergedReport }
 {
@@ -37,15 +37,15 @@ pub fn pcap_report()
 }
 
 /// What `merged_report` tells of a refusal by its place in the run is the refusal that `report` answers: one
-/// comes where the other does, by the same rule.
+/// comes if the other does, by the same rule.
 pub fn refusal_rule()
     ensures { RuleLaw }
 {}
 
 /// Files, whatever bytes they hold, are split, in their order, into neighbouring groups, and each group is merged, in a
-/// byte order of its own. Where no group is refused, and each writes at most 2^40 bytes, the merge of the written files,
+/// byte order of its own. If no group is refused, and each writes at most 2^40 bytes, the merge of the written files,
 /// in the groups' order, writes byte for byte what the merge of all files at once writes, in the same byte order; and
-/// one of the two is refused where the other is, after these packets, by the same rule.
+/// one of the two is refused if the other is, after these packets, by the same rule.
 pub fn rounds_bytes()
     ensures { RoundsInBytes }
 {
@@ -53,7 +53,7 @@ pub fn rounds_bytes()
     rounds_law();
 }
 
-/// Where `write_merged` writes the run of some files, whatever bytes these hold, with no refusal and in at most
+/// If `write_merged` writes the run of some files, whatever bytes these hold, with no refusal and in at most
 /// 2^40 bytes, the run of the one file that it wrote is, packet by packet, the run of those files: the same
 /// interface, units, captured and original lengths and bytes, and clocks that are equal by the order. Which file
 /// a packet is of, and where it begins there, may differ. This holds also where clocks run back.

@@ -11,7 +11,7 @@ pub named_among : (name : List ℕ) (files : List (Bor (List ℕ)))
     → list_any (λ f. bytes_eq f.now name) files ≡ list_any (λ f. bytes_eq f name) (map (λ f. f.now) files)
 named_among name files = list_any-map (λ f. bytes_eq f name) (λ f. f.now) files
 
--- an output other than standard output is a file where a file has its name
+-- an output other than standard output is a file if a file has its name
 pub also_named : (out : List ℕ) (files : List (List ℕ)) (found : Bool) → false ≡ bytes_eq out (codes "-")
     → found ≡ list_any (λ f. bytes_eq f out) files → found ≡ is_also_file (Some out) files
 also_named out files found other is = grind (arith, not)

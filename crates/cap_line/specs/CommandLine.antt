@@ -39,7 +39,7 @@ task_by name =
     if bytes_eq name (codes "merge") then Some tasks.Merge else
     if bytes_eq name (codes "join") then Some tasks.Join else None
 
--- the order that is named: little where none is
+-- the order that is named: little if none is
 abbrev pub order_by : Option Text → Order
 order_by None = Little
 order_by (Some name) = if bytes_eq name (codes "big") then Big else Little
@@ -59,8 +59,8 @@ files_fault files out =
     if nat_lt 1 (count_by (λ f. bytes_eq f (codes "-")) files) then Err Input else
     if is_also_file out files then Err Output else Ok tt
 
--- whether a task has what it takes, with that many files: one file where it is of one, a format for `convert`, an output
--- where it writes one
+-- whether a task has what it takes, with that many files: one file if it is of one, a format for `convert`, an output
+-- if it writes one
 abbrev pub is_whole : Task → ℕ → Option Format → Option Text → Bool
 is_whole tasks.List files to out = files == 1
 is_whole tasks.Blocks files to out = files == 1

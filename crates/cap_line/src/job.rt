@@ -45,9 +45,9 @@ pub struct Job<'a> {
     pub allow_cut: bool,
     /// The byte order of what is written.
     pub order: Order,
-    /// The format that is written, where it was asked for.
+    /// The format that is written, if it was asked for.
     pub to: Option<Format>,
-    /// The file that is written, where one was named. `-` is standard output.
+    /// The file that is written, if one was named. `-` is standard output.
     pub out: Option<&'a str>,
 }
 
@@ -118,7 +118,7 @@ fn task_of(name: &str) -> Option<Task>
     }
 }
 
-// The order of that name: little where none is named.
+// The order of that name: little if none is named.
 fn order_of(name: Option<&str>) -> Order
     ensures { result ≡ order_by (option_map (λ o. o.now) name.entry) }
 {
@@ -164,8 +164,8 @@ fn is_set(flag: Option<&str>) -> bool
     flag == Some("true")
 }
 
-// Whether a task has what it takes: one file where it is of one, a format for `convert`, an output
-// where it writes one.
+// Whether a task has what it takes: one file if it is of one, a format for `convert`, an output
+// if it writes one.
 fn is_whole(task: Task, files: usize, to: Option<Format>, out: Option<&str>) -> bool
     ensures { result ≡ is_whole task files to (option_map (λ o. o.now) out.entry) }
 {
@@ -232,9 +232,9 @@ fn job_entered<'a>(alloc: Global, matches: &ArgMatches<'a>) -> Result<Job<'a>, L
     }
 }
 
-/// Reads the words of a command line, the first of which is the program's name. Where several faults
+/// Reads the words of a command line, the first of which is the program's name. If several faults
 /// hold, it is the first of `Help` and `Line`, as clap meets them, `Files`, `Input`, `Output`;
-/// `Memory` comes where a growth is refused. A job has 1 to 32 files and all that its task takes.
+/// `Memory` comes if a growth is refused. A job has 1 to 32 files and all that its task takes.
 pub fn parse<'a, S: AsStr>(alloc: Global, words: &'a [S]) -> Result<Job<'a>, LineFault>
     ensures parses { Parses (map S.text words.entry.now) result }
     ensures whole { IfOk result IsWhole }
@@ -249,7 +249,7 @@ pub fn parse<'a, S: AsStr>(alloc: Global, words: &'a [S]) -> Result<Job<'a>, Lin
 }
 
 /// What clap says of words that give no job: help, the version, or a message that names the wrong word. It
-/// says nothing where it takes the words, nor where a growth was refused.
+/// says nothing if it takes the words, nor if a growth was refused.
 pub fn message<'a, S: AsStr>(alloc: Global, words: &'a [S]) -> Option<String>
     ensures { IfSome result (λ text. IsRefused (map S.text words.entry.now)) }
 {

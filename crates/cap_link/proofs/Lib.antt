@@ -1,3 +1,2 @@
 pub mod TagSteps
 pub mod TagsLaw
-pub mod Ends

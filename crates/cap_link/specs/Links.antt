@@ -19,7 +19,7 @@ raw whole frame =
     then ended whole
     else (if slice_index frame 0 / 16 == 4 then Carried.ipv4 frame else Carried.not_ipv4)
 
--- the frame was captured whole: also where more was captured than its original length
+-- the frame was captured whole: also if more was captured than its original length
 abbrev pub is_whole : List ℕ → ℕ → Bool
 is_whole frame original = nat_le original (length frame)
 

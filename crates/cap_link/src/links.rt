@@ -57,7 +57,7 @@ fn raw(whole: bool, frame: &[u8]) -> Network<'_>
 ///
 /// Any number of tags of type `8100` or `88A8` is followed (IEEE 802.1Q, 9.3), after the two Linux
 /// headers too. Types are big-endian. A frame that ends inside its link header or a tag is `Cut`
-/// where fewer bytes were captured than its `original` length, else `Short`; a captured length above
+/// if fewer bytes were captured than its `original` length, else `Short`; a captured length above
 /// the original is whole.
 #[tactic(auto, unfolding(crate::specs::Links::network_of))]
 #[inline(always)]
@@ -76,7 +76,7 @@ pub fn network(link: u16, frame: &[u8], original: u32) -> Network<'_>
 }
 
 /// A law: an Ethernet frame of two addresses, any number of tags of type `8100` or `88A8`, a type that
-/// is neither, and some bytes, carries these bytes as IPv4 where the type is `0800`, and else no IPv4,
+/// is neither, and some bytes, carries these bytes as IPv4 if the type is `0800`, and else no IPv4,
 /// whatever its original length (IEEE 802.1Q, 9.3). It does nothing when it runs.
 pub fn tags_law()
     ensures { TagsLaw }

@@ -106,7 +106,7 @@ pub passes-there : {F : Type 0} (f : F → Feed) (ls : List Lane) (fs : List F) 
 passes-there f (k ∷ ls) (z ∷ zs) (suc i) l m x y h e p = (refl, passes-there f ls zs i l m x y (omega arith) (omega arith) p)
 passes-there f ls fs i l m x y h e p = grind arith
 
--- the same where the slices showed other lists that are equal
+-- the same if the slices showed other lists that are equal
 pub kept-written : {F : Type 0} (f : F → Feed) (Holds : List Part → List Part → Type 0) (ls ks ms : List Lane) (fs gs ys : List F) (n : ℕ)
     → ks ≡ ls → gs ≡ fs → length ms ≡ length ks → length ys ≡ length gs → n ≡ length fs
     → Holds (parts ks (map f gs)) (parts ms (map f ys))

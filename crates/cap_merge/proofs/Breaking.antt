@@ -46,7 +46,7 @@ stopped-again file offset (p ∷ ps) [] s = absurd s
 stopped-again file offset (p ∷ ps) (q ∷ qs) (inl s) = grind arith
 stopped-again file offset (p ∷ ps) (q ∷ qs) (inr s) = grind (arith, stopped-again file offset ps qs s.1)
 
--- where a feed has stopped, its break is that of all
+-- if a feed has stopped, its break is that of all
 own_stopped : (p q : Part) (fault : Fault) (rest : Option Fault) → Stops p fault q → cond (is_some q.lane.head) rest q.feed.broken ≡ q.feed.broken
 own_stopped p q fault rest s = own_break q.lane.head rest q.feed.broken (ap (λ w. w.head) s.lane ∙ s.unknown)
 
@@ -57,13 +57,13 @@ stopped-broken file offset (p ∷ ps) [] s = absurd s
 stopped-broken file offset (p ∷ ps) (q ∷ qs) (inl s) = own_stopped p q (Read file offset) (broken_of qs) s.0 ∙ s.0.gives.broken
 stopped-broken file offset (p ∷ ps) (q ∷ qs) (inr s) = rw (known_by p q p.lane.head refl s.0) (stopped-broken file offset ps qs s.1)
 
--- no read has failed where all feeds tell what comes next
+-- no read has failed if all feeds tell what comes next
 pub learned-whole : (ps qs : List Part) → LearnsAll ps qs → broken_of ps ≡ None
 unfolding broken_of
 learned-whole (p ∷ ps) (q ∷ qs) l = learned_break p.lane.head p q (λ w. w ≡ None) (broken_of ps) l.0 refl (learned-whole ps qs l.1)
 learned-whole ps qs l = grind arith
 
--- nor where a growth was refused
+-- nor if a growth was refused
 pub waited-before : (ps qs : List Part) → StopsAt Memory ps qs → broken_of ps ≡ None
 unfolding broken_of
 waited-before [] qs s = absurd s

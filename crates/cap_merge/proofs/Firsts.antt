@@ -198,7 +198,7 @@ place-of f ls fs first x e s =
     place_by (parts ls (map f fs)) s.lane (get_or (map f fs) first.place (f x)) (f (get_or fs first.place x)) first.place (get_made f fs first.place x)
     (placed-split ls (map f fs) first.place first.clock (f x) (length-map fs f ∙ sym e) s)
 
--- where nothing comes next of all, each feed is at its end
+-- if nothing comes next of all, each feed is at its end
 ended : (ps : List Part) (o : Option Part) → IsFirstOf ps o → head_by o ≡ Some heads.End → NoNext ps
 ended ps None n e = n
 ended ps (Some q) s e = absurd (true≢false (sym s.next ∙ ap has_next e))

@@ -43,7 +43,7 @@ known_all [] (q ∷ qs) l = absurd l
 known_all (p ∷ ps) [] l = absurd l
 known_all (p ∷ ps) (q ∷ qs) l = rw (known_by p q p.lane.head refl l.0) (known_all ps qs l.1)
 
--- where all were known before, nothing changes
+-- if all were known before, nothing changes
 same_by : (p q : Part) (h : Option Head) → is_some h ≡ true → LearnsBy h p q → q ≡ p
 same_by p q None e l = absurd (true≢false (sym e))
 same_by p q (Some head) e l = l

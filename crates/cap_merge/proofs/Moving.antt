@@ -78,7 +78,7 @@ pub from-each : (n : ℕ) (ps qs : List Part) → Each Kept ps qs → AreFrom n 
 from-each n (p ∷ ps) (q ∷ qs) k a = (k.0.files ∙ a.0, from-each (suc n) ps qs k.1 a.1)
 from-each n ps qs k a = grind arith
 
--- Where the devices tell, what is to come of the part has the same clocks, and its files end alike.
+-- If the devices tell, what is to come of the part has the same clocks, and its files end alike.
 pub record ComesAlike (p q : Part) : Type 0 where
   pub files : q.feed.files ≡ p.feed.files
   pub placed : IsTrue p.feed.told → (file place : ℕ) → placed_from item_time file place q.lane.clock q.feed.items ≡ placed_from item_time file place p.lane.clock p.feed.items

@@ -1,4 +1,4 @@
--- The feeds whose next is known, where one packet was passed.
+-- The feeds whose next is known, if one packet was passed.
 use Rattle.std.proofs.Common.{◌≡◌, ℕ, suc, ◌<◌, true, List, [], ◌∷◌, length, get_or, arith, Some, Result}
 use Rattle.std.specs.Prelude.{map, is_some}
 use Rattle.std.proofs.Math.ListN.{set}
@@ -31,7 +31,7 @@ learns_all (p ∷ ps) k = grind (arith, learns_all ps)
 asks_front : {T : Type 0} (p q : Part) (ps : List Part) (r : Result T Fault) → is_known ps ≡ true → Asks p r q → AsksAll (p ∷ ps) r (q ∷ ps)
 asks_front p q ps r k h = grind (arith, learns_all)
 
--- Where the others are known, one feed is asked as all are.
+-- If the others are known, one feed is asked as all are.
 pub asks-there : {F : Type 0} (f : F → Feed) (ls : List Lane) (fs : List F) (i : ℕ) (l m : Lane) (x y : F) {T : Type 0} (r : Result T Fault) → length ls ≡ length fs
     → known_but (parts ls (map f fs)) i ≡ true → Asks (part (get_or ls i l) (f (get_or fs i x))) r (part m (f y))
     → AsksAll (parts ls (map f fs)) r (parts (set ls i m) (map f (set fs i y)))

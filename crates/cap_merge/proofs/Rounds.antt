@@ -118,7 +118,7 @@ within (g ∷ gs) before t after e = within_by g.now [] g.tracks gs before t aft
 abbrev pub AreBetween : {A : Type 0} → (A → Option Stamp) → List (Group A) → Type 0
 AreBetween time gs = AllByRecursion (λ g. IsBetween time g.now g.tracks) gs
 
--- what is true of the clocks of the files' next items is true of that of the group's, where it is true of equal clocks
+-- what is true of the clocks of the files' next items is true of that of the group's, if it is true of equal clocks
 head_of_group : {A : Type 0} (time : A → Option Stamp) (P : Option Stamp → Type 0) → ((a b : Option Stamp) → clock_cmp a b ≡ Equal → P a → P b)
     → (now : Option Stamp) (ts : List (Track A)) → IsBetween time now ts → AllByRecursion (λ t. HeadClock time P t.clock t.items) ts
     → (AllByRecursion (λ t. t.items ≡ []) ts ⊎ Next time ts) → HeadClock time P now (map (λ x. x.item) (merged time ts))
@@ -154,7 +154,7 @@ group_next : {A : Type 0} (time : A → Option Stamp) (now clock : Option Stamp)
     → map (λ y. y.item) (merged time ts) ≡ x ∷ map (λ y. y.item) (merged time (left ++ (passed time clock x xs ∷ right)))
 group_next time now clock x xs left right ts e f = ap (map (λ y. y.item)) (ap (merged time) e ∙ merged-next time left right clock x xs f)
 
--- the groups' files, where one file of one group stands apart
+-- the groups' files, if one file of one group stands apart
 files_apart : {A : Type 0} (front back : List (Group A)) (now : Option Stamp) (left right : List (Track A)) (t : Track A)
     → files_of (front ++ (record { now = now; tracks = left ++ (t ∷ right) } ∷ back)) ≡ (files_of front ++ left) ++ (t ∷ (right ++ files_of back))
 files_apart front back now left right t = search (files-both, files_of, append_assoc)
@@ -259,7 +259,7 @@ opened_merged : {A : Type 0} (time : A → Option Stamp) (gs : List (List (List 
 opened_merged time [] = refl
 opened_merged time (g ∷ gs) = ap (λ ts. opened (map (λ x. x.item) (merged time (map opened g))) ∷ ts) (opened_merged time gs)
 
--- The law of rounds: where files are merged in neighbouring groups, and then what came of the groups, the items come as if all files were merged at once.
+-- The law of rounds: if files are merged in neighbouring groups, and then what came of the groups, the items come as if all files were merged at once.
 pub rounds-law : {A : Type 0} (time : A → Option Stamp) (groups : List (List (List A)))
     → map (λ x. x.item) (merged time (map opened (map (λ files. map (λ x. x.item) (merged time (map opened files))) groups)))
     ≡ map (λ x. x.item) (merged time (map opened (files_in groups)))

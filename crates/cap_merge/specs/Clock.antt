@@ -19,6 +19,6 @@ abbrev pub greatest_from : Option Stamp → List (Option Stamp) → Option Stamp
 greatest_from time [] = time
 greatest_from time (t ∷ ts) = greatest_from (later time t) ts
 
--- the greatest of some times, none where there is none
+-- the greatest of some times; none if there are none
 abbrev pub greatest : List (Option Stamp) → Option Stamp
 greatest times = greatest_from None times

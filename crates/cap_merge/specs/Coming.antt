@@ -102,7 +102,7 @@ run-first ps first x r s begins clock_is =
     ∙ (λ i. record { clock = clock_is i; item = x }
     ∷ cond (is_refusal x) [] (run item_time is_refusal (tracks s.before ++ (record { clock = clock_is i; items = drop 1 first.feed.items } ∷ tracks s.after))))
 
--- where no item comes next, the run is empty
+-- if no item comes next, the run is empty
 ended_items : (p : Part) (h : Option Head) → p.lane.head ≡ h → IsReady p → has_next h ≡ false → p.feed.items ≡ []
 ended_items p None e r n = absurd (true≢false (sym r.known ∙ ap is_some e))
 ended_items p (Some (heads.Packet meta)) e r n = absurd (true≢false n)

@@ -40,12 +40,12 @@ known_but [] place = false
 known_but (p ∷ ps) zero = is_known ps
 known_but (p ∷ ps) (suc place) = is_some p.lane.head && known_but ps place
 
--- the same where a packet was passed; else nothing is said
+-- the same if a packet was passed; else nothing is said
 abbrev pub others_known : List Part → Option ℕ → Bool
 others_known ps None = true
 others_known ps (Some place) = known_but ps place
 
--- Where a packet was passed, what comes next is known of the other feeds.
+-- If a packet was passed, what comes next is known of the other feeds.
 abbrev pub OthersKnown : List Part → Option ℕ → Type 0
 OthersKnown ps passed = others_known ps passed ≡ true
 

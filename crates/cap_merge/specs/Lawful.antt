@@ -14,7 +14,7 @@ use Rattle.cap_merge.specs.Leading.{Split, IsFirstOf, first_is}
 use Rattle.cap_merge.specs.Sound.{IsSound, AreFrom}
 use Rattle.cap_merge.specs.Coming.{IsReady, leads_known, reached_known, run-first, run-none, run_behind}
 
--- all parts are ready where all are sound, lawful, told and known
+-- all parts are ready if all are sound, lawful, told and known
 pub ready_all : (ps : List Part) → AllByRecursion IsSound ps → AllByRecursion (λ p. IsFeed p.feed) ps
     → AllByRecursion (λ p. p.feed.told ≡ true) ps → AllByRecursion (λ p. is_some p.lane.head ≡ true) ps → AllByRecursion IsReady ps
 ready_all [] s f t k = tt

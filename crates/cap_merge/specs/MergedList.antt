@@ -185,7 +185,7 @@ left-moved time before after clock xs =
     ∙ (λ i. placed_all time 1 before
     ++ (moved-own time (1 + length before) 0 clock xs i ++ moved-above time (1 + length before) (suc (1 + length before)) after (omega arith) i))
 
--- Where the next item of a file is below those of the files before it and not above those of the files after it, the
+-- If the next item of a file is below those of the files before it and not above those of the files after it, the
 -- merged list begins with it, and goes on as that of what is left.
 pub merged-next : {A : Type 0} (time : A → Option Stamp) (before after : List (Track A)) (clock : Option Stamp) (x : A) (xs : List A)
     → IsFirst time before (later clock (time x)) after
@@ -207,7 +207,7 @@ merged-next time before after clock x xs h =
     ∙ ap (λ r. record { clock = later clock (time x); item = x } ∷ r)
     (map-twice clocked_of (moved file) (in_order placed_cmp (placed_all time 1 (before ++ (passed time clock x xs ∷ after)))))
 
--- where no file has items to come, the merged list is empty
+-- if no file has items to come, the merged list is empty
 placed_all-none : {A : Type 0} (time : A → Option Stamp) (file : ℕ) (ts : List (Track A)) → AllByRecursion (λ t. t.items ≡ []) ts → placed_all time file ts ≡ []
 placed_all-none time file [] f = refl
 placed_all-none time file (t ∷ ts) f = λ i. placed_from time file 0 t.clock (f.0 i) ++ placed_all-none time (suc file) ts f.1 i

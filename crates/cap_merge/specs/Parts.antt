@@ -160,7 +160,7 @@ abbrev pub left_of : List Part → ℕ
 left_of [] = 0
 left_of (p ∷ ps) = p.feed.left + left_of ps
 
--- The feeds as one: the items to come are the run's. What comes next is known where that of each feed is.
+-- The feeds as one: the items to come are the run's. What comes next is known if that of each feed is.
 unfoldable pub feed_of : List Part → Feed
 feed_of ps =
     record {
@@ -218,7 +218,7 @@ pub record Leads (lanes : List Lane) (place : ℕ) (clock : Option Stamp) : Type
   pub below : AllByRecursion (λ l. has_next l.head ≡ true → clock_cmp lane.clock l.clock ≡ Less) before
   pub not_above : AllByRecursion (λ l. has_next l.head ≡ true → is_gt (clock_cmp lane.clock l.clock) ≡ false) after
 
--- What comes first of some lanes, where an item comes next of any.
+-- What comes first of some lanes, if an item comes next of any.
 abbrev pub IsFirstLane : List Lane → Option First → Type 0
 IsFirstLane lanes None = AllByRecursion (λ l. has_next l.head ≡ false) lanes
 IsFirstLane lanes (Some first) = Leads lanes first.place first.clock

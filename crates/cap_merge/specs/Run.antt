@@ -44,7 +44,7 @@ abbrev pub opened : {A : Type 0} → List A → Track A
 opened items = record { clock = None; items = items }
 
 -- the items of a file from a place on, after which the file has reached a clock: each takes the clock on to its own time,
--- where it has one
+-- if it has one
 abbrev pub placed_from : {A : Type 0} → (A → Option Stamp) → ℕ → ℕ → Option Stamp → List A → List (Placed A)
 placed_from time file place clock [] = []
 placed_from time file place clock (x ∷ xs) =
@@ -68,7 +68,7 @@ through_first ends (x ∷ xs) = x ∷ (if ends x then [] else through_first ends
 abbrev pub run : {A : Type 0} → (A → Option Stamp) → (A → Bool) → List (Track A) → List (Clocked A)
 run time is_refusal tracks = through_first (λ x. is_refusal x.item) (merged time tracks)
 
--- The next item of a file, where it has one, has a clock of which that is true.
+-- The next item of a file, if it has one, has a clock of which that is true.
 abbrev pub HeadClock : {A : Type 0} → (A → Option Stamp) → (Option Stamp → Type 0) → Option Stamp → List A → Type 0
 HeadClock time Holds clock [] = ⊤
 HeadClock time Holds clock (x ∷ xs) = Holds (later clock (time x))

@@ -13,7 +13,7 @@ use cap_bytes::Fault;
 use cap_source::{FeedHeld, Head, Meta, PacketFeed};
 use cap_time::Stamp;
 
-/// What is known of a feed: what comes next, where that was asked for, and the clock that the feed has
+/// What is known of a feed: what comes next, if that was asked for, and the clock that the feed has
 /// reached, by the packets that were passed and by the packet that is known to come next.
 #[derive(Clone, Copy, Default)]
 pub struct Lane {
@@ -253,7 +253,7 @@ pub(crate) fn packet_at(lanes: &[Lane], place: usize) -> &Meta
     }
 }
 
-/// What comes next of all, where that of each is known, and the place of the lane whose item comes first.
+/// What comes next of all, if that of each is known and the lane at that place has the item that comes first.
 pub(crate) fn head_of(lanes: &[Lane], first: Option<usize>) -> Head
     requires known { list_all (λ l. is_some l.head) lanes.now ≡ true }
     requires place { first ≡ first_place lanes.now }

@@ -84,7 +84,7 @@ impl<F: PacketFeed> Merged<F> {
     }
 
     /// The clock of what comes next: the greatest time of the packets of its file up to it, and none
-    /// where there is no such time. Its seconds are below 2^65.
+    /// if there is no such time. Its seconds are below 2^65.
     pub fn clock(&self) -> Option<Stamp>
         requires { has_next (feed_of (parts_of self.now)).known ≡ true }
         ensures clock { result ≡ clock_of (parts_of self.now) }

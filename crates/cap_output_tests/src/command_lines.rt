@@ -223,7 +223,7 @@ fn always_line_always_memory_lines_give_their_jobs_and_faults(rt: HostRuntime) {
     }
 }
 
-// What is said of words: the version, help, why they are refused, and nothing where clap takes them.
+// What is said of words: the version, help, why they are refused, and nothing if clap takes them.
 static SAID: [(&[&str], Option<&str>); 5] = [
     (&["capt", "--version"], Some("capt 0.1.0\n")),
     (&["capt", "--help"], Some(USAGE)),

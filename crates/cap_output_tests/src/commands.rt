@@ -15,7 +15,7 @@ pub(crate) fn refused(file: u32, offset: u64, rule: Rule) -> Fault {
     Fault::Refused(Refusal { file, offset, rule })
 }
 
-/// The bytes of a text in hex, where at most one growth is refused.
+/// The bytes of a text in hex, if at most one growth is refused.
 pub(crate) fn decoded(alloc: Global, text: &str) -> Result<Vec<u8>, Fail> {
     match hex::decode(alloc, text) {
         Ok(bytes) => Ok(bytes),
@@ -23,7 +23,7 @@ pub(crate) fn decoded(alloc: Global, text: &str) -> Result<Vec<u8>, Fail> {
     }
 }
 
-/// Room for that many, where at most one growth is refused.
+/// Room for that many, if at most one growth is refused.
 pub(crate) fn roomy<T>(alloc: Global, count: usize) -> Result<Vec<T>, Fail> {
     match Vec::with_capacity(alloc, count) {
         Ok(room) => Ok(room),

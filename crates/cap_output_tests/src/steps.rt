@@ -87,7 +87,7 @@ fn table_once(alloc: Global, files: &[File], piece: usize) -> Option<Table<Captu
     Some(Table::new(alloc, merge_files(alloc, sources, Tail::Refuse).ok()?))
 }
 
-// The table of 1 to 32 files, where at most two growths are refused.
+// The table of 1 to 32 files, if at most two growths are refused.
 fn table_of(rt: &impl Abort, alloc: Global, files: &[File], piece: usize) -> Table<Capture<Pieces>>
     requires { 1 ≤ piece }
 {
@@ -99,7 +99,7 @@ fn table_of(rt: &impl Abort, alloc: Global, files: &[File], piece: usize) -> Tab
     panic!(rt; "no table")
 }
 
-// Room for a text, where at most two growths are refused.
+// Room for a text, if at most two growths are refused.
 fn room_of(alloc: Global) -> Result<Vec<u8>, AllocError> {
     for _ in 0..2 {
         if let Ok(room) = Vec::with_capacity(alloc, 1024) {
@@ -109,7 +109,7 @@ fn room_of(alloc: Global) -> Result<Vec<u8>, AllocError> {
     Vec::with_capacity(alloc, 1024)
 }
 
-// What a table writes, where at most two growths are refused.
+// What a table writes, if at most two growths are refused.
 fn text_of(alloc: Global, table: &Table<Capture<Pieces>>) -> Result<Room, Fail> {
     let mut writer = Room::new(room_of(alloc)?);
     table.write_so_far(&mut writer)?;
@@ -179,7 +179,7 @@ fn a_table_is_dropped_after_any_number_of_steps(rt: HostRuntime) -> Result<(), F
     Ok(())
 }
 
-// A step, taken again where a growth was refused, which leaves the table as it was.
+// A step, taken again after a growth was refused, which leaves the table as it was.
 fn step_again(
     rt: &impl Abort,
     alloc: Global,

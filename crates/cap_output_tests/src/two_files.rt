@@ -29,7 +29,7 @@ const FAILING: [(u32, u64, u64, u64, usize); 9] = [
     (2, 169, 169, 168, 1),
 ];
 
-// The run of both files, read one byte at a time, where one read of one of them fails.
+// The run of both files, read one byte at a time, with one failed read of one of them.
 fn merged_with(alloc: Global, file: u32, read: u64) -> Result<Merged<Capture<Pieces>>, Fail> {
     let [first, second] = FILES;
     let (one, two) = if file == 1 {

@@ -63,7 +63,7 @@ pub record_fault-cut : (order : Order) (offset : ℕ) (bytes : List ℕ) → 16 
 unfolding record_fault
 record_fault-cut order offset bytes head captured limit few = grind (arith, nat_tests)
 
--- where nothing ends the records, no condition is met
+-- if nothing ends the records, no condition is met
 pub stop_at-fits : (order : Order) (tail : Tail) (file offset : ℕ) (bytes : List ℕ) → Fits order offset bytes → stop_at order tail file offset bytes ≡ None
 stop_at-fits order tail file offset bytes f = grind (arith, stop_where-whole, record_fault-fits)
 

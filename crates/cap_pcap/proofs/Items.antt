@@ -13,7 +13,7 @@ use Rattle.cap_pcap.proofs.Faults.{Fits-from_stop_at}
 advances : Advances records
 advances header tail file offset bytes is = grind (arith, Fits-from_stop_at)
 
--- Where something ends the records, that is the one item.
+-- If something ends the records, that is the one item.
 pub items_from-stop : (header : PcapHeader) (tail : Tail) (file offset : ℕ) (bytes : List ℕ) (stop : Stop)
     → stop_at header.order tail file offset bytes ≡ Some stop → items_from header tail file offset bytes ≡ stopped stop ∷ []
 items_from-stop header tail file offset bytes stop is = items.items_in-stop records tail file header offset bytes stop is

@@ -68,12 +68,12 @@ pub KeepsItems_header : (old new : State PcapHeader) (result : Result PcapHeader
     → KeepsItems (items_of old) result (items_of new)
 KeepsItems_header old new result h k t = grind (arith, header_kept, stop_kept, header_ends, from_none, waits_kept)
 
--- the items where something ends the records
+-- the items if something ends the records
 ended_items : (a : Option PcapHeader) (header : PcapHeader) (tail : Tail) (file offset : ℕ) (bytes : List ℕ) → a ≡ Some header → (stop : Stop)
     → stop_at header.order tail file offset bytes ≡ Some stop → items_at a tail file offset bytes ≡ stopped stop ∷ []
 ended_items a header tail file offset bytes known stop is = rw known (items_from-stop header tail file offset bytes stop is)
 
--- the items where a record stands
+-- the items if a record stands
 given_items : (s t : Option Stop) (a b : Option PcapHeader) (tail tail' : Tail) (file file' offset offset' : ℕ) (bytes bytes' : List ℕ) (header : PcapHeader) (r : Record) (frame : List ℕ)
     → s ≡ None → t ≡ None → a ≡ Some header → b ≡ a → tail' ≡ tail → file' ≡ file → offset' ≡ offset + (16 + r.captured)
     → stop_at header.order tail file offset bytes ≡ None → r ≡ record_at header.order header.unit offset bytes → frame ≡ frame_at header.order bytes

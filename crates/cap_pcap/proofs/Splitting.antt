@@ -22,10 +22,6 @@ use Rattle.cap_pcap.proofs.Spelling.{SpellsRecord-at, Reads-spelled}
 pub length-spelled : (order : Order) (unit : Fraction) (p : Packet) (a : List ℕ) → SpellsRecord order unit p a → length a ≡ packet_size p
 length-spelled order unit p a s = omega (arith, s.size, ap length s.frame, length-drop 16 a)
 
--- packets with the same parts
-same_packet : (p q : Packet) → p.units ≡ q.units → p.original ≡ q.original → p.frame ≡ q.frame → p ≡ q
-same_packet p q units original frame = grind arith
-
 -- one spelling, one packet
 same_spelling : (order : Order) (unit : Fraction) (p q : Packet) (a b : List ℕ) → SpellsRecord order unit p a → SpellsRecord order unit q b → a ≡ b → p ≡ q
 same_spelling order unit p q a b s t same = grind arith
@@ -64,7 +60,7 @@ one_split-law order unit offset bytes (p ∷ ps) (q ∷ qs) r s a b =
     let rest = one_split-law order unit (offset + packet_size p) (drop (packet_size p) bytes) ps qs r s a.2 (moved order unit offset bytes p q qs s one.1 b.2) in
     (ap (λ x. x ∷ ps) one.1 ∙ ap (λ l. q ∷ l) rest.0, rest.1)
 
--- where a record stands, nothing ends the records
+-- if a record stands, nothing ends the records
 spelled_goes : (order : Order) (unit : Fraction) (tail : Tail) (file offset : ℕ) (bytes : List ℕ) (p : Packet)
     → SpellsRecord order unit p (take (packet_size p) bytes) → offset + packet_size p ≤ 2 ^ 40 → stop_at order tail file offset bytes ≡ None
 spelled_goes order unit tail file offset bytes p s limit =
@@ -77,7 +73,7 @@ record Stands (order : Order) (unit : Fraction) (offset : ℕ) (bytes : List ℕ
   limit : offset + packet_size packet ≤ 2 ^ 40
   some : 16 ≤ length bytes
 
--- there is one where nothing ends the records
+-- there is one if nothing ends the records
 stands : (order : Order) (unit : Fraction) (tail : Tail) (file offset : ℕ) (bytes : List ℕ) → stop_at order tail file offset bytes ≡ None
     → Stands order unit offset bytes
 stands order unit tail file offset bytes none =
@@ -92,7 +88,7 @@ stands order unit tail file offset bytes none =
       some = fits.head;
     }
 
--- what ends the records where no record begins
+-- what ends the records if no record begins
 ends : (header : PcapHeader) (tail : Tail) (file offset : ℕ) (bytes : List ℕ) (stop : Option Stop) → stop_at header.order tail file offset bytes ≡ stop
     → HasNoRecord header.order header.unit offset bytes
     → (s : Stop) × (stop_at header.order tail file offset bytes ≡ Some s) × (items_from header tail file offset bytes ≡ stopped s ∷ [])
@@ -101,7 +97,7 @@ ends header tail file offset bytes None is none =
     let there = stands header.order header.unit tail file offset bytes is in
     absurd (none there.packet there.spelled there.limit)
 
--- the first item, where a record stands
+-- the first item, if a record stands
 pub items_from-spelled : (header : PcapHeader) (tail : Tail) (file offset : ℕ) (bytes : List ℕ) (p : Packet)
     → SpellsRecord header.order header.unit p (take (packet_size p) bytes) → offset + packet_size p ≤ 2 ^ 40
     → items_from header tail file offset bytes

@@ -62,8 +62,8 @@ fn spelling_of(bytes: &[u8]) -> Option<(Order, Unit)>
     None
 }
 
-/// The header that stands at the front of some bytes, which begin at `offset`. Where there is none,
-/// the first rule that is broken; `Rule::Cut` where they are too few.
+/// The header that stands at the front of some bytes, which begin at `offset`. If there is none,
+/// the first rule that is broken; `Rule::Cut` if they are too few.
 #[tactic(auto, unfolding(crate::specs::Split::header_fault, crate::specs::Split::header_at))]
 pub fn header_of(offset: u64, bytes: &[u8]) -> Result<PcapHeader, Rule>
     requires { offset ≤ 2 ^ 40 }
@@ -135,7 +135,7 @@ fn header_bytes(header: &PcapHeader) -> [u8; HEADER_SIZE]
 }
 
 /// Writes a file's header: 24 bytes, of version 2.4, with 0 in the reserved fields. Takes no memory.
-/// Answers `Fault::Write`, and no other fault, where the writer failed: a prefix is written then.
+/// Answers `Fault::Write`, and no other fault, if the writer failed: a prefix is written then.
 /// draft-ietf-opsawg-pcap, 4.
 pub fn put_header<W: Sink>(writer: &mut W, header: &PcapHeader) -> Result<(), Fault>
     ensures bytes { IsTrue (W.tells_held writer.old)

@@ -96,8 +96,8 @@ impl<R: Source> PcapReader<R> {
     }
 
     /// The file's header. It comes again at each call. `Refused` comes, now and at each later call,
-    /// where the header is cut, has another magic or is of another version; where a header read from
-    /// elsewhere than the file's first byte would end past byte 2^40; and where a record was refused.
+    /// if the header is cut, has another magic or is of another version; if a header read from
+    /// elsewhere than the file's first byte would end past byte 2^40; and if a record was refused.
     /// `Memory` leaves what is to come; `Read` comes again. draft-ietf-opsawg-pcap, 4.
     pub fn header(&mut self) -> Result<PcapHeader, Fault>
         ensures answer { GivesHeader self.old result self.new }
@@ -136,8 +136,8 @@ impl<R: Source> PcapReader<R> {
     }
 
     /// The next record, or `None` at the end of the file, which comes again then. `frame` lends its
-    /// captured bytes. `Refused` comes, now and at each later call, where the rest is cut, where more
-    /// than 262,144 bytes were captured, and where the record would end past byte 2^40; where a cut
+    /// captured bytes. `Refused` comes, now and at each later call, if the rest is cut, if more
+    /// than 262,144 bytes were captured, and if the record would end past byte 2^40; if a cut
     /// tail is accepted, a cut rest is the end instead. `Memory` leaves what is to come; `Read` comes
     /// again. draft-ietf-opsawg-pcap, 5.
     pub fn next_record(&mut self) -> Result<Option<Record>, Fault>

@@ -118,7 +118,7 @@ fn record_head(
 
 /// Writes a record: 16 bytes and then `frame`, the bytes that were captured. `seconds` and `fraction`
 /// are the packet's time since 1970, the fraction in the file's unit; `original` is its length. Takes no
-/// memory. Answers `Fault::Write`, and no other fault, where the writer failed: a prefix is written
+/// memory. Answers `Fault::Write`, and no other fault, if the writer failed: a prefix is written
 /// then. draft-ietf-opsawg-pcap, 5.
 pub fn put_record<W: Sink>(
     writer: &mut W,

@@ -36,7 +36,7 @@ pub fn put_field<I: Integer>(line: &mut Line, label: &[u8], number: I)
     put_text(line, buffer.format(number).as_bytes());
 }
 
-/// Appends a label and a time as `SEC+NUM/DEN`, or `-` where there is none.
+/// Appends a label and a time as `SEC+NUM/DEN`, or `-` if there is none.
 #[inline(always)]
 pub fn put_time(line: &mut Line, label: &[u8], time: Option<Stamp>)
     requires { array_vec_len line.old + length label.now + 122 ≤ 512 }

@@ -17,7 +17,7 @@ use Rattle.cap_bytes.proofs.Parsing.{from_none}
 use Rattle.cap_source.proofs.Pcaps.{none_stops, cut_is}
 use Rattle.cap_bytes.specs.Number.{number}
 use Rattle.cap_bytes.specs.declared.faults.Rule.TheVariants as rules
-use Rattle.cap_source.specs.Clocks.{interface_in}
+use Rattle.cap_source.specs.TimeBases.{interface_in}
 use Rattle.cap_source.specs.Contents.{fitting, of_interface, timed_in, simple_in, of_body, content_in}
 use Rattle.cap_source.specs.Feed as feeds
 use Rattle.cap_source.specs.Items.{Progress, behind, frame_in, items_at, items_in, ending_with, ending_in, unless_faulty, first_in, unless_item, is_cut}

@@ -3,13 +3,13 @@ use Rattle.std.proofs.lemmas.Bool.Decides.{nat_tests}
 use Rattle.std.proofs.lemmas.Grind.{common_steps}
 use Rattle.std.proofs.Common.{rules, ◌≡◌, ◌*◌, ℕ, zero, suc, ◌+◌, ◌^◌, ◌≤◌, ◌<◌, nat_le, List, [], ◌∷◌, ◌++◌, length, take, drop, get_or, slice_get, mod-lt, Bool, true, false, Option, Some, None, Result, Err, IfOk, IfSome, unwrap_or, refl, ◌∙◌, subst, sym, arith, if◌then◌else◌}
 use Rattle.std.proofs.lemmas.Int.{ints}
-use Rattle.std.proofs.lemmas.List.{get_or-drop}
 use Rattle.std.specs.Int.{w64}
 use Rattle.std.specs.List.{AllByRecursion}
 use Rattle.std.specs.Prelude.{FitsSigned, pos}
 use Rattle.cap_blocks.specs.OptionList.{options_of}
 use Rattle.cap_blocks.specs.Split as blocks
 use Rattle.cap_blocks.specs.Split.{AreBytes}
+use Rattle.cap_blocks.proofs.Bytes.{AreBytes-drop}
 use Rattle.cap_blocks.specs.declared.blocks.Block.{Block}
 use Rattle.cap_bytes.specs.Items as pieces
 use Rattle.cap_bytes.specs.declared.stops.Stop.{Stop}
@@ -26,7 +26,7 @@ use Rattle.cap_pcap.specs.Split.{Splits}
 use Rattle.cap_source.proofs.Blocks.{IsFit, content_fit}
 use Rattle.cap_source.proofs.Frames.{block-frame, read_header}
 use Rattle.cap_source.proofs.Saying.{OfContent, content-holds}
-use Rattle.cap_source.specs.Clocks.{interface_in, interface_or, interface_at, options_fault, offset_in, given_or}
+use Rattle.cap_source.specs.TimeBases.{interface_in, interface_or, interface_at, options_fault, offset_in, given_or}
 use Rattle.cap_source.specs.Contents.{content_in}
 use Rattle.cap_source.specs.Feed.{Item}
 use Rattle.cap_source.specs.Fields.{FitsInterface, ItemFits, FieldsFit}
@@ -38,9 +38,6 @@ use Rattle.cap_time.specs.Unit.{in_second}
 use Rattle.cap_time.specs.declared.stamps.Unit.{Unit as Fraction}
 
 -- ---- bytes
-
-pub AreBytes-drop : (n : ℕ) (bytes : List ℕ) → AreBytes bytes → AreBytes (drop n bytes)
-AreBytes-drop n bytes are k = rw get_or-drop (are (n + k))
 
 take_below : (n : ℕ) (xs : List ℕ) (k : ℕ) → ((j : ℕ) → get_or xs j 0 < 256) → get_or (take n xs) k 0 < 256
 take_below zero xs k h = omega arith
@@ -101,7 +98,7 @@ pub record FitsPacket (p : Packet) : Type 0 where
 two_words : (high low : ℕ) → high < 2 ^ 32 → low < 2 ^ 32 → high * 2 ^ 32 + low < 2 ^ 64
 two_words high low h l = omega arith
 
--- What a block says fits, where the section's interfaces do.
+-- What a block says fits, if the section's interfaces do.
 pub content-fits : (interfaces : List Interface) (kind : ℕ) (order : Order) (body : List ℕ) → AllByRecursion FitsInterface interfaces → AreBytes body
     → IfOk (content_in interfaces kind order body) (OfContent FitsInterface FitsPacket)
 content-fits interfaces kind order body fit are =

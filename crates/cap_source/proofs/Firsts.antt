@@ -1,6 +1,6 @@
 -- What asking for what comes next tells of the file as a feed, and of its first interface.
 use Rattle.std.proofs.Common.{arith, ◌≡◌, Option, Some, IsTrue}
-use Rattle.cap_source.specs.Feed.{Knows, SameItems}
+use Rattle.cap_source.specs.Feed.{Knows}
 use Rattle.cap_source.specs.Items.{Progress}
 use Rattle.cap_source.specs.FileState.{FileState, feed_of, head_of, first_by, is_whole, LearnsOr}
 use Rattle.cap_source.specs.Readers.{state_of, is_there}
@@ -10,10 +10,6 @@ use Rattle.cap_source.specs.declared.readers.Reader.{Reader}
 pub knows : (old new : FileState) (known after : Option Next) (n : Next) → IsTrue (is_whole known old.broken) → after ≡ Some n → LearnsOr old known n new
     → Knows (feed_of old known) (head_of n) (feed_of new after)
 knows old new known after n whole is h = grind arith
-
-pub same_items : (old new : FileState) (known after : Option Next) (n : Next) → after ≡ Some n → LearnsOr old known n new → IsTrue old.told
-    → SameItems (feed_of old known) (feed_of new after)
-same_items old new known after n is h t = grind arith
 
 -- the first interface that was read is that of the file
 pub first_told : {R : Type 0} (old : FileState) (reader : Reader R) (p : Progress) (known after : Option Next) (n : Next) → IsTrue (is_there reader)

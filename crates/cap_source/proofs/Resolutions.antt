@@ -6,7 +6,7 @@ use Rattle.cap_time.specs.Resolution.{code_of}
 use Rattle.cap_time.specs.declared.resolutions.Resolution.{Resolution}
 use Rattle.cap_time.specs.declared.stamps.Unit.TheVariants.{Nano}
 use Rattle.cap_source.specs.Items.{resolution_of_unit}
-use Rattle.cap_source.specs.Clocks.{resolution_if, resolution_of, microseconds}
+use Rattle.cap_source.specs.TimeBases.{resolution_if, resolution_of, microseconds}
 
 abbrev resolution_from : (code : ℕ) → IsTrue (is_allowed code) → Resolution
 resolution_from code allowed = record { code = code; allowed = allowed }

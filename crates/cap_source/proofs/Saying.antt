@@ -3,7 +3,7 @@ use Rattle.std.proofs.Common.{◌≡◌, ◌*◌, ℕ, ◌+◌, ◌^◌, ◌≤�
 use Rattle.cap_bytes.specs.Number.{number}
 use Rattle.cap_bytes.specs.declared.faults.Rule.{Rule}
 use Rattle.cap_bytes.specs.declared.numbers.Order.{Order}
-use Rattle.cap_source.specs.Clocks.{interface_in}
+use Rattle.cap_source.specs.TimeBases.{interface_in}
 use Rattle.cap_source.specs.Contents.{fitting, timed_in, simple_in, simple_captured, of_interface, of_body, content_in}
 use Rattle.cap_source.specs.declared.contents.Content.{Content}
 use Rattle.cap_source.specs.declared.contents.Content.TheVariants as contents

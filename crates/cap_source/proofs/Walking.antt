@@ -88,7 +88,7 @@ Walking-more first plan next old mid shown new fo fm fn from m to meta line p as
     (λ t. ap plan.text (shows t).1 ∙ (goes.text (drop 1 mid.items) ∙ ap (λ l. line ++ next.text l) (rest t)))
     (λ t. ap plan.refusal (shows t).1 ∙ (goes.refusal (drop 1 mid.items) ∙ ap next.refusal (rest t)))
 
--- what is written where a call for the next packet answers a fault
+-- what is written if a call for the next packet answers a fault
 pub Prints-fault : (plan : Plan) (fault : Fault) (text : List ℕ) (refusal : Option Refusal) (from to : Writer) (mid shown : Feed)
     → IsPlan plan → Putting from to text (plan.text mid.items) → IsTrue from.told → plan.refusal mid.items ≡ refusal
     → ShowsItem mid (Err fault) shown → Prints {A = Unit {0}} text refusal from.held (Err fault) to.held
@@ -98,7 +98,7 @@ Prints-fault plan (Refused r) text refusal from to mid shown is p t same shows =
 )
 Prints-fault plan fault text refusal from to mid shown is p t same shows = grind arith
 
--- what is written where it answers that there is none
+-- what is written if it answers that there is none
 pub Prints-end : (plan : Plan) (text : List ℕ) (refusal : Option Refusal) (from to : Writer) (mid shown : Feed)
     → IsPlan plan → Putting from to text (plan.text mid.items) → IsTrue from.told → plan.refusal mid.items ≡ refusal
     → ShowsItem mid (Ok None) shown → (refusal ≡ None) × (to.held ≡ from.held ++ text)
@@ -107,7 +107,7 @@ Prints-end plan text refusal from to mid shown is p t same shows = (
   Putting-all from to text (plan.text mid.items) p (ap plan.text shows.1 ∙ is.text_none) t,
 )
 
--- What is written where the last part of a text is, or a prefix of it.
+-- What is written if the last part of a text is, or a prefix of it.
 pub Prints-whole : (fault : Fault) (text line : List ℕ) (refusal : Option Refusal) (r : Refusal) (from mid : Writer) (held : List ℕ)
     → Putting from mid text line → IsTrue from.told → refusal ≡ Some r
     → Prints {A = Unit {0}} line (Some r) mid.held (Err fault) held
@@ -120,7 +120,7 @@ Prints-whole Write text line refusal r from mid held p t is prints =
 Prints-whole Memory text line refusal r from mid held p t is prints =
     Putting-front from mid held text line [] prints.0 (subst (Putting from mid text) (sym (append-nil line)) p) t prints.1
 
--- And where a line before the last isn't written whole: a prefix of it.
+-- And if a line before the last isn't written whole: a prefix of it.
 pub Prints-front : (fault : Fault) (text line behind : List ℕ) (refusal : Option Refusal) (from mid : Writer) (held : List ℕ)
     → Putting from mid text (line ++ behind) → IsTrue from.told
     → Prints {A = Unit {0}} line None mid.held (Err fault) held

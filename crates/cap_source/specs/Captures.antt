@@ -13,7 +13,7 @@ use Rattle.cap_source.specs.declared.captures.Capture.{Capture}
 abbrev pub feed_of : {R : Type 0} {source : Source.Ghosts R} {device : Device.Ghosts R} → Capture R source device → Feed
 feed_of capture = file_feed (state_of capture.reader (progress_of capture.reached)) capture.next
 
--- its first interface, where it stands before what comes next or the end: of instance 0
+-- its first interface, if it stands before what comes next or the end: of instance 0
 abbrev pub first_of : {R : Type 0} {source : Source.Ghosts R} {device : Device.Ghosts R} → Capture R source device → Option Interface
 first_of capture = first_by capture.next (state_of capture.reader (progress_of capture.reached))
 

@@ -10,7 +10,7 @@ use Rattle.cap_source.specs.declared.feeds.Head.{Head}
 use Rattle.cap_source.specs.declared.feeds.Head.TheVariants as heads
 use Rattle.cap_source.specs.declared.packets.Meta.{Meta}
 
--- what comes of a file, or of several: packets with their captured bytes, and a refusal where one ends them
+-- what comes of a file, or of several: packets with their captured bytes, and a refusal if one ends them
 pub data Item : Type 0 where
   packet : Meta → List ℕ → Item
   refused : Refusal → Item
@@ -21,8 +21,8 @@ refusal_of [] = None
 refusal_of (packet meta frame ∷ items) = refusal_of items
 refusal_of (refused refusal ∷ items) = Some refusal
 
--- A feed of the packets of the files of those numbers. `items` are those to come, where the devices tell
--- their bytes, and `endings` says how each file ends, where no refusal comes before. `known` is what comes
+-- A feed of the packets of the files of those numbers. `items` are those to come, if the devices tell
+-- their bytes, and `endings` says how each file ends, if no refusal comes before. `known` is what comes
 -- next, once that was asked for, and `frame` are the captured bytes of a packet that comes next. `broken` is
 -- the fault of a read that failed, once `head` has answered it. No packet to come of a file begins before its
 -- place of `places`, and at most `left` packets are to come, whatever the devices do.
@@ -50,7 +50,7 @@ IsPacket (Some (heads.Packet meta)) = ⊤
 IsPacket (Some (heads.Refused refusal)) = ⊥
 IsPacket (Some heads.End) = ⊥
 
--- Where what comes next is known to be a packet, that is true of it.
+-- If what comes next is known to be a packet, that is true of it.
 abbrev pub IfPacket : Option Head → (Meta → Type 0) → Type 0
 IfPacket None Holds = ⊤
 IfPacket (Some (heads.Packet meta)) Holds = Holds meta
@@ -143,7 +143,7 @@ pub record IsPacketOf (feed : Feed) (meta : Meta) : Type 0 where
   pub offset : meta.offset < 2 ^ 40
   pub left : 1 ≤ feed.left
 
--- Where what comes next is known to be a refusal, it is of one of the files.
+-- If what comes next is known to be a refusal, it is of one of the files.
 abbrev pub IsRefusedOf : List ℕ → Option Head → Type 0
 IsRefusedOf files None = ⊤
 IsRefusedOf files (Some (heads.Packet meta)) = ⊤

@@ -27,7 +27,7 @@ use Rattle.cap_source.specs.declared.readers.Next.{Next}
 use Rattle.cap_source.specs.declared.readers.Next.TheVariants as nexts
 
 -- The file of that number as its reader still gives it: the items to come, how the file ends, and its
--- first interface where it stands before the next item or the end, where the device tells its bytes;
+-- first interface if it stands before the next item or the end, if the device tells its bytes;
 -- `noted` is that interface as far as the file was read. The next record or block begins at `offset` or
 -- later, and `lent` is what the reader lends of the one that was given last. `stops` says that the reader
 -- has come to an end. `broken` is where the header, the record or the block begins in which a read failed,
@@ -200,7 +200,7 @@ is_free (Some (nexts.Packet meta place)) stops = not stops
 is_free (Some (nexts.Refused refusal ending)) stops = true
 is_free (Some (nexts.End ending)) stops = true
 
--- no read has failed, where it is known what comes next
+-- no read has failed, if it is known what comes next
 abbrev pub is_whole : Option Next → Option ℕ → Bool
 is_whole None broken = true
 is_whole (Some next) broken = not (is_some broken)
@@ -226,7 +226,7 @@ ending_by (Some (nexts.Packet meta place)) later = later
 ending_by (Some (nexts.Refused refusal ending)) later = ending
 ending_by (Some (nexts.End ending)) later = ending
 
--- its first interface, where it stands before what comes next
+-- its first interface, if it stands before what comes next
 abbrev pub first_by : Option Next → FileState → Option Interface
 first_by None state = state.first
 first_by (Some next) state = state.noted
@@ -250,7 +250,7 @@ abbrev pub offset_at : Option ℕ → ℕ → ℕ
 offset_at None offset = offset
 offset_at (Some first) offset = first
 
--- the file, of which that comes next where it is known, as a feed
+-- the file, of which that comes next if it is known, as a feed
 abbrev pub feed_of : FileState → Option Next → Feed
 feed_of state next =
     record {
@@ -324,7 +324,7 @@ Steps old (Err (Read file offset)) after new = (after ≡ None) × Fails old fil
 Steps old (Err Write) after new = ⊥
 Steps old (Err Memory) after new = (after ≡ None) × Waits old new × (old.broken ≡ None)
 
--- what comes next where a block says that, if anything does
+-- what comes next if a block says that, if anything does
 abbrev pub next_at : ℕ → Progress → Block → Result Content Rule → Option Next
 next_at file progress block (Ok contents.Section) = None
 next_at file progress block (Ok (contents.Interface interface)) = None
@@ -333,7 +333,7 @@ next_at file progress block (Ok contents.Other) = None
 next_at file progress block (Err rule) =
     Some (nexts.Refused (record { file = file; offset = block.offset; rule = rule }) (ending_with progress false))
 
--- what is always true of a file and of what comes next of it, where that is known
+-- what is always true of a file and of what comes next of it, if that is known
 pub record IsSound (state : FileState) (next : Option Next) : Type 0 where
   pub is : IsNext next state
   pub free : IsTrue (is_free next state.stops)

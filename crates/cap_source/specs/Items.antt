@@ -201,7 +201,7 @@ unless_refused (Some rule) interface = None
 unless_refused None interface = Some interface
 
 -- the items of a file whose bytes begin at `offset`, how it ends, and its first interface: of a pcapng
--- file where the first four bytes are the kind of a section header, else of a pcap file
+-- file if the first four bytes are the kind of a section header, else of a pcap file
 abbrev pub is_pcapng : List ℕ → Bool
 is_pcapng bytes = nat_le 4 (length bytes) && is_section bytes
 

@@ -1,5 +1,5 @@
 pub mod Captures
-pub mod Clocks
+pub mod TimeBases
 pub mod Contents
 pub mod Feed
 pub mod Fields

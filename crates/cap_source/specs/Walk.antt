@@ -40,7 +40,7 @@ pub record Fails (old : Feed) (file offset : ℕ) (new : Feed) : Type 0 where
   pub failed : IsTrue new.held.failed
   pub can_fail : IsTrue old.can_fail
 
--- A call goes through a feed, to the end where it answers no fault. A failed read is answered as such, and no other fault is
+-- A call goes through a feed, to the end if it answers no fault. A failed read is answered as such, and no other fault is
 -- answered for it.
 abbrev pub Walks : {A : Type 0} → Feed → Result A Fault → Feed → Type 0
 Walks old (Ok _) new = (new.known ≡ Some heads.End) × Goes old new

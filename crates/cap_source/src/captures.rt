@@ -68,7 +68,7 @@ impl<R: Source> Capture<R> {
         number_of(&self.reader)
     }
 
-    /// The first interface of the file that stands before what comes next: before the first item where
+    /// The first interface of the file that stands before what comes next: before the first item if
     /// nothing was passed. `Read` and `Memory` come as of `head`, which is known afterwards.
     pub fn first(&mut self) -> Result<Option<Interface>, Fault>
         ensures answer { GivesFirst (⟦<Capture<R> as PacketFeed>⟧.feed self.old) (first_of self.old) result (⟦<Capture<R> as PacketFeed>⟧.feed self.new) }

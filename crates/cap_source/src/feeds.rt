@@ -44,9 +44,9 @@ pub trait PacketFeed: Drop {
     ghost feed: { Self → Feed };
 
     /// What comes next. It stays until it is passed, and can't fail once it is known; a refusal and the
-    /// end stay for good. The packets to come stay the same, unless `Read` is answered. `Read` comes where
+    /// end stay for good. The packets to come stay the same, unless `Read` is answered. `Read` comes if
     /// a device failed, with the file's number and the offset in bytes at which the header, the record or the
-    /// block begins that was being read; from then on the same comes, and nothing else. `Memory` comes where
+    /// block begins that was being read; from then on the same comes, and nothing else. `Memory` comes if
     /// a growth was refused, and no other fault comes.
     fn head(&mut self) -> Result<Head, Fault>
         ensures answer { GivesHead (feed self.old) result (feed self.new) }

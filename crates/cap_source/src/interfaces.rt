@@ -1,7 +1,7 @@
 //! The interface blocks of a pcapng file. draft-ietf-opsawg-pcapng, 4.2.
 ghost use Rattle.std.specs.Prelude.{◌≡◌, ◌≤◌, ◌%◌, drop, length, unwrap_or, pos};
 ghost use Rattle.cap_blocks.specs.OptionList.{options_of};
-ghost use Rattle.cap_source.specs.Clocks.{resolution_of, resolution_in, offset_in, with_resolution, with_offset, option_read, options_read, no_clock, microseconds, interface_with, interface_by, interface_in};
+ghost use Rattle.cap_source.specs.TimeBases.{resolution_of, resolution_in, offset_in, with_resolution, with_offset, option_read, options_read, no_base, microseconds, interface_with, interface_by, interface_in};
 
 use cap_blocks::Options;
 use cap_bytes::{Order, Rule, u16_at, u32_at, u64_at};
@@ -15,19 +15,19 @@ const RESOLUTION: u16 = 9;
 
 const OFFSET: u16 = 14;
 
-// The code of a millionth of a second, which stands where no resolution is given.
+// The code of a millionth of a second, the resolution if none is given.
 const MICROSECONDS: u8 = 6;
 
-/// What the options so far say of an interface's clock.
+/// What the options so far say of an interface's times.
 #[derive(Clone, Copy)]
-pub struct Clock {
+pub struct TimeBase {
     /// The first `if_tsresol`.
     pub resolution: Option<Resolution>,
     /// The first `if_tsoffset`.
     pub offset: Option<i64>,
 }
 
-// The resolution of a code, where it is one that is read.
+// The resolution of a code, if it is one that is read.
 fn resolution_of(code: u8) -> Option<Resolution>
     ensures { result ≡ resolution_of code }
 {
@@ -48,7 +48,7 @@ fn resolution_in(value: &[u8]) -> Result<Resolution, Rule>
 }
 
 // The offset that an `if_tsoffset` gives.
-#[tactic(auto, unfolding(crate::specs::Clocks::offset_in))]
+#[tactic(auto, unfolding(crate::specs::TimeBases::offset_in))]
 fn offset_in(order: Order, value: &[u8]) -> Result<i64, Rule>
     ensures { result ≡ offset_in order value.now }
 {
@@ -59,73 +59,73 @@ fn offset_in(order: Order, value: &[u8]) -> Result<i64, Rule>
     }
 }
 
-// The clock with its resolution.
-fn with_resolution(clock: Clock, value: &[u8]) -> Result<Clock, Rule>
-    ensures { result ≡ with_resolution clock (resolution_in value.now) }
+// The time base with its resolution.
+fn with_resolution(base: TimeBase, value: &[u8]) -> Result<TimeBase, Rule>
+    ensures { result ≡ with_resolution base (resolution_in value.now) }
 {
     match resolution_in(value) {
-        Ok(resolution) => Ok(Clock {
+        Ok(resolution) => Ok(TimeBase {
             resolution: Some(resolution),
-            offset: clock.offset,
+            offset: base.offset,
         }),
         Err(rule) => Err(rule),
     }
 }
 
-// The clock with its offset.
-fn with_offset(clock: Clock, order: Order, value: &[u8]) -> Result<Clock, Rule>
-    ensures { result ≡ with_offset clock (offset_in order value.now) }
+// The time base with its offset.
+fn with_offset(base: TimeBase, order: Order, value: &[u8]) -> Result<TimeBase, Rule>
+    ensures { result ≡ with_offset base (offset_in order value.now) }
 {
     match offset_in(order, value) {
-        Ok(offset) => Ok(Clock {
-            resolution: clock.resolution,
+        Ok(offset) => Ok(TimeBase {
+            resolution: base.resolution,
             offset: Some(offset),
         }),
         Err(rule) => Err(rule),
     }
 }
 
-// The clock with one more option.
-#[tactic(auto, unfolding(crate::specs::Clocks::option_read))]
-fn with_option(clock: Clock, order: Order, code: u16, value: &[u8]) -> Result<Clock, Rule>
-    ensures { result ≡ option_read order clock code value.now }
+// The time base with one more option.
+#[tactic(auto, unfolding(crate::specs::TimeBases::option_read))]
+fn with_option(base: TimeBase, order: Order, code: u16, value: &[u8]) -> Result<TimeBase, Rule>
+    ensures { result ≡ option_read order base code value.now }
 {
-    if code == RESOLUTION && clock.resolution.is_none() {
-        return with_resolution(clock, value);
+    if code == RESOLUTION && base.resolution.is_none() {
+        return with_resolution(base, value);
     }
-    if code == OFFSET && clock.offset.is_none() {
-        return with_offset(clock, order, value);
+    if code == OFFSET && base.offset.is_none() {
+        return with_offset(base, order, value);
     }
-    Ok(clock)
+    Ok(base)
 }
 
-// What the options of an interface say of its clock, or the first rule that they break.
-fn clock_of(order: Order, options: &[u8]) -> Result<Clock, Rule>
+// What the options of an interface say of its times, or the first rule that they break.
+fn time_base_of(order: Order, options: &[u8]) -> Result<TimeBase, Rule>
     requires { length options.now % 4 ≡ 0 }
-    ensures { result ≡ options_read order no_clock (options_of order options.now) }
+    ensures { result ≡ options_read order no_base (options_of order options.now) }
 {
-    let mut clock = Clock {
+    let mut base = TimeBase {
         resolution: None,
         offset: None,
     };
     for option in Options::new(order, options) {
         match option {
-            Ok((code, value)) => clock = with_option(clock, order, code, value)?,
+            Ok((code, value)) => base = with_option(base, order, code, value)?,
             Err(rule) => return Err(rule),
         }
     }
-    Ok(clock)
+    Ok(base)
 }
 
 // What an interface block says, whatever stands before it, or the first rule that its options break.
 fn read_interface(order: Order, body: &[u8]) -> Result<Interface, Rule>
     requires least { 8 ≤ length body.now }
     requires padded { length body.now % 4 ≡ 0 }
-    ensures { result ≡ interface_by order body.now (options_read order no_clock (options_of order (drop 8 body.now))) }
+    ensures { result ≡ interface_by order body.now (options_read order no_base (options_of order (drop 8 body.now))) }
 {
     let (_, options) = body.split_at(8);
-    match clock_of(order, options) {
-        Ok(clock) => Ok(interface_by(clock, order, body)),
+    match time_base_of(order, options) {
+        Ok(base) => Ok(interface_by(base, order, body)),
         Err(rule) => Err(rule),
     }
 }
@@ -143,7 +143,7 @@ pub fn interface_of(before: usize, order: Order, body: &[u8]) -> Result<Interfac
     read_interface(order, body)
 }
 
-// A millionth of a second, which stands where no resolution is given.
+// A millionth of a second, the resolution if none is given.
 #[tactic(auto, using(crate::proofs::Resolutions::same_microseconds))]
 fn microseconds() -> Resolution
     ensures { result ≡ microseconds }
@@ -151,7 +151,7 @@ fn microseconds() -> Resolution
     Resolution::from_code(MICROSECONDS).unwrap()
 }
 
-// The offset, which is 0 where none is given.
+// The offset, which is 0 if none is given.
 fn offset_or_0(offset: Option<i64>) -> i64
     ensures { result ≡ unwrap_or offset (pos 0) }
 {
@@ -161,15 +161,15 @@ fn offset_or_0(offset: Option<i64>) -> i64
     }
 }
 
-// The interface of a body whose options say that of its clock.
-fn interface_by(clock: Clock, order: Order, body: &[u8]) -> Interface
+// The interface of a body whose options say that of its times.
+fn interface_by(base: TimeBase, order: Order, body: &[u8]) -> Interface
     requires { 8 ≤ length body.now }
-    ensures { result ≡ interface_with clock order body.now }
+    ensures { result ≡ interface_with base order body.now }
 {
     Interface {
         link: u16_at(order, body, 0),
         snaplen: u32_at(order, body, 4),
-        resolution: clock.resolution.unwrap_or(microseconds()),
-        offset: offset_or_0(clock.offset),
+        resolution: base.resolution.unwrap_or(microseconds()),
+        offset: offset_or_0(base.offset),
     }
 }

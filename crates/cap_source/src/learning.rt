@@ -17,7 +17,7 @@ use cap_bytes::{Fault, Source, Window};
 use cap_pcap::PcapReader;
 use std::mem;
 
-// The format that the first four bytes tell: that of a pcap file also where they tell none.
+// The format that the first four bytes tell: that of a pcap file also if they tell none.
 fn look<R: Source>(window: &mut Window<R>) -> Result<Format, Fault>
     ensures answer { LooksAtWindow window.old result window.new }
     ensures keeps { windows.Keeps window.old window.new }

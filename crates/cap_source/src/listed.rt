@@ -28,7 +28,7 @@ pub struct Listed {
 }
 
 impl Listed {
-    /// Packets at the first 2^40 of these times, in units of the interface's clock, as the file of that number, and then
+    /// Packets at the first 2^40 of these times, in units of the interface's resolution, as the file of that number, and then
     /// a refusal by that rule, if by one. Takes no memory.
     pub fn new(file: u32, interface: Interface, times: Vec<u64>, end: Option<Rule>) -> Listed
         ensures { ⟦<Listed as PacketFeed>⟧.feed result ≡ list_feed file interface end 0 (take (2 ^ 40) times.items) None }

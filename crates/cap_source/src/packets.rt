@@ -27,7 +27,7 @@ pub struct Meta {
     pub instance: u64,
     /// The interface that it was captured at.
     pub interface: Interface,
-    /// Its time in units of the interface's clock, where it has one.
+    /// Its time in units of the interface's resolution; `None` if it has none.
     pub units: Option<u64>,
     /// How many bytes of it were captured.
     pub captured: u32,

@@ -99,7 +99,7 @@ fn take_content(
     }
 }
 
-// Takes one block: what comes next, or none where the file goes on after it. There is room for an
+// Takes one block: what comes next, or none if the file goes on after it. There is room for an
 // interface.
 fn take_block<R: Source>(
     reader: &mut BlockReader<R>,
@@ -135,7 +135,7 @@ fn take_block<R: Source>(
     }
 }
 
-// The same, where room for an interface is found first: the block isn't taken without.
+// The same, if room for an interface is found first: the block isn't taken without.
 fn step<R: Source>(
     reader: &mut BlockReader<R>,
     reached: &mut Reached,

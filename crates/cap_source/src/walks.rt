@@ -8,7 +8,7 @@ use crate::packets::Meta;
 use cap_bytes::Fault;
 
 /// What comes next of a feed: a packet, which stays until it is passed, or none at the end. `Refused`
-/// comes where a refusal comes next, `Read` where a device failed, and `Memory` where a growth was
+/// comes if a refusal comes next, `Read` if a device failed, and `Memory` if a growth was
 /// refused. The packets to come stay the same, unless `Read` is answered.
 pub fn next_packet<F: PacketFeed>(feed: &mut F) -> Result<Option<Meta>, Fault>
     ensures answer { GivesPacket (F.feed feed.old) result (F.feed feed.new) }

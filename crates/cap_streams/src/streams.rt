@@ -23,7 +23,7 @@ pub enum Input {
 }
 
 impl Input {
-    /// Takes standard input where the name is `-`, and opens the file of that name else.
+    /// Takes standard input if the name is `-`, and opens the file of that name else.
     pub fn open<R: Files<File = File>>(files: &R, standard: Stdin, name: &str) -> io::Result<Input>
         ensures standard { name.now ≡ codes "-" → result ≡ Ok (Input.Standard standard) }
         ensures which { IfOk result (λ input. is_standard input ≡ is_dash name.now) }
@@ -56,7 +56,7 @@ impl Read for Input {
 /// What the packets or the lines are written to.
 #[derive(Drop)]
 pub enum Output {
-    /// A file that was created, or emptied where there was one.
+    /// A file that was created, or emptied if there was one.
     File(File),
     /// Standard output.
     Standard(Stdout),
@@ -83,8 +83,8 @@ fn create_file<R: Files<File = File>>(
 }
 
 impl Output {
-    /// Takes standard output where the name is `-`, and creates the file of that name else, or empties it
-    /// where there is one. A file that is one of the inputs isn't changed, and is an error.
+    /// Takes standard output if the name is `-`, and creates the file of that name else, or empties it
+    /// if there is one. A file that is one of the inputs isn't changed, and is an error.
     pub fn create<R: Files<File = File>>(
         files: &R,
         standard: Stdout,
@@ -135,8 +135,8 @@ impl Write for Output {
     }
 }
 
-/// Creates the output of a run, which is standard output where none is named. Answers
-/// `Outcome::Create`, and no other outcome, where it can't be created, and where it is one of the inputs,
+/// Creates the output of a run, which is standard output if none is named. Answers
+/// `Outcome::Create`, and no other outcome, if it can't be created, and if it is one of the inputs,
 /// under whatever name: then it isn't changed.
 pub fn create_output<R: Files<File = File>>(
     files: &R,
@@ -170,9 +170,9 @@ fn add_size(size: Option<u64>, regular: Option<Regular>) -> Option<u64> {
     size?.checked_add(regular?.size)
 }
 
-/// Opens every file of a run, in order, and reads none: an input is standard input exactly where its name
+/// Opens every file of a run, in order, and reads none: an input is standard input exactly if its name
 /// is `-`. Answers `Outcome::Open` with the number, from 1, of the first that can't be opened, which is
-/// never one named `-`, or `Fault::Memory` where a growth is refused.
+/// never one named `-`, or `Fault::Memory` if a growth is refused.
 pub fn open_all<R: Files<File = File>>(
     files: &R,
     alloc: Global,

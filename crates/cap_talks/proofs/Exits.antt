@@ -1,4 +1,4 @@
--- What holds where a tally has looked at a packet.
+-- What holds if a tally has looked at a packet.
 use Rattle.std.proofs.Common.{◌≡◌, ℕ, ◌+◌, ◌*◌, ◌≤◌, ◌<◌, ◌^◌, Bool, true, false, List, [], ◌∷◌, ◌++◌, length, sym, ◌∙◌, ap, subst, arith, Option, Some, None}
 use Rattle.std.specs.Option.{option_map_or}
 use Rattle.std.specs.Prelude.{if◌then◌else◌}
@@ -26,7 +26,7 @@ use Rattle.cap_join.specs.Completed.{if_complete, completed_of}
 use Rattle.cap_talks.specs.Classes.{class_of, sum_of}
 use Rattle.cap_talks.specs.Taken.{Taken, plain, datagram, fragment, look, stamped_of, events_of}
 use Rattle.std.specs.Prelude.{Err}
-use Rattle.cap_talks.specs.declared.tallies.TallyFault.{TallyFault}
+use Rattle.cap_talks.specs.declared.talks.TalksFault.{TalksFault}
 use Rattle.cap_talks.specs.Tallies.{LimitBy, TallyState, Stands, IsSoundTally, Fits, Looks, one_if, counted_one, with_frames, with_group}
 use Rattle.cap_talks.specs.CountedUnits.{counted_in, first_unit, whole_unit, unit_at, listed, units_of, is_limit_at}
 use Rattle.cap_talks.specs.declared.classes.Class.{Class}
@@ -179,7 +179,7 @@ numbers-whole header captured s h = grind arith
 
 -- ---- answers
 
-pub limit-by : (fault : TallyFault) (a b : Bool) → a ≡ b → LimitBy (Err fault) a → LimitBy (Err fault) b
+pub limit-by : (fault : TalksFault) (a b : Bool) → a ≡ b → LimitBy (Err fault) a → LimitBy (Err fault) b
 limit-by fault a b same h = subst (LimitBy (Err fault)) same h
 
 pub kept-of : (put : Put) (ps : List Piece) → put ≡ puts.Kept → IsAnswer put ps → completes ps ≡ false

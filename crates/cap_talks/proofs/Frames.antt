@@ -17,7 +17,7 @@ use Rattle.cap_talks.specs.Taken.{Taken, Look, plain, datagram, fragment, look, 
 use Rattle.cap_talks.specs.CountedUnits.{whole_unit, group_unit, first_unit, unit_by, unit_at, listed, units_of}
 use Rattle.cap_talks.specs.declared.classes.Class.TheVariants as class
 
--- a datagram is a unit where its class is that of those that count
+-- a datagram is a unit if its class is that of those that count
 frames_whole : (header : HeaderFields) (captured : List ℕ) (s : Stamped)
     → frames_of (listed (whole_unit header captured s)) ≡ some_of class.Counted (class_of (transport_of header.key.protocol captured header.data_length)) 1
 frames_whole header captured s = grind arith

@@ -1,4 +1,4 @@
--- How many packets of each class there are, where a group of fragments is completed.
+-- How many packets of each class there are, if a group of fragments is completed.
 use Rattle.std.proofs.Common.{◌≡◌, ℕ, ◌+◌, ◌≤◌, ◌<◌, Bool, true, false, List, [], ◌∷◌, length, refl, sym, ◌∙◌, ap, arith, cond, true≢false, Option, Some, None}
 use Rattle.std.specs.Prelude.{if◌then◌else◌, map}
 use Rattle.std.specs.List.{find}
@@ -114,7 +114,7 @@ classes_looks groups (x ∷ xs) = ap (λ cs. class_by groups (look (length xs) x
 abbrev pub some_of : Class → Class → ℕ → ℕ
 some_of c k n = if is_class c k then n else 0
 
--- where a group is completed, its fragments go from the unjoined ones to the class of its datagram
+-- if a group is completed, its fragments go from the unjoined ones to the class of its datagram
 pub recount : (c : Class) (ps : List Piece) (groups : List (List Piece)) (ls : List Look) → ((n : ℕ) → has_place n ps ≡ true → class_in groups n ≡ class.Unjoined)
     → times c (map (class_by (ps ∷ groups)) ls) + some_of c class.Unjoined (hits ps ls) ≡ times c (map (class_by groups) ls) + some_of c (group_class ps) (hits ps ls)
 recount c ps groups [] fresh = grind arith

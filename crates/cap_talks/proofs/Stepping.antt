@@ -42,7 +42,7 @@ known-some ps head h = by (is_known ps) h
         clash : None ≡ Some head → ⊥
         clash e = cc
 
--- nothing waits where nothing is known to come next
+-- nothing waits if nothing is known to come next
 no-wait : (w : Option Datagram) (j : JoinerState) (xs : List Taken) (next : Option Taken) → Joins w j xs None → Joins w j xs next
 no-wait None j xs next h = h
 no-wait (Some d) j xs next h = absurd (clash h.is_next)

@@ -51,7 +51,7 @@ append-none (x ∷ xs) = ap (λ l. x ∷ l) (append-none xs)
 pub counts-more : (c : Class) (cs : List Class) → counts_of (c ∷ cs) ≡ with_frames c 1 (counts_of cs)
 counts-more c cs = grind arith
 
--- what holds where a group of that many is completed
+-- what holds if a group of that many is completed
 abbrev pub Moves : Class → ℕ → List Class → List Class → Type 0
 Moves k n new old = (c : Class) → times c new + some_of c class.Unjoined n ≡ times c (class.Unjoined ∷ old) + some_of c k n
 

@@ -11,7 +11,7 @@ use Rattle.cap_join.specs.Completed.{completed_at}
 use Rattle.cap_talks.specs.ReportText.{taken_after}
 use Rattle.cap_talks.specs.Taken.{Taken, events_of}
 
--- the classes of some packets, where the groups are those by places
+-- the classes of some packets, if the groups are those by places
 abbrev pub classes_at : List Taken → List Class
 classes_at xs = classes_in (completed_at (marks open_limit (events_of xs))) xs
 

@@ -58,7 +58,7 @@ abbrev pub greatest_frame : List CountedUnit → Option TimedFrame
 greatest_frame [] = None
 greatest_frame (unit ∷ units) = later_frame unit.last (greatest_frame units)
 
--- the time of a frame, and its place, or another one where there is no frame
+-- the time of a frame, and its place, or another one if there is no frame
 abbrev pub frame_time : Option TimedFrame → Option Stamp
 frame_time None = None
 frame_time (Some frame) = Some frame.time

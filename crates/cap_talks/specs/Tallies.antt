@@ -18,8 +18,8 @@ use Rattle.cap_talks.specs.CountedUnits.{units_of, joined_in, is_limit_at}
 use Rattle.cap_talks.specs.declared.classes.Class.{Class}
 use Rattle.cap_talks.specs.declared.classes.Class.TheVariants as class
 use Rattle.cap_talks.specs.declared.classes.ClassCounts.{ClassCounts}
-use Rattle.cap_talks.specs.declared.tallies.TallyFault.{TallyFault}
-use Rattle.cap_talks.specs.declared.tallies.TallyFault.TheVariants as faults
+use Rattle.cap_talks.specs.declared.talks.TalksFault.{TalksFault}
+use Rattle.cap_talks.specs.declared.talks.TalksFault.TheVariants as faults
 
 -- How many packets were taken, how many of each class there are, how many joined datagrams count, the conversations, the joiner, and
 -- a joined datagram that waits for its conversation.
@@ -99,19 +99,19 @@ with_group c n counts = with_frames c n (record counts { unjoined = counts.unjoi
 abbrev pub counted_one : Class → ℕ
 counted_one c = if is_class class.Counted c then 1 else 0
 
--- Where it is answered that a packet was counted, the tally stands for it too; else a datagram waits.
+-- If it is answered that a packet was counted, the tally stands for it too; else a datagram waits.
 abbrev pub Looks : TallyState → Taken → Bool → TallyState → Type 0
 Looks old x true new = (xs : List Taken) → Stands old xs (Some x) → Stands new xs (Some x)
 Looks old x false new =
     (xs : List Taken) → Stands old xs (Some x) → (is_limit_at xs x ≡ false) × ((next : Option Taken) → Stands new (x ∷ xs) next)
 
--- a datagram waits, where that is answered
+-- a datagram waits, if that is answered
 abbrev pub WaitsIf : Option Datagram → Bool → Type 0
 WaitsIf None waits = waits ≡ false
 WaitsIf (Some d) waits = waits ≡ true
 
 -- What a call for one packet more answers: `Limit` exactly if the packet's conversation would be one too many.
-abbrev pub LimitBy : Result (Unit {0}) TallyFault → Bool → Type 0
+abbrev pub LimitBy : Result (Unit {0}) TalksFault → Bool → Type 0
 LimitBy (Ok _) limit = limit ≡ false
 LimitBy (Err faults.Limit) limit = limit ≡ true
 LimitBy (Err faults.Memory) limit = ⊤

@@ -1,6 +1,6 @@
 -- The report on a few frames, by computation.
 use Rattle.std.specs.Prelude.{◌≡◌, ℕ, ◌*◌, List, [], ◌∷◌, ◌++◌, codes, Some, None, pos, length, false}
-use Rattle.cap_source.specs.Clocks.{microseconds}
+use Rattle.cap_source.specs.TimeBases.{microseconds}
 use Rattle.cap_source.specs.declared.feeds.Ending.{Ending}
 use Rattle.cap_source.specs.declared.packets.Format.TheVariants.{Pcap}
 use Rattle.cap_source.specs.declared.packets.Meta.{Meta}

@@ -18,7 +18,8 @@ use crate::files::lines::{file_line, files_line};
 use crate::files::totals::Totals;
 use crate::report_lines::total_line;
 use crate::run_packets::RunPacket;
-use crate::tallies::{Tally, TallyFault};
+use crate::talks::TalksFault;
+use crate::tallies::Tally;
 use cap_bytes::{Fault, Refusal, Rule, Sink, put_all};
 use cap_merge::Merged;
 use cap_source::{Ending, Head, Meta, PacketFeed};
@@ -127,8 +128,8 @@ impl<F: PacketFeed> Table<F> {
                 self.merged.pass();
                 Ok(Step::Took)
             }
-            Err(TallyFault::Limit) => Err(Fault::Refused(talk_limit(meta))),
-            Err(TallyFault::Memory) => Err(Fault::Memory),
+            Err(TalksFault::Limit) => Err(Fault::Refused(talk_limit(meta))),
+            Err(TalksFault::Memory) => Err(Fault::Memory),
         }
     }
 

@@ -21,10 +21,10 @@ use std::marker::Model;
 /// How many conversations a table may have.
 const TALK_LIMIT: usize = 1_048_576;
 
-/// Why a unit wasn't counted. The table is as it was.
+/// Why a unit, or the packet that completes it, wasn't counted. The table is as it was.
 #[derive(Clone, Copy, Debug, PartialEq, Eq)]
 pub enum TalksFault {
-    /// Its conversation is a new one, and there are 1,048,576 already.
+    /// The unit's conversation is a new one, and there are 1,048,576 already.
     Limit,
     /// A growth was refused.
     Memory,

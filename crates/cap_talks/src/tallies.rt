@@ -11,7 +11,7 @@ ghost use Rattle.cap_talks.specs.Looking.{taken_of};
 ghost use Rattle.cap_talks.specs.ReportText.{frames_text, joined_text};
 ghost use Rattle.cap_talks.specs.Taken.{Taken, fragment, look, stamped_of};
 ghost use Rattle.cap_talks.specs.Tallies.{Stands, LimitBy, one_if, tally_text, waiting_bytes, counted_one, Looks, WaitsIf, with_frames, with_group};
-ghost use Rattle.cap_talks.specs.declared.tallies.TallyFault.TheVariants.{Memory};
+ghost use Rattle.cap_talks.specs.declared.talks.TalksFault.TheVariants.{Memory};
 ghost use Rattle.cap_talks.specs.Classes.{sum_of};
 ghost use Rattle.cap_talks.specs.CountedUnits.{is_limit_at};
 
@@ -19,9 +19,9 @@ use crate::classes::{Class, ClassCounts};
 use crate::looks::{Seen, look};
 use crate::report_lines::{frames_line, joined_line};
 use crate::run_packets::RunPacket;
-use crate::talks::Talks;
 use crate::talks::adding::{add_unit, class_of, joined_class, joined_unit, stamped_of, whole_unit};
 use crate::talks::lines::put_talks;
+use crate::talks::{Talks, TalksFault};
 use cap_bytes::{Fault, Sink, put_all};
 use cap_ip::{Header, transport};
 use cap_join::{Datagram, Joiner, Put, Stamped};
@@ -29,15 +29,6 @@ use cap_time::Stamp;
 use std::alloc::Global;
 use std::cmp::max;
 use std::marker::Model;
-
-/// Why a packet wasn't taken.
-#[derive(Clone, Copy, Debug, PartialEq, Eq)]
-pub enum TallyFault {
-    /// It completes a unit of a new conversation, and there are 1,048,576 already.
-    Limit,
-    /// A growth was refused.
-    Memory,
-}
 
 /// What is counted of the packets of a run.
 #[derive(Drop)]
@@ -93,7 +84,7 @@ pub fn with_group(counts: ClassCounts, class: Class, frames: u64) -> ClassCounts
 }
 
 // One, of a class that counts.
-fn is_counted(class: Class) -> u64
+fn counted_one(class: Class) -> u64
     ensures { result ≡ counted_one class }
 {
     match class {
@@ -109,7 +100,7 @@ fn put_fragment(
     header: &Header,
     bytes: &[u8],
     stamped: Stamped,
-) -> Result<Put, TallyFault>
+) -> Result<Put, TalksFault>
     requires fragment { IsSome header.now.fragment }
     requires whole { length bytes.now ≡ header.now.data_length }
     requires clock { IfSome clock (λ c. seconds_of c <ℤ pos (2 ^ 65)) }
@@ -126,7 +117,7 @@ fn put_fragment(
 {
     match joiner.put(clock, header, bytes, stamped) {
         Ok(put) => Ok(put),
-        Err(_) => Err(TallyFault::Memory),
+        Err(_) => Err(TalksFault::Memory),
     }
 }
 
@@ -161,7 +152,7 @@ impl Tally {
         packet: RunPacket<'_>,
         header: Header,
         bytes: &[u8],
-    ) -> Result<bool, TallyFault>
+    ) -> Result<bool, TalksFault>
         requires none { self.old.waiting ≡ None }
         requires few { self.old.place < 2 ^ 62 }
         requires fragment { IsSome header.fragment }
@@ -189,7 +180,7 @@ impl Tally {
 
     // Looks at the packet that comes next, while no datagram waits. It is counted, or it completes a datagram, which waits from then
     // on; the answer is whether one does.
-    fn look_at(&mut self, packet: RunPacket<'_>) -> Result<bool, TallyFault>
+    fn look_at(&mut self, packet: RunPacket<'_>) -> Result<bool, TalksFault>
         requires none { self.old.waiting ≡ None }
         requires few { self.old.place < 2 ^ 62 }
         ensures looks { IfOk result (λ waits. Looks self.old (taken_of packet.entry) waits self.new) }
@@ -222,7 +213,7 @@ impl Tally {
     }
 
     // Counts the datagram that waits, and with it the packet that completed it.
-    fn take_waiting(&mut self) -> Result<(), TallyFault>
+    fn take_waiting(&mut self) -> Result<(), TalksFault>
         requires some { IsSome self.old.waiting }
         requires few { self.old.place < 2 ^ 62 }
         ensures stands { OnOk result ((xs : List Taken) (x : Taken) → Stands self.old xs (Some x)
@@ -239,7 +230,7 @@ impl Tally {
         let class = joined_class(datagram);
         let frames = datagram.frames;
         self.classes = with_group(self.classes, class, frames);
-        self.joined += is_counted(class);
+        self.joined += counted_one(class);
         self.waiting = None;
         self.place += 1;
         Ok(())
@@ -250,7 +241,7 @@ impl Tally {
     /// `Limit` comes exactly if it completes a unit of a new conversation and there are 1,048,576 already, `Memory` if a
     /// growth was refused. Both leave the counts as they were, and the same call may be made again; a datagram that the packet joined is kept
     /// for it.
-    pub fn take(&mut self, packet: RunPacket<'_>) -> Result<(), TallyFault>
+    pub fn take(&mut self, packet: RunPacket<'_>) -> Result<(), TalksFault>
         requires few { self.old.place < 2 ^ 62 }
         ensures stands { OnOk result (Looks self.old (taken_of packet.entry) false self.new) }
         ensures limit { IfErr result (λ e. (xs : List Taken) → Stands self.old xs (Some (taken_of packet.entry))

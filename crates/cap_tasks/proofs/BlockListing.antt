@@ -40,7 +40,7 @@ pub refusal_of-given : (block : Block) (body : List ℕ) (items rest : List (Ite
 unfolding refusal_of
 refusal_of-given block body items rest is = ap refusal_of is
 
--- what is written where a call for the next block answers a fault
+-- what is written if a call for the next block answers a fault
 pub Prints-block_fault : (fault : Fault) (text : List ℕ) (refusal : Option Refusal) (from to : Writer) (n : ℕ) (old new : State Order)
     → Putting from to text (block_lines n (items_of old)) → IsTrue from.told → refusal_of (items_of old) ≡ refusal
     → TakesItem old (Err fault) new → Prints {A = Unit {0}} text refusal from.held (Err fault) to.held
@@ -55,7 +55,7 @@ Prints-block_fault Memory text refusal from to n old new p t same took = (p.at, 
 no_refusal : (stop : Stop) → IsEnd stop → refusal_by stop ≡ None
 no_refusal stop e = grind arith
 
--- what is written where it answers that there is none
+-- what is written if it answers that there is none
 pub Prints-block_end : (text : List ℕ) (refusal : Option Refusal) (from to : Writer) (n : ℕ) (old new : State Order)
     → Putting from to text (block_lines n (items_of old)) → IsTrue from.told → refusal_of (items_of old) ≡ refusal
     → TakesItem old (Ok None) new → (refusal ≡ None) × (to.held ≡ from.held ++ text)

@@ -30,6 +30,6 @@ pub Prints-joined : {A : Type 0} (reader : A → Reader) (tail : Tail) (order : 
     → Prints (join_text order tail (map (λ s. (reader s).bytes) sources)) (join_refusal tail (map (λ s. (reader s).bytes) sources)) held result new
 Prints-joined reader tail order sources ps held new result u prints t = grind (arith, bytes-readers, told-readers)
 
--- what is written where there was no memory: nothing
+-- what is written if there was no memory: nothing
 pub Prints-nothing : (fault : Fault) (text : List ℕ) (refusal : _) (held : List ℕ) → fault ≡ Memory → Prints {A = Unit {0}} text refusal held (Err fault) held
 Prints-nothing fault text refusal held is = rw is ((0, sym (append-nil held)))

@@ -12,7 +12,7 @@ use Rattle.cap_source.specs.Feed.{refusal_of}
 use Rattle.cap_print.specs.Lines.{time_text}
 use Rattle.cap_tasks.specs.Lines.{data_text}
 
--- a time in the form of its own interface, where there is one
+-- a time in the form of its own interface, if there is one
 abbrev pub printed_in : Option ℕ → Interface → Option Printed
 printed_in None interface = None
 printed_in (Some units) interface = Some (printed_form (time_in units interface))

@@ -87,7 +87,7 @@ is_help (outcomes.Fault fault) = false
 is_help (outcomes.Open file) = false
 is_help outcomes.Create = false
 
--- what is told of an outcome where that is said of words that give no job
+-- what is told of an outcome if that is said of words that give no job
 abbrev pub told_line : List ℕ → LineFault → List ℕ
 told_line said lines.Help = said
 told_line said lines.Line = said

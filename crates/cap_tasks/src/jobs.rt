@@ -38,10 +38,10 @@ fn only<R: Source>(mut sources: Vec<R>) -> R
 
 /// Does a job over the files that it names, of which `sources` gives the bytes in their order, and writes to
 /// what it names as its output: each task is the command of its name, with the tail, the order and the
-/// format that the job has. `info` and `report` write all of their text, or nothing where they answer
+/// format that the job has. `info` and `report` write all of their text, or nothing if they answer
 /// `Refused`, `Read` or `Memory`; the others write up to the first refusal, which they answer, and a prefix
-/// of their text where they answer another fault. `Read` comes where a read fails, `Write` where a write
-/// does, and `Memory` where a growth is refused.
+/// of their text if they answer another fault. `Read` comes if a read fails, `Write` if a write
+/// does, and `Memory` if a growth is refused.
 pub fn job_to<R: Source, W: Sink>(
     alloc: Global,
     job: &Job<'_>,

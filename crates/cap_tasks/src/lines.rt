@@ -13,7 +13,7 @@ use cap_source::Meta;
 use cap_time::Stamp;
 use std::cmp::min;
 
-// Appends the first bytes of a packet, at most 16, in lower case hex, or `-` where there are none.
+// Appends the first bytes of a packet, at most 16, in lower case hex, or `-` if there are none.
 fn put_data(line: &mut Line, label: &[u8], bytes: &[u8])
     requires { array_vec_len line.old + length label.now + 32 ≤ 512 }
     ensures items { line.new.items ≡ line.old.items ++ label.now ++ data_text bytes.now }

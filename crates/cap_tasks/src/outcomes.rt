@@ -36,7 +36,7 @@ pub fn end_of(answer: Result<(), Fault>, flushed: io::Result<()>) -> Result<(), 
     }
 }
 
-/// The status that the process ends with: 0 for a run that is done and for help, 1 where an input
+/// The status that the process ends with: 0 for a run that is done and for help, 1 if an input
 /// is refused, or a device, an opening, a creation or memory fails, 2 for a faulty command line.
 pub fn status_of(outcome: &Outcome) -> u8
     ensures { result ≡ status_after outcome.now }
@@ -89,7 +89,7 @@ fn open_line(file: u32) -> Line
 
 /// Writes what is told of an outcome: nothing of a run that is done, the usage for help and for a
 /// line that isn't of capt, and one line for each other. Answers `Fault::Write`, and no other
-/// fault, where the writer failed: a prefix of the text is written then.
+/// fault, if the writer failed: a prefix of the text is written then.
 pub fn outcome_line<W: Sink>(outcome: &Outcome, writer: &mut W) -> Result<(), Fault>
     ensures text { IsTrue (W.tells_held writer.old)
         → Puts (W.held writer.old) result (W.held writer.new) (outcome_text outcome.now) }
@@ -119,7 +119,7 @@ pub fn outcome_line<W: Sink>(outcome: &Outcome, writer: &mut W) -> Result<(), Fa
     }
 }
 
-// Writes what is told of an outcome where something else than the usage is said of words that give no job.
+// Writes what is told of an outcome if something else than the usage is said of words that give no job.
 fn put_told<W: Sink>(outcome: &Outcome, said: &[u8], writer: &mut W) -> Result<(), Fault>
     ensures text { IsTrue (W.tells_held writer.old)
         → Puts (W.held writer.old) result (W.held writer.new) (told_text said.now outcome.now) }
@@ -132,7 +132,7 @@ fn put_told<W: Sink>(outcome: &Outcome, said: &[u8], writer: &mut W) -> Result<(
 }
 
 /// Tells an outcome: help on `output`, all else on `faults`. `said` is what is told of help, and of a line
-/// that isn't of capt. Answers how the run ends: by `Fault::Write` where help could not be written, which is
+/// that isn't of capt. Answers how the run ends: by `Fault::Write` if help could not be written, which is
 /// told then, else by the same outcome. A failure of `faults` changes nothing.
 pub fn tell<O: Sink, E: Sink>(
     outcome: Outcome,

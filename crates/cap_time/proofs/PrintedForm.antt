@@ -1,6 +1,6 @@
 -- The printed form of a time, and the time of a printed form.
 use Rattle.std.proofs.Common.{◌≡◌, ℕ, ◌+◌, ◌*◌, ◌-◌, ◌/◌, ◌%◌, ◌<◌, sym, ap, ◌∙◌, arith, ℤ, pos, negsuc, ◌+ℤ◌, ◌*ℤ◌}
-use Rattle.std.proofs.lemmas.Nat.{div-mul-add, mod-mul-add, div-add-mod', mod_below}
+use Rattle.std.proofs.lemmas.Nat.{div-mul-add, mod-mul-add, div-add-mod'}
 use borrow.Author.Differences.{up, down, same_in, sum_is_lem, product_is}
 use Rattle.cap_time.specs.Time.{time_at, time_plus, floor_of, remainder_of, printed_form}
 
@@ -41,12 +41,9 @@ time_at-whole s z units d e =
     (omega (arith, sum, above, under, reach s units d, reach z (units % d) d, div-add-mod' units d)) in
     λ i. record { numerator = same i; denominator = d }
 
--- the time that a stamp of these units has, and its printed form
+-- the time that a stamp of these units has
 pub time_at-stamped : (s z : ℤ) (units d k : ℕ) → d ≡ k → z ≡ s +ℤ pos (units / d) → time_at (units % d) d z ≡ time_at units k s
 time_at-stamped s z units d k same e = sym (time_at-whole s z units d e) ∙ ap (λ (x : ℕ). time_at units x s) same
-
-pub printed_form-stamped : (s z : ℤ) (units d k : ℕ) → 0 < d → d ≡ k → z ≡ s +ℤ pos (units / d) → record { seconds = z; numerator = units % d; denominator = d } ≡ printed_form (time_at units k s)
-printed_form-stamped s z units d k h same e = sym (printed_form-time_at z (units % d) d (mod_below units d h)) ∙ ap printed_form (time_at-stamped s z units d k same e)
 
 -- seconds later, in the same form
 pub time_plus-time_at : (s : ℤ) (n d k : ℕ) → time_plus (time_at n d s) k ≡ time_at n d (s +ℤ pos k)

@@ -1,11 +1,11 @@
 -- When a time is a whole number of other units.
-use Rattle.std.proofs.Common.{◌≡◌, ℕ, ◌+◌, ◌*◌, ◌/◌, ◌%◌, ◌<◌, refl, sym, ap, subst, ◌∙◌, arith, ℤ, Equal}
+use Rattle.std.proofs.Common.{◌≡◌, ℕ, ◌+◌, ◌*◌, ◌/◌, ◌%◌, ◌<◌, refl, sym, ap, ◌∙◌, arith, ℤ, Equal}
 use Rattle.std.proofs.lemmas.Nat.{div-mul-add, mod-mul-add}
 use Rattle.std.specs.Ordering.{int_cmp, nat_cmp}
 use Rattle.std.specs.Cmp.{ranked}
 use Rattle.cap_time.specs.Time.{time_at, IsWhole, IsNeverWhole}
 use Rattle.cap_time.specs.TimeLaws.{time_cmp-units}
-use Rattle.std.specs.Prelude.{Bool, Option, Some, None, MatchOption, ◌==◌, if◌then◌else◌}
+use Rattle.std.specs.Prelude.{Bool, Some, None, MatchOption, ◌==◌, if◌then◌else◌}
 use Rattle.cap_time.specs.declared.stamps.Stamp.{Stamp}
 use Rattle.cap_time.specs.Stamp.{seconds_of, numerator_of, denominator_of, time_of, whole_of}
 use Rattle.cap_time.specs.StampLaws.{both_equal}
@@ -36,7 +36,7 @@ whole_case : (e : ℕ) (a : Stamp) → 0 < e → (b : Bool) → (numerator_of a 
     → MatchOption {T = ℤ × ℕ} (if b then Some (seconds_of a, numerator_of a * e / denominator_of a) else None) (IsNeverWhole e (time_of a)) (λ w. IsWhole e (time_of a) w.0 w.1)
 whole_case e a p b test = grind (arith, whole_here, whole_nowhere)
 
--- what `whole_of` answers: the one pair that is the time, or nothing where there is none
+-- what `whole_of` answers: the one pair that is the time, or nothing if there is none
 pub whole_of_pair : (e : ℕ) (a : Stamp) → 0 < e
     → MatchOption {T = ℤ × ℕ} (whole_of e a) (IsNeverWhole e (time_of a)) (λ w. IsWhole e (time_of a) w.0 w.1)
 whole_of_pair e a p = whole_case e a p (numerator_of a * e % denominator_of a == 0) refl

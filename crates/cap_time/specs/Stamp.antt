@@ -50,6 +50,6 @@ stamp_in units interface = record {
 unfoldable pub stamp_plus : Stamp → ℕ → Stamp
 stamp_plus stamp seconds = record stamp { seconds = seconds_of stamp +ℤ pos seconds }
 
--- its whole seconds, and how many of d units in a second its fraction is, where that is a whole number
+-- its whole seconds, and how many of d units in a second its fraction is, if that is a whole number
 abbrev pub whole_of : ℕ → Stamp → Option (ℤ × ℕ)
 whole_of d stamp = if numerator_of stamp * d % denominator_of stamp == 0 then Some (seconds_of stamp, numerator_of stamp * d / denominator_of stamp) else None

@@ -60,7 +60,7 @@ same_quotient n d m e k p q same =
 abbrev pub stamp_hash : Stamp → fed.HashWrites
 stamp_hash a = fed.i128 (seconds_of a) ++ fed.u128 (binary_places (numerator_of a) (denominator_of a))
 
--- one comparison and then another is `Equal` where both are
+-- one comparison and then another is `Equal` if both are
 pub both_equal : (r s : Ordering) → ordering_then r s ≡ Equal → (r ≡ Equal) × (s ≡ Equal)
 both_equal Less s e = absurd (true≢false (ap is_lt e))
 both_equal Equal s e = (refl, e)

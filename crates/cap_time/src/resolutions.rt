@@ -15,7 +15,7 @@ pub struct Resolution {
 impl Resolution {
     ghost use Rattle.cap_time.specs.Resolution.{code_of, units_of};
 
-    /// The resolution of a code, or `None` where the exponent is above 19 (of ten) or above 63
+    /// The resolution of a code, or `None` if the exponent is above 19 (of ten) or above 63
     /// (of two).
     pub fn from_code(code: u8) -> Option<Resolution>
         ensures allowed { IsSome result ↔ IsTrue (is_allowed code) }

@@ -40,6 +40,22 @@ pub struct Stamp {
     ghost fraction: { numerator < denominator },
 }
 
+// Whole seconds, and the units that are left of them. Two kinds of units are divided by a constant: the processor
+// then multiplies, which takes a tenth of a division's time, and each packet has a stamp.
+fn split(units: u64, in_second: u64) -> (u64, u64)
+    requires { 0 < in_second }
+    ensures whole { result.0 ≡ units / in_second }
+    ensures left { result.1 ≡ units % in_second }
+{
+    if in_second == 1_000_000 {
+        (units / 1_000_000, units % 1_000_000)
+    } else if in_second == 1_000_000_000 {
+        (units / 1_000_000_000, units % 1_000_000_000)
+    } else {
+        (units / in_second, units % in_second)
+    }
+}
+
 // How many units, of which a second has `in_second`, a fraction of a second is, if that is a whole number.
 #[tactic(auto, using(crate::proofs::WholeUnits::whole_units))]
 fn whole_units(numerator: u64, denominator: u64, in_second: u32) -> Option<u32>
@@ -76,14 +92,15 @@ impl Stamp {
         ensures most { seconds_of result <ℤ pos (2 ^ 65) }
     {
         let denominator = interface.resolution.units();
+        let (seconds, numerator) = split(units, denominator);
         Stamp {
-            seconds: i128::from(interface.offset) + i128::from(units / denominator),
-            numerator: units % denominator,
+            seconds: i128::from(interface.offset) + i128::from(seconds),
+            numerator,
             denominator,
         }
     }
 
-    /// The whole seconds: the floor of the time, also where it is below 0.
+    /// The whole seconds: the floor of the time, also if it is below 0.
     pub fn seconds(self) -> i128
         ensures { result ≡ seconds_of self }
     {
@@ -122,7 +139,7 @@ impl Stamp {
     }
 
     /// The time as whole seconds, which may be below 0, and whole units, fewer than a second has;
-    /// `None` where no such two numbers are that time.
+    /// `None` if no such two numbers are that time.
     pub fn whole_in(self, unit: Unit) -> Option<(i128, u32)>
         ensures value { result ≡ whole_of (in_second unit) self }
         ensures whole { IfSome result (λ w. IsWhole (in_second unit) (time_of self) w.0 w.1) }

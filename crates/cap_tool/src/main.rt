@@ -16,7 +16,7 @@ use std::process::ExitCode;
 use std::rt::{Env, Files};
 use std::time::Clock;
 
-// How many bytes wait for a write: none at a terminal, where each line is seen as it comes.
+// How many bytes wait for a write: none at a terminal, if each line is seen as it comes.
 fn output_buffer(is_terminal: bool) -> usize {
     if is_terminal { 0 } else { 65_536 }
 }

@@ -134,7 +134,7 @@ read_items-new order file offset count n rest is = rw is refl
 slice_get-push : (xs : List Interface) (x : Interface) → slice_get (xs ++ x ∷ []) (length xs) ≡ Some x
 slice_get-push xs x = grind (arith, slice_get-get_or, length-append, get_or-append_seam, get_or-append_seam xs x [] x)
 
--- Some packets are read again, after those interfaces, where their text ends by byte 2^40.
+-- Some packets are read again, after those interfaces, if their text ends by byte 2^40.
 abbrev IsReadAgain : Order → Tail → ℕ → List Interface → Option Interface → ℕ → List Numbered → Type 0
 IsReadAgain order tail file interfaces first offset ns =
     items_in file (reached interfaces first) (blocks.items_from (Some order) tail file offset (packets_bytes order (length interfaces) ns))
@@ -181,7 +181,7 @@ items_in-written order tail file interfaces first offset (n ∷ rest) numbered f
     by true is later = grind (arith, again-new, eqb-true, all_described, all_described-more, length-append)
     by false is later = grind (arith, again-known, slice_get_within, all_described, all_described-more)
 
--- The first interface, where one stands before some written packets, is the same after them.
+-- The first interface, if one stands before some written packets, is the same after them.
 pub first_in-written : (order : Order) (tail : Tail) (file : ℕ) (interfaces : List Interface) (first : Interface) (offset : ℕ) (ns : List Numbered)
     → IsNumbered interfaces ns → AllFit ns → length (all_described interfaces ns) ≤ 1024
     → offset + length (packets_bytes order (length interfaces) ns) ≤ 2 ^ 40

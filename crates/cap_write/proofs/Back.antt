@@ -15,7 +15,7 @@ use Rattle.cap_bytes.specs.declared.faults.Rule.TheVariants as rules
 use Rattle.cap_bytes.specs.declared.numbers.Order.{Order}
 use Rattle.cap_source.proofs.Options.{interface_read}
 use Rattle.cap_source.proofs.Resolutions.{from_code_is}
-use Rattle.cap_source.specs.Clocks.{resolution_of, offset_in, no_clock, option_read, options_read, interface_in}
+use Rattle.cap_source.specs.TimeBases.{resolution_of, offset_in, no_base, option_read, options_read, interface_in}
 use Rattle.cap_source.specs.Contents.{fitting, timed_in, content_in}
 use Rattle.cap_source.specs.declared.contents.Content.TheVariants as contents
 use Rattle.cap_source.specs.declared.contents.Packet.{Packet}
@@ -41,7 +41,7 @@ offset_in-written order offset fits =
 
 -- the options of an interface
 options_read-written : (order : Order) (r : Resolution) (offset : ℤ) (zero : Bool) → FitsSigned w64 offset → (cast_unsigned w64 offset == 0) ≡ zero
-    → options_read order no_clock (Ok (9, code_of r ∷ []) ∷ (if zero then [] else Ok (14, bytes_of order 8 (cast_unsigned w64 offset)) ∷ []))
+    → options_read order no_base (Ok (9, code_of r ∷ []) ∷ (if zero then [] else Ok (14, bytes_of order 8 (cast_unsigned w64 offset)) ∷ []))
     ≡ Ok (record { resolution = Some r; offset = if zero then None else Some offset })
 unfolding options_read option_read
 options_read-written order r offset true fits is = grind (arith, resolution_of-code)

@@ -20,7 +20,7 @@ pub count_after-is : (origins : List Origin) (meta : Meta) (frame : List ℕ)
     → count_after (length origins) (numbered_of origins meta frame) ≡ length (with_origin origins meta)
 count_after-is origins meta frame = grind (arith, eqb-false, position_or_len-some, eq-eqb, position_or_len-none, length-append)
 
--- what is written where those interfaces were described before
+-- what is written after those interfaces were described
 abbrev pub plan_of : Order → List Origin → Plan
 plan_of order origins = record { text = text_behind order origins; refusal = refusal_in origins }
 

@@ -50,7 +50,7 @@ knows-behind progress content knows = grind (arith, common_steps, nat_tests, sec
 same_interface : (i j : Interface) → Some i ≡ Some j → i ≡ j
 same_interface i j e = cc
 
--- the packet of a block, where the first interface was read before
+-- the packet of a block, if the first interface was read before
 own_interface : (progress : Progress) (p : Packet) (i : Interface) → HasNumber progress.interfaces p → KnowsFirst progress → progress.first ≡ Some i
     → progress.base + p.number ≡ 0 → p.interface ≡ i
 own_interface progress p i of knows is zero = grind arith
@@ -156,7 +156,7 @@ some-none a e = cc
 none-some : {A : Type 0} (a : A) → None ≡ Some a → ⊥
 none-some a e = cc
 
--- where none stands before the next item or the end, none was read before
+-- if none stands before the next item or the end, none was read before
 none-before : (progress : Progress) (items : List (pieces.Item Block)) → first_in progress items ≡ None → progress.first ≡ None
 unfolding first_in
 none-before progress (pieces.given block body ∷ rest) none =

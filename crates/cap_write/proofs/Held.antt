@@ -25,7 +25,7 @@ pub AllFit-held : (i : Interface) (ps : List Packet) → i.link < 2 ^ 16 → i.s
 AllFit-held i [] link snaplen offset held = tt
 AllFit-held i (p ∷ ps) link snaplen offset held = grind (arith, AllFit-held i ps link snaplen offset held.3)
 
--- A packet is read again where its seconds fit.
+-- A packet is read again if its seconds fit.
 same_units : (d : ℕ) (p : Packet) → record { units = p.units / d * d + p.units % d; original = p.original; frame = p.frame } ≡ p
 same_units d p = grind arith
 

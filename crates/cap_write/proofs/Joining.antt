@@ -30,7 +30,7 @@ refusal-first : (origins : List Origin) (r : Refusal) (items : List Item) → re
 unfolding refusal_in
 refusal-first origins r items = refl
 
--- what is written of some items and of others after them, where none of the first is refused, and what refuses them
+-- what is written of some items and of others after them, if none of the first is refused, and what refuses them
 pub behind : (order : Order) (origins : List Origin) (items rest : List Item) → refusal_in origins items ≡ None
     → (text_behind order origins (items ++ rest) ≡ text_behind order origins items ++ text_behind order (origins_behind origins items) rest)
     × (refusal_in origins (items ++ rest) ≡ refusal_in (origins_behind origins items) rest)
@@ -60,7 +60,7 @@ text-first : (order : Order) (origins : List Origin) (r : Refusal) (items : List
 unfolding numbered packets_bytes
 text-first order origins r items = refl
 
--- and where one is: nothing more
+-- and if one is: nothing more
 pub stopped-text : (order : Order) (origins : List Origin) (items rest : List Item) (r : Refusal) → refusal_in origins items ≡ Some r
     → (text_behind order origins (items ++ rest) ≡ text_behind order origins items) × (refusal_in origins (items ++ rest) ≡ Some r)
 stopped-text order origins [] rest r some = absurd (none-some r ((sym (plan_of-is order origins).refusal_none) ∙ some))
@@ -80,7 +80,7 @@ stopped-text order origins (packet meta frame ∷ items) rest r some = by (write
         (next.text (items ++ rest) ∙ (ap (λ l. one_bytes order origins meta frame ++ l) both.0 ∙ sym (next.text items)), next.refusal (items ++ rest) ∙ both.1)
 stopped-text order origins (refused q ∷ items) rest r some = grind (arith, text-first, refusal-first)
 
--- what is written where some of the items to come aren't written whole
+-- what is written if some of the items to come aren't written whole
 pub Prints-part : (order : Order) (fault : Fault) (text : List ℕ) (refusal : Option Refusal) (from mid : Writer) (held : List ℕ) (origins : List Origin) (all items rest : List Item)
     → all ≡ items ++ rest
     → Putting from mid text (text_behind order origins all) → IsTrue from.told → refusal_in origins all ≡ refusal
@@ -207,7 +207,7 @@ pub shows-end : (mid : List Part) (shown : Feed) (place : ℕ) (events : List Ev
     → ShowsItem (feeding mid place events) (Ok None) (feeding mid place events)
 shows-end mid shown place events shows = grind (arith, joined-none, items-of-run)
 
--- what is written where a packet's datagram isn't written whole, or is refused
+-- what is written if a packet's datagram isn't written whole, or is refused
 pub Joining-part : (order : Order) (fault : Fault) (old mid shown : List Part) (origins_old origins : List Origin) (joiner : JoinerState) (place : ℕ) (fo fm : Bool) (from m : Writer) (held : List ℕ)
     (meta : Meta) (lent : List ℕ) (clock : Option Stamp)
     → lent ≡ (feed_of shown).frame
@@ -224,6 +224,6 @@ Joining-part order fault old mid shown origins_old origins joiner place fo fm fr
     (joined-at-first mid shown meta frame clock place p.events (head ∙ ap (λ f. packet meta f ∷ drop 1 (feed_of mid).items) (sym lent)) same begins)
     (p.walk.text t) w (p.walk.refusal_same t) (prints p.events p.stands)
 
--- a place is small, where a run of few files has at most that many packets
+-- a place is small, if a run of few files has at most that many packets
 pub place-small : (place left all count : ℕ) → place + left ≤ all → all ≤ count * 2 ^ 40 → count ≤ 32 → place < 2 ^ 63
 place-small place left all count p most few = omega (arith, p, most, few)

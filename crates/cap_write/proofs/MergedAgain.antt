@@ -10,7 +10,7 @@ use Rattle.cap_write.proofs.Places.{position_or_len-none, position_or_len-some}
 use Rattle.cap_write.specs.Laws.{AllFit, AllHave, IsNumbered, described, all_described}
 use Rattle.cap_write.specs.Numbering.{Origin, origin_of, is_origin, is_used, number_of, with_origin, is_full, write_fault, numbered_of, numbered_or, numbered}
 
--- origins are equal where they are told to be
+-- origins are equal if they are told to be
 abbrev pair : ℕ → ℕ → Origin
 pair x y = (x, y)
 

@@ -63,7 +63,7 @@ records_bytes-read back h order file offset count (p ∷ ps) =
     (records_bytes-read back h order file (place + length (packet_part order n)) (count_after count n) ps)
     ∙ join_by (fits h.unit p) back h.unit p (early h.unit ps))))
 
--- a time is late where its seconds don't fit
+-- a time is late if its seconds don't fit
 is_late-header : (h : PcapHeader) (units : ℕ) → is_late (interface_of h) (Some units) ≡ not (nat_lt (units / in_second h.unit) (2 ^ 32))
 unfolding stamp_in
 is_late-header h units = grind (arith, pos, units_of-unit, nat_lt)

@@ -1,4 +1,4 @@
--- Numbering by first use is the same under other origins, where equal origins stay equal and no others become so.
+-- Numbering by first use is the same under other origins, if equal origins stay equal and no others become so.
 use Rattle.std.proofs.Common.{arith, ◌≡◌, ℕ, suc, ◌+◌, cond, List, [], ◌∷◌, ◌++◌, length, ap, is_none}
 use Rattle.std.specs.Prelude.{◌||◌, not}
 use Rattle.std.specs.List.{AllZip, list_any, position_or_len}

@@ -19,7 +19,8 @@ use Rattle.cap_bytes.specs.declared.stops.Stop.TheVariants as stops
 use Rattle.cap_pcap.proofs.Again.{flips_bytes, header_at-text, header_again-law}
 use Rattle.cap_pcap.specs.Grammar.{Packet, magic_of, header_bytes}
 use Rattle.cap_pcap.specs.declared.headers.PcapHeader.{PcapHeader}
-use Rattle.cap_source.proofs.Fields.{AllHeld, AreBytes-drop, held-splits, below_header}
+use Rattle.cap_blocks.proofs.Bytes.{AreBytes-drop}
+use Rattle.cap_source.proofs.Fields.{AllHeld, held-splits, below_header}
 use Rattle.cap_source.proofs.Frames.{read_header}
 use Rattle.cap_source.specs.Feed.{Item}
 use Rattle.cap_source.specs.Items.{is_pcapng, pcap_items, interface_of, unless_refused, items_from, first_from, file_items, file_first}

@@ -30,6 +30,6 @@ pub whole_time-header : (header : PcapHeader) (units : ℕ)
 unfolding stamp_in
 whole_time-header header units = grind (arith, units_of-unit, eq-eqb, mul-mod_left, mul-div_cancel, common_steps, nat_tests)
 
--- and is written where its seconds fit
+-- and is written if its seconds fit
 pub in_range-pos : (seconds : ℕ) → is_in_range (pos seconds) ≡ nat_lt seconds (2 ^ 32)
 in_range-pos seconds = grind (arith, nat_tests)

@@ -33,7 +33,7 @@ pub number-more : (xs ys : List Origin) (a : Origin) (n : ℕ) → IsNumberIn xs
 number-more (x ∷ xs) ys a (suc n) h = (h.0, number-more xs ys a n h.1)
 number-more xs ys a n h = grind arith
 
--- origins with a number are equal where their numbers are
+-- origins with a number are equal if their numbers are
 pub numbers-decide : (xs : List Origin) (a c : Origin) (m n : ℕ) → IsNumberIn xs a m → IsNumberIn xs c n → (m == n) ≡ is_origin a c
 numbers-decide (x ∷ xs) a c (suc m) (suc n) h k = grind (arith, numbers-decide xs a c m n h.1 k.1, nat_tests)
 numbers-decide xs a c m n h k = grind arith

@@ -16,7 +16,7 @@ use Rattle.cap_write.specs.Interfaces.{HasUnits}
 use Rattle.cap_write.specs.Numbering.{Origin, refusal_at, refusal_by, write_fault}
 use Rattle.cap_write.specs.Texts.{text_or, one_bytes}
 
--- where a packet is refused nothing is written
+-- if a packet is refused nothing is written
 Prints-refused : (text : List ℕ) (meta : Meta) (rule : Rule) (fault : Option Rule) (held : List ℕ) → fault ≡ Some rule
     → Prints {A = Unit {0}} (text_or fault text) (refusal_by meta fault) held (Err (Refused (refusal_at meta rule))) held
 Prints-refused text meta rule fault held is = grind (arith, append-nil)
@@ -26,7 +26,7 @@ pub Prints-untimed : (order : Order) (origins : List Origin) (meta : Meta) (fram
     → Prints {A = Unit {0}} (one_bytes order origins meta frame) (refusal_by meta (write_fault origins meta)) held (Err fault) held
 Prints-untimed order origins meta frame held fault h = grind (arith, Prints-refused, write_fault-untimed)
 
--- what is written of a feed's packets where one is refused, or isn't written whole
+-- what is written of a feed's packets if one is refused, or isn't written whole
 pub Prints-one : (plan next : Plan) (fault : Fault) (text : List ℕ) (refusal : Option Refusal) (from mid : Writer) (held : List ℕ)
     (meta : Meta) (frame lent : List ℕ) (line : List ℕ → List ℕ) (rule : Option Rule) (items rest : List Item)
     → ((r : Rule) → rule ≡ Some r → GivesUp plan meta frame (refusal_at meta r))

@@ -8,12 +8,12 @@ use Rattle.cap_source.specs.Feed.{Item, packet, refused}
 use Rattle.cap_write.specs.Joined.{Complete, complete_of, datagram_bytes}
 use Rattle.cap_write.specs.Numbering.{Origin, with_origin}
 
--- A buffer has the bytes of the datagram, where there is one.
+-- A buffer has the bytes of the datagram, if there is one.
 abbrev pub IsFilled : Option Complete → Bool → List ℕ → Type 0
 IsFilled None some bytes = some ≡ false
 IsFilled (Some d) some bytes = (some ≡ true) × (bytes ≡ datagram_bytes d)
 
--- the datagram that a joiner answered, where it is complete
+-- the datagram that a joiner answered, if it is complete
 abbrev pub answered : Arrived → Option Complete
 answered as_.Bad = None
 answered as_.Cut = None
@@ -33,7 +33,7 @@ IsShort (as_.Joined d) = length d.payload.items ≤ 65515
 abbrev pub Stands : JoinerState → Type 0
 Stands joiner = (events : List Event) × StandsFor joiner events
 
--- the interfaces that are described after some items, where those were before
+-- the interfaces that are described after some items, after those of `origins` were
 unfoldable pub origins_behind : List Origin → List Item → List Origin
 origins_behind origins [] = origins
 origins_behind origins (packet meta frame ∷ items) = origins_behind (with_origin origins meta) items

@@ -41,7 +41,7 @@ has_form transports.NoPorts = true
 has_form transports.Bad = false
 has_form transports.Cut = false
 
--- A datagram of which that many bytes of data were captured from its front, where they are all of a length and have the form of
+-- A datagram of which that many bytes of data were captured from its front, if they are all of a length and have the form of
 -- its protocol.
 unfoldable pub complete_of : HeaderFields → List ℕ → ℕ → Option Complete
 complete_of header captured size =

@@ -99,7 +99,7 @@ kept [] = []
 kept (packet meta frame ∷ items) = kept_of meta frame ∷ kept items
 kept (refused refusal ∷ items) = []
 
--- A time is too late for a pcap file where it is 2^32 seconds or more.
+-- A time is too late for a pcap file if it is 2^32 seconds or more.
 abbrev pub is_late : Interface → Option ℕ → Bool
 is_late interface None = false
 is_late interface (Some units) = not (int_lt (seconds_of (stamp_in units interface)) (pos (2 ^ 32)))
@@ -213,7 +213,7 @@ abbrev pub OneInterface : Type 0
 OneInterface =
     (tail : Tail) (file : ℕ) (bytes : List ℕ) → (given : ℕ → Interface) × AllAlike file given (file_items tail file bytes)
 
--- What is written of a merge of any files, where it is at most 2^40 bytes long, has the packets of their run,
+-- What is written of a merge of any files, if it is at most 2^40 bytes long, has the packets of their run,
 -- those before a refusal, in order: both have the same numbered packets, and a packet's instance is its number
 -- there.
 abbrev pub MergeLaw : Type 0
@@ -228,7 +228,7 @@ MergeLaw =
     × (refusal_of again ≡ None)
     × (instances again ≡ numbers (numbered [] again)))
 
--- What is written of any file as pcapng, where it is at most 2^40 bytes long, has the file's first interface, or none where
+-- What is written of any file as pcapng, if it is at most 2^40 bytes long, has the file's first interface, or none if
 -- the file has none, and the file's packets, those before a refusal, in order: both have the same numbered packets after the
 -- first interface, and nothing is refused there.
 abbrev pub PcapngAgain : Type 0
@@ -263,7 +263,7 @@ abbrev pub written_first : Interface → Interface
 written_first first =
     record { link = first.link; snaplen = first.snaplen; resolution = resolution_of_unit (fraction_of first); offset = pos 0 }
 
--- What is written of any file as pcap has that interface, or none where the file has none. Where nothing is refused and it is at most
+-- What is written of any file as pcap has that interface, or none if the file has none. If nothing is refused and it is at most
 -- 2^40 bytes long, it has the file's packets, in order.
 abbrev pub PcapAgain : Type 0
 PcapAgain =

@@ -5,6 +5,6 @@ pub mod Interfaces
 pub mod Numbering
 pub mod Pcap
 pub mod Rounds
-pub mod RunPackets
+pub mod PlacedPackets
 pub mod Texts
 pub mod Times

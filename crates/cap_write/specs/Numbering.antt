@@ -29,12 +29,12 @@ pub record Numbered : Type 0 where
   pub original : ℕ
   pub frame : List ℕ
 
--- whether an interface was used, where those of `origins` were
+-- whether an interface is one of `origins`, which were used before
 abbrev pub is_used : List Origin → Meta → Bool
 is_used origins meta = list_any (is_origin (origin_of meta)) origins
 
--- Interfaces are numbered from 0 in the order of their first use: the number of a packet's, where those
--- of `origins` were used before it, and those that are used then.
+-- Interfaces are numbered from 0 in the order of their first use: the number of a packet's, after those
+-- of `origins` were used.
 abbrev pub number_of : List Origin → Meta → ℕ
 number_of origins meta = position_or_len (is_origin (origin_of meta)) origins
 
@@ -45,7 +45,7 @@ with_origin origins meta = insert_key is_origin origins (origin_of meta)
 abbrev pub is_full : List Origin → Meta → Bool
 is_full origins meta = nat_le 1024 (length origins) && not (is_used origins meta)
 
--- Why a packet isn't written, where those interfaces were used: it has no time, or its interface would be
+-- Why a packet isn't written after those interfaces were used: it has no time, or its interface would be
 -- the 1,025th.
 unfoldable pub write_fault : List Origin → Meta → Option Rule
 write_fault origins meta =

@@ -17,7 +17,7 @@ use Rattle.cap_time.specs.declared.stamps.Unit.TheVariants.{Micro, Nano}
 use Rattle.cap_write.specs.Numbering.{refusal_or}
 use Rattle.cap_write.specs.Texts.{text_or}
 
--- The fraction of a second in which times are written: microseconds where each unit of the first
+-- The fraction of a second in which times are written: microseconds if each unit of the first
 -- interface is a whole number of them, else nanoseconds.
 abbrev pub fraction_of : Interface → Fraction
 fraction_of first = if 1000000 % units_of first.resolution == 0 then Micro else Nano
@@ -27,7 +27,7 @@ abbrev pub header_of : Order → Interface → PcapHeader
 header_of order first =
     record { order = order; unit = fraction_of first; snaplen = first.snaplen; link = first.link }
 
--- a time in whole seconds and whole units of a fraction, where it is one
+-- a time in whole seconds and whole units of a fraction, if it is one
 abbrev pub whole_time : Fraction → Interface → ℕ → Option (ℤ × ℕ)
 whole_time fraction interface units = whole_of (in_second fraction) (stamp_in units interface)
 

@@ -15,7 +15,7 @@ use Rattle.cap_merge.specs.Parts.{item_time, is_refusal}
 
 -- ---- the clock law
 
--- The greatest time among the packets of a run up to and with one is, by the order, that packet's clock, also where
+-- The greatest time among the packets of a run up to and with one is, by the order, that packet's clock, also if
 -- files run back.
 abbrev pub ClockLaw : Type 0
 ClockLaw =
@@ -59,7 +59,7 @@ abbrev pub IsItemOf : Numbered → Item → Type 0
 IsItemOf n (packet meta frame) = IsPacketOf n meta frame
 IsItemOf n (refused refusal) = ⊥
 
--- A file holds what a merge of some files writes, where nothing is refused.
+-- A file holds what a merge of some files writes, if nothing is refused.
 pub record IsMergeOf (files : List (List Item)) (items : List Item) : Type 0 where
   pub accepted : refusal_in [] (run_of files) ≡ None
   pub packets : AllZip IsItemOf (merged_packets files) items

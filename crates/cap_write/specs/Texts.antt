@@ -9,7 +9,7 @@ use Rattle.cap_source.specs.declared.packets.Meta.{Meta}
 use Rattle.cap_time.specs.declared.resolutions.Interface.{Interface}
 use Rattle.cap_write.specs.Numbering.{Origin, Numbered, numbered_of, numbered, write_fault, refusal_in}
 
--- what is written for a packet, where `count` interfaces were described before it: its interface, if that
+-- what is written for a packet, after `count` interfaces were described: its interface, if that
 -- wasn't, and the packet
 abbrev pub interface_part : Order → ℕ → Numbered → List ℕ
 interface_part order count n = if n.number == count then interface_bytes order n.interface else []
@@ -30,7 +30,7 @@ packets_bytes order count [] = []
 packets_bytes order count (n ∷ rest) =
     numbered_bytes order count n ++ packets_bytes order (count_after count n) rest
 
--- what is written for the next packet of a list, where those interfaces were described before: nothing if
+-- what is written for the next packet of a list, after those interfaces were described: nothing if
 -- it is refused
 abbrev pub text_or : Option Rule → List ℕ → List ℕ
 text_or (Some rule) text = []
@@ -40,7 +40,7 @@ abbrev pub one_bytes : Order → List Origin → Meta → List ℕ → List ℕ
 one_bytes order origins meta frame =
     text_or (write_fault origins meta) (numbered_bytes order (length origins) (numbered_of origins meta frame))
 
--- What is written for a list where those interfaces were described before. A written interface block or
+-- What is written for a list after those interfaces were described. A written interface block or
 -- packet block has the form of `interface_bytes` or `packet_bytes`.
 abbrev pub text_behind : Order → List Origin → List Item → List ℕ
 text_behind order origins items = packets_bytes order (length origins) (numbered origins items)
@@ -52,7 +52,7 @@ merged_bytes order items = section_bytes order ++ text_behind order [] items
 abbrev pub merged_refusal : List Item → Option Refusal
 merged_refusal items = refusal_in [] items
 
--- What is written for one file as pcapng: its first interface, where it has one, stands right after the
+-- What is written for one file as pcapng: its first interface, if it has one, stands right after the
 -- section header.
 abbrev pub first_origins : ℕ → Option Interface → List Origin
 first_origins file None = []

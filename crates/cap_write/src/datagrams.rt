@@ -8,10 +8,10 @@ ghost use Rattle.cap_join.specs.History.{Event};
 ghost use Rattle.cap_join.specs.Joiners.{StandsFor};
 ghost use Rattle.cap_time.specs.Stamp.{seconds_of};
 ghost use Rattle.cap_write.specs.Datagrams.{IsFilled, IsShort, Stands, answered};
-ghost use Rattle.cap_write.specs.RunPackets.{stamped_in, whole_in};
+ghost use Rattle.cap_write.specs.PlacedPackets.{stamped_in, whole_in};
 ghost use Rattle.cap_write.specs.Joined.{has_form, complete_of, completed_in, completed, events_after};
 
-use crate::run_packets::{Joining, RunPacket};
+use crate::placed_packets::{Joining, PlacedPacket};
 use cap_bytes::Fault;
 use cap_ip::{Header, Transport, transport};
 use cap_join::{Arrived, Joiner, Stamped};
@@ -61,7 +61,7 @@ fn is_complete(header: &Header, captured: &[u8], size: u32) -> bool
     captured.len() == size as usize && has_form(transport(header.key().protocol, captured, size))
 }
 
-// Puts a datagram into the packet, where it is complete.
+// Puts a datagram into the packet, if it is complete.
 #[tactic(auto, unfolding(crate::specs::Joined::complete_of))]
 fn fill_complete(
     packet: &mut Vec<u8>,
@@ -81,7 +81,7 @@ fn fill_complete(
     Ok(true)
 }
 
-// Puts the datagram that a joiner answered into the packet, where it is complete.
+// Puts the datagram that a joiner answered into the packet, if it is complete.
 fn fill_answered(packet: &mut Vec<u8>, arrived: Arrived<'_>) -> Result<bool, Fault>
     requires short { IsShort arrived }
     ensures filled { IfOk result (λ some. IsFilled (answered arrived.entry) some packet.new.items) }
@@ -103,7 +103,7 @@ fn fill_answered(packet: &mut Vec<u8>, arrived: Arrived<'_>) -> Result<bool, Fau
 }
 
 // What is told of a packet's frame.
-fn stamped_of(run: &RunPacket<'_>) -> Stamped
+fn stamped_of(run: &PlacedPacket<'_>) -> Stamped
     ensures { result ≡ stamped_in run.now }
 {
     Stamped {
@@ -114,7 +114,7 @@ fn stamped_of(run: &RunPacket<'_>) -> Stamped
 }
 
 // Takes the IPv4 packet that a packet of a run carries, and puts the datagram that it completes, if it does, into the room.
-fn take_ipv4(joining: &mut Joining, run: &RunPacket<'_>, bytes: &[u8]) -> Result<bool, Fault>
+fn take_ipv4(joining: &mut Joining, run: &PlacedPacket<'_>, bytes: &[u8]) -> Result<bool, Fault>
     requires stands { Stands joining.old.joiner }
     requires place { joining.old.joiner.next ≤ run.now.place }
     ensures filled { IfOk result (λ some. (events : List Event) → StandsFor joining.old.joiner events →
@@ -139,7 +139,7 @@ fn take_ipv4(joining: &mut Joining, run: &RunPacket<'_>, bytes: &[u8]) -> Result
 /// is one: a whole datagram, or one whose last missing fragment this is, if all of its data was captured and has
 /// the form of its protocol. `Memory` comes if a growth was refused.
 #[tactic(auto, unfolding(crate::specs::Joined::completed, crate::specs::Joined::events_after))]
-pub fn take_packet(joining: &mut Joining, run: &RunPacket<'_>) -> Result<bool, Fault>
+pub fn take_packet(joining: &mut Joining, run: &PlacedPacket<'_>) -> Result<bool, Fault>
     requires stands { Stands joining.old.joiner }
     requires place { joining.old.joiner.next ≤ run.now.place }
     ensures filled { IfOk result (λ some. (events : List Event) → StandsFor joining.old.joiner events →

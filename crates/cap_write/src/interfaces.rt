@@ -12,7 +12,7 @@ use indexmap::IndexSet;
 pub type Origins = IndexSet<(u32, u64)>;
 
 // How many interfaces a written file describes at most.
-const INTERFACE_LIMIT: usize = 1024;
+const WRITTEN_INTERFACE_LIMIT: usize = 1024;
 
 // The refusal of a packet that isn't written.
 pub fn refused(meta: &Meta, rule: Rule) -> Fault
@@ -39,7 +39,7 @@ pub fn units_of(meta: &Meta) -> Result<u64, Fault>
 fn is_full(origins: &Origins, meta: &Meta) -> bool
     ensures { result ≡ is_full origins.now.keys meta.now }
 {
-    origins.len() >= INTERFACE_LIMIT && !origins.contains(&(meta.file, meta.instance))
+    origins.len() >= WRITTEN_INTERFACE_LIMIT && !origins.contains(&(meta.file, meta.instance))
 }
 
 /// The number of a packet's interface, which is the next one if it wasn't used before. `Refused`

@@ -11,13 +11,13 @@ ghost use Rattle.cap_source.specs.Walk.{Walks};
 ghost use Rattle.cap_write.specs.Datagrams.{Stands, origins_behind};
 ghost use Rattle.cap_write.specs.Joined.{datagram_meta, events_after, joined_items, joined_bytes, joined_refusal};
 ghost use Rattle.cap_write.specs.Numbering.{refusal_in};
-ghost use Rattle.cap_write.specs.RunPackets.{items_in};
+ghost use Rattle.cap_write.specs.PlacedPackets.{items_in};
 ghost use Rattle.cap_write.specs.Texts.{text_behind};
 
 use crate::datagrams::take_packet;
 use crate::interfaces::{Origins, units_of};
 use crate::packets::put_one;
-use crate::run_packets::{Joining, RunPacket};
+use crate::placed_packets::{Joining, PlacedPacket};
 use cap_blocks::put_section;
 use cap_bytes::{Fault, Order, Sink};
 use cap_join::Joiner;
@@ -56,7 +56,7 @@ fn put_completed<W: Sink>(
     origins: &mut Origins,
     joining: &mut Joining,
     order: Order,
-    run: &RunPacket<'_>,
+    run: &PlacedPacket<'_>,
     writer: &mut W,
 ) -> Result<(), Fault>
     requires limit { length origins.old.keys ≤ 1024 }
@@ -85,7 +85,7 @@ fn put_completed<W: Sink>(
     }
 }
 
-// Writes the datagrams of a run, where the interfaces of `origins` were described before.
+// Writes the datagrams of a run after the interfaces of `origins` were described.
 fn put_joined<F: PacketFeed, W: Sink>(
     alloc: Global,
     merged: &mut Merged<F>,
@@ -110,7 +110,7 @@ fn put_joined<F: PacketFeed, W: Sink>(
     // 32 files at most, of fewer than 2^40 packets each: so the place stays below 2^63
     let _ = merged.files();
     while let Some(meta) = next_of(merged)? {
-        let run = RunPacket {
+        let run = PlacedPacket {
             place,
             clock: merged.clock(),
             meta: &meta,
@@ -131,7 +131,7 @@ fn put_joined<F: PacketFeed, W: Sink>(
 /// that form; nor is a frame that isn't IPv4. Interfaces are numbered by first use.
 ///
 /// `Refused` comes at a packet that has no time (rule 17, no-time), whatever it holds, at one that
-/// completes a datagram whose interface would be the 1,025th (rule 13, interface-limit), and where the run
+/// completes a datagram whose interface would be the 1,025th (rule 13, interface-limit), and if the run
 /// ends in a refusal: what is written is the text of the datagrams before it. After `Read`, `Write` or
 /// `Memory` a prefix of the text is written.
 pub fn write_joined<F: PacketFeed, W: Sink>(

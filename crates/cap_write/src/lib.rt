@@ -9,7 +9,7 @@ mod merged;
 mod packets;
 mod pcap;
 mod pcapng;
-mod run_packets;
+mod placed_packets;
 
 pub use crate::joined::write_joined;
 pub use crate::merged::write_merged;

@@ -16,7 +16,7 @@ use std::alloc::Global;
 /// Writes the packets of a feed as a pcapng file (draft-ietf-opsawg-pcapng, 4) of one section in that byte
 /// order, each interface in front of its first packet. Interfaces are numbered by first use. `Refused` comes
 /// at a packet that has no time (rule 17, no-time), at one whose interface would be the 1,025th (rule 13,
-/// interface-limit), and where the feed's packets end in a refusal: what is written is the text of the
+/// interface-limit), and if the feed's packets end in a refusal: what is written is the text of the
 /// packets before it. After `Read`, `Write` or `Memory` a prefix of the text is written.
 pub fn write_merged<F: PacketFeed, W: Sink>(
     alloc: Global,

@@ -13,7 +13,7 @@ use cap_blocks::{put_interface, put_packet};
 use cap_bytes::{Fault, Order, Sink};
 use cap_source::{Meta, PacketFeed, next_packet};
 
-// Writes a packet's interface where it is the next one.
+// Writes a packet's interface if it is the next one.
 fn put_new_interface<W: Sink>(
     writer: &mut W,
     order: Order,
@@ -35,20 +35,20 @@ fn put_new_interface<W: Sink>(
 
 // A packet that can be written.
 #[derive(Clone, Copy)]
-struct Numbered<'a> {
+struct Writable<'a> {
     meta: &'a Meta,
     frame: &'a [u8],
     // the number of its interface
     number: u32,
     // whether that is described first
     is_new: bool,
-    // its time in units of the interface's clock
+    // its time in units of the interface's resolution
     units: u64,
     ghost captured: { length frame.now ≤ 262144 },
 }
 
 // Writes a packet, after its interface if that is the next one.
-fn put_numbered<W: Sink>(writer: &mut W, order: Order, packet: &Numbered<'_>) -> Result<(), Fault>
+fn put_writable<W: Sink>(writer: &mut W, order: Order, packet: &Writable<'_>) -> Result<(), Fault>
     ensures bytes { IsTrue (W.tells_held writer.old)
         → Puts (W.held writer.old) result (W.held writer.new)
         ((if packet.now.is_new then interface_bytes order packet.now.meta.now.interface else [])
@@ -89,17 +89,17 @@ pub fn put_one<W: Sink>(
     let units = units_of(meta)?;
     let count = origins.len();
     let number = number_of(origins, meta)?;
-    let packet = Numbered {
+    let packet = Writable {
         meta,
         frame,
         number,
         is_new: number as usize == count,
         units,
     };
-    put_numbered(writer, order, &packet)
+    put_writable(writer, order, &packet)
 }
 
-/// Writes the packets of a feed, where the interfaces of `origins` were described before.
+/// Writes the packets of a feed after the interfaces of `origins` were described.
 pub fn put_packets<F: PacketFeed, W: Sink>(
     feed: &mut F,
     order: Order,

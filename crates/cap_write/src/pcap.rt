@@ -167,7 +167,7 @@ fn refuse_bare<F: PacketFeed>(feed: &mut F, file: u32) -> Result<(), Fault>
 /// them, else in nanoseconds. Nothing of the file was passed before. `Refused` comes, in this order, at a
 /// packet that has no time (rule 17, no-time), has another link (18, link-mixed), has a time that isn't whole
 /// in that fraction (19, inexact) or one whose seconds are below 0 or above 4,294,967,295 (20, time-range),
-/// and where the file's packets end in a refusal: what is written is the text of the packets before it. A
+/// and if the file's packets end in a refusal: what is written is the text of the packets before it. A
 /// file that describes no interface before its first packet is refused, by its own refusal or by rule 21,
 /// no-interface, and nothing is written. After `Read`, `Write` or `Memory` a prefix of the text is written.
 pub fn to_pcap<R: Source, W: Sink>(

@@ -37,7 +37,7 @@ fn first_origins(alloc: Global, begun: Begun) -> Result<Origins, Fault>
     }
 }
 
-// Writes the first interface, where there is one.
+// Writes the first interface, if there is one.
 fn put_first<W: Sink>(writer: &mut W, order: Order, first: Option<Interface>) -> Result<(), Fault>
     ensures bytes { IsTrue (W.tells_held writer.old)
         → Puts (W.held writer.old) result (W.held writer.new) (first_bytes order first) }
@@ -64,7 +64,7 @@ fn put_front<W: Sink>(writer: &mut W, order: Order, first: Option<Interface>) ->
 /// Writes a file as a pcapng file (draft-ietf-opsawg-pcapng, 4) of one section in that byte order: its first
 /// interface, if one stands before the first packet, right after the section header, and each other interface
 /// in front of its first packet. Nothing of the file was passed before. `Refused` comes at a packet that has no time
-/// (rule 17, no-time), at one whose interface would be the 1,025th (rule 13, interface-limit), and where
+/// (rule 17, no-time), at one whose interface would be the 1,025th (rule 13, interface-limit), and if
 /// the file's packets end in a refusal: what is written is the text of the packets before it. After
 /// `Read`, `Write` or `Memory` a prefix of the text is written.
 pub fn to_pcapng<R: Source, W: Sink>(

@@ -181,7 +181,7 @@ const REFUSED: [(&str, Tail, u64, Rule); 14] = [
         28,
         Rule::OptionEnd,
     ),
-    // A packet of interface 1, where there is interface 0, one of 5 captured bytes in 4, and a simple one without an interface.
+    // A packet of interface 1, if there is interface 0, one of 5 captured bytes in 4, and a simple one without an interface.
     (
         "0a0d0d0a1c0000004d3c2b1a01000000ffffffffffffffff1c000000\
         0100000014000000010000000000040014000000\

@@ -40,7 +40,7 @@ pub record AreRead (tail : Tail) (all : List (List ℕ)) (place : ℕ) (read : L
 or_else-none : (a b : Option Refusal) → or_else a b ≡ None → (a ≡ None) × (b ≡ None)
 or_else-none a b h = grind arith
 
--- where none of the first files is refused and the next isn't either, none of one file more is
+-- if none of the first files is refused and the next isn't either, none of one file more is
 before-more : (tail : Tail) (file : ℕ) (all : List (List ℕ)) (place : ℕ) (bytes : List ℕ) (rest : List (List ℕ)) → drop place all ≡ bytes ∷ rest
     → first_refusal tail file (take place all) ≡ None → refusal_of (file_items tail (file + place) bytes) ≡ None
     → first_refusal tail file (take (suc place) all) ≡ None
@@ -53,7 +53,7 @@ pub read-more : {R : Type 0} (coming : R → List ℕ) (tail : Tail) (all : List
     → AreRead tail (map coming all) (place + 1) (read ++ it ∷ [])
 read-more coming tail all place x read it is within r e = grind (arith, bytes-at, append_assoc, take, before-more)
 
--- what is answered where a file can't be counted
+-- what is answered if a file can't be counted
 pub read-fault : {R : Type 0} (coming : R → List ℕ) (tail : Tail) (all : List R) (place : ℕ) (x : R) (read : List Counted) (fault : Fault)
     → x ≡ get_or all place x → place < length all → AreRead tail (map coming all) place read → CountsFile tail (1 + place) (coming x) (Err fault)
     → CountsFiles tail (map coming all) (Err fault)

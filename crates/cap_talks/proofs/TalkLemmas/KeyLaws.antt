@@ -69,7 +69,7 @@ key_law a b = by (is_forward a) (is_forward b) refl refl
         let d = same_end-is a.destination b.destination (and_right ss dd h) in
         λ i. not (is_gt (end_cmp (s i) (d i)))
 
-    -- the ends of b as those of a, where it goes back
+    -- the ends of b as those of a, if it goes back
     turned : (sd && ds) ≡ true → is_gt (end_cmp b.source b.destination) ≡ is_gt (end_cmp a.destination a.source)
     turned h =
         let s = same_end-is a.source b.destination (and_left sd ds h) in

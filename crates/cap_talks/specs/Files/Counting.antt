@@ -2,6 +2,7 @@
 use Rattle.std.specs.Prelude.{ℕ, ◌+◌, nat_lt, List, [], ◌∷◌, length, Option, Some, None, if◌then◌else◌, option_map}
 use Rattle.std.specs.Option.{option_map_or}
 use Rattle.std.specs.Ordering.{is_lt}
+use Rattle.cap_merge.specs.Clock.{later}
 use Rattle.cap_source.specs.Feed.{Item, packet, refused}
 use Rattle.cap_source.specs.Times.{meta_time}
 use Rattle.cap_source.specs.declared.packets.Meta.{Meta}
@@ -20,12 +21,6 @@ abbrev pub earlier : Option Stamp → Option Stamp → Option Stamp
 earlier None b = b
 earlier (Some a) None = Some a
 earlier (Some a) (Some b) = if is_lt (stamp_cmp b a) then Some b else Some a
-
--- the later of two times, of equal ones the first, or the only one
-abbrev pub later : Option Stamp → Option Stamp → Option Stamp
-later None b = b
-later (Some a) None = Some a
-later (Some a) (Some b) = if is_lt (stamp_cmp a b) then Some b else Some a
 
 -- the least and the greatest time of some packets: of equal ones that of the packet which stands first
 abbrev pub least_time : List Meta → Option Stamp

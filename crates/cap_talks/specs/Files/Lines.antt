@@ -36,7 +36,7 @@ abbrev pub file_text : ℕ → Counts → Option Ending → List ℕ
 file_text file counts None = line_text file counts.format counts counts.skipped false
 file_text file counts (Some ending) = line_text file (Some ending.format) counts ending.skipped ending.was_cut
 
--- how the file of that number has ended, where that is told
+-- how the file of that number has ended, if that is told
 abbrev pub ending_at : Option (ℕ → Ending) → ℕ → Option Ending
 ending_at None file = None
 ending_at (Some endings) file = Some (endings file)

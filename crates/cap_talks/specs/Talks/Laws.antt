@@ -15,7 +15,7 @@ goes_along a b = same_end a.source b.source && same_end a.destination b.destinat
 abbrev pub goes_back : CountedUnit → CountedUnit → Bool
 goes_back a b = same_end a.source b.destination && same_end a.destination b.source
 
--- Units are of one conversation where they have one protocol and the same two ends, whichever is the source.
+-- Units are of one conversation if they have one protocol and the same two ends, whichever is the source.
 abbrev pub KeyLaw : Type 0
 KeyLaw = (a b : CountedUnit) → same_talk (key_of a) (key_of b) ≡ ((a.protocol == b.protocol) && (goes_along a b || goes_back a b))
 
@@ -32,7 +32,7 @@ abbrev pub lasts : List CountedUnit → List TimedFrame
 lasts [] = []
 lasts (unit ∷ units) = with_frame unit.last (lasts units)
 
--- It is one of the frames, and none of them stands before it in the order; where there is none they are none.
+-- It is one of the frames, and none of them stands before it in the order; if there is none they are none.
 abbrev pub IsFirstIn : (TimedFrame → TimedFrame → Ordering) → List TimedFrame → Option TimedFrame → Type 0
 IsFirstIn cmp frames None = frames ≡ []
 IsFirstIn cmp frames (Some frame) = Contains frames frame × AllByRecursion (λ other. is_lt (cmp other frame) ≡ false) frames

@@ -21,7 +21,7 @@ address_text address =
     decimal (address / 2 ^ 24) ++ codes "." ++ decimal (address / 2 ^ 16 % 256) ++ codes "." ++ decimal (address / 2 ^ 8 % 256)
     ++ codes "." ++ decimal (address % 256)
 
--- a port after a colon, where there is one
+-- a port after a colon, if there is one
 abbrev pub port_text : Option ℕ → List ℕ
 port_text None = []
 port_text (Some port) = codes ":" ++ decimal port

@@ -16,7 +16,7 @@ use Rattle.cap_time.specs.declared.stamps.Stamp.{Stamp}
 pub record TalksState : Type 0 where
   pub rows : List Talk
 
--- A table stands for some units where it keeps the rows of their conversations.
+-- A table stands for some units if it keeps the rows of their conversations.
 pub record StandsFor (talks : TalksState) (units : List CountedUnit) : Type 0 where
   pub rows : talks.rows ≡ rows_of units
 
@@ -88,7 +88,7 @@ abbrev pub or_empty : Option TalkRow → TalkRow
 or_empty None = row_of []
 or_empty (Some row) = row
 
--- the row of a conversation, that of no unit where it has none
+-- the row of a conversation, that of no unit if it has none
 abbrev pub row_at : TalkKey → List Talk → TalkRow
 row_at key rows = or_empty (lookup (same_talk key) rows)
 

@@ -9,7 +9,7 @@ use Rattle.cap_join.specs.declared.datagrams.Stamped.{Stamped}
 use Rattle.cap_talks.specs.declared.talks.units.End.{End}
 use Rattle.cap_talks.specs.declared.talks.units.TimedFrame.{TimedFrame}
 
--- an end of an address, with a port where it has one
+-- an end of an address, with a port if it has one
 abbrev pub end_at : ℕ → Option ℕ → End
 end_at address port = record { address = address; port = port }
 

@@ -60,7 +60,7 @@ pub record TalkLines : Type 0 where
   pub begun_line : talk_texts (rows_of begun_before)
       ≡ codes "talk udp 10.0.0.1:1 10.0.0.2:2 forward 3 180 backward 0 0 first 0+512/1024 last 0+512/1024\n"
 
--- Where one conversation may stand a second is refused, and what belongs to the first one isn't.
+-- If one conversation may stand a second is refused, and what belongs to the first one isn't.
 pub record TalkLimit : Type 0 where
   pub second : is_refused 1 (rows_of answered) (key_of (unit_of (one 1) (two 2) 1 60 None None)) ≡ true
   pub first : is_refused 1 (rows_of answered) (key_of (unit_of (two 2000) (one 1000) 1 60 None None)) ≡ false

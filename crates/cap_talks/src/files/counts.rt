@@ -2,7 +2,8 @@
 ghost use Rattle.std.specs.Prelude.{◌≡◌, ◌≤◌, ◌<◌, ◌*◌, ◌^◌, ◌++◌, List, [], ◌∷◌, if◌then◌else◌};
 ghost use Rattle.cap_source.specs.declared.packets.Meta.{Meta};
 ghost use Rattle.cap_source.specs.Times.{meta_time};
-ghost use Rattle.cap_talks.specs.Files.Counting.{counted, with_packet, earlier, later};
+ghost use Rattle.cap_talks.specs.Files.Counting.{counted, with_packet, earlier};
+ghost use Rattle.cap_merge.specs.Clock.{later};
 
 use cap_source::{Format, Meta};
 use cap_time::Stamp;
@@ -20,7 +21,7 @@ pub struct Counts {
     pub truncated: u64,
     /// How many blocks of the file were skipped before the last of them.
     pub skipped: u64,
-    /// Their least time, of equal ones the first; `None` where no packet has a time.
+    /// Their least time, of equal ones the first; `None` if no packet has a time.
     pub first: Option<Stamp>,
     /// Their greatest time, of equal ones the first.
     pub last: Option<Stamp>,
@@ -73,7 +74,7 @@ fn count(counts: &mut Counts, time: Option<Stamp>, meta: &Meta)
     if is_earlier(&time, &counts.first) {
         counts.first = time;
     }
-    if is_later(&time, &counts.last) {
+    if counts.last < time {
         counts.last = time;
     }
 }
@@ -86,16 +87,5 @@ fn is_earlier(time: &Option<Stamp>, first: &Option<Stamp>) -> bool
         (None, _) => true,
         (Some(_), None) => false,
         (Some(first), Some(time)) => time < first,
-    }
-}
-
-// Whether a time takes the place of the last one so far: it is the later one, or the only one.
-fn is_later(time: &Option<Stamp>, last: &Option<Stamp>) -> bool
-    ensures { later last.now time.now ≡ (if result then time.now else last.now) }
-{
-    match (last, time) {
-        (None, _) => true,
-        (Some(_), None) => false,
-        (Some(last), Some(time)) => last < time,
     }
 }

@@ -7,7 +7,7 @@ use crate::files::counts::Counts;
 use cap_print::{Line, put_field, put_text, put_time};
 use cap_source::{Ending, Format};
 
-// Appends a format, or `-` where it isn't known.
+// Appends a format, or `-` if it isn't known.
 fn put_format(line: &mut Line, label: &[u8], format: Option<Format>)
     requires { array_vec_len line.old + length label.now + 6 ≤ 512 }
     ensures items { line.new.items ≡ line.old.items ++ label.now ++ format_text format }

@@ -14,7 +14,6 @@ ghost use Rattle.cap_talks.specs.CountedUnits.{listed, whole_unit};
 use crate::classes::Class;
 use crate::talks::units::{CountedUnit, ends_of, timed_frame};
 use crate::talks::{Talks, TalksFault};
-use crate::tallies::TallyFault;
 use cap_ip::{Header, Transport, transport};
 use cap_join::{Datagram, Stamped};
 use cap_source::Meta;
@@ -100,9 +99,9 @@ pub fn joined_class(datagram: &Datagram) -> Class
     class_of(transport(datagram.header.key().protocol, bytes, bytes.len() as u32))
 }
 
-/// Adds a unit to the conversations, where there is one.
+/// Adds a unit to the conversations, if there is one.
 #[inline(always)]
-pub fn add_unit(talks: &mut Talks, unit: &Option<CountedUnit>) -> Result<(), TallyFault>
+pub fn add_unit(talks: &mut Talks, unit: &Option<CountedUnit>) -> Result<(), TalksFault>
     requires frames { frames_in talks.old.rows + frames_of (listed unit.now) < 2 ^ 64 }
     requires bytes { bytes_in talks.old.rows + bytes_of (listed unit.now) < 2 ^ 128 }
     ensures stands { OnOk result ((units : List CountedUnit) → StandsFor talks.old units → StandsFor talks.new (units ++ listed unit.now)) }
@@ -113,10 +112,6 @@ pub fn add_unit(talks: &mut Talks, unit: &Option<CountedUnit>) -> Result<(), Tal
 {
     match unit {
         None => Ok(()),
-        Some(unit) => match talks.add(unit) {
-            Ok(()) => Ok(()),
-            Err(TalksFault::Limit) => Err(TallyFault::Limit),
-            Err(TalksFault::Memory) => Err(TallyFault::Memory),
-        },
+        Some(unit) => talks.add(unit),
     }
 }

@@ -67,7 +67,7 @@ fn put_address(line: &mut Line, address: u32)
     put_byte(line, b".", (address % 256) as u8);
 }
 
-// Appends an end: its address, and its port where it has one.
+// Appends an end: its address, and its port if it has one.
 fn put_end(line: &mut Line, end: End)
     requires { array_vec_len line.old + 21 ≤ 512 }
     ensures items { line.new.items ≡ line.old.items ++ end_text end }
@@ -90,7 +90,7 @@ fn put_traffic(line: &mut Line, label: &[u8], frames: u64, bytes: u128)
 }
 
 /// The line of a conversation: `talk PROTO A B forward P BYTES backward P BYTES first T last T`. The protocol
-/// is `udp`, `tcp`, or `p` and its number; an end is `a.b.c.d:port`, or `a.b.c.d` where it has no port; A is
+/// is `udp`, `tcp`, or `p` and its number; an end is `a.b.c.d:port`, or `a.b.c.d` if it has no port; A is
 /// the lesser end.
 pub fn talk_line(key: &TalkKey, row: &TalkRow) -> Line
     ensures { result.items ≡ talk_text key.now row.now }

@@ -16,7 +16,7 @@ pub struct TalkKey {
     pub protocol: u8,
     /// The lesser of the two ends.
     pub lesser: End,
-    /// The other end, which is the same where a datagram goes from an end to itself.
+    /// The other end, which is the same if a datagram goes from an end to itself.
     pub greater: End,
 }
 
@@ -80,7 +80,7 @@ pub struct TalkRow {
     pub forward_bytes: u128,
     /// The same of the units from the greater end.
     pub backward_bytes: u128,
-    /// The least time of their frames; `None` where no frame has a time.
+    /// The least time of their frames; `None` if no frame has a time.
     pub first: Option<Stamp>,
     /// The greatest time of their frames.
     pub last: Option<Stamp>,
@@ -88,7 +88,7 @@ pub struct TalkRow {
     pub forward_frames: u64,
     /// The same of the units from the greater end.
     pub backward_frames: u64,
-    /// The place of the frame of the least time, of equal times the lowest; 0 where no frame has a time.
+    /// The place of the frame of the least time, of equal times the lowest; 0 if no frame has a time.
     pub first_place: u64,
     /// The place of the frame of the greatest time, of equal times the lowest.
     pub last_place: u64,
@@ -165,7 +165,7 @@ fn is_later(frame: &TimedFrame, last: &Option<Stamp>, place: u64) -> bool
     }
 }
 
-// Takes a frame, where there is one, into the least time so far.
+// Takes a frame, if there is one, into the least time so far.
 fn take_first(first: &mut Option<Stamp>, place: &mut u64, frame: &Option<TimedFrame>)
     ensures time { first.new ≡ frame_time (earlier_frame (frame_of first.old place.old) frame.now) }
     ensures place { place.new ≡ place_or (earlier_frame (frame_of first.old place.old) frame.now) place.old }
@@ -178,7 +178,7 @@ fn take_first(first: &mut Option<Stamp>, place: &mut u64, frame: &Option<TimedFr
     }
 }
 
-// Takes a frame, where there is one, into the greatest time so far.
+// Takes a frame, if there is one, into the greatest time so far.
 fn take_last(last: &mut Option<Stamp>, place: &mut u64, frame: &Option<TimedFrame>)
     ensures time { last.new ≡ frame_time (later_frame (frame_of last.old place.old) frame.now) }
     ensures place { place.new ≡ place_or (later_frame (frame_of last.old place.old) frame.now) place.old }

@@ -6,13 +6,13 @@ use cap_ip::Transport;
 use cap_join::Stamped;
 use cap_time::Stamp;
 
-/// An end of a conversation: an IPv4 address (RFC 791, 3.1), and a port where the protocol has ports
+/// An end of a conversation: an IPv4 address (RFC 791, 3.1), and a port if the protocol has ports
 /// (RFC 768; RFC 9293, 3.1). Ends compare as pairs of numbers, by address and then by port.
 #[derive(Clone, Copy, Debug, PartialEq, Eq, PartialOrd, Ord)]
 pub struct End {
     /// The address, its first byte the highest.
     pub address: u32,
-    /// The port; `None` where the protocol has none.
+    /// The port; `None` if the protocol has none.
     pub port: Option<u16>,
 }
 
@@ -67,14 +67,14 @@ pub struct CountedUnit {
     pub source: End,
     /// Where it goes to.
     pub destination: End,
-    /// How many frames it came in: 1 where it came whole.
+    /// How many frames it came in: 1 if it came whole.
     pub frames: u64,
     /// The sum of their original lengths, in bytes.
     pub bytes: u128,
-    /// Its frame of the least time, of equal times that of the lowest place; `None` where no frame has a
+    /// Its frame of the least time, of equal times that of the lowest place; `None` if no frame has a
     /// time.
     pub first: Option<TimedFrame>,
-    /// Its frame of the greatest time, of equal times that of the lowest place; `None` where no frame has
+    /// Its frame of the greatest time, of equal times that of the lowest place; `None` if no frame has
     /// a time.
     pub last: Option<TimedFrame>,
 }

@@ -4,7 +4,7 @@ use Rattle.cap_join.specs.History.{Event}
 use Rattle.cap_join.specs.Joiners.{StandsFor}
 use Rattle.cap_write.proofs.Completed.{Prints-no-time, items-filled, Prints-datagram, named-datagram, items-none, Prints-none, named-none, OnOk-map}
 use Rattle.cap_write.specs.Datagrams.{origins_behind}
-use Rattle.cap_write.specs.RunPackets.{items_in}
+use Rattle.cap_write.specs.PlacedPackets.{items_in}
 use Rattle.cap_write.specs.Numbering.{with_origin, write_fault, refusal_in}
 use Rattle.cap_write.proofs.joined.put_completed.Goals as goal
 

@@ -3,11 +3,11 @@ use Rattle.std.specs.Prelude.{OnOk, Result, Ok, Option}
 use Rattle.cap_talks.specs.Taken.{Taken}
 use Rattle.cap_talks.specs.Tallies.{TallyState, Stands, Looks}
 use Rattle.cap_talks.specs.CountedUnits.{is_limit_at}
-use Rattle.cap_talks.specs.declared.tallies.TallyFault.{TallyFault}
+use Rattle.cap_talks.specs.declared.talks.TalksFault.{TalksFault}
 use Rattle.cap_talks.proofs.tallies.Tally.take.Goals as goal
 
 -- a datagram that waited, of the packet
-taken_on : (old mid new : TallyState) (x : Taken) (result : Result (Unit {0}) TallyFault) → ((xs : List Taken) → Stands old xs (Some x) → Stands mid xs (Some x))
+taken_on : (old mid new : TallyState) (x : Taken) (result : Result (Unit {0}) TalksFault) → ((xs : List Taken) → Stands old xs (Some x) → Stands mid xs (Some x))
     → OnOk result ((xs : List Taken) (y : Taken) → Stands mid xs (Some y) → (is_limit_at xs y ≡ false) × ((next : Option Taken) → Stands new (y ∷ xs) next))
     → OnOk result (Looks old x false new)
 taken_on old mid new x (Ok u) f h = λ xs s. h xs x (f xs s)

@@ -68,7 +68,7 @@ invariant_of-self-2 c =
     let e = c.in_ok-add_unit.ensures in
     let fits = subst (λ w. Fits w t.place) c.in-Some.is s.fits in
     let both = numbers-joined d fits.bytes in
-    let counted = c.is_counted.ensures ∙ ap counted_one c.joined_class-class.ensures in
+    let counted = c.counted_one.ensures ∙ ap counted_one c.joined_class-class.ensures in
     rw counted
     (sound-joined t d c.in-Some.is c.add_unit.new.talks (λ us stands. subst (λ u. StandsFor c.add_unit.new.talks (us ++ listed u)) c.joined_unit.ensures (e.stands us stands))
     c.with_group-self-inside.result (c.with_group-self-inside.ensures ∙ ap (λ k. with_group k d.frames t.classes) c.joined_class-class.ensures)
@@ -80,7 +80,7 @@ returns-clause-stands c =
     let t = tally_view c.self.inside in
     let d = c.in-Some.datagram in
     let e = c.in_ok-add_unit.ensures in
-    let counted = c.is_counted.ensures ∙ ap counted_one c.joined_class-class.ensures in
+    let counted = c.counted_one.ensures ∙ ap counted_one c.joined_class-class.ensures in
     rw (counted, ← c.self.view_is)
     (stands-joined t d c.in-Some.is c.add_unit.new.talks (λ us stands. subst (λ u. StandsFor c.add_unit.new.talks (us ++ listed u)) c.joined_unit.ensures (e.stands us stands))
     c.with_group-self-inside.result (c.with_group-self-inside.ensures ∙ ap (λ k. with_group k d.frames t.classes) c.joined_class-class.ensures)

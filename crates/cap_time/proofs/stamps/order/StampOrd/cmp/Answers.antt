@@ -4,7 +4,7 @@ use Rattle.cap_time.specs.Stamp.{seconds_of}
 use Rattle.cap_time.specs.StampLaws.{stamp_cmp-parts, fraction_cmp}
 use Rattle.cap_time.proofs.stamps.order.StampOrd.cmp.Goals as goal
 
--- the first comparison decides where it isn't `Equal`
+-- the first comparison decides if it isn't `Equal`
 decided : (r s : Ordering) → (r ≡ Equal → ⊥) → ordering_then r s ≡ r
 decided r s n = grind arith
 

@@ -9,7 +9,7 @@ use cap_time::Stamp;
 
 /// A packet of a run.
 #[derive(Clone, Copy)]
-pub struct RunPacket<'a> {
+pub struct PlacedPacket<'a> {
     /// Its place in the run, from 0.
     pub place: u64,
     /// Its clock.

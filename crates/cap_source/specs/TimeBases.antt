@@ -1,4 +1,4 @@
--- What the options of an interface block say of its clock. draft-ietf-opsawg-pcapng, 4.2.
+-- What the options of an interface block say of its times: their unit, and the offset that is added. draft-ietf-opsawg-pcapng, 4.2.
 use Rattle.std.specs.Prelude.{◌≡◌, ◌==◌, ◌&&◌, ◌||◌, not, nat_le, ℕ, ℤ, pos, Bool, true, false, if◌then◌else◌, List, [], ◌∷◌, length, drop, slice_index, Option, Some, None, is_some, unwrap_or, Result, Ok, Err, refl}
 use Rattle.std.specs.Int.{w64, cast_signed}
 use Rattle.cap_bytes.specs.Number.{number}
@@ -10,9 +10,9 @@ use Rattle.cap_time.specs.declared.resolutions.Resolution.{Resolution}
 use Rattle.cap_time.specs.declared.resolutions.Interface.{Interface}
 use Rattle.cap_blocks.specs.OptionList.{OptionItem, options_of}
 use Rattle.cap_blocks.specs.Split.{or_else}
-use Rattle.cap_source.specs.declared.interfaces.Clock.{Clock}
+use Rattle.cap_source.specs.declared.interfaces.TimeBase.{TimeBase}
 
--- the resolution of a code, where it is one that is read
+-- the resolution of a code, if it is one that is read
 abbrev pub resolution_if : (code : ℕ) (allowed : Bool) → is_allowed code ≡ allowed → Option Resolution
 resolution_if code true is = Some (record { code = code; allowed = is })
 resolution_if code false is = None
@@ -20,11 +20,11 @@ resolution_if code false is = None
 unfoldable pub resolution_of : ℕ → Option Resolution
 resolution_of code = resolution_if code (is_allowed code) refl
 
--- a millionth of a second, which stands where no resolution is given
+-- a millionth of a second: the resolution if none is given
 abbrev pub microseconds : Resolution
 microseconds = record { code = 6; allowed = refl }
 
--- the value, or the rule that is broken where there is none
+-- the value, or else the rule that is broken
 abbrev pub ok_or : {A : Type 0} → Option A → Rule → Result A Rule
 ok_or None rule = Err rule
 ok_or (Some x) rule = Ok x
@@ -40,48 +40,48 @@ offset_in order value =
     if length value == 8 then Ok (cast_signed w64 (number order 8 value)) else Err rules.OptionLength
 
 -- what the options so far say: nothing at first
-abbrev pub no_clock : Clock
-no_clock = record { resolution = None; offset = None }
+abbrev pub no_base : TimeBase
+no_base = record { resolution = None; offset = None }
 
-abbrev pub with_resolution : Clock → Result Resolution Rule → Result Clock Rule
-with_resolution clock (Ok resolution) = Ok (record { resolution = Some resolution; offset = clock.offset })
-with_resolution clock (Err rule) = Err rule
+abbrev pub with_resolution : TimeBase → Result Resolution Rule → Result TimeBase Rule
+with_resolution base (Ok resolution) = Ok (record { resolution = Some resolution; offset = base.offset })
+with_resolution base (Err rule) = Err rule
 
-abbrev pub with_offset : Clock → Result ℤ Rule → Result Clock Rule
-with_offset clock (Ok offset) = Ok (record { resolution = clock.resolution; offset = Some offset })
-with_offset clock (Err rule) = Err rule
+abbrev pub with_offset : TimeBase → Result ℤ Rule → Result TimeBase Rule
+with_offset base (Ok offset) = Ok (record { resolution = base.resolution; offset = Some offset })
+with_offset base (Err rule) = Err rule
 
 -- the same with one more option: only the first if_tsresol, of code 9, and the first if_tsoffset, of code
 -- 14, are looked at
-unfoldable pub option_read : Order → Clock → ℕ → List ℕ → Result Clock Rule
-option_read order clock code value =
-    if (code == 9) && not (is_some clock.resolution) then with_resolution clock (resolution_in value) else
-    if (code == 14) && not (is_some clock.offset) then with_offset clock (offset_in order value) else Ok clock
+unfoldable pub option_read : Order → TimeBase → ℕ → List ℕ → Result TimeBase Rule
+option_read order base code value =
+    if (code == 9) && not (is_some base.resolution) then with_resolution base (resolution_in value) else
+    if (code == 14) && not (is_some base.offset) then with_offset base (offset_in order value) else Ok base
 
-abbrev pub then_read : Result Clock Rule → (Clock → Result Clock Rule) → Result Clock Rule
-then_read (Ok clock) later = later clock
+abbrev pub then_read : Result TimeBase Rule → (TimeBase → Result TimeBase Rule) → Result TimeBase Rule
+then_read (Ok base) later = later base
 then_read (Err rule) later = Err rule
 
 -- The same with several, one after the other, or the first rule that they break. A value that runs past the
 -- end is refused where it stands.
-unfoldable pub options_read : Order → Clock → List OptionItem → Result Clock Rule
-options_read order clock [] = Ok clock
-options_read order clock (Err rule ∷ rest) = Err rule
-options_read order clock (Ok option ∷ rest) =
-    then_read (option_read order clock option.0 option.1) (λ next. options_read order next rest)
+unfoldable pub options_read : Order → TimeBase → List OptionItem → Result TimeBase Rule
+options_read order base [] = Ok base
+options_read order base (Err rule ∷ rest) = Err rule
+options_read order base (Ok option ∷ rest) =
+    then_read (option_read order base option.0 option.1) (λ next. options_read order next rest)
 
--- the interface of a body whose options say that of its clock
-abbrev pub interface_with : Clock → Order → List ℕ → Interface
-interface_with clock order body =
+-- the interface of a body whose options say that of its times
+abbrev pub interface_with : TimeBase → Order → List ℕ → Interface
+interface_with base order body =
     record {
       link = number order 2 body;
       snaplen = number order 4 (drop 4 body);
-      resolution = unwrap_or clock.resolution microseconds;
-      offset = unwrap_or clock.offset (pos 0);
+      resolution = unwrap_or base.resolution microseconds;
+      offset = unwrap_or base.offset (pos 0);
     }
 
-abbrev pub interface_by : Order → List ℕ → Result Clock Rule → Result Interface Rule
-interface_by order body (Ok clock) = Ok (interface_with clock order body)
+abbrev pub interface_by : Order → List ℕ → Result TimeBase Rule → Result Interface Rule
+interface_by order body (Ok base) = Ok (interface_with base order body)
 interface_by order body (Err rule) = Err rule
 
 -- the value of the first option of that code
@@ -90,7 +90,7 @@ value_of code [] = None
 value_of code (Err rule ∷ rest) = None
 value_of code (Ok option ∷ rest) = if option.0 == code then Some option.1 else value_of code rest
 
--- what it gives, where it stands and gives something
+-- what is read of the option, if there is one and it is well-formed
 abbrev pub read_or : {A : Type 0} → A → Result A Rule → A
 read_or other (Ok x) = x
 read_or other (Err rule) = other
@@ -104,7 +104,7 @@ abbrev pub fault_of : {A : Type 0} → Result A Rule → Option Rule
 fault_of (Ok x) = None
 fault_of (Err rule) = Some rule
 
--- What one option is refused by: an if_tsresol, of code 9, where none stands before it, and an if_tsoffset, of
+-- What one option is refused by: an if_tsresol, of code 9, if none stands before it, and an if_tsoffset, of
 -- code 14, likewise.
 abbrev pub option_fault : Order → (resolved moved : Bool) → ℕ → List ℕ → Option Rule
 option_fault order resolved moved code value =
