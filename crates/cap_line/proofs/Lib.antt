@@ -1,3 +1,2 @@
-pub mod FileNames
 pub mod Parsing
 pub mod Rows

@@ -1,20 +1,15 @@
 -- What a command line asks for, by clap's matches of its words.
-use Rattle.std.specs.Prelude.{◌≡◌, ◌⊎◌, ◌&&◌, ◌==◌, ◌≤◌, ℕ, not, Bool, true, false, List, [], length, codes, count_by, Option, Some, None, is_some, Result, Ok, Err, unwrap_or, if◌then◌else◌, nat_lt, map, option_map, vec_len, IsTrue, IsFalse, ◌↔◌}
-use Rattle.std.specs.Str.{bytes_eq}
-use Rattle.std.specs.List.{list_any}
+use Rattle.std.specs.Prelude.{◌≡◌, ◌⊎◌, List, [], length, codes, Option, Some, None, Result, Ok, Err, unwrap_or, map, option_map, IsTrue, IsFalse, ◌↔◌}
 use Rattle.clap.specs.Words.{App, Row, Text, all_of, first_of, fault_of, subcommand_of, IsAmong}
 use Rattle.clap.specs.declared.error.kind.ErrorKind.{ErrorKind}
 use Rattle.clap.specs.declared.error.kind.ErrorKind.TheVariants as kind
 use Rattle.cap_line.specs.Command.{IsCapt}
-use Rattle.cap_bytes.specs.declared.numbers.Order.{Order}
-use Rattle.cap_bytes.specs.declared.numbers.Order.TheVariants.{Big, Little}
 use Rattle.cap_source.specs.declared.packets.Format.{Format}
-use Rattle.cap_source.specs.declared.packets.Format.TheVariants.{Pcap, Pcapng}
-use Rattle.cap_line.specs.declared.job.Job.{Job}
-use Rattle.cap_line.specs.declared.job.Task.{Task}
-use Rattle.cap_line.specs.declared.job.Task.TheVariants as tasks
-use Rattle.cap_line.specs.declared.faults.LineFault.{LineFault}
-use Rattle.cap_line.specs.declared.faults.LineFault.TheVariants.{Help, Line, Files, Input, Output, Memory}
+use Rattle.cap_jobs.specs.Jobs.{IsWhole, files_fault, format_by, is_whole, order_by, task_by}
+use Rattle.cap_jobs.specs.declared.jobs.Job.{Job}
+use Rattle.cap_jobs.specs.declared.jobs.Task.{Task}
+use Rattle.cap_jobs.specs.declared.faults.LineFault.{LineFault}
+use Rattle.cap_jobs.specs.declared.faults.LineFault.TheVariants.{Help, Line, Files, Input, Output, Memory}
 
 -- what clap's error is to the user
 abbrev pub fault_by : ErrorKind → LineFault
@@ -22,59 +17,6 @@ fault_by kind.DisplayHelp = Help
 fault_by kind.DisplayVersion = Help
 fault_by kind.OutOfMemory = Memory
 fault_by _ = Line
-
--- whether the output is one of the files, and not standard output
-abbrev pub is_also_file : Option Text → List Text → Bool
-is_also_file None files = false
-is_also_file (Some out) files = not (bytes_eq out (codes "-")) && list_any (λ f. bytes_eq f out) files
-
--- the task that a subcommand's name is for
-abbrev pub task_by : Text → Option Task
-task_by name =
-    if bytes_eq name (codes "list") then Some tasks.List else
-    if bytes_eq name (codes "blocks") then Some tasks.Blocks else
-    if bytes_eq name (codes "info") then Some tasks.Info else
-    if bytes_eq name (codes "report") then Some tasks.Report else
-    if bytes_eq name (codes "convert") then Some tasks.Convert else
-    if bytes_eq name (codes "merge") then Some tasks.Merge else
-    if bytes_eq name (codes "join") then Some tasks.Join else None
-
--- the order that is named: little if none is
-abbrev pub order_by : Option Text → Order
-order_by None = Little
-order_by (Some name) = if bytes_eq name (codes "big") then Big else Little
-
--- the format that is named
-abbrev pub format_by : Option Text → Option Format
-format_by None = None
-format_by (Some name) =
-    if bytes_eq name (codes "pcap") then Some Pcap else if bytes_eq name (codes "pcapng") then Some Pcapng else None
-
--- what the files and the output that are named are refused by, the first of these: no file, more than 32, standard
--- input twice, an output other than standard output that is one of them
-abbrev pub files_fault : List Text → Option Text → Result (Unit {0}) LineFault
-files_fault files out =
-    if nat_lt (length files) 1 then Err Line else
-    if nat_lt 32 (length files) then Err Files else
-    if nat_lt 1 (count_by (λ f. bytes_eq f (codes "-")) files) then Err Input else
-    if is_also_file out files then Err Output else Ok tt
-
--- whether a task has what it takes, with that many files: one file if it is of one, a format for `convert`, an output
--- if it writes one
-abbrev pub is_whole : Task → ℕ → Option Format → Option Text → Bool
-is_whole tasks.List files to out = files == 1
-is_whole tasks.Blocks files to out = files == 1
-is_whole tasks.Info files to out = true
-is_whole tasks.Report files to out = true
-is_whole tasks.Convert files to out = (files == 1) && is_some to && is_some out
-is_whole tasks.Merge files to out = is_some out
-is_whole tasks.Join files to out = is_some out
-
--- A job has 1 to 32 files, and all that its task takes.
-pub record IsWhole (job : Job) : Type 0 where
-  pub some : 1 ≤ vec_len job.files
-  pub most : vec_len job.files ≤ 32
-  pub taken : IsTrue (is_whole job.task (vec_len job.files) job.to (option_map (λ o. o.now) job.out))
 
 -- the files that a subcommand's rows name, its output and its format
 abbrev pub files_in : List Row → List Text

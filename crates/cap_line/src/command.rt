@@ -5,6 +5,7 @@ ghost use Rattle.clap.specs.declared.builder.command.Command.TheViews.{out-Comma
 ghost use Rattle.cap_line.specs.Command.{IsCapt, IsConvert, IsJoin, IsMerge, IsOrderRule, IsToRule, IsWriting, allow_cut_rule, blocks_app, capt_alone, capture_app, captures_app, file_rule, files_rule, info_app, list_app, listing_app, out_rule, printing_app, report_app};
 
 use crate::texts;
+use cap_jobs::USAGE;
 use clap::{Arg, ArgAction, Command};
 use std::alloc::{AllocError, Global};
 
@@ -208,7 +209,7 @@ fn capt_itself<'a>(alloc: Global) -> Command<'a>
 {
     Command::new(alloc, "capt")
         .version(texts::VERSION)
-        .override_help(texts::USAGE)
+        .override_help(USAGE)
         .subcommand_required(true)
         .disable_help_subcommand(true)
 }

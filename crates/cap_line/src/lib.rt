@@ -1,11 +1,9 @@
-//! The command line of `capt`: what its words ask for.
+//! The command line of `capt`: the job that its words give, and what clap says of them.
 #![tactic(auto)]
 
 mod command;
-mod faults;
-mod job;
 mod texts;
+mod words;
 
-pub use crate::faults::LineFault;
-pub use crate::job::{Job, Task, message, parse};
-pub use crate::texts::{NOT_UTF_8, USAGE, VERSION};
+pub use crate::texts::VERSION;
+pub use crate::words::{message, parse};

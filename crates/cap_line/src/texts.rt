@@ -3,45 +3,6 @@
 /// The version of the program.
 pub const VERSION: &str = "0.1.0";
 
-/// The usage: the program's help.
-pub const USAGE: &str =
-    "Reads packet captures, pcap 2.4 and pcapng 1.0, and reports on them, converts,
-merges and joins them.
-
-Usage: capt report [--allow-cut] FILE...
-       capt info [--allow-cut] FILE...
-       capt list [--allow-cut] FILE
-       capt blocks [--allow-cut] FILE
-       capt convert [--allow-cut] [--order ORDER] --to FORMAT -o OUT FILE
-       capt merge [--allow-cut] [--order ORDER] -o OUT FILE...
-       capt join [--allow-cut] [--order ORDER] -o OUT FILE...
-
-Commands:
-  report   Prints the totals of captures, and a line for each conversation
-  info     Prints a line for each capture
-  list     Prints a line for each packet of a capture
-  blocks   Prints a line for each block of a pcapng file
-  convert  Writes the packets of a capture in either format
-  merge    Writes the packets of captures as one, in the order of time
-  join     Writes the whole IPv4 datagrams of captures, fragments joined
-
-Options:
-  -h, --help     Print help; of a command: capt merge --help
-  -V, --version  Print version
-
-A refused capture is told by its file, the offset and the rule that it breaks.
-Status 0: done; 1: a capture is refused, or a read, a write, an open, a
-creation or memory failed; 2: the command line is faulty.
-";
-
-/// What is told of words that aren't all UTF-8.
-pub const NOT_UTF_8: &str = "error: a word of the command line isn't UTF-8
-
-Usage: capt <COMMAND>
-
-For more information, try '--help'.
-";
-
 pub(crate) const REPORT_ABOUT: &str =
     "Prints the totals of captures, and a line for each conversation";
 

@@ -1,6 +1,7 @@
 //! Command lines with their jobs and faults.
 use cap_bytes::Order;
-use cap_line::{LineFault, Task, USAGE, message, parse};
+use cap_jobs::{LineFault, Task, USAGE};
+use cap_line::{message, parse};
 use cap_source::Format;
 use std::alloc::Global;
 

@@ -15,6 +15,8 @@ mod file_lines;
 #[cfg(test)]
 mod files;
 #[cfg(test)]
+mod jobs;
+#[cfg(test)]
 mod merge;
 #[cfg(test)]
 mod outcomes;

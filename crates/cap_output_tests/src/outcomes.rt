@@ -1,7 +1,7 @@
 //! Outcomes and what is told of them.
 
 use cap_bytes::{Fault, Refusal, Room, Rule};
-use cap_line::{LineFault, USAGE};
+use cap_jobs::{LineFault, USAGE};
 use cap_tasks::{Outcome, end_of, outcome_line, status_of, tell};
 use std::alloc::Global;
 use std::io;

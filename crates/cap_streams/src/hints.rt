@@ -4,7 +4,7 @@ ghost use Rattle.cap_streams.specs.Hints.{is_of_file, is_of_names};
 
 use crate::regular::{id_of, is_input, regular_at, regular_file};
 use cap_bytes::{Fault, Rule};
-use cap_line::{Job, LineFault, parse};
+use cap_jobs::{Job, LineFault};
 use cap_tasks::Outcome;
 use std::alloc::Global;
 use std::fmt::Display;
@@ -96,34 +96,33 @@ fn names_line(alloc: Global, fault: LineFault) -> Option<String>
 
 /// The line that a terminal shows after the line of a fault: the name of the file, and what the system says
 /// of it, or what the rule means that is broken; of a command line, what is wrong with the files that it names.
-/// There is none if the fault is of no file, or if memory runs out.
+/// `job` is what was run, if the words of the command line gave one. There is no line if the fault is of no file,
+/// or if memory runs out.
 pub fn hint<R: Files<File = File>>(
     files: &R,
     alloc: Global,
     outcome: &Outcome,
-    words: &[String],
+    job: Option<&Job<'_>>,
 ) -> Option<String>
     ensures { IsSome result → IsTrue (is_of_file outcome.now) }
 {
     if let Outcome::Line(fault) = outcome {
         return names_line(alloc, *fault);
     }
-    let Ok(job) = parse(alloc, words) else {
-        return None;
-    };
+    let job = job?;
     match outcome {
         Outcome::Fault(Fault::Refused(refusal)) => {
-            line(alloc, name_of(&job, refusal.file)?, &meaning(refusal.rule))
+            line(alloc, name_of(job, refusal.file)?, &meaning(refusal.rule))
         }
         Outcome::Fault(Fault::Read { file, .. }) => {
-            line(alloc, name_of(&job, *file)?, &"it can't be read")
+            line(alloc, name_of(job, *file)?, &"it can't be read")
         }
         Outcome::Open(file) => {
-            let name = name_of(&job, *file)?;
+            let name = name_of(job, *file)?;
             let error = File::open(files, name).err()?;
             line(alloc, name, &error)
         }
-        Outcome::Create => create_line(files, alloc, &job, job.out?),
+        Outcome::Create => create_line(files, alloc, job, job.out?),
         _ => None,
     }
 }

@@ -1,7 +1,7 @@
 //! What the command line asks for, done over readers and a writer.
 ghost use Rattle.std.specs.Prelude.{◌≡◌, ◌∷◌, [], IsTrue, map, vec_len};
 ghost use Rattle.std.specs.List.{list_all, list_any};
-ghost use Rattle.cap_line.specs.CommandLine.{IsWhole};
+ghost use Rattle.cap_jobs.specs.Jobs.{IsWhole};
 ghost use Rattle.cap_tasks.specs.Jobs.{Does, tail_of};
 ghost use Rattle.cap_bytes.specs.Device.{WriterKeeps, writer_of};
 ghost use Rattle.cap_bytes.specs.Printing.{is_write};
@@ -13,7 +13,7 @@ use crate::join::join_to;
 use crate::list::list_to;
 use crate::merge::merge_to;
 use cap_bytes::{Fault, Sink, Source, Tail};
-use cap_line::{Job, Task};
+use cap_jobs::{Job, Task};
 use cap_talks::{file_lines, report};
 use std::alloc::Global;
 

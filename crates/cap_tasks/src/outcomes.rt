@@ -5,7 +5,7 @@ ghost use Rattle.cap_tasks.specs.Outcomes.{ends_by, status_after, outcome_text, 
 ghost use Rattle.cap_bytes.specs.Printing.{PrintsFront};
 
 use cap_bytes::{Fault, Refusal, Sink, put_all};
-use cap_line::{LineFault, USAGE};
+use cap_jobs::{LineFault, USAGE};
 use cap_print::{Line, put_field, put_text};
 use std::io;
 

@@ -2,10 +2,11 @@
 #![tactic(auto)]
 
 ghost use Rattle.std.specs.Prelude.{◌≡◌, ◌⊎◌, IfErr, vec_len};
-ghost use Rattle.cap_line.specs.CommandLine.{IsWhole};
+ghost use Rattle.cap_jobs.specs.Jobs.{IsWhole};
 
 use cap_bytes::{Fault, Source, Tracked, put_all};
-use cap_line::{Job, LineFault, NOT_UTF_8, USAGE, message, parse};
+use cap_jobs::{Job, LineFault, NOT_UTF_8, USAGE};
+use cap_line::{message, parse};
 use cap_streams::{Output, create_output, hint, open_all, watch_all};
 use cap_tasks::{Outcome, Progress, Watched, end_of, job_to, status_of, tell};
 use std::alloc::Global;
@@ -69,36 +70,29 @@ fn screen_of<R: Files<File = File>>(files: &R, faults: Stderr, output: &Output) 
     }
 }
 
-// What the command line asks for. Every file is opened before the output is created.
+// Does a job. Every file is opened before the output is created.
 fn run<R: Files<File = File> + Clock + AllocGlobal>(
     rt: &R,
-    words: &[String],
+    job: &Job<'_>,
     streams: StandardStreams,
-) -> Result<(), Outcome> {
-    let job = match parse(rt.alloc(), words) {
-        Ok(job) => job,
-        Err(fault) => return Err(Outcome::Line(fault)),
-    };
+) -> Result<(), Outcome>
+    requires { IsWhole job.now }
+{
     let inputs = open_all(rt, rt.alloc(), streams.input, job.files.as_slice())?;
     let output = create_output(rt, streams.output, job.out, inputs.ids.as_slice())?;
     let screen = screen_of(rt, streams.faults, &output);
     let progress = Progress::new(rt, screen, output.is_terminal(), inputs.size);
     let sources = watch_all(rt.alloc(), inputs.sources, &progress)?;
-    let answer = run_job(rt.alloc(), &job, sources, output, &progress);
+    let answer = run_job(rt.alloc(), job, sources, output, &progress);
     progress.wipe();
     answer
 }
 
-// How a run ended, and what clap says of words that give no job.
-fn ended(
-    alloc: Global,
-    words: &[String],
-    answer: Result<(), Outcome>,
-) -> (Outcome, Option<String>) {
+// How a run ended.
+fn outcome_of(answer: Result<(), Outcome>) -> Outcome {
     match answer {
-        Ok(()) => (Outcome::Done, None),
-        Err(Outcome::Line(fault)) => (Outcome::Line(fault), message(alloc, words)),
-        Err(outcome) => (outcome, None),
+        Ok(()) => Outcome::Done,
+        Err(outcome) => outcome,
     }
 }
 
@@ -112,14 +106,17 @@ fn main(rt: HostRuntime) -> ExitCode {
     };
     let ending = match words_of(&rt) {
         Ok(words) => {
-            let answer = run(&rt, words.as_slice(), streams);
-            let (outcome, said) = ended(rt.alloc(), words.as_slice(), answer);
+            let parsed = parse(rt.alloc(), words.as_slice());
+            let (outcome, said) = match &parsed {
+                Ok(job) => (outcome_of(run(&rt, job, streams)), None),
+                Err(fault) => (Outcome::Line(*fault), message(rt.alloc(), words.as_slice())),
+            };
             let ending = match said {
                 Some(text) => tell(outcome, text.as_bytes(), &mut output, &mut faults),
                 None => tell(outcome, USAGE.as_bytes(), &mut output, &mut faults),
             };
             if rt.stderr().is_terminal() {
-                if let Some(line) = hint(&rt, rt.alloc(), &ending, words.as_slice()) {
+                if let Some(line) = hint(&rt, rt.alloc(), &ending, parsed.as_ref().ok()) {
                     let _ = put_all(&mut faults, line.as_bytes());
                 }
             }

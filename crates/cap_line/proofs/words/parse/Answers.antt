@@ -2,7 +2,7 @@ use Rattle.std.proofs.Common.{◌∙◌, ap, map, subst}
 use Rattle.clap.specs.Words.{app_of, kind_of, subcommand_of}
 use Rattle.cap_line.specs.CommandLine.{IsJobOf, fault_by}
 use Rattle.cap_line.proofs.Parsing.{IsCapt-simple, IsCapt-simple_and_free, IsJobOf-no_help, Parses-answered, Parses-refused, whole-of}
-use Rattle.cap_line.proofs.job.parse.Goals as goal
+use Rattle.cap_line.proofs.words.parse.Goals as goal
 
 pub returns-in-Ok-try_get_matches_from-clause-parses : goal.returns-in-Ok-try_get_matches_from-clause-parses
 returns-in-Ok-try_get_matches_from-clause-parses g c =

@@ -3,7 +3,7 @@ use Rattle.std.proofs.lemmas.Result.{IfOk-weaker}
 use Rattle.std.specs.Borrow.{Bor}
 use Rattle.clap.specs.Words.{found_of}
 use Rattle.cap_line.proofs.Rows.{values_given}
-use Rattle.cap_line.proofs.job.files_named.Goals as goal
+use Rattle.cap_line.proofs.words.files_named.Goals as goal
 
 abbrev texts : List (Bor (List ℕ)) → List (List ℕ)
 texts files = map (λ f. f.now) files

@@ -1,7 +1,7 @@
 use Rattle.std.proofs.Common.{map}
 use Rattle.clap.specs.Words.{app_of, kind_of}
 use Rattle.cap_line.proofs.Parsing.{IsCapt-simple_and_free, IsRefused-said}
-use Rattle.cap_line.proofs.job.message.Goals as goal
+use Rattle.cap_line.proofs.words.message.Goals as goal
 
 pub returns : goal.returns
 returns g c =

@@ -1,0 +1,66 @@
+-- What a job has, and what a command line's words name in one.
+use Rattle.std.specs.Prelude.{◌&&◌, ◌==◌, ◌≤◌, ℕ, not, Bool, true, false, List, length, codes, count_by, Option, Some, None, is_some, Result, Ok, Err, if◌then◌else◌, nat_lt, option_map, vec_len, IsTrue}
+use Rattle.std.specs.Str.{bytes_eq}
+use Rattle.std.specs.List.{list_any}
+use Rattle.cap_bytes.specs.declared.numbers.Order.{Order}
+use Rattle.cap_bytes.specs.declared.numbers.Order.TheVariants.{Big, Little}
+use Rattle.cap_source.specs.declared.packets.Format.{Format}
+use Rattle.cap_source.specs.declared.packets.Format.TheVariants.{Pcap, Pcapng}
+use Rattle.cap_jobs.specs.declared.jobs.Job.{Job}
+use Rattle.cap_jobs.specs.declared.jobs.Task.{Task}
+use Rattle.cap_jobs.specs.declared.jobs.Task.TheVariants as tasks
+use Rattle.cap_jobs.specs.declared.faults.LineFault.{LineFault}
+use Rattle.cap_jobs.specs.declared.faults.LineFault.TheVariants.{Line, Files, Input, Output}
+
+-- whether the output is one of the files, and not standard output
+abbrev pub is_also_file : Option (List ℕ) → List (List ℕ) → Bool
+is_also_file None files = false
+is_also_file (Some out) files = not (bytes_eq out (codes "-")) && list_any (λ f. bytes_eq f out) files
+
+-- the task that a subcommand's name is for
+abbrev pub task_by : List ℕ → Option Task
+task_by name =
+    if bytes_eq name (codes "list") then Some tasks.List else
+    if bytes_eq name (codes "blocks") then Some tasks.Blocks else
+    if bytes_eq name (codes "info") then Some tasks.Info else
+    if bytes_eq name (codes "report") then Some tasks.Report else
+    if bytes_eq name (codes "convert") then Some tasks.Convert else
+    if bytes_eq name (codes "merge") then Some tasks.Merge else
+    if bytes_eq name (codes "join") then Some tasks.Join else None
+
+-- the order that is named: little if none is
+abbrev pub order_by : Option (List ℕ) → Order
+order_by None = Little
+order_by (Some name) = if bytes_eq name (codes "big") then Big else Little
+
+-- the format that is named
+abbrev pub format_by : Option (List ℕ) → Option Format
+format_by None = None
+format_by (Some name) =
+    if bytes_eq name (codes "pcap") then Some Pcap else if bytes_eq name (codes "pcapng") then Some Pcapng else None
+
+-- what the files and the output that are named are refused by, the first of these: no file, more than 32, standard
+-- input twice, an output other than standard output that is one of them
+abbrev pub files_fault : List (List ℕ) → Option (List ℕ) → Result (Unit {0}) LineFault
+files_fault files out =
+    if nat_lt (length files) 1 then Err Line else
+    if nat_lt 32 (length files) then Err Files else
+    if nat_lt 1 (count_by (λ f. bytes_eq f (codes "-")) files) then Err Input else
+    if is_also_file out files then Err Output else Ok tt
+
+-- whether a task has what it takes, with that many files: one file if it is of one, a format for `convert`, an output
+-- if it writes one
+abbrev pub is_whole : Task → ℕ → Option Format → Option (List ℕ) → Bool
+is_whole tasks.List files to out = files == 1
+is_whole tasks.Blocks files to out = files == 1
+is_whole tasks.Info files to out = true
+is_whole tasks.Report files to out = true
+is_whole tasks.Convert files to out = (files == 1) && is_some to && is_some out
+is_whole tasks.Merge files to out = is_some out
+is_whole tasks.Join files to out = is_some out
+
+-- A job has 1 to 32 files, and all that its task takes.
+pub record IsWhole (job : Job) : Type 0 where
+  pub some : 1 ≤ vec_len job.files
+  pub most : vec_len job.files ≤ 32
+  pub taken : IsTrue (is_whole job.task (vec_len job.files) job.to (option_map (λ o. o.now) job.out))

@@ -1,0 +1,146 @@
+//! Jobs, and what the words of a command line name in one.
+ghost use Rattle.std.specs.Prelude.{◌≡◌, map, count_by, codes, option_map};
+ghost use Rattle.std.specs.List.{list_any};
+ghost use Rattle.std.specs.Str.{bytes_eq};
+ghost use Rattle.cap_jobs.specs.Jobs.{files_fault, format_by, is_also_file, is_whole, order_by, task_by};
+
+use crate::faults::LineFault;
+use cap_bytes::Order;
+use cap_source::Format;
+
+/// What is to be done.
+#[derive(Clone, Copy, Debug, PartialEq, Eq)]
+pub enum Task {
+    /// Print a line for each packet of a file.
+    List,
+    /// Print a line for each block of a pcapng file.
+    Blocks,
+    /// Print a line for each of some files.
+    Info,
+    /// Print what is counted of some files, and a line for each conversation.
+    Report,
+    /// Write the packets of a file in one of the formats.
+    Convert,
+    /// Write the packets of files as one pcapng file, in the order of time.
+    Merge,
+    /// Write the whole IPv4 datagrams of files as one pcapng file, in the order of time.
+    Join,
+}
+
+/// What the command line asks for.
+#[derive(Drop)]
+pub struct Job<'a> {
+    /// What is to be done.
+    pub task: Task,
+    /// The capture files, from 1 to 32, as they were named. `-` is standard input.
+    pub files: Vec<&'a str>,
+    /// Whether a cut end of a file is dropped, and not refused.
+    pub allow_cut: bool,
+    /// The byte order of what is written.
+    pub order: Order,
+    /// The format that is written, if it was asked for.
+    pub to: Option<Format>,
+    /// The file that is written, if one was named. `-` is standard output.
+    pub out: Option<&'a str>,
+}
+
+/// The task of that name, if it is one's: `list`, `blocks`, `info`, `report`, `convert`, `merge` or `join`.
+pub fn task_of(name: &str) -> Option<Task>
+    ensures { result ≡ task_by name.now }
+{
+    match name {
+        "list" => Some(Task::List),
+        "blocks" => Some(Task::Blocks),
+        "info" => Some(Task::Info),
+        "report" => Some(Task::Report),
+        "convert" => Some(Task::Convert),
+        "merge" => Some(Task::Merge),
+        "join" => Some(Task::Join),
+        _ => None,
+    }
+}
+
+/// The byte order of that name: `big` is big, and all else is little, also no name.
+pub fn order_of(name: Option<&str>) -> Order
+    ensures { result ≡ order_by (option_map (λ o. o.now) name.entry) }
+{
+    match name {
+        Some("big") => Order::Big,
+        _ => Order::Little,
+    }
+}
+
+/// The format of that name, if it is one's: `pcap` or `pcapng`.
+pub fn format_of(name: Option<&str>) -> Option<Format>
+    ensures { result ≡ format_by (option_map (λ o. o.now) name.entry) }
+{
+    match name {
+        Some("pcap") => Some(Format::Pcap),
+        Some("pcapng") => Some(Format::Pcapng),
+        _ => None,
+    }
+}
+
+/// Whether a task has what it takes, with that many files: one file if it is of one, a format for `convert`, an
+/// output if it writes one.
+pub fn is_whole(task: Task, files: usize, to: Option<Format>, out: Option<&str>) -> bool
+    ensures { result ≡ is_whole task files to (option_map (λ o. o.now) out.entry) }
+{
+    match task {
+        Task::List | Task::Blocks => files == 1,
+        Task::Info | Task::Report => true,
+        Task::Convert => files == 1 && to.is_some() && out.is_some(),
+        Task::Merge | Task::Join => out.is_some(),
+    }
+}
+
+// How many of the files are standard input.
+fn standard_inputs(files: &[&str]) -> usize
+    ensures { result ≡ count_by (λ f. bytes_eq f (codes "-")) (map (λ f. f.now) files.now) }
+{
+    files.iter().filter(|file| **file == "-").count()
+}
+
+// Whether a file has that name.
+fn is_named(name: &str, files: &[&str]) -> bool
+    ensures { result ≡ list_any (λ f. bytes_eq f.now name.now) files.now }
+{
+    files.iter().any(|file| *file == name)
+}
+
+// Whether the output is one of the files, and not standard output.
+fn is_input(out: Option<&str>, files: &[&str]) -> bool
+    ensures { result ≡ is_also_file (option_map (λ o. o.now) out.entry) (map (λ f. f.now) files.now) }
+{
+    match out {
+        Some(out) => {
+            if out == "-" {
+                false
+            } else {
+                is_named(out, files)
+            }
+        }
+        None => false,
+    }
+}
+
+/// Tests the files and the output that are named. Answers the first of these faults: `Line` if there is no
+/// file, `Files` if there are more than 32, `Input` if standard input, `-`, is named twice, `Output` if the output,
+/// other than `-`, is one of the files. Texts are compared.
+pub fn check_files(files: &[&str], out: Option<&str>) -> Result<(), LineFault>
+    ensures { result ≡ files_fault (map (λ f. f.now) files.now) (option_map (λ o. o.now) out.entry) }
+{
+    if files.is_empty() {
+        return Err(LineFault::Line);
+    }
+    if files.len() > 32 {
+        return Err(LineFault::Files);
+    }
+    if standard_inputs(files) > 1 {
+        return Err(LineFault::Input);
+    }
+    if is_input(out, files) {
+        return Err(LineFault::Output);
+    }
+    Ok(())
+}

@@ -1,0 +1,125 @@
+//! What the words of the command line ask for.
+ghost use Rattle.std.specs.Prelude.{◌≡◌, ◌≢◌, IfSome, IsSome, ◌↔◌, map, codes, option_map, IsTrue, IfOk, Some};
+ghost use Rattle.clap.specs.Values.{kind_of};
+ghost use Rattle.clap.specs.Words.{first_of, rows_of, found_of, subcommand_rows_of};
+ghost use Rattle.cap_jobs.specs.Jobs.{IsWhole};
+ghost use Rattle.cap_line.specs.CommandLine.{fault_by, files_in, IsJobBy, IsJobOf, IsRefused, Parses};
+
+use crate::command::capt;
+use cap_jobs::{Job, LineFault, check_files, format_of, is_whole, order_of, task_of};
+use clap::error::ErrorKind;
+use clap::{ArgMatches, Error};
+use std::alloc::{AllocError, Global};
+use std::convert::AsStr;
+
+// What clap's error is to the user.
+fn fault_by(kind: ErrorKind) -> LineFault
+    ensures { result ≡ fault_by kind }
+{
+    match kind {
+        ErrorKind::DisplayHelp | ErrorKind::DisplayVersion => LineFault::Help,
+        ErrorKind::OutOfMemory => LineFault::Memory,
+        _ => LineFault::Line,
+    }
+}
+
+// The text of clap's error, unless memory ran out.
+fn said_by(alloc: Global, error: Error) -> Option<String>
+    ensures { IsSome result → kind_of error ≢ ErrorKind.OutOfMemory }
+{
+    if error.kind() == ErrorKind::OutOfMemory {
+        return None;
+    }
+    format!(in alloc; "{error}").ok()
+}
+
+// The files that a subcommand names.
+fn files_named<'a>(alloc: Global, matches: &ArgMatches<'a>) -> Result<Vec<&'a str>, AllocError>
+    ensures { IfOk result (λ v. map (λ f. f.now) v.items ≡ files_in (rows_of (found_of matches.now))) }
+{
+    match matches.get_strs("FILE") {
+        Some(files) => Vec::from_slice(alloc, files),
+        None => Ok(Vec::new(alloc)),
+    }
+}
+
+// The first value of an argument.
+#[tactic(auto, using(crate::proofs::Rows::first_value_is))]
+fn text_of<'a>(matches: &ArgMatches<'a>, id: &str) -> Option<&'a str>
+    ensures { option_map (λ s. s.now) result ≡ first_of id.now (rows_of (found_of matches.now)) }
+{
+    matches.get_str(id)
+}
+
+// Whether a flag was given.
+fn is_set(flag: Option<&str>) -> bool
+    ensures { IsTrue result ↔ (option_map (λ s. s.now) flag.entry ≡ Some (codes "true")) }
+{
+    flag == Some("true")
+}
+
+// The job of a subcommand's name and its matches, or what it is refused by.
+fn job_of<'a>(alloc: Global, name: &str, matches: &ArgMatches<'a>) -> Result<Job<'a>, LineFault>
+    ensures { IsJobBy name.now (rows_of (found_of matches.now)) result }
+{
+    let Some(task) = task_of(name) else {
+        return Err(LineFault::Line);
+    };
+    let Ok(files) = files_named(alloc, matches) else {
+        return Err(LineFault::Memory);
+    };
+    let out = text_of(matches, "out");
+    let to = format_of(text_of(matches, "to"));
+    if !is_whole(task, files.len(), to, out) {
+        return Err(LineFault::Line);
+    }
+    check_files(files.as_slice(), out)?;
+    Ok(Job {
+        task,
+        files,
+        allow_cut: is_set(text_of(matches, "allow-cut")),
+        order: order_of(text_of(matches, "order")),
+        to,
+        out,
+    })
+}
+
+// The job of the subcommand that was entered.
+fn job_entered<'a>(alloc: Global, matches: &ArgMatches<'a>) -> Result<Job<'a>, LineFault>
+    ensures { IsJobOf (subcommand_rows_of matches.now) result }
+{
+    match matches.subcommand() {
+        Some((name, inner)) => job_of(alloc, name, inner),
+        None => Err(LineFault::Line),
+    }
+}
+
+/// Reads the words of a command line, the first of which is the program's name. If several faults
+/// hold, it is the first of `Help` and `Line`, as clap meets them, `Files`, `Input`, `Output`;
+/// `Memory` comes if a growth is refused. A job has 1 to 32 files and all that its task takes.
+pub fn parse<'a, S: AsStr>(alloc: Global, words: &'a [S]) -> Result<Job<'a>, LineFault>
+    ensures parses { Parses (map S.text words.entry.now) result }
+    ensures whole { IfOk result IsWhole }
+{
+    let Ok(command) = capt(alloc) else {
+        return Err(LineFault::Memory);
+    };
+    match command.try_get_matches_from(words) {
+        Ok(matches) => job_entered(alloc, &matches),
+        Err(error) => Err(fault_by(error.kind())),
+    }
+}
+
+/// What clap says of words that give no job: help, the version, or a message that names the wrong word. It
+/// says nothing if it takes the words, nor if a growth was refused.
+pub fn message<'a, S: AsStr>(alloc: Global, words: &'a [S]) -> Option<String>
+    ensures { IfSome result (λ text. IsRefused (map S.text words.entry.now)) }
+{
+    let Ok(command) = capt(alloc) else {
+        return None;
+    };
+    match command.try_get_matches_from(words) {
+        Ok(_) => None,
+        Err(error) => said_by(alloc, error),
+    }
+}
