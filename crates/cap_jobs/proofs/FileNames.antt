@@ -1,5 +1,5 @@
 -- The names of files, as references and as texts.
-use Rattle.std.proofs.Common.{◌≡◌, List, ℕ, [], ◌∷◌, Bool, false, not, Some, codes, map, arith}
+use Rattle.std.proofs.Common.{◌≡◌, List, ℕ, [], ◌∷◌, Bool, false, not, Some, codes, map, refl, arith}
 use Rattle.std.specs.Borrow.{Bor}
 use Rattle.std.specs.List.{list_any}
 use Rattle.std.specs.Str.{bytes_eq}

@@ -1,6 +1,5 @@
 -- What is to come of several feeds, by what is known of each.
-use Rattle.std.specs.Cmp.{tied_itself}
-use Rattle.std.proofs.Common.{◌≡◌, ℕ, Bool, true, false, cond, List, [], ◌∷◌, ◌++◌, drop, refl, sym, ap, ◌∙◌, subst, Less, Option, Some, None}
+use Rattle.std.proofs.Common.{◌≡◌, ℕ, true, false, cond, List, [], ◌∷◌, ◌++◌, drop, refl, sym, ap, ◌∙◌, subst, Less, Option, Some, None}
 use Rattle.std.specs.Prelude.{IsTrue, IfSome, is_some}
 use Rattle.std.specs.List.{AllByRecursion}
 use Rattle.std.specs.Ordering.{is_lt, is_gt}
@@ -14,21 +13,12 @@ use Rattle.cap_merge.specs.Lists.{all-back, all-front}
 use Rattle.cap_merge.specs.Clock.{clock_cmp, later}
 use Rattle.cap_merge.specs.Run.{Track, Clocked, run, through_first, HeadClock, IsFirst}
 use Rattle.cap_merge.specs.Parts.{Part, item_time, head_time, known_time, is_refusal, has_next, tracks, run_of}
-use Rattle.cap_merge.specs.Clocks.{clock_total}
 use Rattle.cap_merge.specs.MergedList.{merged-next, merged-none, passed}
 use Rattle.cap_merge.specs.Leading.{Split}
 use Rattle.cap_merge.specs.Sound.{IsSound}
 
 later_stays : (a b : Option Stamp) → is_lt (clock_cmp a b) ≡ false → later a b ≡ a
 later_stays a b e = rw e refl
-
-later_again : (a b : Option Stamp) (t : Bool) → is_lt (clock_cmp a b) ≡ t → is_lt (clock_cmp (cond t b a) b) ≡ false
-later_again a b true e = ap is_lt (tied_itself clock_total b)
-later_again a b false e = e
-
--- a time that was taken note of changes the clock no more
-pub later-again : (a b : Option Stamp) → later (later a b) b ≡ later a b
-later-again a b = later_stays (later a b) b (later_again a b (is_lt (clock_cmp a b)) refl)
 
 -- A part of which something is known: its items begin with it.
 pub leads_known : (p : Part) (h : Head) → IsSound p → IsFeed p.feed → p.lane.head ≡ Some h → IsTrue p.feed.told → Leads (Some h) p.feed.frame p.feed.items

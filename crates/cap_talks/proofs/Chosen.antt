@@ -1,6 +1,6 @@
 -- The least of some things in an order, one after another: of those alike the one that came first.
 use Rattle.std.proofs.Common.{arith, ◌≡◌, true, false, cond, ap, Ordering, Less, Option, Some, None}
-use Rattle.std.specs.Ordering.{is_lt, is_gt, ordering_reverse}
+use Rattle.std.specs.Ordering.{is_lt}
 use Rattle.std.specs.Cmp.{IsTotalOrder}
 
 -- of two things the one that comes first, else the former, or the only one
@@ -11,12 +11,6 @@ chosen cmp (Some a) (Some b) = cond (is_lt (cmp b a)) (Some b) (Some a)
 
 is_less : (r : Ordering) → is_lt r ≡ true → r ≡ Less
 is_less r h = grind arith
-
-not_below : (r s : Ordering) → r ≡ ordering_reverse s → is_lt s ≡ false → is_gt r ≡ false
-not_below r s e h = grind arith
-
-not_above : (r s : Ordering) → r ≡ ordering_reverse s → is_gt s ≡ false → is_lt r ≡ false
-not_above r s e h = grind arith
 
 module _ {X : Type 0} (cmp : X → X → Ordering) (total : IsTotalOrder cmp) where
   trans : (a b c : X) → is_lt (cmp a b) ≡ true → is_lt (cmp b c) ≡ true → is_lt (cmp a c) ≡ true

@@ -89,9 +89,6 @@ hits_more p ps (plain c ∷ ls) alone = hits_more p ps ls alone
 hits_more p ps (datagram header captured ∷ ls) alone = hits_more p ps ls alone
 hits_more p ps (fragment q ∷ ls) alone = grind (arith, hits_more p ps ls alone)
 
-abbrev one_if : Bool → ℕ
-one_if b = if b then 1 else 0
-
 -- a group whose fragments came, each once, has as many as there are
 pub hits_all : (ps : List Piece) (ls : List Look) → ((n : ℕ) → occurs n ps ≤ here n ls) → ((n : ℕ) → here n ls ≤ 1) → hits ps ls ≡ length ps
 hits_all [] ls came once = hits_none ls

@@ -11,7 +11,6 @@ use Rattle.cap_bytes.specs.declared.numbers.Order.{Order}
 use Rattle.cap_blocks.specs.Reader.{GivesBlock, TakesItem, items_of}
 use Rattle.cap_blocks.specs.declared.blocks.Block.{Block}
 use Rattle.cap_bytes.specs.declared.stops.Stop.{Stop}
-use Rattle.cap_bytes.specs.declared.stops.Stop.TheVariants as stops
 use Rattle.cap_bytes.proofs.Putting.{Putting-all}
 use Rattle.cap_tasks.specs.BlockText.{block_lines, block_text, refusal_by, refusal_of}
 use Rattle.cap_bytes.specs.Printing.{Prints}

@@ -1,10 +1,6 @@
 -- The line that shows how far a run is.
 use Rattle.std.specs.Prelude.{ℕ, ◌-◌, ◌*◌, ◌/◌, ◌%◌, List, [], ◌++◌, codes, decimal, nat_lt, ◌||◌, nat_eq, not, if◌then◌else◌, Option, Some, None}
 
--- a number of tenths
-abbrev pub tenths_text : ℕ → List ℕ
-tenths_text n = decimal (n / 10) ++ codes "." ++ decimal (n % 10)
-
 -- a number of bytes, in millions or thousands of millions, rounded down to a tenth
 abbrev pub amount_text : ℕ → List ℕ
 amount_text bytes =

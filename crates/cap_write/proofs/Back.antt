@@ -1,7 +1,6 @@
 -- Written pcapng blocks, read back.
-use Rattle.std.proofs.Common.{◌≡◌, ◌==◌, ℕ, ℤ, pos, ◌+◌, ◌*◌, ◌^◌, ◌≤◌, ◌<◌, nat_lt, slice_get, List, [], ◌∷◌, length, drop, Bool, true, false, Some, None, unwrap_or, Ok, Err, refl, sym, ap, ◌∙◌, arith, append-nil, if◌then◌else◌}
+use Rattle.std.proofs.Common.{◌≡◌, ◌==◌, ℕ, ℤ, pos, ◌+◌, ◌*◌, ◌^◌, ◌≤◌, ◌<◌, slice_get, List, [], ◌∷◌, length, drop, Bool, true, false, Some, None, unwrap_or, Ok, Err, refl, sym, ap, ◌∙◌, arith, append-nil, if◌then◌else◌}
 use Rattle.std.proofs.lemmas.Bool.{eq-eqb}
-use Rattle.std.proofs.lemmas.Bool.Decides.{nat_tests}
 use Rattle.std.proofs.lemmas.Int.{to_z-of_z}
 use Rattle.std.proofs.Math.Facts.{Fits-lt-pow, Fits-of_z}
 use Rattle.std.specs.Prelude.{FitsSigned}
@@ -54,9 +53,6 @@ unwritten offset zero fits is = grind arith
 with_fields : (i : Interface) (link snaplen : ℕ) (offset : ℤ) → link ≡ i.link → snaplen ≡ i.snaplen → offset ≡ i.offset
     → record { link = link; snaplen = snaplen; resolution = i.resolution; offset = offset } ≡ i
 with_fields i link snaplen offset a b c = rw (a, b, c) refl
-
-not_above : (a b : ℕ) → a ≤ b → nat_lt b a ≡ false
-not_above a b h = grind (arith, nat_tests)
 
 -- the interface of a written interface block is that interface
 pub interface_in-written : (before : ℕ) (order : Order) (i : Interface) → before < 1024 → i.link < 2 ^ 16 → i.snaplen < 2 ^ 32 → FitsSigned w64 i.offset

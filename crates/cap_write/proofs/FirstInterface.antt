@@ -153,9 +153,6 @@ first-of tail file bytes i are is = by (is_pcapng bytes) is
 some-none : {A : Type 0} (a : A) → Some a ≡ None → ⊥
 some-none a e = cc
 
-none-some : {A : Type 0} (a : A) → None ≡ Some a → ⊥
-none-some a e = cc
-
 -- if none stands before the next item or the end, none was read before
 none-before : (progress : Progress) (items : List (pieces.Item Block)) → first_in progress items ≡ None → progress.first ≡ None
 unfolding first_in

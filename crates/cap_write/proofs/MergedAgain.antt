@@ -1,5 +1,5 @@
 -- A merged file, read again.
-use Rattle.std.proofs.Common.{◌≡◌, ◌==◌, ◌&&◌, ℕ, suc, ◌+◌, ◌≤◌, ◌<◌, map, nat_le, not, slice_get, List, [], ◌∷◌, ◌++◌, length, Bool, true, false, Option, Some, None, is_none, refl, sym, ap, ◌∙◌, subst, arith, length-append}
+use Rattle.std.proofs.Common.{◌≡◌, ◌==◌, ◌&&◌, ℕ, suc, ◌≤◌, ◌<◌, map, nat_le, not, slice_get, List, [], ◌∷◌, ◌++◌, length, Bool, true, false, Option, Some, None, is_none, refl, sym, ap, ◌∙◌, subst, arith, length-append}
 use Rattle.std.proofs.lemmas.Bool.{eq-eqb, ne_eqb, false≢true}
 use Rattle.std.specs.List.{list_any, position_or_len}
 use Rattle.cap_bytes.specs.declared.faults.Rule.{Rule}
@@ -10,22 +10,12 @@ use Rattle.cap_write.proofs.Places.{position_or_len-none, position_or_len-some}
 use Rattle.cap_write.specs.Laws.{AllFit, AllHave, IsNumbered, described, all_described}
 use Rattle.cap_write.specs.Numbering.{Origin, origin_of, is_origin, is_used, number_of, with_origin, is_full, write_fault, numbered_of, numbered_or, numbered}
 
--- origins are equal if they are told to be
-abbrev pair : ℕ → ℕ → Origin
-pair x y = (x, y)
-
 both : (x y : Bool) → (x && y) ≡ true → (x ≡ true) × (y ≡ true)
 both x y h = grind arith
-
-is_origin-same : (a b : Origin) → is_origin a b ≡ true → a ≡ b
-is_origin-same a b h = grind arith
 
 -- the interfaces of some origins
 abbrev pub given_all : (Origin → Interface) → List Origin → List Interface
 given_all given origins = map given origins
-
-further : (i : Interface) (is : List Interface) (k : ℕ) → slice_get (i ∷ is) (1 + k) ≡ slice_get is k
-further i is k = grind arith
 
 -- an origin that was used stands at its place
 at_place : (given : Origin → Interface) (a : Origin) (origins : List Origin) → list_any (is_origin a) origins ≡ true

@@ -1,11 +1,10 @@
 -- A file of either format, written as pcap and read again.
-use Rattle.std.proofs.Common.{◌≡◌, ◌==◌, ℕ, ℤ, pos, ◌+◌, ◌*◌, ◌/◌, ◌%◌, ◌^◌, ◌≤◌, ◌<◌, List, [], ◌∷◌, ◌++◌, length, Bool, Option, Some, None, Equal, refl, sym, ap, ◌∙◌, subst, arith, if◌then◌else◌}
+use Rattle.std.proofs.Common.{◌≡◌, ◌==◌, ℕ, ℤ, pos, ◌+◌, ◌*◌, ◌/◌, ◌%◌, ◌^◌, ◌≤◌, ◌<◌, List, [], ◌∷◌, ◌++◌, length, Bool, Option, Some, None, Equal, refl, sym, ap, ◌∙◌, subst, arith}
 use Rattle.std.proofs.lemmas.Nat.{div-mul-add, mod-mul-add}
 use Rattle.std.specs.List.{AllByRecursion, AllZip}
 use Rattle.std.specs.Option.{MatchOption, option_map}
 use Rattle.std.specs.Prelude.{nat_abs}
 use Rattle.cap_bytes.specs.declared.faults.Refusal.{Refusal}
-use Rattle.cap_bytes.specs.declared.faults.Rule.TheVariants.{TimeRange}
 use Rattle.cap_bytes.specs.declared.faults.Tail.{Tail}
 use Rattle.cap_bytes.specs.declared.numbers.Order.{Order}
 use Rattle.cap_merge.specs.Clock.{clock_cmp}
@@ -31,7 +30,7 @@ use Rattle.cap_write.proofs.Records.{fault_by}
 use Rattle.cap_write.proofs.RoundTrip.{first-header, items-written}
 use Rattle.cap_write.proofs.Trips.{units_of-unit}
 use Rattle.cap_write.specs.Laws.{AllWritten, record_form, records_form, IsSamePacket, SamePackets, written_first, PcapAgain}
-use Rattle.cap_write.specs.Pcap.{fraction_of, header_of, whole_time, is_in_range, record_fault, time_in, written_time, time_bytes, packet_record, records_bytes, records_refusal, bare_refusal, pcap_bytes, pcap_refusal}
+use Rattle.cap_write.specs.Pcap.{fraction_of, header_of, whole_time, record_fault, time_in, written_time, time_bytes, packet_record, records_bytes, records_refusal, bare_refusal, pcap_bytes, pcap_refusal}
 use Rattle.cap_write.specs.Texts.{text_or}
 
 some-none : {A : Type 0} (a : A) → Some a ≡ None → ⊥
@@ -48,11 +47,6 @@ record IsTimed (first : Interface) (meta : Meta) : Type 0 where
   rest : ℕ
   time : whole_time (fraction_of first) meta.interface units ≡ Some (pos seconds, rest)
   few : seconds < 2 ^ 32
-
-in_range : (first : Interface) (meta : Meta) (units : ℕ) → meta.units ≡ Some units → meta.interface.link ≡ first.link → (seconds : ℤ) (rest : ℕ)
-    → whole_time (fraction_of first) meta.interface units ≡ Some (seconds, rest) → (fits : Bool) → is_in_range seconds ≡ fits
-    → (if fits then None else Some TimeRange) ≡ None → IsTimed first meta
-in_range first meta units is link seconds rest time fits' fits none = grind arith
 
 timed_by : (first : Interface) (meta : Meta) (units : Option ℕ) (same : Bool) → meta.units ≡ units → (meta.interface.link == first.link) ≡ same
     → fault_by units same (fraction_of first) meta.interface ≡ None → IsTimed first meta

@@ -1,15 +1,14 @@
 -- Files that are read one by one.
-use Rattle.std.proofs.Common.{◌≡◌, ◌<◌, ◌+◌, ℕ, suc, Bool, true, List, [], ◌∷◌, ◌++◌, length, map, take, drop, get_or, arith, Option, None, Ok, Err, append_assoc}
+use Rattle.std.proofs.Common.{◌≡◌, ◌<◌, ◌+◌, ℕ, suc, Bool, true, List, [], ◌∷◌, ◌++◌, length, map, take, drop, get_or, arith, None, Ok, Err, append_assoc}
 use Rattle.std.specs.Prelude.{◌&&◌, Vec}
 use Rattle.std.specs.List.{list_all, list_any}
 use Rattle.std.specs.declared.alloc.Global.{Global}
 use Rattle.cap_bytes.specs.declared.faults.Fault.{Fault}
-use Rattle.cap_bytes.specs.declared.faults.Refusal.{Refusal}
 use Rattle.cap_bytes.specs.declared.faults.Tail.{Tail}
 use Rattle.cap_source.specs.ReadFaults.{FailsAs, FailsOf}
 use Rattle.cap_source.specs.Items.{file_items}
 use Rattle.cap_source.specs.Feed.{refusal_of}
-use Rattle.cap_talks.specs.Files.Lines.{or_else, first_refusal}
+use Rattle.cap_talks.specs.Files.Lines.{first_refusal}
 use Rattle.cap_talks.specs.Files.Reading.{counted_files, CountsFile, CountsFiles}
 use Rattle.cap_talks.specs.declared.files.Counted.{Counted}
 
@@ -36,9 +35,6 @@ pub record AreRead (tail : Tail) (all : List (List ℕ)) (place : ℕ) (read : L
   pub counted : read ++ counted_files tail (1 + place) (drop place all) ≡ counted_files tail 1 all
   pub refusal : first_refusal tail (1 + place) (drop place all) ≡ first_refusal tail 1 all
   pub before : first_refusal tail 1 (take place all) ≡ None
-
-or_else-none : (a b : Option Refusal) → or_else a b ≡ None → (a ≡ None) × (b ≡ None)
-or_else-none a b h = grind arith
 
 -- if none of the first files is refused and the next isn't either, none of one file more is
 before-more : (tail : Tail) (file : ℕ) (all : List (List ℕ)) (place : ℕ) (bytes : List ℕ) (rest : List (List ℕ)) → drop place all ≡ bytes ∷ rest

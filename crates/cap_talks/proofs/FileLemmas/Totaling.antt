@@ -1,5 +1,5 @@
 -- What is counted of each file and of all, packet by packet.
-use Rattle.std.proofs.Common.{rules, ◌≡◌, ℕ, zero, suc, ◌+◌, ◌*◌, ◌^◌, ◌≤◌, ◌<◌, ◌==◌, Bool, true, false, List, [], ◌∷◌, ◌++◌, length, nat_lt, refl, ap, ◌∙◌, arith, append-nil, length-append, drop, take_at}
+use Rattle.std.proofs.Common.{rules, ◌≡◌, ℕ, zero, suc, ◌+◌, ◌*◌, ◌^◌, ◌≤◌, ◌<◌, ◌==◌, Bool, true, List, [], ◌∷◌, ◌++◌, length, nat_lt, refl, ap, ◌∙◌, arith, append-nil, length-append, drop, take_at}
 use Rattle.std.specs.Prelude.{replicate, slice_set, slice_index_or, if◌then◌else◌}
 use Rattle.std.specs.List.{AllByRecursion, refill}
 use Rattle.std.proofs.lemmas.Bool.Decides.{nat_tests}
@@ -20,9 +20,6 @@ one-more (suc n) x = ap (λ l. x ∷ l) (one-more n x)
 -- the counts of the packet's own file, and of another
 own : (xs : List Taken) (x : Taken) (file : ℕ) → (x.meta.file == file) ≡ true → counted (metas_of file (x ∷ xs)) ≡ with_packet (counted (metas_of file xs)) x.meta
 own xs x file is = ap (λ (b : Bool). counted (metas_of file xs ++ (if b then x.meta ∷ [] else []))) is ∙ counted-more (metas_of file xs) x.meta
-
-other : (xs : List Taken) (x : Taken) (file : ℕ) → (x.meta.file == file) ≡ false → counted (metas_of file (x ∷ xs)) ≡ counted (metas_of file xs)
-other xs x file is = ap (λ (b : Bool). counted (metas_of file xs ++ (if b then x.meta ∷ [] else []))) is ∙ ap counted (append-nil (metas_of file xs))
 
 -- files of other numbers stay as they are
 apart : (xs : List Taken) (x : Taken) (first count : ℕ) → x.meta.file < first → counts_from first count (x ∷ xs) ≡ counts_from first count xs
