@@ -3,21 +3,23 @@ use Rattle.std.proofs.Common.{arith, ◌≡◌, ℕ, List, ◌++◌, length, Opt
 use Rattle.cap_source.specs.declared.feeds.Ending.{Ending}
 use Rattle.cap_talks.specs.Classes.{classes, counts_of}
 use Rattle.cap_talks.specs.CountedUnits.{units_of, joined_in, given_up_in}
-use Rattle.cap_talks.specs.Files.Lines.{files_text, lines_from}
+use Rattle.cap_talks.specs.Files.Lines.{files_text}
+use Rattle.cap_talks.specs.Files.Reading.{ended_from, counted_texts}
 use Rattle.cap_talks.specs.ReportText.{files_part, body_text, text_of, total_text, frames_text, joined_text, bytes_of, truncated_of}
 use Rattle.cap_talks.specs.Taken.{Taken}
 use Rattle.cap_talks.specs.Talks.{rows_of}
 use Rattle.cap_talks.specs.Talks.Lines.{talk_texts, talks_text}
 use Rattle.cap_talks.specs.Tallies.{TallyState, Stands, tally_text}
 use Rattle.cap_talks.specs.Files.Totals.{TotalsState, TotalsStand}
-use Rattle.cap_talks.proofs.FileLemmas.TableLines.{lines-counted}
+use Rattle.cap_talks.specs.declared.files.Counted.{Counted}
+use Rattle.cap_talks.proofs.FileLemmas.TableLines.{ended-texts, ended-length, lines-counted}
 use Rattle.cap_talks.proofs.Waiting.{given-up}
 
 -- the lines of the files
-pub files-are : (e : Option (ℕ → Ending)) (t : TotalsState) (xs : List Taken) → TotalsStand t xs
-    → files_text (length t.files) ++ lines_from e 1 t.files ≡ files_part (length t.files) e xs
+files-are : (e : Option (ℕ → Ending)) (t : TotalsState) (xs : List Taken) (ended : List Counted) → TotalsStand t xs → ended ≡ ended_from e 1 t.files
+    → files_text (length ended) ++ counted_texts 1 ended ≡ files_part (length t.files) e xs
 unfolding files_part
-files-are e t xs s = grind (arith, lines-counted)
+files-are e t xs ended s is = grind (arith, ended-texts, ended-length, lines-counted)
 
 -- the lines of a tally
 tally-is : (t : TallyState) (xs : List Taken) (next : Option Taken) → Stands t xs next
@@ -39,6 +41,7 @@ body-is t u xs next s k =
     (talks_text (length (rows_of (units_of xs)))) (talk_texts (rows_of (units_of xs)))
 
 -- the whole report
-pub text-is : (e : Option (ℕ → Ending)) (t : TotalsState) (u : TallyState) (xs : List Taken) (next : Option Taken) → TotalsStand t xs → Stands u xs next
-    → (files_text (length t.files) ++ lines_from e 1 t.files) ++ (total_text t.packets t.bytes t.truncated ++ tally_text u) ≡ text_of (length t.files) e xs
-text-is e t u xs next s k = λ i. files-are e t xs s i ++ body-is t u xs next s k i
+pub text-is : (e : Option (ℕ → Ending)) (t : TotalsState) (u : TallyState) (xs : List Taken) (next : Option Taken) (ended : List Counted)
+    → TotalsStand t xs → Stands u xs next → ended ≡ ended_from e 1 t.files
+    → (files_text (length ended) ++ counted_texts 1 ended) ++ (total_text t.packets t.bytes t.truncated ++ tally_text u) ≡ text_of (length t.files) e xs
+text-is e t u xs next ended s k is = λ i. files-are e t xs ended s is i ++ body-is t u xs next s k i

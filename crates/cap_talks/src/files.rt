@@ -20,11 +20,11 @@ use cap_bytes::{Fault, Sink, Source, Tail, put_all};
 use cap_source::{Capture, Ending, Head, PacketFeed, next_packet};
 use std::alloc::Global;
 
-// What is counted of a file, and how it ended.
-#[derive(Clone, Copy)]
+// What is counted of a file, and how it has ended, if that is told.
+#[derive(Clone, Copy, Default)]
 pub struct Counted {
     pub counts: Counts,
-    pub ending: Ending,
+    pub ending: Option<Ending>,
 }
 
 // Takes all packets that a feed still gives.
@@ -51,8 +51,10 @@ fn count_file<R: Source>(alloc: Global, source: R, file: u32, tail: Tail) -> Res
 {
     let mut capture = Capture::new(alloc, source, file, tail);
     let counts = count_packets(&mut capture)?;
-    let ending = capture.ending(file);
-    Ok(Counted { counts, ending })
+    Ok(Counted {
+        counts,
+        ending: Some(capture.ending(file)),
+    })
 }
 
 // Reads files whole, one after another, which have the numbers from 1 on.
@@ -84,14 +86,14 @@ fn put_each<W: Sink>(writer: &mut W, counted: &[Counted]) -> Result<(), Fault>
     ensures fault { IsOkUnless result Fault.Write }
 {
     for (place, each) in counted.iter().enumerate() {
-        let line = file_line(place as u32 + 1, &each.counts, Some(each.ending));
+        let line = file_line(place as u32 + 1, &each.counts, each.ending);
         put_all(writer, line.as_slice())?;
     }
     Ok(())
 }
 
-// Writes these lines after one that says how many files there are.
-fn put_lines<W: Sink>(writer: &mut W, counted: &[Counted]) -> Result<(), Fault>
+/// Writes these lines after one that says how many files there are.
+pub fn put_files<W: Sink>(writer: &mut W, counted: &[Counted]) -> Result<(), Fault>
     requires most { length counted.now ≤ 32 }
     ensures text { IsTrue (W.tells_held writer.old)
         → Prints (files_text (length counted.now) ++ counted_texts 1 counted.now) None (W.held writer.old) result (W.held writer.new) }
@@ -123,5 +125,5 @@ pub fn file_lines<R: Source, W: Sink>(
     ensures first { IsTrue (list_all R.tells_coming sources.items) → FailsFirst tail (map R.coming sources.items) result }
 {
     let counted = count_files(alloc, sources, tail)?;
-    put_lines(writer, counted.as_slice())
+    put_files(writer, counted.as_slice())
 }

@@ -1,5 +1,5 @@
 //! The table of a report, step by step.
-ghost use Rattle.std.specs.Prelude.{◌≡◌, ◌+◌, ◌≤◌, ◌^◌, ◌||◌, ◌++◌, List, [], not, false, length, IsTrue, IsOkUnless, Some, None, if◌then◌else◌};
+ghost use Rattle.std.specs.Prelude.{◌≡◌, ◌+◌, ◌≤◌, ◌^◌, ◌||◌, List, [], not, false, length, IsTrue, IsOkUnless, Some, None, if◌then◌else◌};
 ghost use Rattle.std.specs.List.{range_with_len};
 ghost use Rattle.cap_bytes.specs.Device.{WriterKeeps, writer_of};
 ghost use Rattle.cap_bytes.specs.Printing.{Prints, is_write};
@@ -7,19 +7,21 @@ ghost use Rattle.cap_merge.specs.Parts.{feed_of, is_end};
 ghost use Rattle.cap_merge.specs.View.{parts_of};
 ghost use Rattle.cap_source.specs.Feed.{HasFile};
 ghost use Rattle.cap_talks.specs.Files.Props.{IsNumbered-prop};
-ghost use Rattle.cap_talks.specs.Files.Lines.{files_text, ending_at, lines_from};
+ghost use Rattle.cap_talks.specs.Files.Lines.{ending_at};
+ghost use Rattle.cap_talks.specs.Files.Reading.{ended_from};
 ghost use Rattle.cap_talks.specs.Holding.{held_of};
 ghost use Rattle.cap_talks.specs.Stepping.{TableStands, StepKeeps, Steps, AnswersAgain, endings_so_far};
 ghost use Rattle.cap_talks.specs.ReportText.{refusal_at, text_of};
 ghost use Rattle.cap_talks.specs.Taken.{Taken};
 
 use crate::files::counts::Counts;
-use crate::files::lines::{file_line, files_line};
 use crate::files::totals::Totals;
+use crate::files::{Counted, put_files};
 use crate::report_lines::total_line;
 use crate::run_packets::RunPacket;
 use crate::talks::TalksFault;
 use crate::tallies::Tally;
+use arrayvec::ArrayVec;
 use cap_bytes::{Fault, Refusal, Rule, Sink, put_all};
 use cap_merge::Merged;
 use cap_source::{Ending, Head, Meta, PacketFeed};
@@ -145,7 +147,8 @@ impl<F: PacketFeed> Table<F> {
         ensures fault { IsOkUnless result Fault.Write }
     {
         let totals = &self.totals;
-        put_files(writer, totals.files(), &self.merged, self.done)?;
+        let counted = with_endings(&self.merged, totals.files(), self.done);
+        put_files(writer, counted.as_slice())?;
         let line = total_line(totals.packets(), totals.bytes(), totals.truncated());
         put_all(writer, line.as_slice())?;
         self.tally.put_lines(writer)
@@ -185,47 +188,23 @@ fn ending_of<F: PacketFeed>(merged: &Merged<F>, done: bool, file: u32) -> Option
     }
 }
 
-// Writes the lines of files, by number.
-fn put_each<F: PacketFeed, W: Sink>(
-    writer: &mut W,
-    files: &[Counts],
+// What is counted of each file, by number, with how it ended, once all have.
+fn with_endings<F: PacketFeed>(
     merged: &Merged<F>,
+    counts: &[Counts],
     done: bool,
-) -> Result<(), Fault>
+) -> ArrayVec<Counted, 32>
     requires end { IsTrue (not done || is_end (feed_of (parts_of merged.now)).known) }
-    requires numbered { (feed_of (parts_of merged.now)).files ≡ range_with_len 1 (length files.now) }
-    requires few { length files.now ≤ 32 }
-    ensures text { IsTrue (W.tells_held writer.old)
-        → Prints (lines_from (if done then Some (feed_of (parts_of merged.now)).endings else None) 1 files.now) None
-        (W.held writer.old) result (W.held writer.new) }
-    ensures writer { WriterKeeps (writer_of W.Sink writer.old) (is_write result) (writer_of W.Sink writer.new) }
-    ensures fault { IsOkUnless result Fault.Write }
+    requires numbered { (feed_of (parts_of merged.now)).files ≡ range_with_len 1 (length counts.now) }
+    requires few { length counts.now ≤ 32 }
+    ensures { result.items ≡ ended_from (if done then Some (feed_of (parts_of merged.now)).endings else None) 1 counts.now }
 {
-    for (place, counts) in files.iter().enumerate() {
-        let file = place as u32 + 1;
-        let line = file_line(file, counts, ending_of(merged, done, file));
-        put_all(writer, line.as_slice())?;
+    let mut counted = ArrayVec::new();
+    for (place, each) in counts.iter().enumerate() {
+        counted.push(Counted {
+            counts: *each,
+            ending: ending_of(merged, done, place as u32 + 1),
+        });
     }
-    Ok(())
-}
-
-// Writes these lines after one that says how many files there are.
-fn put_files<F: PacketFeed, W: Sink>(
-    writer: &mut W,
-    files: &[Counts],
-    merged: &Merged<F>,
-    done: bool,
-) -> Result<(), Fault>
-    requires end { IsTrue (not done || is_end (feed_of (parts_of merged.now)).known) }
-    requires numbered { (feed_of (parts_of merged.now)).files ≡ range_with_len 1 (length files.now) }
-    requires few { length files.now ≤ 32 }
-    ensures text { IsTrue (W.tells_held writer.old)
-        → Prints (files_text (length files.now) ++ lines_from (if done then Some (feed_of (parts_of merged.now)).endings else None) 1 files.now) None
-        (W.held writer.old) result (W.held writer.new) }
-    ensures writer { WriterKeeps (writer_of W.Sink writer.old) (is_write result) (writer_of W.Sink writer.new) }
-    ensures fault { IsOkUnless result Fault.Write }
-{
-    let line = files_line(files.len() as u32);
-    put_all(writer, line.as_slice())?;
-    put_each(writer, files, merged, done)
+    counted
 }

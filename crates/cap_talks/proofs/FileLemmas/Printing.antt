@@ -1,6 +1,6 @@
 -- The lines of files, written one by one.
 use Rattle.std.proofs.lemmas.Grind.{common_steps}
-use Rattle.std.proofs.Common.{◌≡◌, ◌<◌, ◌≤◌, ◌+◌, ℕ, suc, List, [], ◌∷◌, ◌++◌, length, take, drop, get_or, IsTrue, IsOkUnless, refl, sym, ap, ◌∙◌, subst, arith, Option, Some, None, Result, length-append, take_at, drop_at}
+use Rattle.std.proofs.Common.{◌≡◌, ◌<◌, ◌≤◌, ◌+◌, ℕ, suc, List, [], ◌∷◌, ◌++◌, length, take, drop, get_or, IsTrue, IsOkUnless, refl, sym, ap, ◌∙◌, subst, arith, Option, None, Result, length-append, take_at, drop_at}
 use Rattle.cap_bytes.proofs.Putting.{Putting, Putting-more, Putting-front}
 use Rattle.cap_bytes.specs.Device.{Writer}
 use Rattle.cap_bytes.specs.Printing.{Prints, PrintsFront}
@@ -15,7 +15,7 @@ use Rattle.cap_talks.specs.declared.files.Counted.{Counted}
 
 -- the line of the file at a place, and those after it
 pub texts-at : (all : List Counted) (place file : ℕ) (it : Counted) → it ≡ get_or all place it → place < length all
-    → counted_texts file (drop place all) ≡ file_text file it.counts (Some it.ending) ++ counted_texts (file + 1) (drop (suc place) all)
+    → counted_texts file (drop place all) ≡ file_text file it.counts it.ending ++ counted_texts (file + 1) (drop (suc place) all)
 texts-at (c ∷ all) (suc place) file it is within = texts-at all place file it is (omega arith)
 texts-at all place file it is within = grind arith
 
@@ -25,7 +25,7 @@ texts-none all place file past = grind (arith, common_steps)
 
 -- one line more is written
 pub lines-more : (from mid to : Writer) (all : List Counted) (place : ℕ) (it : Counted) (line : List ℕ) → it ≡ get_or all place it → place < length all
-    → line ≡ file_text (place + 1) it.counts (Some it.ending)
+    → line ≡ file_text (place + 1) it.counts it.ending
     → Putting from mid (counted_texts 1 all) (counted_texts (place + 1) (drop place all))
     → (IsTrue mid.told → to.held ≡ mid.held ++ line) → (IsTrue mid.told → IsTrue to.told) → (IsTrue to.can_fail → IsTrue mid.can_fail)
     → Putting from to (counted_texts 1 all) (counted_texts (place + 1 + 1) (drop (place + 1) all))
@@ -43,7 +43,7 @@ lines-more from mid to all place it line is within text p wrote told cannot =
 
 -- the writer fails in a line
 pub lines-front : (from mid : Writer) (held : List ℕ) (all : List Counted) (place : ℕ) (it : Counted) (line : List ℕ) (n : ℕ) → it ≡ get_or all place it → place < length all
-    → line ≡ file_text (place + 1) it.counts (Some it.ending)
+    → line ≡ file_text (place + 1) it.counts it.ending
     → Putting from mid (counted_texts 1 all) (counted_texts (place + 1) (drop place all)) → IsTrue from.told → held ≡ mid.held ++ take n line
     → PrintsFront (counted_texts 1 all) from.held held
 lines-front from mid held all place it line n is within text p t wrote =

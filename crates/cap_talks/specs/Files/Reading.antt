@@ -1,13 +1,14 @@
 -- What reading a file whole, to count its packets, answers.
-use Rattle.std.specs.Prelude.{◌≡◌, ℕ, ◌+◌, ◌-◌, List, [], ◌∷◌, ◌++◌, take, Vec, Some, None, Result, Ok, Err, ⊤}
+use Rattle.std.specs.Prelude.{◌≡◌, ℕ, ◌+◌, ◌-◌, List, [], ◌∷◌, ◌++◌, take, Vec, Option, Some, None, Result, Ok, Err, ⊤}
 use Rattle.std.specs.declared.alloc.Global.{Global}
 use Rattle.cap_bytes.specs.declared.faults.Fault.{Fault}
 use Rattle.cap_bytes.specs.declared.faults.Fault.TheVariants.{Refused, Read, Write, Memory}
 use Rattle.cap_bytes.specs.declared.faults.Tail.{Tail}
 use Rattle.cap_source.specs.Feed.{Feed, refusal_of}
 use Rattle.cap_source.specs.Items.{file_items, file_ending}
+use Rattle.cap_source.specs.declared.feeds.Ending.{Ending}
 use Rattle.cap_talks.specs.Files.Counting.{packets_of, counted}
-use Rattle.cap_talks.specs.Files.Lines.{file_text, first_refusal}
+use Rattle.cap_talks.specs.Files.Lines.{file_text, first_refusal, ending_at}
 use Rattle.cap_talks.specs.declared.files.counts.Counts.{Counts}
 use Rattle.cap_talks.specs.declared.files.Counted.{Counted}
 
@@ -23,7 +24,7 @@ CountsAll old (Err Memory) new = ⊤
 -- the same of the file of that number with those bytes
 abbrev pub counted_of : Tail → ℕ → List ℕ → Counted
 counted_of tail file bytes =
-    record { counts = counted (packets_of (file_items tail file bytes)); ending = file_ending tail file bytes }
+    record { counts = counted (packets_of (file_items tail file bytes)); ending = Some (file_ending tail file bytes) }
 
 abbrev pub CountsFile : Tail → ℕ → List ℕ → Result Counted Fault → Type 0
 CountsFile tail file bytes (Ok it) = (refusal_of (file_items tail file bytes) ≡ None) × (it ≡ counted_of tail file bytes)
@@ -52,7 +53,12 @@ FailsFirst tail files (Err (Read f offset)) = first_refusal tail 1 (take (f - 1)
 FailsFirst tail files (Err Write) = ⊤
 FailsFirst tail files (Err Memory) = ⊤
 
+-- what is counted of files, with how each has ended, if that is told, from that number on
+abbrev pub ended_from : Option (ℕ → Ending) → ℕ → List Counts → List Counted
+ended_from endings file [] = []
+ended_from endings file (counts ∷ rest) = record { counts = counts; ending = ending_at endings file } ∷ ended_from endings (file + 1) rest
+
 -- the lines of files that were counted, from that number on
 abbrev pub counted_texts : ℕ → List Counted → List ℕ
 counted_texts file [] = []
-counted_texts file (it ∷ rest) = file_text file it.counts (Some it.ending) ++ counted_texts (file + 1) rest
+counted_texts file (it ∷ rest) = file_text file it.counts it.ending ++ counted_texts (file + 1) rest

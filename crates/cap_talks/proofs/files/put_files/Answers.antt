@@ -3,7 +3,7 @@ use Rattle.std.proofs.lemmas.Result.{err_from_is_err_and}
 use Rattle.cap_bytes.proofs.Putting.{Prints-head, Prints-behind}
 use Rattle.cap_talks.specs.Files.Lines.{files_text}
 use Rattle.cap_talks.specs.Files.Reading.{counted_texts}
-use Rattle.cap_talks.proofs.files.put_lines.Goals as goal
+use Rattle.cap_talks.proofs.files.put_files.Goals as goal
 
 pub returns-in_err-put_all-clause-text : goal.returns-in_err-put_all-clause-text
 returns-in_err-put_all-clause-text g c = λ w.
