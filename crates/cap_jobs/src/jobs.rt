@@ -8,6 +8,9 @@ use crate::faults::LineFault;
 use cap_bytes::Order;
 use cap_source::Format;
 
+// How many files a command reads at most.
+const FILES_LIMIT: usize = 32;
+
 /// What is to be done.
 #[derive(Clone, Copy, Debug, PartialEq, Eq)]
 pub enum Task {
@@ -133,7 +136,7 @@ pub fn check_files(files: &[&str], out: Option<&str>) -> Result<(), LineFault>
     if files.is_empty() {
         return Err(LineFault::Line);
     }
-    if files.len() > 32 {
+    if files.len() > FILES_LIMIT {
         return Err(LineFault::Files);
     }
     if standard_inputs(files) > 1 {

@@ -14,3 +14,4 @@ pub mod Rounds
 pub mod FromClock
 pub mod Unread
 pub mod Shown
+pub mod RunItems

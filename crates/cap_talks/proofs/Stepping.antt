@@ -7,6 +7,7 @@ use Rattle.cap_bytes.specs.declared.faults.Fault.TheVariants.{Read, Memory}
 use Rattle.cap_bytes.specs.declared.faults.Refusal.{Refusal}
 use Rattle.cap_join.specs.declared.datagrams.Datagram.{Datagram}
 use Rattle.cap_join.specs.Joiners.{JoinerState}
+use Rattle.cap_merge.proofs.RunItems.{items-of-run, first-of-run}
 use Rattle.cap_merge.specs.Merge.{LearnsBy, LearnsAll}
 use Rattle.cap_merge.specs.Parts.{Part, feed_of, run_of, clock_of, known_of, is_known, head_by, first_of, BeginsAt}
 use Rattle.cap_merge.specs.Run.{Clocked}
@@ -72,19 +73,8 @@ next-is qs meta clock frame known c f = λ i. next_by (known i) (sym c i) (sym f
 
 -- ---- the run
 
-items-of-run : (ps : List Part) → (feed_of ps).items ≡ map (λ x. x.item) (run_of ps)
-unfolding feed_of
-items-of-run ps = refl
-
 leads_by : (feed : Feed) (head : Head) → IsFeed feed → IsTrue feed.told → feed.known ≡ Some head → Leads (Some head) feed.frame feed.items
 leads_by feed head law t known = subst (λ (k : Option Head). Leads k feed.frame feed.items) known (law.leads t)
-
-first-of-run : (xs : List (Clocked Item)) (clock : Option Stamp) (i : Item) (rest : List Item) → BeginsAt clock xs → map (λ x. x.item) xs ≡ i ∷ rest
-    → xs ≡ record { clock = clock; item = i } ∷ drop 1 xs
-first-of-run [] clock i rest b e = absurd b
-first-of-run (x ∷ xs) clock i rest b e =
-    let same : x.item ≡ i = cc in
-    λ j. record { clock = b j; item = same j } ∷ xs
 
 -- the run begins with the packet that is known to come next
 pub run-packet : (ps qs : List Part) (meta : Meta) (clock : Option Stamp) (frame : List ℕ) → IsFeed (feed_of qs) → IsTrue (feed_of qs).told

@@ -12,14 +12,14 @@ use Rattle.cap_talks.specs.Talks.Lines.{talk_texts, talks_text}
 use Rattle.cap_talks.specs.Tallies.{TallyState, Stands, tally_text}
 use Rattle.cap_talks.specs.Files.Totals.{TotalsState, TotalsStand}
 use Rattle.cap_talks.specs.declared.files.Counted.{Counted}
-use Rattle.cap_talks.proofs.FileLemmas.TableLines.{ended-texts, ended-length, lines-counted}
+use Rattle.cap_talks.proofs.FileLemmas.TableLines.{ended-length, lines-counted}
 use Rattle.cap_talks.proofs.Waiting.{given-up}
 
 -- the lines of the files
 files-are : (e : Option (ℕ → Ending)) (t : TotalsState) (xs : List Taken) (ended : List Counted) → TotalsStand t xs → ended ≡ ended_from e 1 t.files
     → files_text (length ended) ++ counted_texts 1 ended ≡ files_part (length t.files) e xs
 unfolding files_part
-files-are e t xs ended s is = grind (arith, ended-texts, ended-length, lines-counted)
+files-are e t xs ended s is = grind (arith, ended-length, lines-counted)
 
 -- the lines of a tally
 tally-is : (t : TallyState) (xs : List Taken) (next : Option Taken) → Stands t xs next

@@ -9,6 +9,7 @@ use Rattle.cap_bytes.specs.declared.faults.Rule.{Rule}
 use Rattle.cap_bytes.specs.declared.numbers.Order.{Order}
 use Rattle.cap_join.specs.History.{Event}
 use Rattle.cap_join.specs.Joiners.{JoinerState, StandsFor}
+use Rattle.cap_merge.proofs.RunItems.{items-of-run, first-of-run}
 use Rattle.cap_merge.specs.Parts.{Part, feed_of, run_of, BeginsAt}
 use Rattle.cap_merge.specs.Run.{Clocked}
 use Rattle.cap_source.proofs.Onward.{Went, Went-more}
@@ -99,15 +100,6 @@ Prints-part order fault text refusal from mid held origins all items rest split 
         Prints-front fault text (text_behind order origins items) (text_behind order (origins_behind origins items) rest) refusal from mid held
         (subst (Putting from mid text) (ap (text_behind order origins) split ∙ (behind order origins items rest is).0) p) t
         (subst (λ s. Prints {A = Unit {0}} (text_behind order origins items) s mid.held (Err fault) held) is prints)
-
--- the run, by its items
-pub items-of-run : (ps : List Part) → (feed_of ps).items ≡ map (λ x. x.item) (run_of ps)
-unfolding feed_of
-items-of-run ps = refl
-
-first-of-run : (xs : List (Clocked Item)) (clock : Option Stamp) (i : Item) (rest : List Item) → BeginsAt clock xs → map (λ x. x.item) xs ≡ i ∷ rest
-    → xs ≡ record { clock = clock; item = i } ∷ drop 1 xs
-first-of-run xs clock i rest b e = grind arith
 
 run-first : (mid shown new : List Part) (meta : Meta) (frame : List ℕ) (clock : Option Stamp)
     → (feed_of mid).items ≡ packet meta frame ∷ drop 1 (feed_of mid).items → run_of shown ≡ run_of mid → BeginsAt clock (run_of shown) → run_of new ≡ drop 1 (run_of shown)

@@ -4,7 +4,7 @@ use Rattle.std.specs.List.{flat_map, list_any, range_with_len}
 use Rattle.cap_source.specs.Feed.{HasFile}
 use Rattle.cap_source.specs.declared.feeds.Ending.{Ending}
 use Rattle.cap_talks.specs.Files.Counting.{counted}
-use Rattle.cap_talks.specs.Files.Lines.{file_text, ending_at, lines_from}
+use Rattle.cap_talks.specs.Files.Lines.{file_text, ending_at}
 use Rattle.cap_talks.specs.Files.Reading.{ended_from, counted_texts}
 use Rattle.cap_talks.specs.ReportText.{file_line, metas_of}
 use Rattle.cap_talks.specs.Taken.{Taken}
@@ -22,16 +22,11 @@ is-numbered first (suc count) (suc place) within = by (first == first + suc plac
     by b h = grind arith
 is-numbered first count place within = grind arith
 
--- the lines of files with how each has ended
-pub ended-texts : (e : Option (ℕ → Ending)) (file : ℕ) (all : List Counts) → counted_texts file (ended_from e file all) ≡ lines_from e file all
-ended-texts e file [] = refl
-ended-texts e file (c ∷ all) = ap (λ l. file_text file c (ending_at e file) ++ l) (ended-texts e (file + 1) all)
-
 pub ended-length : (e : Option (ℕ → Ending)) (file : ℕ) (all : List Counts) → length (ended_from e file all) ≡ length all
 ended-length e file [] = refl
 ended-length e file (c ∷ all) = ap suc (ended-length e (file + 1) all)
 
 -- the lines of what is counted of each file are those of the report
-pub lines-counted : (e : Option (ℕ → Ending)) (xs : List Taken) (first count : ℕ) → lines_from e first (counts_from first count xs) ≡ flat_map (file_line e xs) (range_with_len first count)
+pub lines-counted : (e : Option (ℕ → Ending)) (xs : List Taken) (first count : ℕ) → counted_texts first (ended_from e first (counts_from first count xs)) ≡ flat_map (file_line e xs) (range_with_len first count)
 lines-counted e xs first zero = refl
 lines-counted e xs first (suc count) = ap (λ l. file_text first (counted (metas_of first xs)) (ending_at e first) ++ l) (lines-counted e xs (first + 1) count)

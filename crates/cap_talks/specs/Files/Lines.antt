@@ -41,11 +41,6 @@ abbrev pub ending_at : Option (ℕ → Ending) → ℕ → Option Ending
 ending_at None file = None
 ending_at (Some endings) file = Some (endings file)
 
--- the lines of files of which that is counted, from that number on
-abbrev pub lines_from : Option (ℕ → Ending) → ℕ → List Counts → List ℕ
-lines_from endings file [] = []
-lines_from endings file (counts ∷ rest) = file_text file counts (ending_at endings file) ++ lines_from endings (file + 1) rest
-
 -- the line that says how many files there are
 abbrev pub files_text : ℕ → List ℕ
 files_text count = codes "files " ++ decimal count ++ codes "\n"
