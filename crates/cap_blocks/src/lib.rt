@@ -16,4 +16,4 @@ pub use crate::blocks::{
 pub use crate::headers::is_section;
 pub use crate::options::Options;
 pub use crate::readers::BlockReader;
-pub use crate::writing::{put_interface, put_packet, put_section};
+pub use crate::writing::{PacketFields, put_interface, put_packet, put_section};

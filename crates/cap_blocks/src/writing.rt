@@ -110,52 +110,51 @@ fn add_offset(buffer: &mut BlockBuffer, order: Order, seconds: u64)
     }
 }
 
-/// Writes an enhanced packet block (draft-ietf-opsawg-pcapng, 4.3) without options: the number of the
-/// interface, the time in its units, and the captured bytes of a packet of the `original` length. It
-/// takes 32 bytes and the captured bytes, padded to a multiple of 4. Answers `Fault::Write`, and no other
-/// fault, if the writer failed: a prefix of the bytes is written then.
+/// What an enhanced packet block tells of its packet beside the captured bytes. draft-ietf-opsawg-pcapng, 4.3.
+#[derive(Clone, Copy, Debug, PartialEq, Eq)]
+pub struct PacketFields {
+    /// The number of its interface in the section, from 0 on.
+    pub interface: u32,
+    /// Its time, in the units of that interface's resolution.
+    pub units: u64,
+    /// How many bytes it had.
+    pub original: u32,
+}
+
+/// Writes an enhanced packet block (draft-ietf-opsawg-pcapng, 4.3) without options, with these fields and
+/// `data`, the captured bytes. It takes 32 bytes and the captured bytes, padded to a multiple of 4. Answers
+/// `Fault::Write`, and no other fault, if the writer failed: a prefix of the bytes is written then.
 pub fn put_packet<W: Sink>(
     writer: &mut W,
     order: Order,
-    interface: u32,
-    units: u64,
-    original: u32,
+    packet: PacketFields,
     data: &[u8],
 ) -> Result<(), Fault>
     requires captured { length «data».now ≤ 262144 }
     ensures bytes { IsTrue (W.tells_held writer.old)
-        → Puts (W.held writer.old) result (W.held writer.new) (packet_bytes order interface units original «data».now) }
+        → Puts (W.held writer.old) result (W.held writer.new) (packet_bytes order packet.interface packet.units packet.original «data».now) }
     ensures writer { WriterKeeps (writer_of W.Sink writer.old) (is_err result) (writer_of W.Sink writer.new) }
     ensures fault { IsOkUnless result Fault.Write }
 {
     let captured = data.len() as u32;
-    put_all(
-        writer,
-        packet_head(order, interface, units, captured, original).bytes(),
-    )?;
+    put_all(writer, packet_head(order, packet, captured).bytes())?;
     put_all(writer, data)?;
     put_all(writer, packet_tail(order, captured).bytes())
 }
 
 // What stands in front of the captured bytes.
-fn packet_head(
-    order: Order,
-    interface: u32,
-    units: u64,
-    captured: u32,
-    original: u32,
-) -> BlockBuffer
+fn packet_head(order: Order, packet: PacketFields, captured: u32) -> BlockBuffer
     requires { captured ≤ 262144 }
-    ensures { result ≡ packet_head order interface units captured original }
+    ensures { result ≡ packet_head order packet.interface packet.units captured packet.original }
 {
     let mut buffer = BlockBuffer::new();
     buffer.add_u32(order, ENHANCED_PACKET);
     buffer.add_u32(order, 32 + padded(captured));
-    buffer.add_u32(order, interface);
-    buffer.add_u32(order, (units >> 32) as u32);
-    buffer.add_u32(order, (units % 0x1_0000_0000) as u32);
+    buffer.add_u32(order, packet.interface);
+    buffer.add_u32(order, (packet.units >> 32) as u32);
+    buffer.add_u32(order, (packet.units % 0x1_0000_0000) as u32);
     buffer.add_u32(order, captured);
-    buffer.add_u32(order, original);
+    buffer.add_u32(order, packet.original);
     buffer
 }
 

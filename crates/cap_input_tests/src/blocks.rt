@@ -4,7 +4,8 @@ ghost use Rattle.std.specs.Prelude.{◌≤◌};
 
 use crate::vectors::{CARRY_PCAPNG, OPTIONS_PCAPNG, refused};
 use cap_blocks::{
-    Block, BlockReader, Options, is_known, is_section, put_interface, put_packet, put_section,
+    Block, BlockReader, Options, PacketFields, is_known, is_section, put_interface, put_packet,
+    put_section,
 };
 use cap_bytes::{Device, Fault, Order, Pieces, Room, Rule, Sink, Source, Tail, Window};
 use cap_time::{Interface, Resolution};
@@ -230,7 +231,12 @@ fn written_blocks(rt: HostRuntime) -> Result<(), Fail> {
     let mut writer = Room::new(Vec::with_capacity(rt.alloc(), 96)?);
     put_section(&mut writer, Order::Little)?;
     put_interface(&mut writer, Order::Little, &interface)?;
-    put_packet(&mut writer, Order::Little, 0, 2_500_000, 4, &[1, 2, 3, 4])?;
+    let fields = PacketFields {
+        interface: 0,
+        units: 2_500_000,
+        original: 4,
+    };
+    put_packet(&mut writer, Order::Little, fields, &[1, 2, 3, 4])?;
     assert_eq!(rt; writer.bytes(), CARRY_PCAPNG.as_slice());
     let resolution = Resolution::from_code(0x8a).expect(&rt, "a 1,024th of a second");
     let interface = Interface {
@@ -243,14 +249,12 @@ fn written_blocks(rt: HostRuntime) -> Result<(), Fail> {
     put_interface(&mut writer, Order::Big, &interface)?;
     assert_eq!(rt; writer.bytes(), OFFSET_INTERFACE.as_slice());
     let mut writer = Room::new(Vec::with_capacity(rt.alloc(), 40)?);
-    put_packet(
-        &mut writer,
-        Order::Big,
-        1,
-        0x0102_0304_0506_0708,
-        9,
-        &[1, 2, 3, 4, 5],
-    )?;
+    let fields = PacketFields {
+        interface: 1,
+        units: 0x0102_0304_0506_0708,
+        original: 9,
+    };
+    put_packet(&mut writer, Order::Big, fields, &[1, 2, 3, 4, 5])?;
     assert_eq!(rt; writer.bytes(), PADDED_PACKET.as_slice());
     Ok(())
 }

@@ -4,7 +4,7 @@ ghost use Rattle.std.specs.Prelude.{◌≤◌};
 
 use crate::vectors::{CARRY_PCAP, refused};
 use cap_bytes::{Device, Fault, Order, Pieces, Room, Rule, Source, Tail, Window};
-use cap_pcap::{PcapHeader, PcapReader, Record, put_header, put_record};
+use cap_pcap::{PcapHeader, PcapReader, Record, RecordTime, put_header, put_record};
 use cap_time::Unit;
 use std::alloc::{AllocError, Global};
 use std::test::Fail;
@@ -165,7 +165,11 @@ fn written_files(rt: HostRuntime) -> Result<(), Fail> {
         };
         let mut room = Room::new(Vec::with_capacity(rt.alloc(), 44)?);
         put_header(&mut room, &header)?;
-        put_record(&mut room, order, 2, fraction, 4, &[1, 2, 3, 4])?;
+        let time = RecordTime {
+            seconds: 2,
+            fraction,
+        };
+        put_record(&mut room, order, time, 4, &[1, 2, 3, 4])?;
         assert_eq!(rt; room.bytes(), bytes.as_slice());
     }
     Ok(())

@@ -8,4 +8,4 @@ mod records;
 
 pub use crate::headers::{PcapHeader, put_header};
 pub use crate::readers::PcapReader;
-pub use crate::records::{Record, put_record};
+pub use crate::records::{Record, RecordTime, put_record};

@@ -26,6 +26,15 @@ pub struct Record {
     pub original: u32,
 }
 
+/// A packet's time as a record holds it. draft-ietf-opsawg-pcap, 5.
+#[derive(Clone, Copy, Debug, PartialEq, Eq)]
+pub struct RecordTime {
+    /// The whole seconds since 1970.
+    pub seconds: u32,
+    /// What is left of it, in the file's unit.
+    pub fraction: u32,
+}
+
 /// How many bytes stand in front of a record's captured bytes.
 pub const HEAD_SIZE: usize = 16;
 
@@ -99,43 +108,35 @@ pub fn look_for_record<R: Source>(
 }
 
 // The bytes that are written in front of a packet's captured bytes.
-fn record_head(
-    order: Order,
-    seconds: u32,
-    fraction: u32,
-    captured: u32,
-    original: u32,
-) -> [u8; HEAD_SIZE]
-    ensures { result ≡ head_bytes order seconds fraction captured original }
+fn record_head(order: Order, time: RecordTime, captured: u32, original: u32) -> [u8; HEAD_SIZE]
+    ensures { result ≡ head_bytes order time.seconds time.fraction captured original }
 {
     let mut bytes = [0; HEAD_SIZE];
-    put_u32(order, &mut bytes, 0, seconds);
-    put_u32(order, &mut bytes, 4, fraction);
+    put_u32(order, &mut bytes, 0, time.seconds);
+    put_u32(order, &mut bytes, 4, time.fraction);
     put_u32(order, &mut bytes, 8, captured);
     put_u32(order, &mut bytes, 12, original);
     bytes
 }
 
-/// Writes a record: 16 bytes and then `frame`, the bytes that were captured. `seconds` and `fraction`
-/// are the packet's time since 1970, the fraction in the file's unit; `original` is its length. Takes no
-/// memory. Answers `Fault::Write`, and no other fault, if the writer failed: a prefix is written
-/// then. draft-ietf-opsawg-pcap, 5.
+/// Writes a record: 16 bytes and then `frame`, the bytes that were captured of a packet of the `original`
+/// length. Takes no memory. Answers `Fault::Write`, and no other fault, if the writer failed: a prefix is
+/// written then. draft-ietf-opsawg-pcap, 5.
 pub fn put_record<W: Sink>(
     writer: &mut W,
     order: Order,
-    seconds: u32,
-    fraction: u32,
+    time: RecordTime,
     original: u32,
     frame: &[u8],
 ) -> Result<(), Fault>
     requires { length frame.now ≤ 262144 }
     ensures bytes { IsTrue (W.tells_held writer.old)
         → Puts (W.held writer.old) result (W.held writer.new)
-        (record_bytes order seconds fraction original frame.now) }
+        (record_bytes order time.seconds time.fraction original frame.now) }
     ensures writer { WriterKeeps (writer_of W.Sink writer.old) (is_err result) (writer_of W.Sink writer.new) }
     ensures fault { IsOkUnless result Fault.Write }
 {
-    let head = record_head(order, seconds, fraction, frame.len() as u32, original);
+    let head = record_head(order, time, frame.len() as u32, original);
     put_all(writer, &head)?;
     put_all(writer, frame)
 }

@@ -6,6 +6,7 @@ use Rattle.cap_bytes.specs.declared.faults.Fault.TheVariants.{Refused}
 use Rattle.cap_bytes.specs.declared.faults.Rule.{Rule}
 use Rattle.cap_bytes.specs.declared.faults.Rule.TheVariants.{NoTime, LinkMixed}
 use Rattle.cap_bytes.specs.declared.numbers.Order.{Order}
+use Rattle.cap_pcap.specs.declared.records.RecordTime.{RecordTime}
 use Rattle.cap_source.proofs.Onward.{Went}
 use Rattle.cap_source.proofs.Walking.{Plan, IsPlan, GoesOn, GivesUp, Walking}
 use Rattle.cap_source.specs.Feed.{Feed}
@@ -17,7 +18,6 @@ use Rattle.cap_write.specs.Numbering.{refusal_at}
 use Rattle.cap_write.specs.Pcap.{fraction_of, units_fault, record_fault, packet_record, records_bytes, records_refusal}
 use Rattle.cap_write.specs.Texts.{text_or}
 use Rattle.cap_write.specs.Times.{HasTime, HasRecord}
-use Rattle.cap_write.specs.declared.pcap.Time.{Time}
 
 abbrev pub fault_by : Option ℕ → Bool → Fraction → Interface → Option Rule
 fault_by units same fraction interface =
@@ -35,7 +35,7 @@ unfolding record_fault
 HasRecord-mixed first meta units fault is other told = grind arith
 
 -- a packet whose time is written, or isn't
-pub HasRecord-timed : (first : Interface) (meta : Meta) (units : ℕ) (result : Result Time Fault) → meta.units ≡ Some units → meta.interface.link ≡ first.link
+pub HasRecord-timed : (first : Interface) (meta : Meta) (units : ℕ) (result : Result RecordTime Fault) → meta.units ≡ Some units → meta.interface.link ≡ first.link
     → HasTime (fraction_of first) meta units result → HasRecord first meta result
 unfolding record_fault
 HasRecord-timed first meta units result is one h = grind arith

@@ -3,16 +3,16 @@ use Rattle.std.specs.Prelude.{◌≡◌, ℕ, pos, List, ⊤, Some, None, Result
 use Rattle.cap_bytes.specs.declared.faults.Fault.{Fault}
 use Rattle.cap_bytes.specs.declared.faults.Fault.TheVariants.{Refused, Read, Write, Memory}
 use Rattle.cap_bytes.specs.declared.faults.Rule.{Rule}
+use Rattle.cap_pcap.specs.declared.records.RecordTime.{RecordTime}
 use Rattle.cap_source.specs.Feed.{Item}
 use Rattle.cap_source.specs.declared.packets.Meta.{Meta}
 use Rattle.cap_time.specs.declared.resolutions.Interface.{Interface}
 use Rattle.cap_time.specs.declared.stamps.Unit.{Unit as Fraction}
 use Rattle.cap_write.specs.Numbering.{refusal_at}
 use Rattle.cap_write.specs.Pcap.{whole_time, time_fault, written_time, record_fault, bare_refusal}
-use Rattle.cap_write.specs.declared.pcap.Time.{Time}
 
 -- The time is written as those whole seconds and that fraction, or is refused.
-abbrev pub HasTime : Fraction → Meta → ℕ → Result Time Fault → Type 0
+abbrev pub HasTime : Fraction → Meta → ℕ → Result RecordTime Fault → Type 0
 HasTime fraction meta units (Ok time) =
     (whole_time fraction meta.interface units ≡ Some (pos time.seconds, time.fraction))
     × (time_fault (whole_time fraction meta.interface units) ≡ None)
@@ -23,7 +23,7 @@ HasTime fraction meta units (Err Write) = ⊥
 HasTime fraction meta units (Err Memory) = ⊥
 
 -- The packet is written with that time, or is refused.
-abbrev pub HasRecord : Interface → Meta → Result Time Fault → Type 0
+abbrev pub HasRecord : Interface → Meta → Result RecordTime Fault → Type 0
 HasRecord first meta (Ok time) =
     (record_fault first meta ≡ None)
     × (written_time first meta ≡ Some (pos time.seconds, time.fraction))

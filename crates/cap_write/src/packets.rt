@@ -9,7 +9,7 @@ ghost use Rattle.cap_write.specs.Numbering.{number_of, with_origin, refusal_in, 
 ghost use Rattle.cap_write.specs.Texts.{text_behind, one_bytes};
 
 use crate::interfaces::{Origins, number_of, units_of};
-use cap_blocks::{put_interface, put_packet};
+use cap_blocks::{PacketFields, put_interface, put_packet};
 use cap_bytes::{Fault, Order, Sink};
 use cap_source::{Meta, PacketFeed, next_packet};
 
@@ -57,14 +57,12 @@ fn put_writable<W: Sink>(writer: &mut W, order: Order, packet: &Writable<'_>) ->
     ensures fault { IsOkUnless result Fault.Write }
 {
     put_new_interface(writer, order, packet.is_new, packet.meta)?;
-    put_packet(
-        writer,
-        order,
-        packet.number,
-        packet.units,
-        packet.meta.original,
-        packet.frame,
-    )
+    let fields = PacketFields {
+        interface: packet.number,
+        units: packet.units,
+        original: packet.meta.original,
+    };
+    put_packet(writer, order, fields, packet.frame)
 }
 
 /// Writes a packet, or answers why it isn't written.

@@ -12,19 +12,12 @@ ghost use Rattle.cap_write.specs.Numbering.{refusal_by};
 
 use crate::interfaces::{refused, units_of};
 use cap_bytes::{Fault, Order, Refusal, Rule, Sink, Source};
-use cap_pcap::{PcapHeader, put_header, put_record};
+use cap_pcap::{PcapHeader, RecordTime, put_header, put_record};
 use cap_source::{Capture, Head, Meta, PacketFeed, next_packet};
 use cap_time::{Interface, Stamp, Unit};
 
 // How many microseconds there are in a second.
 const MICROSECONDS: u64 = 1_000_000;
-
-// A time as pcap writes it (draft-ietf-opsawg-pcap, 5).
-#[derive(Clone, Copy, Debug, PartialEq, Eq)]
-struct Time {
-    seconds: u32,
-    fraction: u32,
-}
 
 // The fraction of a second in which times are written.
 fn fraction_of(first: &Interface) -> Unit
@@ -51,7 +44,7 @@ fn header_of(order: Order, first: &Interface) -> PcapHeader
 }
 
 // A time as it is written, or why it isn't.
-fn time_of(units: u64, fraction: Unit, meta: &Meta) -> Result<Time, Fault>
+fn time_of(units: u64, fraction: Unit, meta: &Meta) -> Result<RecordTime, Fault>
     ensures answer { HasTime fraction meta.now units result }
 {
     let (seconds, fraction) = match Stamp::new(units, &meta.interface).whole_in(fraction) {
@@ -59,13 +52,13 @@ fn time_of(units: u64, fraction: Unit, meta: &Meta) -> Result<Time, Fault>
         None => return Err(refused(meta, Rule::Inexact)),
     };
     match u32::try_from(seconds) {
-        Ok(seconds) => Ok(Time { seconds, fraction }),
+        Ok(seconds) => Ok(RecordTime { seconds, fraction }),
         Err(_) => Err(refused(meta, Rule::TimeRange)),
     }
 }
 
 // The time with which a packet is written after the header of that interface, or why it isn't.
-fn written_time(first: &Interface, meta: &Meta) -> Result<Time, Fault>
+fn written_time(first: &Interface, meta: &Meta) -> Result<RecordTime, Fault>
     ensures answer { HasRecord first.now meta.now result }
 {
     let units = units_of(meta)?;
@@ -93,14 +86,7 @@ fn put_one<W: Sink>(
     ensures read { IsRead result → ⊥ }
 {
     let time = written_time(first, meta)?;
-    put_record(
-        writer,
-        order,
-        time.seconds,
-        time.fraction,
-        meta.original,
-        frame,
-    )
+    put_record(writer, order, time, meta.original, frame)
 }
 
 // Writes the packets of a feed after the header of that interface.

@@ -1,5 +1,5 @@
 //! Packets written as pcap or pcapng.
 
-pub use cap_blocks::{put_interface, put_packet, put_section};
-pub use cap_pcap::{put_header, put_record};
+pub use cap_blocks::{PacketFields, put_interface, put_packet, put_section};
+pub use cap_pcap::{RecordTime, put_header, put_record};
 pub use cap_write::{to_pcap, to_pcapng, write_joined, write_merged};
