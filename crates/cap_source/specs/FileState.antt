@@ -349,12 +349,12 @@ LearnsOr old None next new = Learns old next new
 LearnsOr old (Some known) next new = (next ≡ known) × (new ≡ old)
 
 -- what asking for what comes next answers
-abbrev pub Tells : {A : Type 0} → FileState → Option Next → Result A Fault → FileState → Option Next → Type 0
-Tells old known (Ok x) new after = (next : Next) × (after ≡ Some next) × LearnsOr old known next new
-Tells old known (Err (Refused refusal)) new after = ⊥
-Tells old known (Err (Read file offset)) new after = (known ≡ None) × (after ≡ None) × Fails old file offset new
-Tells old known (Err Write) new after = ⊥
-Tells old known (Err Memory) new after = (known ≡ None) × (after ≡ None) × Waits old new × (old.broken ≡ None)
+abbrev pub LearnsNext : {A : Type 0} → FileState → Option Next → Result A Fault → FileState → Option Next → Type 0
+LearnsNext old known (Ok x) new after = (next : Next) × (after ≡ Some next) × LearnsOr old known next new
+LearnsNext old known (Err (Refused refusal)) new after = ⊥
+LearnsNext old known (Err (Read file offset)) new after = (known ≡ None) × (after ≡ None) × Fails old file offset new
+LearnsNext old known (Err Write) new after = ⊥
+LearnsNext old known (Err Memory) new after = (known ≡ None) × (after ≡ None) × Waits old new × (old.broken ≡ None)
 
 -- what asking for the first interface answers, of the file as a feed
 abbrev pub GivesFirst : Feed → Option Interface → Result (Option Interface) Fault → Feed → Type 0

@@ -2,7 +2,7 @@
 ghost use Rattle.std.specs.Prelude.{◌≡◌, ◌≤◌, ◌^◌, false, IsTrue, IfOk, None};
 ghost use Rattle.cap_bytes.specs.Window as windows;
 ghost use Rattle.cap_source.specs.Items.{Progress};
-ghost use Rattle.cap_source.specs.FileState.{IsSound, Tells, Answers, FileKeeps};
+ghost use Rattle.cap_source.specs.FileState.{IsSound, LearnsNext, Answers, FileKeeps};
 ghost use Rattle.cap_source.specs.Reached.{progress_of, counted};
 ghost use Rattle.cap_source.specs.Readers.{state_of, is_there, IsReady, is_stopped, Opens, LooksAtWindow, reader_by, reader_room};
 ghost use Rattle.cap_source.specs.declared.reached.Reached.{Reached};
@@ -106,7 +106,7 @@ pub fn learn<R: Source>(
     requires room { IsTrue (reader_room reader.old reached.old) }
     ensures there { IsTrue (is_there reader.new) }
     ensures sound { IsSound (state_of reader.new (progress_of reached.new)) known.new }
-    ensures answer { Tells (state_of reader.old (progress_of reached.old)) known.old result
+    ensures answer { LearnsNext (state_of reader.old (progress_of reached.old)) known.old result
         (state_of reader.new (progress_of reached.new)) known.new }
     ensures keeps { FileKeeps (state_of reader.old (progress_of reached.old)) (state_of reader.new (progress_of reached.new)) }
     ensures room { IsTrue (reader_room reader.new reached.new) }
