@@ -2,7 +2,7 @@
 ghost use Rattle.std.specs.Prelude.{◌≡◌, ◌<◌, ◌≤◌, ◌^◌, ◌↔◌, IsTrue, IsSome, IfSome};
 ghost use Rattle.cap_time.specs.Code.{is_allowed, units_of_code};
 
-/// How many units of an interface's clock there are in a second: a power of ten up to 10^19, or
+/// How many units of an interface's times there are in a second: a power of ten up to 10^19, or
 /// a power of two up to 2^63. It is written as a code of one byte, the value of the option
 /// `if_tsresol` (draft-ietf-opsawg-pcapng, 4.2): with the top bit 0 the low seven bits are the
 /// exponent of ten, with the top bit 1 that of two.
@@ -62,8 +62,8 @@ pub struct Interface {
     pub link: u16,
     /// The most bytes that are captured of a packet, 0 for no limit.
     pub snaplen: u32,
-    /// The units of the interface's clock (`if_tsresol`).
+    /// The units of the interface's times (`if_tsresol`).
     pub resolution: Resolution,
-    /// The second from which its clock counts (`if_tsoffset`).
+    /// The second from which its times count (`if_tsoffset`).
     pub offset: i64,
 }

@@ -81,7 +81,7 @@ impl Stamp {
     ghost use Rattle.cap_time.specs.Time.{printed_form, printed_plus, time_plus, IsWhole, IsNeverWhole};
     ghost use Rattle.cap_time.specs.Unit.{in_second};
 
-    /// The time of `units` on an interface's clock: with `d` units in a second,
+    /// The time of `units` of an interface's resolution: with `d` units in a second,
     /// `(units + offset * d) / d` seconds (draft-ietf-opsawg-pcapng, 4.2). Its `seconds` are at
     /// least -2^63 and below 2^65.
     pub fn new(units: u64, interface: &Interface) -> Stamp

@@ -17,9 +17,10 @@ use std::process::ExitCode;
 use std::rt::{Env, Files};
 use std::time::Clock;
 
-// How many bytes wait for a write: none at a terminal, if each line is seen as it comes.
+// How many bytes wait for a write: none at a terminal, if each line is seen as it comes. A write that begins or ends within a page
+// costs the system more, so few and large ones are made.
 fn output_buffer(is_terminal: bool) -> usize {
-    if is_terminal { 0 } else { 65_536 }
+    if is_terminal { 0 } else { 262_144 }
 }
 
 // The words of the command line, the first of which is the program's name.
