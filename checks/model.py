@@ -1,5 +1,5 @@
 """What capt has to answer, as a plain program that keeps whole files: written from the formats (draft-ietf-opsawg-pcap,
-draft-ietf-opsawg-pcapng, RFC 791, RFC 768, RFC 9293) and from what README.md says of rules, limits and printed lines, and
+draft-ietf-opsawg-pcapng, RFC 791, RFC 768, RFC 9293) and from what docs/RULES.md, docs/CLAIMS.md and the manual page say of rules, limits and printed lines, and
 not from capt's code. The scripts of this folder hold the built program to it.
 
 `answer(task, files, ..)` gives what is written (a text, or the bytes of OUT) and the refusal, or none."""

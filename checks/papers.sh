@@ -36,6 +36,9 @@ def text_of(name):
     with open(f"{top}/{name}", encoding="utf-8") as file:
         return file.read()
 
+def kept_in(folder):
+    return os.listdir(folder) if os.path.isdir(folder) else []
+
 for block in re.findall(r"^```\w*\n(.*?)^```$", text_of("README.md"), re.M | re.S):
     for example in re.findall(r"^\$ (.*\n(?:(?!\$ ).*\n)*)", block, re.M):
         line, wanted = example.split("\n", 1)
@@ -53,6 +56,49 @@ ran = subprocess.run([f"{top}/checks/trusted.py"], capture_output=True, text=Tru
 for command, definitions, lines, crates in re.findall(r"^(\w+): (\d+) definitions, (\d+) lines \((.*)\)$", ran.stdout, re.M):
     row = f"| `{command}` | {definitions} | {lines} | {crates} |"
     judged(f"docs/CLAIMS.md, {command}", row in text_of("docs/CLAIMS.md"), f"wants the row {row}")
+
+ran_merge = re.search(r"^merge: (\d+) definitions, (\d+) lines", ran.stdout, re.M)
+readme = text_of("README.md")
+edits = len([name for crate in os.listdir(f"{top}/crates") for name in kept_in(f"{top}/crates/{crate}/must-fail")])
+judged("README.md, edits", f"{edits} edits in" in readme, f"there are {edits}")
+for number in ran_merge.groups():
+    judged("README.md, merge", f" {number} " in readme, f"wants {number}")
+
+# The files that a page names: by a path from `crates/`, or, after one in the same line, by a path from that crate or
+# from the folder of the file before.
+def files_named(line):
+    crate = folder = None
+    for named in re.findall(r"[\w/.-]+\.(?:rt|antt)\b", line):
+        path = re.sub(r"^(?=cap_\w+/)", "crates/", named)
+        if path.startswith("crates/"):
+            crate = "/".join(path.split("/")[:2])
+        elif crate is None:
+            continue
+        elif path.startswith(("src/", "specs/", "proofs/")):
+            path = f"{crate}/{path}"
+        else:
+            path = f"{folder}/{path}"
+        if not os.path.exists(f"{top}/{path}") and folder and os.path.exists(f"{top}/{crate}/specs/{named}"):
+            path = f"{crate}/specs/{named}"
+        folder = os.path.dirname(path)
+        yield named, path
+
+for page in ["README.md"] + [f"docs/{name}" for name in sorted(os.listdir(f"{top}/docs"))]:
+    lost = [named for line in text_of(page).split("\n") for named, path in files_named(line) if not os.path.exists(f"{top}/{path}")]
+    judged(f"{page}, files", not lost, f"names files that aren't there: {lost}")
+
+# A rule's definitions stand in the file that is named after them, and so do the functions.
+for number, cell in re.findall(r"^\| (\d+) `[\w-]+` \|.*\|([^|]*)\|$", text_of("docs/RULES.md"), re.M):
+    crate, waiting, lost = None, [], []
+    for word, path in re.findall(r"`([\w:]+)`|([\w/]+\.(?:rt|antt))", cell):
+        if word:
+            waiting.append(word.split("::")[-1])
+            continue
+        crate = path.split("/")[0] if path.startswith("cap_") else crate
+        told = text_of(f"crates/{path}" if path.startswith("cap_") else f"crates/{crate}/{path}")
+        lost += [name for name in waiting if not re.search(rf"^(?:unfoldable |abbrev )?(?:pub )?{name} |\bfn {name}\b", told, re.M)]
+        waiting = []
+    judged(f"docs/RULES.md, rule {number}", not lost, f"not where it says: {lost}")
 
 pages = ["README.md", "CHANGELOG.md"] + [f"docs/{name}" for name in sorted(os.listdir(f"{top}/docs"))]
 for page in pages:
