@@ -1,8 +1,8 @@
 #!/usr/bin/env bash
 # What the papers show is so: each line that begins with `$ ` in a block of README.md is run over a copy of examples/, and
 # what stands under it must be what it prints, on both streams; the captures are made anew by examples/make.py; docs/RULES.md has
-# the numbers and names of the rules, docs/CLAIMS.md the lengths of what must be read; each file that a page links to is
-# there; the manual page and the completions are read without a complaint, if the programs for that are there.
+# the numbers and names of the rules, and their definitions and functions stand where it says; docs/CLAIMS.md has the lengths
+# of what must be read, docs/TRUSTED.md its names; each file that a page names or links to is there; the manual page and the completions are read without a complaint, if the programs for that are there.
 #
 # Use: checks/papers.sh [PROGRAM]
 set -u
@@ -57,6 +57,8 @@ for command, definitions, lines, crates in re.findall(r"^(\w+): (\d+) definition
     row = f"| `{command}` | {definitions} | {lines} | {crates} |"
     judged(f"docs/CLAIMS.md, {command}", row in text_of("docs/CLAIMS.md"), f"wants the row {row}")
 
+page = subprocess.run([f"{top}/checks/trusted.py", "--page"], capture_output=True, text=True).stdout
+judged("docs/TRUSTED.md", page == text_of("docs/TRUSTED.md"), "isn't what checks/trusted.py --page prints")
 ran_merge = re.search(r"^merge: (\d+) definitions, (\d+) lines", ran.stdout, re.M)
 readme = text_of("README.md")
 edits = len([name for crate in os.listdir(f"{top}/crates") for name in kept_in(f"{top}/crates/{crate}/must-fail")])

@@ -2,9 +2,10 @@
 """Which definitions must be read to trust a command: those of its text, of its refusal, and of what is written by each answer.
 
 Prints, for each command, how many definitions and lines these are, by crate; with a command's name, the definitions themselves,
-what stands on nothing first. Words of the toolchain's library and the fields of the types in src/ aren't listed.
+what stands on nothing first; with --page, their names by file, as docs/TRUSTED.md has them. Words of the toolchain's library and
+the fields of the types in src/ aren't listed.
 
-Use: checks/trusted.py [COMMAND]
+Use: checks/trusted.py [COMMAND | --page]
 """
 import pathlib, re, sys
 
@@ -97,12 +98,29 @@ for path in sorted(TOP.glob("crates/*/specs/**/*.antt")):
     module, imports, wide, definitions = parsed(path)
     files[module] = imports, wide, definitions
 
+PAGE = """# What must be read
+
+The definitions on which the text of a command rests, by file, what stands on nothing first; a type of several cases by its
+first. This page is written by `checks/trusted.py --page`, and `checks/papers.sh` compares; `checks/trusted.py merge` prints
+the definitions of `capt merge` themselves. What the numbers leave out: [CLAIMS.md](CLAIMS.md#to-believe-a-command)."""
+is_page = sys.argv[1:] == ["--page"]
+if is_page:
+    print(PAGE)
+
 for command, roots in ROOTS.items():
     order = closure(roots, files)
     parts = {}
     for name in order:
         module = name.rpartition(".")[0]
         parts.setdefault(tuple(files[module][2][name]), (module, name))
+    if is_page:
+        count = sum(len(lines) for lines in parts)
+        print(f"\n## capt {command}\n\n{len(parts)} definitions, {count} lines.\n\n| file | definitions |\n|---|---|")
+        for module in dict.fromkeys(where for where, _ in parts.values()):
+            crate, *inner = module.split(".")
+            names = ", ".join(f"`{name.rpartition('.')[2]}`" for where, name in parts.values() if where == module)
+            print(f"| `{crate}/specs/{'/'.join(inner)}.antt` | {names} |")
+        continue
     if len(sys.argv) > 1:
         if sys.argv[1] == command:
             module = ""
