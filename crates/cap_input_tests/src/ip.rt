@@ -10,7 +10,7 @@ use cap_ip::{
 };
 use std::process::Abort;
 
-/// The names of what reading answers.
+// The names of what reading answers.
 #[derive(Clone, Copy, Debug, PartialEq, Eq)]
 enum Class {
     Whole,
@@ -33,7 +33,7 @@ fn class_of(bytes: &[u8], captured_whole: bool) -> Class {
     }
 }
 
-/// The header at the front of a packet that was captured whole, and its data.
+// The header at the front of a packet that was captured whole, and its data.
 fn header_of<'a>(rt: &impl Abort, bytes: &'a [u8]) -> (Header, &'a [u8]) {
     match Header::read(bytes, true) {
         HeaderOr::Header(header, held) => (header, held),
@@ -41,13 +41,13 @@ fn header_of<'a>(rt: &impl Abort, bytes: &'a [u8]) -> (Header, &'a [u8]) {
     }
 }
 
-/// That many of the bytes, or all.
+// That many of the bytes, or all.
 fn front(bytes: &[u8], count: usize) -> &[u8] {
     bytes.get(..count).unwrap_or(bytes)
 }
 
-/// A packet with other bytes for byte 0 (version and header length), byte 3 (total length), and bytes
-/// 6 and 7 (flags and fragment offset).
+// A packet with other bytes for byte 0 (version and header length), byte 3 (total length), and bytes
+// 6 and 7 (flags and fragment offset).
 fn altered(front: u8, total: u8, flags: [u8; 2]) -> [u8; 28] {
     let mut packet = WHOLE_PACKET;
     packet[0] = front;
@@ -169,7 +169,7 @@ fn steps_at_their_edges(rt: HostRuntime) {
     assert_eq!(rt; class_of(&[0x60], true), Class::Bad);
 }
 
-/// A frame of 1,514 bytes captured to 54 and to 53: 40 and 39 bytes of its packet.
+// A frame of 1,514 bytes captured to 54 and to 53: 40 and 39 bytes of its packet.
 #[test]
 fn short_capture(rt: HostRuntime) {
     for (captured, ports) in [(40, Transport::Ports(1000, 2000)), (39, Transport::Cut)] {

@@ -7,8 +7,8 @@ use std::alloc::Global;
 use std::process::Abort;
 use std::test::Fail;
 
-/// A fragment's packet: its identification, in blocks of 8 bytes where its data begins, whether more
-/// follow, and its data.
+// A fragment's packet: its identification, in blocks of 8 bytes where its data begins, whether more
+// follow, and its data.
 fn packet(
     alloc: Global,
     identification: u16,
@@ -28,7 +28,7 @@ fn packet(
     Ok(packet)
 }
 
-/// The key of those packets.
+// The key of those packets.
 fn key(identification: u16) -> Key {
     Key {
         source: 0x0a00_0001,
@@ -38,7 +38,7 @@ fn key(identification: u16) -> Key {
     }
 }
 
-/// The datagram of an answer.
+// The datagram of an answer.
 fn joined(rt: &impl Abort, answer: Result<Put, JoinFault>) -> Datagram {
     match answer {
         Ok(Put::Joined(datagram)) => datagram,
@@ -47,7 +47,7 @@ fn joined(rt: &impl Abort, answer: Result<Put, JoinFault>) -> Datagram {
     }
 }
 
-/// Whether an answer is that the fragment is kept.
+// Whether an answer is that the fragment is kept.
 fn is_kept(answer: Result<Put, JoinFault>) -> bool {
     matches!(&answer, Ok(Put::Kept))
 }
@@ -118,7 +118,7 @@ fn overlapped_fragments(rt: HostRuntime) -> Result<(), Fail> {
     Ok(())
 }
 
-/// The two fragments of the row: one that ends a datagram of 16 bytes, and its front.
+// The two fragments of the row: one that ends a datagram of 16 bytes, and its front.
 fn two_fragments(alloc: Global) -> Result<(Vec<u8>, Vec<u8>), Fail> {
     Ok((
         packet(alloc, 9, 1, false, &[0, 1, 2, 3, 4, 5, 6, 7])?,
@@ -126,7 +126,7 @@ fn two_fragments(alloc: Global) -> Result<(Vec<u8>, Vec<u8>), Fail> {
     ))
 }
 
-/// Clocks of the two fragments, and whether they are joined: at 30 seconds, past them, and without a first clock.
+// Clocks of the two fragments, and whether they are joined: at 30 seconds, past them, and without a first clock.
 const THIRTY_SECONDS: [(Option<u64>, u64, bool); 3] = [
     (Some(SECOND), 31 * SECOND, true),
     (Some(SECOND), 31 * SECOND + 1, false),
@@ -169,7 +169,7 @@ fn a_whole_datagram_flushes(rt: HostRuntime) -> Result<(), Fail> {
     Ok(())
 }
 
-/// A run with groups of the identifications from 0 up to a number, all at 1 second.
+// A run with groups of the identifications from 0 up to a number, all at 1 second.
 fn many_groups(rt: &impl Abort, alloc: Global, count: u16) -> Result<Run, Fail> {
     let mut run = Run::new(alloc);
     for identification in 0..count {
@@ -237,16 +237,16 @@ fn every_other_block(rt: HostRuntime) -> Result<(), Fail> {
     Ok(())
 }
 
-/// The last block of 8 bytes that a datagram's data can have whole, in whole blocks.
+// The last block of 8 bytes that a datagram's data can have whole, in whole blocks.
 const LAST_BLOCK: u16 = 8_188;
 
-/// The data of a block: its number, and 6 bytes more.
+// The data of a block: its number, and 6 bytes more.
 fn block_data(block: u16) -> [u8; 8] {
     let [high, low] = block.to_be_bytes();
     [high, low, 1, 2, 3, 4, 5, 6]
 }
 
-/// Puts the 8,189 blocks of a datagram in an order: the last of them completes it, and it has the data of all.
+// Puts the 8,189 blocks of a datagram in an order: the last of them completes it, and it has the data of all.
 fn joins_in(rt: &impl Abort, alloc: Global, order: &[u16]) -> Result<(), Fail> {
     let mut run = Run::new(alloc);
     let mut done = false;
@@ -271,8 +271,8 @@ fn joins_in(rt: &impl Abort, alloc: Global, order: &[u16]) -> Result<(), Fail> {
     Ok(())
 }
 
-/// The nth block of an order: rising, falling, the even ones and then the odd ones, also falling, and any, by a number. What
-/// is above the last block has no place in it.
+// The nth block of an order: rising, falling, the even ones and then the odd ones, also falling, and any, by a number. What
+// is above the last block has no place in it.
 fn block_of(order: u8, n: u16, any: u16) -> u16 {
     let half = LAST_BLOCK / 2;
     match order {
@@ -329,7 +329,7 @@ fn old_groups_in_any_order_of_clocks(rt: HostRuntime) -> Result<(), Fail> {
     Ok(())
 }
 
-/// Puts a packet, and once more if it ran out of memory: the joiner is then as it was.
+// Puts a packet, and once more if it ran out of memory: the joiner is then as it was.
 fn put_again(rt: &impl Abort, run: &mut Run, clock: u64, packet: &[u8]) -> Result<Put, JoinFault> {
     let open = run.joiner.open_count();
     let held = run.joiner.held_bytes();

@@ -58,7 +58,7 @@ fn carries_ipv4_or_none(rt: HostRuntime) {
     }
 }
 
-/// An Ethernet frame with 1,024 tags, built byte by byte.
+// An Ethernet frame with 1,024 tags, built byte by byte.
 #[test]
 fn follows_any_number_of_tags(rt: HostRuntime) -> Result<(), Fail> {
     tags_law();

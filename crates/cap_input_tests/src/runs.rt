@@ -34,7 +34,7 @@ pub(crate) const DATA: [u8; 24] = [
     0xb1, 0xb2, 0xb3, 0xb4, 0xb5, 0xb6, 0xb7,
 ];
 
-/// The time of a number of microseconds.
+// The time of a number of microseconds.
 fn at(rt: &impl Abort, microseconds: u64) -> Stamp
     ensures { seconds_of result <ℤ pos (2 ^ 65) }
 {
@@ -50,7 +50,7 @@ fn at(rt: &impl Abort, microseconds: u64) -> Stamp
     Stamp::new(microseconds, &interface)
 }
 
-/// The time of a number of microseconds, if there is one.
+// The time of a number of microseconds, if there is one.
 fn time_at(rt: &impl Abort, clock: Option<u64>) -> Option<Stamp>
     ensures { IfSome result (λ c. seconds_of c <ℤ pos (2 ^ 65)) }
 {

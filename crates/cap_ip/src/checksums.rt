@@ -4,12 +4,12 @@ ghost use Rattle.cap_ip.specs.Checksum.{checksum_of, ChecksumLaw};
 
 use cap_bytes::{Order, u16_at};
 
-/// The words of a header without options.
+// The words of a header without options.
 const WORDS: usize = 10;
-/// One above the highest word.
+// One above the highest word.
 const CARRY: u32 = 0x1_0000;
 
-/// The carry out of a word, added at its lowest bit.
+// The carry out of a word, added at its lowest bit.
 fn carried(sum: u32) -> u32
     ensures { result ≡ sum % 65536 + sum / 65536 }
 {

@@ -11,13 +11,13 @@ use crate::fields::{
 };
 use std::marker::Model;
 
-/// The length of the shortest header, in bytes.
+// The length of the shortest header, in bytes.
 const LEAST_HEADER: u16 = 20;
-/// The version of an IPv4 packet.
+// The version of an IPv4 packet.
 const VERSION: u8 = 4;
-/// A fragment's data begins at a multiple of that many bytes, and ends at one if more follow.
+// A fragment's data begins at a multiple of that many bytes, and ends at one if more follow.
 const BLOCK: u32 = 8;
-/// The most data of a datagram: 65,535 bytes less the shortest header.
+// The most data of a datagram: 65,535 bytes less the shortest header.
 const LONGEST_DATA: u32 = 65_515;
 
 /// What names a datagram among those on the way: its fragments have the same (RFC 791, 3.2).
@@ -80,7 +80,7 @@ pub enum HeaderOr<'a> {
     Cut,
 }
 
-/// What a packet is that ends inside its header.
+// What a packet is that ends inside its header.
 #[tactic(auto, unfolding(crate::specs::Read::ended))]
 fn ended<'a>(whole: bool) -> HeaderOr<'a>
     ensures { seen result ≡ ended whole }
@@ -119,7 +119,7 @@ fn fragment_of(bytes: &[u8]) -> Option<Fragment>
     }
 }
 
-/// The version isn't 4, or the lengths of header and packet can't be.
+// The version isn't 4, or the lengths of header and packet can't be.
 #[tactic(auto, unfolding(crate::specs::Read::is_malformed))]
 fn is_malformed(bytes: &[u8]) -> bool
     requires { 20 ≤ length bytes.now }
@@ -132,7 +132,7 @@ fn is_malformed(bytes: &[u8]) -> bool
         || total_length(bytes) < header_length(bytes)
 }
 
-/// Some of the data isn't captured.
+// Some of the data isn't captured.
 #[tactic(auto, unfolding(crate::specs::Read::lacks_data))]
 fn lacks_data(bytes: &[u8]) -> bool
     requires { 20 ≤ length bytes.now }
@@ -141,7 +141,7 @@ fn lacks_data(bytes: &[u8]) -> bool
     bytes.len() < usize::from(total_length(bytes))
 }
 
-/// A packet that was captured whole is shorter than it says.
+// A packet that was captured whole is shorter than it says.
 #[tactic(auto, unfolding(crate::specs::Read::is_overstated))]
 fn is_overstated(bytes: &[u8], captured_whole: bool) -> bool
     requires { 20 ≤ length bytes.now }
@@ -150,8 +150,8 @@ fn is_overstated(bytes: &[u8], captured_whole: bool) -> bool
     captured_whole && lacks_data(bytes)
 }
 
-/// A fragment's data is empty, or doesn't end at a whole block if more follow, or lies beyond the
-/// longest datagram.
+// A fragment's data is empty, or doesn't end at a whole block if more follow, or lies beyond the
+// longest datagram.
 #[tactic(auto, unfolding(crate::specs::Read::is_misfit))]
 fn is_misfit(bytes: &[u8]) -> bool
     requires least { 20 ≤ length bytes.now }
@@ -165,7 +165,7 @@ fn is_misfit(bytes: &[u8]) -> bool
             || offset(bytes) + length > LONGEST_DATA)
 }
 
-/// A fragment some of whose data isn't captured.
+// A fragment some of whose data isn't captured.
 #[tactic(auto, unfolding(crate::specs::Read::is_partial))]
 fn is_partial(bytes: &[u8]) -> bool
     requires { 20 ≤ length bytes.now }
@@ -174,7 +174,7 @@ fn is_partial(bytes: &[u8]) -> bool
     is_fragment(bytes) && lacks_data(bytes)
 }
 
-/// The captured part of the data.
+// The captured part of the data.
 #[tactic(auto, unfolding(crate::specs::Read::data_of))]
 fn data_of(bytes: &[u8]) -> &[u8]
     requires least { 20 ≤ length bytes.now }
@@ -187,7 +187,7 @@ fn data_of(bytes: &[u8]) -> &[u8]
     captured
 }
 
-/// What a well-formed header says.
+// What a well-formed header says.
 #[tactic(auto, unfolding(crate::specs::Read::fields_of))]
 #[inline(always)]
 fn header_of(bytes: &[u8]) -> Header

@@ -5,10 +5,10 @@ ghost use Rattle.cap_ip.specs.Written.{header_with, header_bytes};
 use crate::checksums::header_checksum;
 use crate::headers::Header;
 
-/// Version 4, and a header of five words of four bytes.
+// Version 4, and a header of five words of four bytes.
 const VERSION_AND_LENGTH: u8 = 0x45;
 
-/// The length of a header without options, in bytes.
+// The length of a header without options, in bytes.
 const HEADER: u16 = 20;
 
 // A header without options, of a datagram of that many bytes of data, with that word in its checksum's

@@ -17,7 +17,7 @@ use cap_time::Stamp;
 use std::alloc::{AllocError, Global};
 use std::marker::Model;
 
-/// How many seconds a group waits for its fragments.
+// How many seconds a group waits for its fragments.
 const WAIT: u32 = 30;
 
 /// The fragments of one datagram, as one buffer. What no fragment has filled is a hole, and is described

@@ -20,7 +20,7 @@ use lru::LruCache;
 use std::alloc::{AllocError, Global};
 use std::marker::Model;
 
-/// How many groups may be open.
+// How many groups may be open.
 const OPEN_LIMIT: usize = 1024;
 
 /// The open groups by their keys. `LruCache` links its entries, so that the first, the last and the one of a key are

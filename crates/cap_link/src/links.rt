@@ -8,22 +8,22 @@ use crate::networks::Network;
 use crate::tags::{carried, ended};
 use cap_bytes::{Order, u16_at};
 
-/// LINKTYPE_ETHERNET: destination 6, source 6, type 2.
+// LINKTYPE_ETHERNET: destination 6, source 6, type 2.
 const ETHERNET: u16 = 1;
-/// LINKTYPE_RAW: no header, an IPv4 or an IPv6 packet.
+// LINKTYPE_RAW: no header, an IPv4 or an IPv6 packet.
 const RAW: u16 = 101;
-/// LINKTYPE_LINUX_SLL: packet type 2, ARPHRD type 2, address length 2, address 8, protocol 2.
+// LINKTYPE_LINUX_SLL: packet type 2, ARPHRD type 2, address length 2, address 8, protocol 2.
 const LINUX_SLL: u16 = 113;
-/// LINKTYPE_IPV4: no header, an IPv4 packet.
+// LINKTYPE_IPV4: no header, an IPv4 packet.
 const IPV4: u16 = 228;
-/// LINKTYPE_LINUX_SLL2: protocol 2, reserved 2, interface 4, ARPHRD type 2, packet type 1, address
-/// length 1, address 8.
+// LINKTYPE_LINUX_SLL2: protocol 2, reserved 2, interface 4, ARPHRD type 2, packet type 1, address
+// length 1, address 8.
 const LINUX_SLL2: u16 = 276;
 
-/// The version of an IPv4 packet, in the high four bits of its first byte (RFC 791, 3.1).
+// The version of an IPv4 packet, in the high four bits of its first byte (RFC 791, 3.1).
 const VERSION_4: u8 = 4;
 
-/// A header of `size` bytes whose type field stands at `place`.
+// A header of `size` bytes whose type field stands at `place`.
 #[tactic(auto, unfolding(crate::specs::Links::typed))]
 fn typed(whole: bool, size: usize, place: usize, frame: &[u8]) -> Network<'_>
     requires { place + 2 ≤ size }
@@ -37,7 +37,7 @@ fn typed(whole: bool, size: usize, place: usize, frame: &[u8]) -> Network<'_>
     carried(whole, kind, rest)
 }
 
-/// A packet without a link header.
+// A packet without a link header.
 #[tactic(auto, unfolding(crate::specs::Links::raw))]
 fn raw(whole: bool, frame: &[u8]) -> Network<'_>
     ensures { seen result ≡ raw whole frame.now }

@@ -6,14 +6,14 @@ ghost use Rattle.cap_link.specs.Tags.{is_tag, ended, payload, carried};
 use crate::networks::Network;
 use cap_bytes::{Order, u16_at};
 
-/// The type of an IPv4 packet (RFC 894).
+// The type of an IPv4 packet (RFC 894).
 const IPV4: u16 = 0x0800;
-/// The type of a C-VLAN tag (IEEE 802.1Q, 9.5).
+// The type of a C-VLAN tag (IEEE 802.1Q, 9.5).
 const C_TAG: u16 = 0x8100;
-/// The type of an S-VLAN tag (IEEE 802.1Q, 9.5).
+// The type of an S-VLAN tag (IEEE 802.1Q, 9.5).
 const S_TAG: u16 = 0x88a8;
 
-/// The bytes of a tag's data and of the type after them.
+// The bytes of a tag's data and of the type after them.
 const TAG: usize = 4;
 
 #[tactic(auto, unfolding(crate::specs::Tags::is_tag))]
@@ -31,7 +31,7 @@ pub(crate) fn ended<'a>(whole: bool) -> Network<'a>
     if whole { Network::Short } else { Network::Cut }
 }
 
-/// What bytes are that come after a type which announces no tag.
+// What bytes are that come after a type which announces no tag.
 #[tactic(auto, unfolding(crate::specs::Tags::payload))]
 fn payload(kind: u16, bytes: &[u8]) -> Network<'_>
     ensures { seen result ≡ payload kind bytes.now }

@@ -12,6 +12,7 @@ use cap_source::{Head, Meta, PacketFeed};
 /// What comes next of a run: a packet, which stays until it is passed, or none at the end. `Refused` comes
 /// if a refusal comes next, `Read` if a device failed, and `Memory` if a growth was refused. The run stays
 /// the same, unless `Read` is answered.
+#[inline(always)]
 pub fn next_of<F: PacketFeed>(merged: &mut Merged<F>) -> Result<Option<Meta>, Fault>
     ensures answer { GivesPacket (feed_of (parts_of merged.old)) result (feed_of (parts_of merged.new)) }
     ensures keeps { Keeps (feed_of (parts_of merged.old)) (feed_of (parts_of merged.new)) }

@@ -80,7 +80,7 @@ fn help_and_usage_go_to_two_writers(rt: HostRuntime) -> Result<(), Fail> {
     Ok(())
 }
 
-/// A writer of the standard library that takes 0 bytes once it has taken that many.
+// A writer of the standard library that takes 0 bytes once it has taken that many.
 #[derive(Drop)]
 struct Disk<'a> {
     taken: &'a mut Vec<u8>,

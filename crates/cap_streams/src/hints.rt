@@ -15,7 +15,7 @@ use std::rt::Files;
 fn meaning(rule: Rule) -> &'static str {
     match rule {
         Rule::Magic => "this is no capture of pcap or pcapng",
-        Rule::Version => "its version isn't pcap 2.4 or pcapng 1.0",
+        Rule::Version => "its version is neither pcap 2.4 nor pcapng 1.0 or 1.2",
         Rule::Cut =>
             "it is cut off: --allow-cut drops a last record or block, but not a file header",
         Rule::PacketLong => "more than 262,144 bytes of a packet were captured",

@@ -18,7 +18,7 @@ use indexmap::IndexMap;
 use std::alloc::Global;
 use std::marker::Model;
 
-/// How many conversations a table may have.
+// How many conversations a table may have.
 const TALK_LIMIT: usize = 1_048_576;
 
 /// Why a unit, or the packet that completes it, wasn't counted. The table is as it was.

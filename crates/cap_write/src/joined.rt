@@ -26,7 +26,7 @@ use cap_source::{Meta, PacketFeed};
 use cap_time::Interface;
 use std::alloc::Global;
 
-/// LINKTYPE_RAW: no link header, an IPv4 or IPv6 packet.
+// LINKTYPE_RAW: no link header, an IPv4 or IPv6 packet.
 const RAW: u16 = 101;
 
 // What is told of a datagram of that many bytes, written as one packet; that packet of the run completed it.

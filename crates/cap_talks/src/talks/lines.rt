@@ -13,7 +13,7 @@ use cap_print::{Line, put_field, put_text, put_time};
 use cap_time::Stamp;
 use itoa::Buffer;
 
-/// The protocol numbers that have a name (IANA).
+// The protocol numbers that have a name (IANA).
 const TCP: u8 = 6;
 
 const UDP: u8 = 17;
