@@ -5,10 +5,10 @@ ghost use Rattle.cap_bytes.specs.Number.{bytes_of};
 use cap_bytes::{Order, put_u16, put_u32, put_u64};
 use std::marker::Model;
 
-/// The first bytes of a block, or its last ones: 44 at most.
+/// A block that is put together, or its first or last bytes: 160 at most.
 #[derive(Drop)]
 pub struct BlockBuffer {
-    bytes: [u8; 44],
+    bytes: [u8; 160],
     length: usize,
 }
 
@@ -19,7 +19,7 @@ impl Model for BlockBuffer {
 
     ghost view = { λ t. take t.length t.bytes };
 
-    ghost invariant = { λ t. t.length ≤ 44 };
+    ghost invariant = { λ t. t.length ≤ 160 };
 }
 
 impl BlockBuffer {
@@ -28,7 +28,7 @@ impl BlockBuffer {
         ensures { result ≡ [] }
     {
         BlockBuffer {
-            bytes: [0; 44],
+            bytes: [0; 160],
             length: 0,
         }
     }
@@ -42,7 +42,7 @@ impl BlockBuffer {
 
     /// Puts bytes after those that stand.
     pub fn add(&mut self, bytes: &[u8])
-        requires { length self.old + length bytes.now ≤ 44 }
+        requires { length self.old + length bytes.now ≤ 160 }
         ensures bytes { self.new ≡ self.old ++ bytes.now }
         ensures size { length self.new ≡ length self.old + length bytes.now }
     {
@@ -52,7 +52,7 @@ impl BlockBuffer {
 
     /// Puts a number of 2 bytes after those that stand.
     pub fn add_u16(&mut self, order: Order, number: u16)
-        requires { length self.old + 2 ≤ 44 }
+        requires { length self.old + 2 ≤ 160 }
         ensures bytes { self.new ≡ self.old ++ bytes_of order 2 number }
         ensures size { length self.new ≡ length self.old + 2 }
     {
@@ -62,7 +62,7 @@ impl BlockBuffer {
 
     /// Puts a number of 4 bytes after those that stand.
     pub fn add_u32(&mut self, order: Order, number: u32)
-        requires { length self.old + 4 ≤ 44 }
+        requires { length self.old + 4 ≤ 160 }
         ensures bytes { self.new ≡ self.old ++ bytes_of order 4 number }
         ensures size { length self.new ≡ length self.old + 4 }
     {
@@ -72,7 +72,7 @@ impl BlockBuffer {
 
     /// Puts a number of 8 bytes after those that stand.
     pub fn add_u64(&mut self, order: Order, number: u64)
-        requires { length self.old + 8 ≤ 44 }
+        requires { length self.old + 8 ≤ 160 }
         ensures bytes { self.new ≡ self.old ++ bytes_of order 8 number }
         ensures size { length self.new ≡ length self.old + 8 }
     {

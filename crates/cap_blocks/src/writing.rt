@@ -17,6 +17,10 @@ const OFFSET_OPTION: u16 = 14;
 
 const END_OPTION: u16 = 0;
 
+// The most captured bytes of a packet whose block is put together before it is written: for so few a copy costs less
+// than two calls of the writer.
+const SMALL: usize = 125;
+
 /// Writes a section header of version 1.0, whose section length is left open and which has no
 /// options: 28 bytes (draft-ietf-opsawg-pcapng, 4.1). Answers `Fault::Write`, and no other fault,
 /// if the writer failed: a prefix of the bytes is written then.
@@ -136,6 +140,38 @@ pub fn put_packet<W: Sink>(
     ensures writer { WriterKeeps (writer_of W.Sink writer.old) (is_err result) (writer_of W.Sink writer.new) }
     ensures fault { IsOkUnless result Fault.Write }
 {
+    if data.len() <= SMALL {
+        put_all(writer, packet_block(order, packet, data).bytes())
+    } else {
+        put_parts(writer, order, packet, data)
+    }
+}
+
+// An enhanced packet block of few captured bytes.
+fn packet_block(order: Order, packet: PacketFields, data: &[u8]) -> BlockBuffer
+    requires { length «data».now ≤ 125 }
+    ensures { result ≡ packet_bytes order packet.interface packet.units packet.original «data».now }
+{
+    let captured = data.len() as u32;
+    let mut buffer = packet_head(order, packet, captured);
+    buffer.add(data);
+    add_tail(&mut buffer, order, captured);
+    buffer
+}
+
+// Writes an enhanced packet block in three parts, which spares a copy of the captured bytes.
+fn put_parts<W: Sink>(
+    writer: &mut W,
+    order: Order,
+    packet: PacketFields,
+    data: &[u8],
+) -> Result<(), Fault>
+    requires captured { length «data».now ≤ 262144 }
+    ensures bytes { IsTrue (W.tells_held writer.old)
+        → Puts (W.held writer.old) result (W.held writer.new) (packet_bytes order packet.interface packet.units packet.original «data».now) }
+    ensures writer { WriterKeeps (writer_of W.Sink writer.old) (is_err result) (writer_of W.Sink writer.new) }
+    ensures fault { IsOkUnless result Fault.Write }
+{
     let captured = data.len() as u32;
     put_all(writer, packet_head(order, packet, captured).bytes())?;
     put_all(writer, data)?;
@@ -145,7 +181,8 @@ pub fn put_packet<W: Sink>(
 // What stands in front of the captured bytes.
 fn packet_head(order: Order, packet: PacketFields, captured: u32) -> BlockBuffer
     requires { captured ≤ 262144 }
-    ensures { result ≡ packet_head order packet.interface packet.units captured packet.original }
+    ensures size { length result ≡ 28 }
+    ensures bytes { result ≡ packet_head order packet.interface packet.units captured packet.original }
 {
     let mut buffer = BlockBuffer::new();
     buffer.add_u32(order, ENHANCED_PACKET);
@@ -163,12 +200,21 @@ fn packet_tail(order: Order, captured: u32) -> BlockBuffer
     requires { captured ≤ 262144 }
     ensures { result ≡ packet_tail order captured }
 {
+    let mut buffer = BlockBuffer::new();
+    add_tail(&mut buffer, order, captured);
+    buffer
+}
+
+// Puts what comes after them into a buffer.
+fn add_tail(buffer: &mut BlockBuffer, order: Order, captured: u32)
+    requires captured { captured ≤ 262144 }
+    requires room { length buffer.old + 7 ≤ 160 }
+    ensures { buffer.new ≡ buffer.old ++ packet_tail order captured }
+{
     let size = padded(captured);
     let zeros = [0u8; 3];
-    let mut buffer = BlockBuffer::new();
     buffer.add(zeros.split_at((size - captured) as usize).0);
     buffer.add_u32(order, 32 + size);
-    buffer
 }
 
 // A length with the padding to a multiple of 4.
