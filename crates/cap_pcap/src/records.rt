@@ -1,5 +1,5 @@
 //! The records of a pcap file. draft-ietf-opsawg-pcap, 5.
-ghost use Rattle.std.specs.Prelude.{◌≡◌, ◌+◌, ◌≤◌, ◌^◌, length, IsTrue, is_err, IsOkUnless};
+ghost use Rattle.std.specs.Prelude.{◌≡◌, ◌+◌, ◌≤◌, ◌^◌, length, take, IsTrue, is_err, IsOkUnless};
 ghost use Rattle.cap_bytes.specs.Device.{Puts, WriterKeeps, writer_of};
 ghost use Rattle.cap_bytes.specs.Window.{Keeps};
 ghost use Rattle.cap_pcap.specs.Grammar.{head_bytes, record_bytes};
@@ -119,6 +119,23 @@ fn record_head(order: Order, time: RecordTime, captured: u32, original: u32) -> 
     bytes
 }
 
+// The most captured bytes of a packet whose record is put together before it is written: for so few a copy costs less
+// than a call of the writer.
+const SMALL: usize = 112;
+
+// A record of few captured bytes, which begins a text of 128 bytes.
+fn small_record(order: Order, time: RecordTime, original: u32, frame: &[u8]) -> [u8; 128]
+    requires { length frame.now ≤ 112 }
+    ensures { take (16 + length frame.now) result ≡ record_bytes order time.seconds time.fraction original frame.now }
+{
+    let mut bytes = [0; 128];
+    let head = record_head(order, time, frame.len() as u32, original);
+    let (front, rest) = bytes.split_at_mut(HEAD_SIZE);
+    front.copy_from_slice(&head);
+    rest.split_at_mut(frame.len()).0.copy_from_slice(frame);
+    bytes
+}
+
 /// Writes a record: 16 bytes and then `frame`, the bytes that were captured of a packet of the `original`
 /// length. Takes no memory. Answers `Fault::Write`, and no other fault, if the writer failed: a prefix is
 /// written then. draft-ietf-opsawg-pcap, 5.
@@ -136,6 +153,10 @@ pub fn put_record<W: Sink>(
     ensures writer { WriterKeeps (writer_of W.Sink writer.old) (is_err result) (writer_of W.Sink writer.new) }
     ensures fault { IsOkUnless result Fault.Write }
 {
+    if frame.len() <= SMALL {
+        let record = small_record(order, time, original, frame);
+        return put_all(writer, record.split_at(HEAD_SIZE + frame.len()).0);
+    }
     let head = record_head(order, time, frame.len() as u32, original);
     put_all(writer, &head)?;
     put_all(writer, frame)

@@ -1,5 +1,5 @@
 -- The packets that are written of a list, each with the number of its interface, and what refuses a packet.
-use Rattle.std.specs.Prelude.{◌==◌, ◌&&◌, not, ℕ, nat_le, if◌then◌else◌, Bool, List, [], ◌∷◌, length, Option, Some, None, is_none, unwrap_or, option_map}
+use Rattle.std.specs.Prelude.{◌==◌, ◌&&◌, not, ℕ, nat_le, if◌then◌else◌, Bool, false, List, [], ◌∷◌, length, Option, Some, None, is_none, unwrap_or, option_map}
 use Rattle.std.specs.List.{list_any, position_or_len}
 use Rattle.indexmap.specs.IndexSet.{insert_key}
 use Rattle.cap_bytes.specs.declared.faults.Refusal.{Refusal}
@@ -32,6 +32,11 @@ pub record Numbered : Type 0 where
 -- whether an interface is one of `origins`, which were used before
 abbrev pub is_used : List Origin → Meta → Bool
 is_used origins meta = list_any (is_origin (origin_of meta)) origins
+
+-- whether an interface is the first of them
+abbrev pub is_first : List Origin → Meta → Bool
+is_first [] meta = false
+is_first (origin ∷ origins) meta = is_origin (origin_of meta) origin
 
 -- Interfaces are numbered from 0 in the order of their first use: the number of a packet's, after those
 -- of `origins` were used.

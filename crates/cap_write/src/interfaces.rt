@@ -1,6 +1,6 @@
 //! The numbers of interfaces in a written file, by first use.
 ghost use Rattle.std.specs.Prelude.{◌≡◌, ◌≤◌, length, IsSome};
-ghost use Rattle.cap_write.specs.Numbering.{is_full, refusal_at};
+ghost use Rattle.cap_write.specs.Numbering.{is_first, is_full, refusal_at};
 ghost use Rattle.cap_write.specs.Interfaces.{HasUnits, Numbers};
 
 use cap_bytes::{Fault, Refusal, Rule};
@@ -42,6 +42,17 @@ fn is_full(origins: &Origins, meta: &Meta) -> bool
     origins.len() >= WRITTEN_INTERFACE_LIMIT && !origins.contains(&(meta.file, meta.instance))
 }
 
+// Whether a packet's interface is the first that was used. Of a file with one interface all are, and this costs less than
+// to look it up.
+fn is_first(origins: &Origins, meta: &Meta) -> bool
+    ensures { result ≡ is_first origins.now.keys meta.now }
+{
+    match origins.first() {
+        Some(origin) => *origin == (meta.file, meta.instance),
+        None => false,
+    }
+}
+
 /// The number of a packet's interface, which is the next one if it wasn't used before. `Refused`
 /// comes if it would be the 1,025th, `Memory` if a growth was refused.
 pub fn number_of(origins: &mut Origins, meta: &Meta) -> Result<u32, Fault>
@@ -50,6 +61,9 @@ pub fn number_of(origins: &mut Origins, meta: &Meta) -> Result<u32, Fault>
     ensures answer { Numbers meta.now origins.old.keys result origins.new.keys }
     ensures limit { length origins.new.keys ≤ 1024 }
 {
+    if is_first(origins, meta) {
+        return Ok(0);
+    }
     if is_full(origins, meta) {
         return Err(refused(meta, Rule::InterfaceLimit));
     }
