@@ -9,7 +9,7 @@ sys.dont_write_bytecode = True
 
 import os, struct, tempfile
 
-from captures import PROGRAM, Count, block, datagram, make_shim, packet, pcap_header, record, run, udp, vector
+from captures import PROGRAM, Bench, Count, block, datagram, make_shim, packet, pcap_header, record, run, udp, vector
 
 SECTION = vector("CARRY_PCAPNG")[:28]
 INTERFACE = block(1, struct.pack("<HHI", 1, 0, 0))
@@ -85,6 +85,17 @@ def captured(edges):
     snaplen = block(1, struct.pack("<HHI", 1, 0, 262_144))
     file = edges.file("cut3", SECTION, snaplen, block(3, struct.pack("<I", 2**32 - 1) + bytes(262_144)))
     edges.accepts("a simple packet at its snaplen", ["list", file], " captured 262144 original 4294967295 ")
+
+
+def copied(edges):
+    """Captured bytes of a packet whose record or block is put together before it is written: 112 and 125."""
+    bench = Bench(edges.folder, edges.program)
+    for size in range(100, 140):
+        content = pcap_header(1) + record(1, bytes(range(size)), size + 1) + record(2, b"\1")
+        for task in ("pcap", "pcapng"):
+            for order in "<>":
+                differs = bench.differs(task, [content], order=order, out=os.path.join(edges.folder, "out"))
+                edges.count.check(f"{task} of a packet of {size}, order {order}", not differs, differs)
 
 
 def blocks(edges):
@@ -235,7 +246,7 @@ def conversations(edges):
 def main():
     with tempfile.TemporaryDirectory() as folder:
         edges = Edges(folder, sys.argv[1] if len(sys.argv) > 1 else PROGRAM)
-        for limit in (captured, blocks, interfaces, exponents, files, groups, full_groups, ends, conversations):
+        for limit in (captured, copied, blocks, interfaces, exponents, files, groups, full_groups, ends, conversations):
             limit(edges)
     edges.count.end()
 
