@@ -14,10 +14,11 @@ use Rattle.cap_merge.specs.Lists.{All-both, all-back, all-each, and-none}
 use Rattle.cap_merge.specs.declared.lanes.Lane.{Lane}
 use Rattle.cap_merge.specs.Clock.{clock_cmp}
 use Rattle.cap_merge.specs.Run.{run}
-use Rattle.cap_merge.specs.Parts.{Part, item_time, is_refusal, has_next, has_file, is_known, known_of, head_by, first_of, tracks, run_of, endings_of, places_of, left_of, most_of, held_of, feed_of}
+use Rattle.cap_merge.specs.First.{has_next}
+use Rattle.cap_merge.specs.Parts.{Part, item_time, is_refusal, has_file, is_known, known_of, head_by, first_of, tracks, run_of, endings_of, places_of, left_of, most_of, held_of, feed_of}
 use Rattle.cap_merge.specs.Merge.{PassesPart}
 use Rattle.cap_merge.specs.Clocks.{AtMost, at_most-itself}
-use Rattle.cap_merge.specs.Leading.{Split, first-split}
+use Rattle.cap_merge.specs.Leading.{Split}
 use Rattle.cap_merge.specs.Sound.{IsSound, AreFrom}
 use Rattle.cap_merge.specs.Coming.{IsReady, leads_known, reached_known, run-first, run_behind}
 use Rattle.cap_merge.specs.Lawful.{ready_all, at_first, places_at, packet_known}
@@ -123,7 +124,6 @@ pub passes-first : (before after : List Part) (p q : Part) (meta : Meta) → (s 
     → Passes (feed_of (before ++ (p ∷ after))) (feed_of (before ++ (q ∷ after)))
 unfolding feed_of known_of
 passes-first before after p q meta s b a e k h sound lawful from =
-    let first = first-split (before ++ (p ∷ after)) p s in
     let own_sound = at_first IsSound (before ++ (p ∷ after)) p sound s in
     let own_lawful = at_first (λ x. IsFeed x.feed) (before ++ (p ∷ after)) p lawful s in
     let kept = each_at Kept kept-itself before after p q h.keeps in
@@ -133,7 +133,7 @@ passes-first before after p q meta s b a e k h sound lawful from =
       held = held_same before after p q h.passes.held;
       left = left_less before after p q h.passes.left;
       place = subst (λ (w : Option Head). IfPacket w (λ m. m.offset < places_of (before ++ (q ∷ after)) m.file))
-          (sym (known_is (before ++ (p ∷ after)) p (is_known (before ++ (p ∷ after))) refl first k ∙ e))
+          (sym (known_is (before ++ (p ∷ after)) p (is_known (before ++ (p ∷ after))) refl s.is_first k ∙ e))
           (place_passed before after p q meta e own_sound own_lawful h (from-each 1 (before ++ (p ∷ after)) (before ++ (q ∷ after)) kept from));
       items = λ t. items_passed before after p q meta s b a e h
           (ready_all (before ++ (p ∷ after)) sound lawful (all-each (λ x. x.feed.told) (before ++ (p ∷ after)) t) (all-each (λ x. is_some x.lane.head) (before ++ (p ∷ after)) k));
