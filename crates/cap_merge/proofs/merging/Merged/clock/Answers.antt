@@ -1,10 +1,10 @@
-use Rattle.std.proofs.Common.{◌≡◌, sym, ◌∙◌, map, subst, Option, Some, None}
+use Rattle.std.proofs.Common.{sym, ◌∙◌, map, subst, Option}
 use Rattle.std.proofs.lemmas.List.{length-map}
 use Rattle.cap_time.specs.declared.stamps.Stamp.{Stamp}
 use Rattle.cap_time.specs.Stamp.{seconds_of}
 use Rattle.std.specs.Prelude.{IfSome, ◌<ℤ◌, pos, ◌^◌}
 use Rattle.cap_merge.specs.Clocks.{AtMost}
-use Rattle.cap_merge.specs.First.{first_at, first_place}
+use Rattle.cap_merge.specs.First.{first_place}
 use Rattle.cap_merge.specs.Parts.{parts, run_of, ClocksFrom, BeginsAt}
 use Rattle.cap_merge.proofs.Bounds.{first-bounded}
 use Rattle.cap_merge.proofs.Finding.{first-told, none-told}
