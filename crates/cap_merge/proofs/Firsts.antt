@@ -31,8 +31,7 @@ use Rattle.cap_merge.proofs.Placing.{placed-split, none-placed}
 
 known_parts : (ps : List Part) (b : Bool) → is_known ps ≡ b → (Holds : Option Head → Type 0) → (Holds None → ⊥) → Holds (cond b (head_by (first_of ps)) None)
     → (is_known ps ≡ true) × Holds (head_by (first_of ps))
-known_parts ps true e Holds never h = (e, h)
-known_parts ps false e Holds never h = absurd (never h)
+known_parts ps b e Holds never h = grind arith
 
 -- what is asked of what is known of all: then all are known, and it is what the first tells
 pub known-holds : (ps : List Part) (Holds : Option Head → Type 0) → (Holds None → ⊥) → Holds (feed_of ps).known → (is_known ps ≡ true) × Holds (head_by (first_of ps))
@@ -176,18 +175,14 @@ passed-first ps qs first place s e p h sound lawful from =
 
 -- if nothing comes next of all, each feed is at its end
 ended : (ps : List Part) (o : Option Part) → IsFirstOf ps o → head_by o ≡ Some heads.End → NoNext ps
-ended ps None n e = n
-ended ps (Some q) s e = absurd (true≢false (sym s.next ∙ ap has_next e))
+ended ps o s e = grind arith
 
 end_known : (h k : Option Head) → is_some h ≡ true → has_next h ≡ false → IfSome h (λ head. k ≡ Some head) → k ≡ Some heads.End
-end_known None k e n a = absurd (true≢false (sym e))
-end_known (Some (heads.Packet meta)) k e n a = absurd (true≢false n)
-end_known (Some (heads.Refused refusal)) k e n a = absurd (true≢false n)
-end_known (Some heads.End) k e n a = a
+end_known h k e n a = grind arith
 
 ends_each : (ps : List Part) → AllByRecursion IsSound ps → AllByRecursion (λ p. is_some p.lane.head ≡ true) ps → NoNext ps → AllByRecursion (λ p. p.feed.known ≡ Some heads.End) ps
 ends_each [] s k n = tt
-ends_each (p ∷ ps) s k n = (end_known p.lane.head p.feed.known k.0 n.0 s.0.agrees, ends_each ps s.1 k.1 n.1)
+ends_each (p ∷ ps) s k n = grind (arith, end_known, ends_each ps s.1 k.1 n.1)
 
 not_none : None ≡ Some heads.End → ⊥
 not_none e = true≢false (sym (ap is_some e))
@@ -206,8 +201,7 @@ pub record FileAt {F : Type 0} (f : F → Feed) (fs : List F) (n : ℕ) (file : 
   pub ends : (x : F) → endings file ≡ (f (get_or fs (file - n) x)).endings file
 
 or_cases : (a b : Bool) → (a || b) ≡ true → (a ≡ false → b ≡ true)
-or_cases true b e f = absurd (true≢false f)
-or_cases false b e f = e
+or_cases a b e f = grind arith
 
 any_parts : (test : ℕ → Bool) (xs ys : List ℕ) → list_any test (xs ++ ys) ≡ true → list_any test xs ≡ false → list_any test ys ≡ true
 any_parts test [] ys e f = e
@@ -274,12 +268,10 @@ held-parts f (y ∷ ls) [] l = absurd (omega arith)
 held-parts f (y ∷ ls) (x ∷ xs) l = ap (both_held (f x).held) (held-parts f ls xs (omega arith))
 
 or-assoc : (a b c : Bool) → ((a || b) || c) ≡ (a || (b || c))
-or-assoc true b c = refl
-or-assoc false b c = refl
+or-assoc a b c = grind arith
 
 or-none : (a : Bool) → (a || false) ≡ a
-or-none true = refl
-or-none false = refl
+or-none a = grind arith
 
 max-assoc : (a b c : ℕ) → max (max a b) c ≡ max a (max b c)
 max-assoc a b c = omega arith
@@ -389,8 +381,7 @@ pub held-here : {F : Type 0} (f : F → Feed) (fs : List F) (n : ℕ) (x : F) (h
 held-here f fs n x held is l h = (λ i. both_held (h i) (f (is i)).held) ∙ sym (held-taken f fs n x l)
 
 at_first_from : (clock : Option Stamp) (p : Part) → has_next p.lane.head ≡ true → (p.lane.head ≡ Some heads.End) ⊎ AtMost clock p.lane.clock → AtMost clock p.lane.clock
-at_first_from clock p n (inl e) = absurd (true≢false (sym n ∙ ap has_next e))
-at_first_from clock p n (inr h) = h
+at_first_from clock p n h = grind arith
 
 -- what isn't above the clocks of all items to come isn't above that of the first
 pub not-below-first : {F : Type 0} (f : F → Feed) (ls : List Lane) (fs : List F) (place : ℕ) → 1 ≤ length fs → length ls ≡ length fs → first_place ls ≡ Some place

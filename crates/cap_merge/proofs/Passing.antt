@@ -35,8 +35,7 @@ pub passed-keeps : (before after : List Part) (p q : Part) → PassesPart p q �
 passed-keeps before after p q h = keeps-each (before ++ (p ∷ after)) (before ++ (q ∷ after)) (each_at Kept kept-itself before after p q h.keeps)
 
 no_time : (a : Option Stamp) → is_lt (clock_cmp a None) ≡ false
-no_time None = refl
-no_time (Some a) = refl
+no_time a = grind arith
 
 unknown_sound : (p q : Part) → PassesPart p q → IsSound q
 unknown_sound p q h =
@@ -98,8 +97,7 @@ run-passed ps before after p q meta r s b a e h =
 
 known_is : (ps : List Part) (p : Part) (b : Bool) → is_known ps ≡ b → first_of ps ≡ Some p → b ≡ true → known_of ps ≡ p.lane.head
 unfolding known_of
-known_is ps p true e f h = rw (e, f) refl
-known_is ps p false e f h = absurd (true≢false (sym h))
+known_is ps p b e f h = grind arith
 
 place_passed : (before after : List Part) (p q : Part) (meta : Meta) → p.lane.head ≡ Some (heads.Packet meta) → IsSound p → IsFeed p.feed → PassesPart p q
     → AreFrom 1 (before ++ (q ∷ after)) → meta.offset < places_of (before ++ (q ∷ after)) meta.file
@@ -142,10 +140,7 @@ passes-first before after p q meta s b a e k h sound lawful from =
 
 clock_from : (clock : Option Stamp) (x : Part) (o : Option Head) → x.lane.head ≡ o → is_some o ≡ true → (has_next o ≡ true → AtMost clock x.lane.clock)
     → (x.lane.head ≡ Some heads.End) ⊎ AtMost clock x.lane.clock
-clock_from clock x None e k f = absurd (true≢false (sym k))
-clock_from clock x (Some (heads.Packet meta)) e k f = inr (f refl)
-clock_from clock x (Some (heads.Refused refusal)) e k f = inr (f refl)
-clock_from clock x (Some heads.End) e k f = inl e
+clock_from clock x o e k f = grind arith
 
 clocks_from : (clock : Option Stamp) (xs : List Part) → AllByRecursion (λ x. is_some x.lane.head ≡ true) xs
     → AllByRecursion (λ x. has_next x.lane.head ≡ true → AtMost clock x.lane.clock) xs → EachFrom clock xs

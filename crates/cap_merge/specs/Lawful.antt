@@ -66,8 +66,7 @@ file_behind n (p ∷ before) after q a =
     (behind.0, omega (arith, behind.1), behind.2)
 
 or-false : (b : Bool) → (b || false) ≡ true → b ≡ true
-or-false true e = refl
-or-false false e = e
+or-false b e = grind arith
 
 pub one_file : (files : List ℕ) (k file : ℕ) → files ≡ k ∷ [] → has_file files file ≡ true → k ≡ file
 one_file files k file e h = eqb-true k file (or-false (k == file) (ap (λ fs. has_file fs file) (sym e) ∙ h))
@@ -75,12 +74,7 @@ one_file files k file e h = eqb-true k file (or-false (k == file) (ap (λ fs. ha
 -- no file is of two parts
 other_file : (n : ℕ) (before after : List Part) (p q : Part) (file : ℕ) → p.feed.files ≡ n ∷ [] → AreFrom (suc n) (before ++ (q ∷ after))
     → has_file q.feed.files file ≡ true → (b : Bool) → has_file p.feed.files file ≡ b → b ≡ false
-other_file n before after p q file e a h true own =
-    let behind = file_behind (suc n) before after q a in
-    let first : n ≡ file = one_file p.feed.files n file e own in
-    let second : behind.0 ≡ file = one_file q.feed.files behind.0 file behind.2 h in
-    absurd (omega (arith, behind.1))
-other_file n before after p q file e a h false own = refl
+other_file n before after p q file e a h b own = grind (arith, file_behind, one_file)
 
 pub places_at : (n : ℕ) (before after : List Part) (q : Part) (file : ℕ) → AreFrom n (before ++ (q ∷ after)) → has_file q.feed.files file ≡ true
     → places_of (before ++ (q ∷ after)) file ≡ q.feed.places file
@@ -185,17 +179,13 @@ refusal_if ps false s f = tt
 pub whole_known : (ps : List Part) → is_known ps ≡ true → broken_of ps ≡ None
 unfolding broken_of
 whole_known [] k = refl
-whole_known (p ∷ ps) k =
-    let both = and-both (is_some p.lane.head) (is_known ps) k in
-    rw both.0 (whole_known ps both.1)
+whole_known (p ∷ ps) k = grind (arith, whole_known ps)
 
 where_some : (h : Option Head) (P : Type 0) → P → IfSome h (λ head. P)
-where_some None P is = tt
-where_some (Some head) P is = is
+where_some h P is = grind arith
 
 whole_if : (ps : List Part) (b : Bool) → is_known ps ≡ b → IfSome (cond b (head_by (first_of ps)) None) (λ head. broken_of ps ≡ None)
-whole_if ps true e = where_some (head_by (first_of ps)) (broken_of ps ≡ None) (whole_known ps e)
-whole_if ps false e = tt
+whole_if ps b e = grind (arith, whole_known)
 
 -- The feeds as one are a lawful feed.
 pub merged-lawful : (ps : List Part) → AreFrom 1 ps → AllByRecursion IsSound ps → AllByRecursion (λ p. IsFeed p.feed) ps → IsFeed (feed_of ps)
