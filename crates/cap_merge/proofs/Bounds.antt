@@ -17,10 +17,9 @@ all_learned (p ∷ ps) (q ∷ qs) l h = grind (arith, all_learned ps qs l.1)
 all_learned ps qs l g = grind arith
 
 some_learned : (fault : Fault) (ps qs : List Part) → StopsAt fault ps qs → AreBounded ps → AreBounded qs
-some_learned fault [] qs l h = absurd l
-some_learned fault (p ∷ ps) [] l h = absurd l
 some_learned fault (p ∷ ps) (q ∷ qs) (inl l) h = cc
 some_learned fault (p ∷ ps) (q ∷ qs) (inr l) h = grind (arith, some_learned fault ps qs l.1)
+some_learned fault ps qs l h = grind arith
 
 -- asking keeps them so
 pub asked-bounded : {T : Type 0} (ps qs : List Part) (r : Result T Fault) → AsksAll ps r qs → AreBounded ps → AreBounded qs

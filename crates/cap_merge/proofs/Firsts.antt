@@ -233,12 +233,10 @@ file_by f n file l ls x xs e k false h rest =
 pub file-at : {F : Type 0} (f : F → Feed) (n file : ℕ) (ls : List Lane) (fs : List F) → length ls ≡ length fs → AreFrom n (parts ls (map f fs))
     → AllByRecursion (λ p. p.feed.known ≡ Some heads.End) (parts ls (map f fs))
     → has_file (flat_map (λ p. p.feed.files) (parts ls (map f fs))) file ≡ true → FileAt f fs n file (endings_of (parts ls (map f fs)))
-file-at f n file [] [] l a k h = absurd (true≢false (sym h))
-file-at f n file [] (x ∷ xs) l a k h = absurd (omega arith)
-file-at f n file (y ∷ ls) [] l a k h = absurd (omega arith)
 file-at f n file (y ∷ ls) (x ∷ xs) l a k h =
     file_by f n file y ls x xs a.0 k.0 (has_file (f x).files file) refl
     (λ other. file-at f (suc n) file ls xs (omega arith) a.1 k.1 (any_parts (λ g. g == file) (f x).files (flat_map (λ p. p.feed.files) (parts ls (map f xs))) h other))
+file-at f n file ls fs l a k h = grind (arith, true≢false)
 
 files_of : (ps : List Part) (file : ℕ) → HasFile (feed_of ps).files file → has_file (flat_map (λ p. p.feed.files) ps) file ≡ true
 unfolding feed_of
@@ -336,10 +334,9 @@ passed-of f law ls ms (x ∷ xs) ys place n e s numbered agrees reached p h =
 
 -- a pass keeps what each feed keeps
 pub passes-each : (place : ℕ) (ps qs : List Part) → PassesAt ps place qs → Each Kept ps qs
-passes-each place [] qs h = absurd h
-passes-each place (p ∷ ps) [] h = absurd h
 passes-each zero (p ∷ ps) (q ∷ qs) h = (h.0.keeps, subst (λ (xs : List Part). Each Kept ps xs) (sym h.1) (each-itself Kept kept-itself ps))
 passes-each (suc place) (p ∷ ps) (q ∷ qs) h = (subst (λ (w : Part). Kept p w) (sym h.0) (kept-itself p), passes-each place ps qs h.1)
+passes-each place ps qs h = grind arith
 
 pub packet-here : {F : Type 0} (f : F → Feed) (ls : List Lane) (fs : List F) (place : ℕ) (x : F) → x ≡ get_or fs place x → length ls ≡ length fs → first_place ls ≡ Some place
     → Agrees (parts ls (map f fs)) → HasReached (parts ls (map f fs)) → IsPacket (feed_of (parts ls (map f fs))).known → IsPacket (f x).known

@@ -50,13 +50,12 @@ same_all ps qs k l = grind arith
 
 -- one that isn't known leaves all unknown
 unknown_stops : (fault : Fault) (ps qs : List Part) → StopsAt fault ps qs → (is_known ps ≡ false) × (is_known qs ≡ false)
-unknown_stops fault [] qs s = absurd s
-unknown_stops fault (p ∷ ps) [] s = absurd s
 unknown_stops fault (p ∷ ps) (q ∷ qs) (inl s) =
     (ap (λ h. is_some h && is_known ps) s.0.unknown, ap (λ w. is_some w.head && is_known qs) s.0.lane ∙ ap (λ h. is_some h && is_known qs) s.0.unknown)
 unknown_stops fault (p ∷ ps) (q ∷ qs) (inr s) =
     let rest = unknown_stops fault ps qs s.1 in
     (and-none (is_some p.lane.head) (is_known ps) rest.0, and-none (is_some q.lane.head) (is_known qs) rest.1)
+unknown_stops fault ps qs s = grind arith
 
 unknown_feed : (ps : List Part) → is_known ps ≡ false → (feed_of ps).known ≡ None
 unfolding feed_of known_of
@@ -89,8 +88,6 @@ abbrev FailsAt : ℕ → List Part → List Part → Type 0
 FailsAt file ps qs = (has_file (flat_map (λ p. p.feed.files) ps) file ≡ true) × (list_any (λ p. p.feed.held.failed) qs ≡ true) × (list_any (λ p. p.feed.can_fail) ps ≡ true)
 
 fails_at : (file offset : ℕ) (ps qs : List Part) → StopsAt (Read file offset) ps qs → FailsAt file ps qs
-fails_at file offset [] qs s = absurd s
-fails_at file offset (p ∷ ps) [] s = absurd s
 fails_at file offset (p ∷ ps) (q ∷ qs) (inl s) = (
   any-front (λ f. f == file) p.feed.files (flat_map (λ x. x.feed.files) ps) s.0.gives.of,
   rw s.0.gives.failed refl,
@@ -102,6 +99,7 @@ fails_at file offset (p ∷ ps) (q ∷ qs) (inr s) =
       or-back q.feed.held.failed (list_any (λ x. x.feed.held.failed) qs) rest.1,
       or-back p.feed.can_fail (list_any (λ x. x.feed.can_fail) ps) rest.2,
     )
+fails_at file offset ps qs s = grind arith
 
 pub asked-keeps : {T : Type 0} (ps qs : List Part) (result : Result T Fault) → AsksAll ps result qs → AllByRecursion (λ q. IsFeed q.feed) qs → Each Kept ps qs
 asked-keeps ps qs (Ok x) a f = learns-each Kept (λ p q _. kept-learns_by p q p.lane.head) ps qs f a

@@ -132,7 +132,6 @@ packet_known q meta s f e =
 packet_by : (ps : List Part) (q : Part) (h : Option Head) → q.lane.head ≡ h → first_of ps ≡ Some q → AreFrom 1 ps → Split ps q → IsSound q → IsFeed q.feed
     → IfPacket h (λ meta. IsPacketOf (feed_of ps) meta)
 unfolding feed_of
-packet_by ps q None e o a s k f = tt
 packet_by ps q (Some (heads.Packet meta)) e o a s k f =
     let own = packet_known q meta k f e in
     record {
@@ -143,8 +142,7 @@ packet_by ps q (Some (heads.Packet meta)) e o a s k f =
       offset = own.offset;
       left = omega (arith, own.left, left_first ps q s);
     }
-packet_by ps q (Some (heads.Refused refusal)) e o a s k f = tt
-packet_by ps q (Some heads.End) e o a s k f = tt
+packet_by ps q h e o a s k f = grind arith
 
 packet_first : (ps : List Part) (o : Option Part) → first_of ps ≡ o → IsFirstOf ps o → AreFrom 1 ps → AllByRecursion IsSound ps → AllByRecursion (λ p. IsFeed p.feed) ps
     → IfPacket (head_by o) (λ meta. IsPacketOf (feed_of ps) meta)
@@ -159,12 +157,10 @@ packet_if ps false a s f = tt
 
 refusal_by : (ps : List Part) (q : Part) (h : Option Head) → q.lane.head ≡ h → Split ps q → IsSound q → IsFeed q.feed
     → IsRefusedOf (flat_map (λ p. p.feed.files) ps) h
-refusal_by ps q None e s k f = tt
-refusal_by ps q (Some (heads.Packet meta)) e s k f = tt
 refusal_by ps q (Some (heads.Refused refusal)) e s k f =
     let known : q.feed.known ≡ Some (heads.Refused refusal) = subst (λ (w : Option Head). IfSome w (λ head. q.feed.known ≡ Some head)) e k.agrees in
     has_file-first ps q refusal.file s (subst (λ (w : Option Head). IsRefusedOf q.feed.files w) known f.refusal)
-refusal_by ps q (Some heads.End) e s k f = tt
+refusal_by ps q h e s k f = grind arith
 
 refusal_first : (ps : List Part) (o : Option Part) → IsFirstOf ps o → AllByRecursion IsSound ps → AllByRecursion (λ p. IsFeed p.feed) ps
     → IsRefusedOf (flat_map (λ p. p.feed.files) ps) (head_by o)
