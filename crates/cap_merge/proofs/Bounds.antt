@@ -1,5 +1,5 @@
 -- The clocks that the feeds of a merge have reached have seconds below 2^65.
-use Rattle.std.proofs.Common.{◌≡◌, ℕ, suc, true, List, [], ◌∷◌, length, ◌<◌, Some, arith, ap, ◌∙◌, inl, inr, Option, IfSome, Result, pos, ◌^◌}
+use Rattle.std.proofs.Common.{◌≡◌, ℕ, suc, true, List, ◌∷◌, length, ◌<◌, Some, arith, ap, ◌∙◌, inl, inr, Option, IfSome, Result, pos, ◌^◌}
 use Rattle.std.specs.Prelude.{◌<ℤ◌, replicate}
 use Rattle.std.specs.List.{list_all}
 use Rattle.cap_bytes.specs.declared.faults.Fault.{Fault}

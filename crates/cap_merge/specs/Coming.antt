@@ -1,13 +1,11 @@
 -- What is to come of several feeds, by what is known of each.
-use Rattle.std.proofs.Common.{◌≡◌, ℕ, true, false, cond, List, [], ◌∷◌, ◌++◌, drop, refl, sym, ap, ◌∙◌, subst, Less, Option, Some, None, arith}
+use Rattle.std.proofs.Common.{◌≡◌, ℕ, true, false, cond, List, [], ◌∷◌, ◌++◌, drop, refl, sym, ap, ◌∙◌, subst, Less, Option, Some, arith}
 use Rattle.std.specs.Prelude.{IsTrue, IfSome, is_some}
 use Rattle.std.specs.List.{AllByRecursion}
 use Rattle.std.specs.Ordering.{is_lt, is_gt}
-use Rattle.std.proofs.lemmas.Bool.{true≢false}
 use Rattle.std.proofs.lemmas.List.{map-append}
 use Rattle.cap_time.specs.declared.stamps.Stamp.{Stamp}
 use Rattle.cap_source.specs.declared.feeds.Head.{Head}
-use Rattle.cap_source.specs.declared.feeds.Head.TheVariants as heads
 use Rattle.cap_source.specs.Feed.{Item, Leads, IsFeed}
 use Rattle.cap_merge.specs.Lists.{all-back, all-front}
 use Rattle.cap_merge.specs.Clock.{clock_cmp, later}

@@ -8,7 +8,7 @@ use Rattle.cap_source.specs.declared.feeds.Head.{Head}
 use Rattle.cap_source.specs.declared.feeds.Head.TheVariants as heads
 use Rattle.cap_source.specs.declared.packets.Meta.{Meta}
 use Rattle.cap_source.specs.Feed.{Item, packet, refused, Leads, IsFeed, IsPacketOf, IfPacket, IsRefusedOf, HasFile}
-use Rattle.cap_merge.specs.Lists.{all-back, all-each, and-both, any-back, any-front}
+use Rattle.cap_merge.specs.Lists.{all-back, all-each, any-back, any-front}
 use Rattle.cap_merge.specs.First.{has_next}
 use Rattle.cap_merge.specs.Parts.{Part, has_file, is_known, head_by, known_of, frame_by, first_of, run_of, broken_of, places_of, most_of, left_of, feed_of}
 use Rattle.cap_merge.specs.Leading.{Split, IsFirstOf, first_is}

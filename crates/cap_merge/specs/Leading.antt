@@ -19,7 +19,7 @@ use Rattle.cap_merge.specs.Clocks.{clock_total, AtMost, not_below, below-at_most
 abbrev pub IsBelow : Option Stamp → Lane → Type 0
 IsBelow clock l = has_next l.head ≡ true → clock_cmp clock l.clock ≡ Less
 
--- The same, not above.
+-- The clock isn't above that of the lane's item, if one comes next.
 abbrev pub IsNotAbove : Option Stamp → Lane → Type 0
 IsNotAbove clock l = has_next l.head ≡ true → AtMost clock l.clock
 
@@ -49,6 +49,7 @@ record Leads (ls : List Lane) (count place : ℕ) : Type 0 where
   below : (k : ℕ) → k < place → IsBelow (lane_at ls place).clock (lane_at ls k)
   not_above : (k : ℕ) → place < k → k < count → IsNotAbove (lane_at ls place).clock (lane_at ls k)
 
+-- No item comes next of that many lanes, or the lane at the place comes first.
 abbrev LeadsOf : List Lane → ℕ → Option ℕ → Type 0
 LeadsOf ls count None = (k : ℕ) → k < count → has_next (lane_at ls k).head ≡ false
 LeadsOf ls count (Some place) = Leads ls count place
@@ -129,7 +130,7 @@ first_by [] (Some place) e s = tt
 first_by (p ∷ ps) (Some place) e s =
     subst (IsFirstOf (p ∷ ps)) (sym (slice_get-get_or (p ∷ ps) place p (omega (arith, s.within, length-map (p ∷ ps) (λ p. p.lane))))) (split_at p (p ∷ ps) place e s)
 
--- The part that is first of some leads them.
+-- The part at the place comes first; if there is no place, no item comes next.
 pub first_is : (ps : List Part) → IsFirstOf ps (first_of ps)
 unfolding first_of
 first_is ps = first_by ps (first_place (lanes ps)) refl (among_is (lanes ps) (length (lanes ps)))

@@ -76,10 +76,11 @@ is_end (Some (heads.Packet meta)) = false
 is_end (Some (heads.Refused refusal)) = false
 is_end (Some heads.End) = true
 
+-- the lane of each part
 abbrev pub lanes : List Part → List Lane
 lanes ps = map (λ p. p.lane) ps
 
--- the part whose item comes first
+-- the part whose item comes first: that of the first lane
 unfoldable pub first_of : List Part → Option Part
 first_of ps = option_and_then (slice_get ps) (first_place (lanes ps))
 
