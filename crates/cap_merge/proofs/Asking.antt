@@ -31,19 +31,15 @@ asked-init ps = none_asked ps ps refl
 
 pub asked-more : (i : ℕ) (ps qs : List Part) (d x : Part) → AskedUpTo i ps qs → i < length qs
     → (LearnsBy (get_or qs i d).lane.head (get_or qs i d) x) → AskedUpTo (suc i) ps (set qs i x)
-asked-more i [] [] d x a l h = absurd (omega arith)
-asked-more i [] (q ∷ qs) d x a l h = absurd a
-asked-more i (p ∷ ps) [] d x a l h = absurd a
 asked-more zero (p ∷ ps) (q ∷ qs) d x a l h = (subst (λ (w : Part). LearnsBy w.lane.head w x) a.0 h, none_asked ps qs a.1)
 asked-more (suc i) (p ∷ ps) (q ∷ qs) d x a l h = (a.0, asked-more i ps qs d x a.1 (omega arith) h)
+asked-more i ps qs d x a l h = grind arith
 
 pub asked-stops : (i : ℕ) (ps qs : List Part) (d x : Part) (fault : Fault) → AskedUpTo i ps qs → i < length qs
     → Stops (get_or qs i d) fault x → StopsAt fault ps (set qs i x)
-asked-stops i [] [] d x fault a l h = absurd (omega arith)
-asked-stops i [] (q ∷ qs) d x fault a l h = absurd a
-asked-stops i (p ∷ ps) [] d x fault a l h = absurd a
 asked-stops zero (p ∷ ps) (q ∷ qs) d x fault a l h = inl (subst (λ (w : Part). Stops w fault x) a.0 h, a.1)
 asked-stops (suc i) (p ∷ ps) (q ∷ qs) d x fault a l h = inr (a.0, asked-stops i ps qs d x fault a.1 (omega arith) h)
+asked-stops i ps qs d x fault a l h = grind arith
 
 pub asked-all : (i : ℕ) (ps qs : List Part) → AskedUpTo i ps qs → length qs ≤ i → LearnsAll ps qs
 asked-all i [] [] a l = tt

@@ -1,15 +1,15 @@
 -- The clocks that the feeds of a merge have reached have seconds below 2^65.
-use Rattle.std.proofs.Common.{◌≡◌, ℕ, suc, true, List, [], ◌∷◌, length, arith, ap, ◌∙◌, inl, inr, Option, IfSome, Result, pos, ◌^◌}
+use Rattle.std.proofs.Common.{◌≡◌, ℕ, suc, true, List, ◌∷◌, length, ◌<◌, Some, arith, ap, ◌∙◌, inl, inr, Option, IfSome, Result, pos, ◌^◌}
 use Rattle.std.specs.Prelude.{◌<ℤ◌, replicate}
-use Rattle.std.specs.List.{list_all, AllByRecursion}
+use Rattle.std.specs.List.{list_all}
 use Rattle.cap_bytes.specs.declared.faults.Fault.{Fault}
 use Rattle.cap_source.specs.Feed.{Feed}
 use Rattle.cap_time.specs.Stamp.{seconds_of}
 use Rattle.cap_time.specs.declared.stamps.Stamp.{Stamp}
-use Rattle.cap_merge.specs.Lists.{all-back}
-use Rattle.cap_merge.specs.declared.lanes.First.{First}
 use Rattle.cap_merge.specs.declared.lanes.Lane.{Lane}
-use Rattle.cap_merge.specs.Parts.{Part, parts, is_bounded, AreBounded, Leads, new_lane}
+use Rattle.cap_merge.specs.First.{new_lane, lane_at, first_place}
+use Rattle.cap_merge.specs.Parts.{Part, parts, is_bounded, AreBounded}
+use Rattle.cap_merge.proofs.Finding.{first-within}
 use Rattle.cap_merge.specs.Merge.{LearnsAll, StopsAt, AsksAll, PassesAt}
 
 all_learned : (ps qs : List Part) → LearnsAll ps qs → AreBounded ps → AreBounded qs
@@ -17,10 +17,9 @@ all_learned (p ∷ ps) (q ∷ qs) l h = grind (arith, all_learned ps qs l.1)
 all_learned ps qs l g = grind arith
 
 some_learned : (fault : Fault) (ps qs : List Part) → StopsAt fault ps qs → AreBounded ps → AreBounded qs
-some_learned fault [] qs l h = absurd l
-some_learned fault (p ∷ ps) [] l h = absurd l
 some_learned fault (p ∷ ps) (q ∷ qs) (inl l) h = cc
 some_learned fault (p ∷ ps) (q ∷ qs) (inr l) h = grind (arith, some_learned fault ps qs l.1)
+some_learned fault ps qs l h = grind arith
 
 -- asking keeps them so
 pub asked-bounded : {T : Type 0} (ps qs : List Part) (r : Result T Fault) → AsksAll ps r qs → AreBounded ps → AreBounded qs
@@ -39,14 +38,14 @@ new_bounded n feeds = grind arith
 pub new-bounded : (lanes : List Lane) (n : ℕ) (feeds : List Feed) → lanes ≡ replicate n new_lane → AreBounded (parts lanes feeds)
 new-bounded lanes n feeds e = ap (λ ls. list_all (λ p. is_bounded p.lane.clock) (parts ls feeds)) e ∙ new_bounded n feeds
 
-each_lane : (ls : List Lane) (fs : List Feed) → length fs ≡ length ls → AreBounded (parts ls fs) → AllByRecursion (λ l. is_bounded l.clock ≡ true) ls
-each_lane (l ∷ ls) (f ∷ fs) e h = grind (arith, each_lane ls fs (omega arith))
-each_lane ls fs e g = grind arith
+bounded_at : (ls : List Lane) (fs : List Feed) (place : ℕ) → length fs ≡ length ls → place < length ls → AreBounded (parts ls fs) → is_bounded (lane_at ls place).clock ≡ true
+bounded_at (l ∷ ls) (f ∷ fs) (suc place) e h b = grind (arith, bounded_at ls fs place)
+bounded_at ls fs place e h b = grind arith
 
 in_bounds : (clock : Option Stamp) → is_bounded clock ≡ true → IfSome clock (λ c. seconds_of c <ℤ pos (2 ^ 65))
 in_bounds clock e = grind arith
 
 -- so the clock of what comes first is
-pub first-bounded : (ls : List Lane) (fs : List Feed) (first : First) → length fs ≡ length ls → Leads ls first.place first.clock → AreBounded (parts ls fs)
-    → IfSome first.clock (λ c. seconds_of c <ℤ pos (2 ^ 65))
-first-bounded ls fs first e s h = grind (arith, all-back, each_lane, in_bounds)
+pub first-bounded : (ls : List Lane) (fs : List Feed) (place : ℕ) → length fs ≡ length ls → first_place ls ≡ Some place → AreBounded (parts ls fs)
+    → IfSome (lane_at ls place).clock (λ c. seconds_of c <ℤ pos (2 ^ 65))
+first-bounded ls fs place e h b = in_bounds (lane_at ls place).clock (bounded_at ls fs place e (first-within ls place h) b)

@@ -10,10 +10,9 @@ use Rattle.cap_merge.specs.Sound.{AreFrom}
 
 -- the file isn't before that of the first feed
 stopped_from : (n file offset : ℕ) (ps qs : List Part) → AreFrom n qs → StopsAt (Read file offset) ps qs → n ≤ file
-stopped_from n file offset [] qs a s = absurd s
-stopped_from n file offset (p ∷ ps) [] a s = absurd s
 stopped_from n file offset (p ∷ ps) (q ∷ qs) a (inl s) = grind arith
 stopped_from n file offset (p ∷ ps) (q ∷ qs) a (inr s) = omega (arith, stopped_from (suc n) file offset ps qs a.1 s.1)
+stopped_from n file offset ps qs a s = grind arith
 
 before_file : (n file : ℕ) (files : List ℕ) → files ≡ n ∷ [] → suc n ≤ file → (b : Bool) → has_file files file ≡ b → b ≡ false
 before_file n file files is l b own = grind arith
@@ -21,12 +20,11 @@ before_file n file files is l b own = grind arith
 -- the offset is the file's place then
 pub stopped-place : (n file offset : ℕ) (ps qs : List Part) → AreFrom n qs → StopsAt (Read file offset) ps qs → offset ≡ places_of qs file
 unfolding places_of
-stopped-place n file offset [] qs a s = absurd s
-stopped-place n file offset (p ∷ ps) [] a s = absurd s
 stopped-place n file offset (p ∷ ps) (q ∷ qs) a (inl s) = cc
 stopped-place n file offset (p ∷ ps) (q ∷ qs) a (inr s) =
     rw (before_file n file q.feed.files a.0 (stopped_from (suc n) file offset ps qs a.1 s.1) (has_file q.feed.files file) refl)
     (stopped-place (suc n) file offset ps qs a.1 s.1)
+stopped-place n file offset ps qs a s = grind arith
 
 pub known_by : (p q : Part) (h : Option Head) → p.lane.head ≡ h → LearnsBy h p q → is_some q.lane.head ≡ true
 known_by p q h e l = grind arith
@@ -41,10 +39,9 @@ learned_break h p q P rest l none r = grind arith
 -- the same fault comes again
 pub stopped-again : (file offset : ℕ) (ps qs : List Part) → StopsAt (Read file offset) ps qs → IfSome (broken_of ps) (λ first. Read file offset ≡ first)
 unfolding broken_of
-stopped-again file offset [] qs s = absurd s
-stopped-again file offset (p ∷ ps) [] s = absurd s
 stopped-again file offset (p ∷ ps) (q ∷ qs) (inl s) = grind arith
 stopped-again file offset (p ∷ ps) (q ∷ qs) (inr s) = grind (arith, stopped-again file offset ps qs s.1)
+stopped-again file offset ps qs s = grind arith
 
 -- if a feed has stopped, its break is that of all
 own_stopped : (p q : Part) (fault : Fault) (rest : Option Fault) → Stops p fault q → cond (is_some q.lane.head) rest q.feed.broken ≡ q.feed.broken
@@ -52,10 +49,9 @@ own_stopped p q fault rest s = own_break q.lane.head rest q.feed.broken (ap (λ 
 
 pub stopped-broken : (file offset : ℕ) (ps qs : List Part) → StopsAt (Read file offset) ps qs → broken_of qs ≡ Some (Read file offset)
 unfolding broken_of
-stopped-broken file offset [] qs s = absurd s
-stopped-broken file offset (p ∷ ps) [] s = absurd s
 stopped-broken file offset (p ∷ ps) (q ∷ qs) (inl s) = own_stopped p q (Read file offset) (broken_of qs) s.0 ∙ s.0.gives.broken
 stopped-broken file offset (p ∷ ps) (q ∷ qs) (inr s) = rw (known_by p q p.lane.head refl s.0) (stopped-broken file offset ps qs s.1)
+stopped-broken file offset ps qs s = grind arith
 
 -- no read has failed if all feeds tell what comes next
 pub learned-whole : (ps qs : List Part) → LearnsAll ps qs → broken_of ps ≡ None
@@ -66,17 +62,15 @@ learned-whole ps qs l = grind arith
 -- nor if a growth was refused
 pub waited-before : (ps qs : List Part) → StopsAt Memory ps qs → broken_of ps ≡ None
 unfolding broken_of
-waited-before [] qs s = absurd s
-waited-before (p ∷ ps) [] s = absurd s
 waited-before (p ∷ ps) (q ∷ qs) (inl s) = own_break p.lane.head (broken_of ps) p.feed.broken s.0.unknown ∙ s.0.gives.goes.before
 waited-before (p ∷ ps) (q ∷ qs) (inr s) = learned_break p.lane.head p q (λ w. w ≡ None) (broken_of ps) s.0 refl (waited-before ps qs s.1)
+waited-before ps qs s = grind arith
 
 pub waited-after : (ps qs : List Part) → StopsAt Memory ps qs → broken_of qs ≡ None
 unfolding broken_of
-waited-after [] qs s = absurd s
-waited-after (p ∷ ps) [] s = absurd s
 waited-after (p ∷ ps) (q ∷ qs) (inl s) = own_stopped p q Memory (broken_of qs) s.0 ∙ s.0.gives.goes.after
 waited-after (p ∷ ps) (q ∷ qs) (inr s) = rw (known_by p q p.lane.head refl s.0) (waited-after ps qs s.1)
+waited-after ps qs s = grind arith
 
 -- nor after a packet that is passed
 pub passed-whole : (before after : List Part) (p q : Part) → is_known (before ++ (p ∷ after)) ≡ true → q.lane.head ≡ None → q.feed.broken ≡ None

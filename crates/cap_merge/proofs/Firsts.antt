@@ -1,5 +1,5 @@
 -- The calls that turn to the feed whose item comes first.
-use Rattle.std.proofs.Common.{◌≡◌, ℕ, zero, suc, ◌+◌, ◌-◌, ◌<◌, ◌≤◌, Bool, true, false, cond, List, [], ◌∷◌, ◌++◌, length, get_or, take, drop, refl, sym, ap, ◌∙◌, subst, arith, inl, inr, Option, Some, None}
+use Rattle.std.proofs.Common.{◌≡◌, ℕ, zero, suc, ◌+◌, ◌-◌, ◌<◌, ◌≤◌, Bool, true, false, cond, List, [], ◌∷◌, ◌++◌, length, get_or, take, drop, refl, sym, ap, ◌∙◌, subst, arith, Option, Some, None}
 use Rattle.std.specs.Prelude.{◌⊎◌, ◌||◌, ◌==◌, max, map, IsTrue, IfSome, is_some}
 use Rattle.std.specs.List.{AllByRecursion, list_any, flat_map}
 use Rattle.std.proofs.Math.Seq.{take-suc}
@@ -14,24 +14,24 @@ use Rattle.cap_source.specs.declared.feeds.FeedHeld.{FeedHeld}
 use Rattle.cap_source.specs.Feed.{packet, refused, Feed, IsFeed, IsPacket, Keeps, Passes, HasFile}
 use Rattle.cap_merge.specs.Lists.{all-each}
 use Rattle.cap_merge.specs.declared.lanes.Lane.{Lane}
-use Rattle.cap_merge.specs.declared.lanes.First.{First}
-use Rattle.cap_merge.specs.Parts.{Part, parts, has_next, is_known, known_of, head_by, frame_by, clock_of, first_of, run_of, endings_of, held_of, both_held, has_file, feed_of, Leads, ClocksFrom, BeginsAt, IsNumbered, Agrees, HasReached, clock_by}
+use Rattle.cap_merge.specs.First.{has_next, lane_at, first_place, new_lane}
+use Rattle.cap_merge.specs.Parts.{Part, parts, lanes, is_known, known_of, head_by, frame_by, clock_of, first_of, run_of, endings_of, held_of, both_held, has_file, feed_of, ClocksFrom, BeginsAt, IsNumbered, Agrees, HasReached, clock_by}
 use Rattle.cap_merge.specs.Merge.{IsPacketAt, PassesAt, PassesPart}
 use Rattle.cap_merge.specs.Clocks.{AtMost}
-use Rattle.cap_merge.specs.Leading.{Split, NoNext, IsFirstOf, first_is, first-split}
+use Rattle.cap_merge.specs.Leading.{Split, NoNext, IsFirstOf, first_is}
 use Rattle.cap_merge.specs.Sound.{IsSound, AreFrom, sound-each, lawful-each, numbered-from}
 use Rattle.cap_merge.specs.Coming.{IsReady, leads_known, reached_known, run-first}
 use Rattle.cap_merge.specs.Lawful.{ready_all, at_first}
+use Rattle.cap_merge.proofs.Asking.{part}
 use Rattle.cap_merge.proofs.Calls.{told_all}
 use Rattle.cap_merge.proofs.FromClock.{each-from, from-each}
 use Rattle.cap_merge.proofs.Moving.{Each, each-itself, Kept, kept-itself}
 use Rattle.cap_merge.proofs.Passing.{passes-first, passed-keeps, passed-sound, run-passed, clocks-first, clocks-passed}
-use Rattle.cap_merge.proofs.Placing.{leads-split, placed-split, parts-each, lane-there}
+use Rattle.cap_merge.proofs.Placing.{placed-split, none-placed}
 
 known_parts : (ps : List Part) (b : Bool) → is_known ps ≡ b → (Holds : Option Head → Type 0) → (Holds None → ⊥) → Holds (cond b (head_by (first_of ps)) None)
     → (is_known ps ≡ true) × Holds (head_by (first_of ps))
-known_parts ps true e Holds never h = (e, h)
-known_parts ps false e Holds never h = absurd (never h)
+known_parts ps b e Holds never h = grind arith
 
 -- what is asked of what is known of all: then all are known, and it is what the first tells
 pub known-holds : (ps : List Part) (Holds : Option Head → Type 0) → (Holds None → ⊥) → Holds (feed_of ps).known → (is_known ps ≡ true) × Holds (head_by (first_of ps))
@@ -49,56 +49,37 @@ pub packet-of-first : (ps : List Part) (first : Part) → Split ps first → IsP
     → (is_known ps ≡ true) × ((meta : Meta) × (first.lane.head ≡ Some (heads.Packet meta)))
 packet-of-first ps first s p =
     let held = known-holds ps IsPacket (λ never. never) p in
-    (held.0, packet_head first.lane.head (subst (λ (o : Option Part). IsPacket (head_by o)) (first-split ps first s) held.1))
+    (held.0, packet_head first.lane.head (subst (λ (o : Option Part). IsPacket (head_by o)) s.is_first held.1))
 
-none_of : (ps : List Part) (o : Option Part) → IsFirstOf ps o → NoNext ps → o ≡ None
-none_of ps None s f = refl
-none_of ps (Some q) s f = absurd (true≢false (sym s.next ∙ at_first (λ p. has_next p.lane.head ≡ false) ps q f s))
-
-pub no-packet : (ps : List Part) → NoNext ps → IsPacket (feed_of ps).known → ⊥
-no-packet ps n p =
-    subst (λ (o : Option Part). IsPacket (head_by o)) (none_of ps (first_of ps) (first_is ps) n) (known-holds ps IsPacket (λ never. never) p).1
+pub no-packet : (ps : List Part) → first_of ps ≡ None → IsPacket (feed_of ps).known → ⊥
+no-packet ps n p = subst (λ (o : Option Part). IsPacket (head_by o)) n (known-holds ps IsPacket (λ never. never) p).1
 
 frame_first : (ps : List Part) (first : Part) → Split ps first → (feed_of ps).frame ≡ first.feed.frame
 unfolding feed_of
-frame_first ps first s = ap frame_by (first-split ps first s)
+frame_first ps first s = ap frame_by s.is_first
 
-frame_none : (ps : List Part) → NoNext ps → (feed_of ps).frame ≡ []
-unfolding feed_of
-frame_none ps n = ap frame_by (none_of ps (first_of ps) (first_is ps) n)
-
-get_made : {F : Type 0} (f : F → Feed) (fs : List F) (n : ℕ) (x : F) → get_or (map f fs) n (f x) ≡ f (get_or fs n x)
-get_made f [] n x = refl
-get_made f (y ∷ ys) zero x = refl
-get_made f (y ∷ ys) (suc n) x = get_made f ys n x
-
--- the part of the first lane
-abbrev pub first_part : {F : Type 0} → (F → Feed) → Lane → List F → ℕ → F → Part
-first_part f l fs place x = record { lane = l; feed = f (get_or fs place x) }
-
-pub split-of : {F : Type 0} (f : F → Feed) (ls : List Lane) (fs : List F) (first : First) (x : F) → length ls ≡ length fs → (s : Leads ls first.place first.clock)
-    → Split (parts ls (map f fs)) (first_part f s.lane fs first.place x)
-split-of f ls fs first x e s =
-    subst (λ (w : Feed). Split (parts ls (map f fs)) (record { lane = s.lane; feed = w })) (get_made f fs first.place x)
-    (leads-split ls (map f fs) first.place first.clock (f x) (length-map fs f ∙ sym e) s)
+pub split-of : {F : Type 0} (f : F → Feed) (ls : List Lane) (fs : List F) (place : ℕ) (x : F) → length ls ≡ length fs → first_place ls ≡ Some place
+    → Split (parts ls (map f fs)) (part (lane_at ls place) (f (get_or fs place x)))
+split-of f ls fs place x e h = (placed-split f ls fs place new_lane x e h).0
 
 -- the feed of the first lane knows that a packet comes next
-pub packet-known : {F : Type 0} (f : F → Feed) (ls : List Lane) (fs : List F) (first : First) (x : F) → length ls ≡ length fs → Leads ls first.place first.clock
-    → Agrees (parts ls (map f fs)) → HasReached (parts ls (map f fs)) → IsPacket (feed_of (parts ls (map f fs))).known → IsPacket (f (get_or fs first.place x)).known
-packet-known f ls fs first x e s agrees reached p =
-    let split = split-of f ls fs first x e s in
-    let of = packet-of-first (parts ls (map f fs)) (first_part f s.lane fs first.place x) split p in
-    let sound = at_first IsSound (parts ls (map f fs)) (first_part f s.lane fs first.place x) (sound-each (parts ls (map f fs)) agrees reached) split in
-    let known : (f (get_or fs first.place x)).known ≡ Some (heads.Packet of.1.0) =
-    subst (λ (w : Option Head). IfSome w (λ head. (f (get_or fs first.place x)).known ≡ Some head)) of.1.1 sound.agrees in
+pub packet-known : {F : Type 0} (f : F → Feed) (ls : List Lane) (fs : List F) (place : ℕ) (x : F) → length ls ≡ length fs → first_place ls ≡ Some place
+    → Agrees (parts ls (map f fs)) → HasReached (parts ls (map f fs)) → IsPacket (feed_of (parts ls (map f fs))).known → IsPacket (f (get_or fs place x)).known
+packet-known f ls fs place x e s agrees reached p =
+    let split = split-of f ls fs place x e s in
+    let of = packet-of-first (parts ls (map f fs)) (part (lane_at ls place) (f (get_or fs place x))) split p in
+    let sound = at_first IsSound (parts ls (map f fs)) (part (lane_at ls place) (f (get_or fs place x))) (sound-each (parts ls (map f fs)) agrees reached) split in
+    let known : (f (get_or fs place x)).known ≡ Some (heads.Packet of.1.0) =
+    subst (λ (w : Option Head). IfSome w (λ head. (f (get_or fs place x)).known ≡ Some head)) of.1.1 sound.agrees in
     subst IsPacket (sym known) tt
 
-pub frame-of : {F : Type 0} (f : F → Feed) (ls : List Lane) (fs : List F) (first : First) (x : F) → length ls ≡ length fs → Leads ls first.place first.clock
-    → (f (get_or fs first.place x)).frame ≡ (feed_of (parts ls (map f fs))).frame
-frame-of f ls fs first x e s = sym (frame_first (parts ls (map f fs)) (first_part f s.lane fs first.place x) (split-of f ls fs first x e s))
+pub frame-of : {F : Type 0} (f : F → Feed) (ls : List Lane) (fs : List F) (place : ℕ) (x : F) → length ls ≡ length fs → first_place ls ≡ Some place
+    → (f (get_or fs place x)).frame ≡ (feed_of (parts ls (map f fs))).frame
+frame-of f ls fs place x e s = sym (frame_first (parts ls (map f fs)) (part (lane_at ls place) (f (get_or fs place x))) (split-of f ls fs place x e s))
 
-pub frame-none : {F : Type 0} (f : F → Feed) (ls : List Lane) (fs : List F) → AllByRecursion (λ l. has_next l.head ≡ false) ls → [] ≡ (feed_of (parts ls (map f fs))).frame
-frame-none f ls fs n = sym (frame_none (parts ls (map f fs)) (parts-each (λ l. has_next l.head ≡ false) ls (map f fs) n))
+pub frame-none : {F : Type 0} (f : F → Feed) (ls : List Lane) (fs : List F) → length ls ≡ length fs → first_place ls ≡ None → [] ≡ (feed_of (parts ls (map f fs))).frame
+unfolding feed_of
+frame-none f ls fs e h = sym (ap frame_by (none-placed ls (map f fs) (length-map fs f ∙ sym e) h))
 
 has_next-none : has_next None ≡ true → ⊥
 has_next-none e = true≢false (sym e)
@@ -128,9 +109,8 @@ pub begins-at : (ps : List Part) (first : Part) → Split ps first → has_next 
 begins-at ps first s h sound lawful t =
     begins_by ps first first.lane.head refl s.next (ready-parts ps sound lawful (known-holds ps (λ w. has_next w ≡ true) has_next-none h).0 t) s
 
-pub no-next : {A : Type 0} (ps : List Part) → NoNext ps → has_next (feed_of ps).known ≡ true → A
-no-next ps n h =
-    absurd (true≢false (sym (subst (λ (o : Option Part). has_next (head_by o) ≡ true) (none_of ps (first_of ps) (first_is ps) n) (known-holds ps (λ w. has_next w ≡ true) has_next-none h).1)))
+pub no-next : {A : Type 0} (ps : List Part) → first_of ps ≡ None → has_next (feed_of ps).known ≡ true → A
+no-next ps n h = absurd (true≢false (sym (subst (λ (o : Option Part). has_next (head_by o) ≡ true) n (known-holds ps (λ w. has_next w ≡ true) has_next-none h).1)))
 
 packet_at : (before after : List Part) (p : Part) → IsPacket p.feed.known → IsPacketAt (before ++ (p ∷ after)) (length before)
 packet_at [] after p h = h
@@ -159,7 +139,12 @@ pub record Passed (ps qs : List Part) : Type 0 where
 
 clock_first : (ps : List Part) (first : Part) → Split ps first → clock_of ps ≡ first.lane.clock
 unfolding clock_of
-clock_first ps first s = ap clock_by (first-split ps first s)
+clock_first ps first s = ap clock_by s.is_first
+
+pub clock-of-first : {F : Type 0} (f : F → Feed) (ls : List Lane) (fs : List F) (place : ℕ) → 1 ≤ length fs → length ls ≡ length fs → first_place ls ≡ Some place
+    → (lane_at ls place).clock ≡ clock_of (parts ls (map f fs))
+clock-of-first f ls [] place n e s = absurd (omega arith)
+clock-of-first f ls (x ∷ xs) place n e s = sym (clock_first (parts ls (map f (x ∷ xs))) (part (lane_at ls place) (f (get_or (x ∷ xs) place x))) (split-of f ls (x ∷ xs) place x e s))
 
 passed_split : (before after : List Part) (p q : Part) (meta : Meta) → (s : Split (before ++ (p ∷ after)) p) → s.before ≡ before → s.after ≡ after
     → p.lane.head ≡ Some (heads.Packet meta) → is_known (before ++ (p ∷ after)) ≡ true → PassesPart p q
@@ -183,35 +168,21 @@ passed-first ps qs first place s e p h sound lawful from =
     let at = passed_at s.before s.after first qs there in
     subst (λ (xs : List Part). Passed xs qs) (sym s.whole) (subst (λ (ys : List Part). Passed (s.before ++ (first ∷ s.after)) ys) (sym at.2)
     (passed_split s.before s.after first at.0 of.1.0
-    (record { before = s.before; after = s.after; whole = refl; next = s.next; below = s.below; not_above = s.not_above }) refl refl of.1.1
+    (record { before = s.before; after = s.after; whole = refl; place = subst (λ (xs : List Part). first_place (lanes xs) ≡ Some (length s.before)) s.whole s.place; is_first = subst (λ (xs : List Part). first_of xs ≡ Some first) s.whole s.is_first; next = s.next; below = s.below; not_above = s.not_above }) refl refl of.1.1
     (subst (λ (xs : List Part). is_known xs ≡ true) s.whole of.0) at.1
     (subst (λ (xs : List Part). AllByRecursion IsSound xs) s.whole sound) (subst (λ (xs : List Part). AllByRecursion (λ x. IsFeed x.feed) xs) s.whole lawful)
     (subst (λ (xs : List Part). AreFrom 1 xs) s.whole from)))
 
-place_by : (ps : List Part) (l : Lane) (w v : Feed) (place : ℕ) → w ≡ v → (t : Split ps (record { lane = l; feed = w })) × (length t.before ≡ place)
-    → (t : Split ps (record { lane = l; feed = v })) × (length t.before ≡ place)
-place_by ps l w v place e h = subst (λ (x : Feed). (t : Split ps (record { lane = l; feed = x })) × (length t.before ≡ place)) e h
-
-pub place-of : {F : Type 0} (f : F → Feed) (ls : List Lane) (fs : List F) (first : First) (x : F) → length ls ≡ length fs → (s : Leads ls first.place first.clock)
-    → (t : Split (parts ls (map f fs)) (first_part f s.lane fs first.place x)) × (length t.before ≡ first.place)
-place-of f ls fs first x e s =
-    place_by (parts ls (map f fs)) s.lane (get_or (map f fs) first.place (f x)) (f (get_or fs first.place x)) first.place (get_made f fs first.place x)
-    (placed-split ls (map f fs) first.place first.clock (f x) (length-map fs f ∙ sym e) s)
-
 -- if nothing comes next of all, each feed is at its end
 ended : (ps : List Part) (o : Option Part) → IsFirstOf ps o → head_by o ≡ Some heads.End → NoNext ps
-ended ps None n e = n
-ended ps (Some q) s e = absurd (true≢false (sym s.next ∙ ap has_next e))
+ended ps o s e = grind arith
 
 end_known : (h k : Option Head) → is_some h ≡ true → has_next h ≡ false → IfSome h (λ head. k ≡ Some head) → k ≡ Some heads.End
-end_known None k e n a = absurd (true≢false (sym e))
-end_known (Some (heads.Packet meta)) k e n a = absurd (true≢false n)
-end_known (Some (heads.Refused refusal)) k e n a = absurd (true≢false n)
-end_known (Some heads.End) k e n a = a
+end_known h k e n a = grind arith
 
 ends_each : (ps : List Part) → AllByRecursion IsSound ps → AllByRecursion (λ p. is_some p.lane.head ≡ true) ps → NoNext ps → AllByRecursion (λ p. p.feed.known ≡ Some heads.End) ps
 ends_each [] s k n = tt
-ends_each (p ∷ ps) s k n = (end_known p.lane.head p.feed.known k.0 n.0 s.0.agrees, ends_each ps s.1 k.1 n.1)
+ends_each (p ∷ ps) s k n = grind (arith, end_known, ends_each ps s.1 k.1 n.1)
 
 not_none : None ≡ Some heads.End → ⊥
 not_none e = true≢false (sym (ap is_some e))
@@ -230,8 +201,7 @@ pub record FileAt {F : Type 0} (f : F → Feed) (fs : List F) (n : ℕ) (file : 
   pub ends : (x : F) → endings file ≡ (f (get_or fs (file - n) x)).endings file
 
 or_cases : (a b : Bool) → (a || b) ≡ true → (a ≡ false → b ≡ true)
-or_cases true b e f = absurd (true≢false f)
-or_cases false b e f = e
+or_cases a b e f = grind arith
 
 any_parts : (test : ℕ → Bool) (xs ys : List ℕ) → list_any test (xs ++ ys) ≡ true → list_any test xs ≡ false → list_any test ys ≡ true
 any_parts test [] ys e f = e
@@ -263,12 +233,10 @@ file_by f n file l ls x xs e k false h rest =
 pub file-at : {F : Type 0} (f : F → Feed) (n file : ℕ) (ls : List Lane) (fs : List F) → length ls ≡ length fs → AreFrom n (parts ls (map f fs))
     → AllByRecursion (λ p. p.feed.known ≡ Some heads.End) (parts ls (map f fs))
     → has_file (flat_map (λ p. p.feed.files) (parts ls (map f fs))) file ≡ true → FileAt f fs n file (endings_of (parts ls (map f fs)))
-file-at f n file [] [] l a k h = absurd (true≢false (sym h))
-file-at f n file [] (x ∷ xs) l a k h = absurd (omega arith)
-file-at f n file (y ∷ ls) [] l a k h = absurd (omega arith)
 file-at f n file (y ∷ ls) (x ∷ xs) l a k h =
     file_by f n file y ls x xs a.0 k.0 (has_file (f x).files file) refl
     (λ other. file-at f (suc n) file ls xs (omega arith) a.1 k.1 (any_parts (λ g. g == file) (f x).files (flat_map (λ p. p.feed.files) (parts ls (map f xs))) h other))
+file-at f n file ls fs l a k h = grind (arith, true≢false)
 
 files_of : (ps : List Part) (file : ℕ) → HasFile (feed_of ps).files file → has_file (flat_map (λ p. p.feed.files) ps) file ≡ true
 unfolding feed_of
@@ -298,12 +266,10 @@ held-parts f (y ∷ ls) [] l = absurd (omega arith)
 held-parts f (y ∷ ls) (x ∷ xs) l = ap (both_held (f x).held) (held-parts f ls xs (omega arith))
 
 or-assoc : (a b c : Bool) → ((a || b) || c) ≡ (a || (b || c))
-or-assoc true b c = refl
-or-assoc false b c = refl
+or-assoc a b c = grind arith
 
 or-none : (a : Bool) → (a || false) ≡ a
-or-none true = refl
-or-none false = refl
+or-none a = grind arith
 
 max-assoc : (a b c : ℕ) → max (max a b) c ≡ max a (max b c)
 max-assoc a b c = omega arith
@@ -335,72 +301,65 @@ pub held-done : {F : Type 0} (f : F → Feed) (ls : List Lane) (fs : List F) (n 
 held-done f ls fs n held e l h =
     h ∙ ap (λ xs. held_all (map f xs)) (take_all n fs l) ∙ sym (held-parts f ls fs e) ∙ sym (held_is (parts ls (map f fs)))
 
-pub clocks-of : {F : Type 0} (f : F → Feed) (ls : List Lane) (fs : List F) (first : First) → 1 ≤ length fs → length ls ≡ length fs → Leads ls first.place first.clock
-    → has_next (feed_of (parts ls (map f fs))).known ≡ true → ClocksFrom first.clock (parts ls (map f fs))
-clocks-of f ls [] first n e s h = absurd (omega arith)
-clocks-of f ls (x ∷ xs) first n e s h =
-    subst (λ (w : Option Stamp). ClocksFrom w (parts ls (map f (x ∷ xs)))) s.clock_is
-    (clocks-of-first (parts ls (map f (x ∷ xs))) (first_part f s.lane (x ∷ xs) first.place x) (split-of f ls (x ∷ xs) first x e s) h)
+pub clocks-of : {F : Type 0} (f : F → Feed) (ls : List Lane) (fs : List F) (place : ℕ) → 1 ≤ length fs → length ls ≡ length fs → first_place ls ≡ Some place
+    → has_next (feed_of (parts ls (map f fs))).known ≡ true → ClocksFrom (lane_at ls place).clock (parts ls (map f fs))
+clocks-of f ls [] place n e s h = absurd (omega arith)
+clocks-of f ls (x ∷ xs) place n e s h =
+    (clocks-of-first (parts ls (map f (x ∷ xs))) (part (lane_at ls place) (f (get_or (x ∷ xs) place x))) (split-of f ls (x ∷ xs) place x e s) h)
 
-pub begins-of : {F : Type 0} (f : F → Feed) → ((x : F) → IsFeed (f x)) → (ls : List Lane) (fs : List F) (first : First) → 1 ≤ length fs → length ls ≡ length fs → Leads ls first.place first.clock
+pub begins-of : {F : Type 0} (f : F → Feed) → ((x : F) → IsFeed (f x)) → (ls : List Lane) (fs : List F) (place : ℕ) → 1 ≤ length fs → length ls ≡ length fs → first_place ls ≡ Some place
     → has_next (feed_of (parts ls (map f fs))).known ≡ true → Agrees (parts ls (map f fs)) → HasReached (parts ls (map f fs))
-    → IsTrue (feed_of (parts ls (map f fs))).told → BeginsAt first.clock (run_of (parts ls (map f fs)))
-begins-of f law ls [] first n e s h agrees reached t = absurd (omega arith)
-begins-of f law ls (x ∷ xs) first n e s h agrees reached t =
-    subst (λ (w : Option Stamp). BeginsAt w (run_of (parts ls (map f (x ∷ xs))))) s.clock_is
-    (begins-at (parts ls (map f (x ∷ xs))) (first_part f s.lane (x ∷ xs) first.place x) (split-of f ls (x ∷ xs) first x e s) h
+    → IsTrue (feed_of (parts ls (map f fs))).told → BeginsAt (lane_at ls place).clock (run_of (parts ls (map f fs)))
+begins-of f law ls [] place n e s h agrees reached t = absurd (omega arith)
+begins-of f law ls (x ∷ xs) place n e s h agrees reached t =
+    (begins-at (parts ls (map f (x ∷ xs))) (part (lane_at ls place) (f (get_or (x ∷ xs) place x))) (split-of f ls (x ∷ xs) place x e s) h
     (sound-each (parts ls (map f (x ∷ xs))) agrees reached) (lawful-each f law ls (x ∷ xs)) t)
 
-pub packet-at-first : {F : Type 0} (f : F → Feed) (ls : List Lane) (fs : List F) (first : First) → 1 ≤ length fs → length ls ≡ length fs → Leads ls first.place first.clock
-    → Agrees (parts ls (map f fs)) → HasReached (parts ls (map f fs)) → IsPacket (feed_of (parts ls (map f fs))).known → IsPacketAt (parts ls (map f fs)) first.place
-packet-at-first f ls [] first n e s agrees reached p = absurd (omega arith)
-packet-at-first f ls (x ∷ xs) first n e s agrees reached p =
-    let at = place-of f ls (x ∷ xs) first x e s in
-    packet-at (parts ls (map f (x ∷ xs))) (first_part f s.lane (x ∷ xs) first.place x) first.place at.0 at.1
-    (packet-known f ls (x ∷ xs) first x e s agrees reached p)
+pub packet-at-first : {F : Type 0} (f : F → Feed) (ls : List Lane) (fs : List F) (place : ℕ) → 1 ≤ length fs → length ls ≡ length fs → first_place ls ≡ Some place
+    → Agrees (parts ls (map f fs)) → HasReached (parts ls (map f fs)) → IsPacket (feed_of (parts ls (map f fs))).known → IsPacketAt (parts ls (map f fs)) place
+packet-at-first f ls [] place n e s agrees reached p = absurd (omega arith)
+packet-at-first f ls (x ∷ xs) place n e s agrees reached p =
+    let at = placed-split f ls (x ∷ xs) place new_lane x e s in
+    packet-at (parts ls (map f (x ∷ xs))) (part (lane_at ls place) (f (get_or (x ∷ xs) place x))) place at.0 at.1
+    (packet-known f ls (x ∷ xs) place x e s agrees reached p)
 
-pub passed-of : {F : Type 0} (f : F → Feed) → ((x : F) → IsFeed (f x)) → (ls ms : List Lane) (fs ys : List F) (first : First) → 1 ≤ length fs → length ls ≡ length fs → Leads ls first.place first.clock
+pub passed-of : {F : Type 0} (f : F → Feed) → ((x : F) → IsFeed (f x)) → (ls ms : List Lane) (fs ys : List F) (place : ℕ) → 1 ≤ length fs → length ls ≡ length fs → first_place ls ≡ Some place
     → IsNumbered (map f fs) → Agrees (parts ls (map f fs)) → HasReached (parts ls (map f fs)) → IsPacket (feed_of (parts ls (map f fs))).known
-    → PassesAt (parts ls (map f fs)) first.place (parts ms (map f ys)) → Passed (parts ls (map f fs)) (parts ms (map f ys))
-passed-of f law ls ms [] ys first n e s numbered agrees reached p h = absurd (omega arith)
-passed-of f law ls ms (x ∷ xs) ys first n e s numbered agrees reached p h =
-    let at = place-of f ls (x ∷ xs) first x e s in
-    passed-first (parts ls (map f (x ∷ xs))) (parts ms (map f ys)) (first_part f s.lane (x ∷ xs) first.place x) first.place at.0 at.1 p h
+    → PassesAt (parts ls (map f fs)) place (parts ms (map f ys)) → Passed (parts ls (map f fs)) (parts ms (map f ys))
+passed-of f law ls ms [] ys place n e s numbered agrees reached p h = absurd (omega arith)
+passed-of f law ls ms (x ∷ xs) ys place n e s numbered agrees reached p h =
+    let at = placed-split f ls (x ∷ xs) place new_lane x e s in
+    passed-first (parts ls (map f (x ∷ xs))) (parts ms (map f ys)) (part (lane_at ls place) (f (get_or (x ∷ xs) place x))) place at.0 at.1 p h
     (sound-each (parts ls (map f (x ∷ xs))) agrees reached) (lawful-each f law ls (x ∷ xs)) (numbered-from f ls (x ∷ xs) e numbered)
 
 -- a pass keeps what each feed keeps
 pub passes-each : (place : ℕ) (ps qs : List Part) → PassesAt ps place qs → Each Kept ps qs
-passes-each place [] qs h = absurd h
-passes-each place (p ∷ ps) [] h = absurd h
 passes-each zero (p ∷ ps) (q ∷ qs) h = (h.0.keeps, subst (λ (xs : List Part). Each Kept ps xs) (sym h.1) (each-itself Kept kept-itself ps))
 passes-each (suc place) (p ∷ ps) (q ∷ qs) h = (subst (λ (w : Part). Kept p w) (sym h.0) (kept-itself p), passes-each place ps qs h.1)
+passes-each place ps qs h = grind arith
 
-pub packet-here : {F : Type 0} (f : F → Feed) (ls : List Lane) (fs : List F) (first : First) (x : F) → x ≡ get_or fs first.place x → length ls ≡ length fs → Leads ls first.place first.clock
+pub packet-here : {F : Type 0} (f : F → Feed) (ls : List Lane) (fs : List F) (place : ℕ) (x : F) → x ≡ get_or fs place x → length ls ≡ length fs → first_place ls ≡ Some place
     → Agrees (parts ls (map f fs)) → HasReached (parts ls (map f fs)) → IsPacket (feed_of (parts ls (map f fs))).known → IsPacket (f x).known
-packet-here {F} f ls fs first x is e s agrees reached p = subst (λ (w : F). IsPacket (f w).known) (sym is) (packet-known f ls fs first x e s agrees reached p)
-
--- The packet that comes next of all is that of the first lane.
-pub packet-lane : {F : Type 0} (f : F → Feed) (ls : List Lane) (fs : List F) (first : First) (d : Lane) → 1 ≤ length fs → length ls ≡ length fs → Leads ls first.place first.clock
-    → IsPacket (feed_of (parts ls (map f fs))).known → IsPacket (get_or ls first.place d).head
-packet-lane f ls [] first d n e s p = absurd (omega arith)
-packet-lane f ls (x ∷ xs) first d n e s p =
-    let held = packet-of-first (parts ls (map f (x ∷ xs))) (first_part f s.lane (x ∷ xs) first.place x) (split-of f ls (x ∷ xs) first x e s) p in
-    subst (λ (o : Option Head). IsPacket o) (sym (ap (λ (w : Lane). w.head) (lane-there ls first.place first.clock d s) ∙ held.1.1)) tt
+packet-here {F} f ls fs place x is e s agrees reached p = subst (λ (w : F). IsPacket (f w).known) (sym is) (packet-known f ls fs place x e s agrees reached p)
 
 known_lane : (ps : List Part) (first : Part) → Split ps first → IsPacket (feed_of ps).known → (feed_of ps).known ≡ first.lane.head
 unfolding feed_of known_of
-known_lane ps first s p = rw (known-holds ps IsPacket (λ never. never) p).0 (ap head_by (first-split ps first s))
+known_lane ps first s p = rw (known-holds ps IsPacket (λ never. never) p).0 (ap head_by s.is_first)
 
-pub lane-known : {F : Type 0} (f : F → Feed) (ls : List Lane) (fs : List F) (first : First) (d : Lane) → 1 ≤ length fs → length ls ≡ length fs → Leads ls first.place first.clock
-    → IsPacket (feed_of (parts ls (map f fs))).known → (feed_of (parts ls (map f fs))).known ≡ (get_or ls first.place d).head
-lane-known f ls [] first d n e s p = absurd (omega arith)
-lane-known f ls (x ∷ xs) first d n e s p =
-    known_lane (parts ls (map f (x ∷ xs))) (first_part f s.lane (x ∷ xs) first.place x) (split-of f ls (x ∷ xs) first x e s) p
-    ∙ ap (λ (w : Lane). w.head) (sym (lane-there ls first.place first.clock d s))
+-- The packet that comes next of all is that of the first lane.
+pub lane-known : {F : Type 0} (f : F → Feed) (ls : List Lane) (fs : List F) (place : ℕ) → 1 ≤ length fs → length ls ≡ length fs → first_place ls ≡ Some place
+    → IsPacket (feed_of (parts ls (map f fs))).known → (feed_of (parts ls (map f fs))).known ≡ (lane_at ls place).head
+lane-known f ls [] place n e s p = absurd (omega arith)
+lane-known f ls (x ∷ xs) place n e s p =
+    known_lane (parts ls (map f (x ∷ xs))) (part (lane_at ls place) (f (get_or (x ∷ xs) place x))) (split-of f ls (x ∷ xs) place x e s) p
 
-pub frame-here : {F : Type 0} (f : F → Feed) (ls : List Lane) (fs : List F) (first : First) (x : F) → x ≡ get_or fs first.place x → length ls ≡ length fs → Leads ls first.place first.clock
+pub packet-lane : {F : Type 0} (f : F → Feed) (ls : List Lane) (fs : List F) (place : ℕ) → 1 ≤ length fs → length ls ≡ length fs → first_place ls ≡ Some place
+    → IsPacket (feed_of (parts ls (map f fs))).known → IsPacket (lane_at ls place).head
+packet-lane f ls fs place n e s p = subst IsPacket (lane-known f ls fs place n e s p) p
+
+pub frame-here : {F : Type 0} (f : F → Feed) (ls : List Lane) (fs : List F) (place : ℕ) (x : F) → x ≡ get_or fs place x → length ls ≡ length fs → first_place ls ≡ Some place
     → (f x).frame ≡ (feed_of (parts ls (map f fs))).frame
-frame-here f ls fs first x is e s = ap (λ w. (f w).frame) is ∙ frame-of f ls fs first x e s
+frame-here f ls fs place x is e s = ap (λ w. (f w).frame) is ∙ frame-of f ls fs place x e s
 
 pub known-here : {F : Type 0} (f : F → Feed) (fs : List F) (file : ℕ) (endings : ℕ → Ending) (x : F) → x ≡ get_or fs (file - 1) x
     → FileAt f fs 1 file endings → (f x).known ≡ Some heads.End
@@ -419,15 +378,14 @@ pub held-here : {F : Type 0} (f : F → Feed) (fs : List F) (n : ℕ) (x : F) (h
 held-here f fs n x held is l h = (λ i. both_held (h i) (f (is i)).held) ∙ sym (held-taken f fs n x l)
 
 at_first_from : (clock : Option Stamp) (p : Part) → has_next p.lane.head ≡ true → (p.lane.head ≡ Some heads.End) ⊎ AtMost clock p.lane.clock → AtMost clock p.lane.clock
-at_first_from clock p n (inl e) = absurd (true≢false (sym n ∙ ap has_next e))
-at_first_from clock p n (inr h) = h
+at_first_from clock p n h = grind arith
 
 -- what isn't above the clocks of all items to come isn't above that of the first
-pub not-below-first : {F : Type 0} (f : F → Feed) (ls : List Lane) (fs : List F) (first : First) → 1 ≤ length fs → length ls ≡ length fs → Leads ls first.place first.clock
-    → (clock : Option Stamp) → ClocksFrom clock (parts ls (map f fs)) → AtMost clock first.clock
-not-below-first f ls [] first n e s clock h = absurd (omega arith)
-not-below-first f ls (x ∷ xs) first n e s clock h =
-    let part = first_part f s.lane (x ∷ xs) first.place x in
-    subst (AtMost clock) s.clock_is
-    (at_first_from clock part s.next
-    (at_first (λ p. (p.lane.head ≡ Some heads.End) ⊎ AtMost clock p.lane.clock) (parts ls (map f (x ∷ xs))) part (from-each clock (parts ls (map f (x ∷ xs))) h) (split-of f ls (x ∷ xs) first x e s)))
+pub not-below-first : {F : Type 0} (f : F → Feed) (ls : List Lane) (fs : List F) (place : ℕ) → 1 ≤ length fs → length ls ≡ length fs → first_place ls ≡ Some place
+    → (clock : Option Stamp) → ClocksFrom clock (parts ls (map f fs)) → AtMost clock (lane_at ls place).clock
+not-below-first f ls [] place n e s clock h = absurd (omega arith)
+not-below-first f ls (x ∷ xs) place n e s clock h =
+    let split = split-of f ls (x ∷ xs) place x e s in
+    let first = part (lane_at ls place) (f (get_or (x ∷ xs) place x)) in
+    at_first_from clock first split.next
+    (at_first (λ p. (p.lane.head ≡ Some heads.End) ⊎ AtMost clock p.lane.clock) (parts ls (map f (x ∷ xs))) first (from-each clock (parts ls (map f (x ∷ xs))) h) split)

@@ -1,6 +1,6 @@
 -- What asking all feeds, and passing the first packet, does to the feeds as one.
 use Rattle.cap_merge.specs.declared.lanes.Lane.{Lane}
-use Rattle.std.proofs.Common.{◌≡◌, ℕ, Bool, true, false, cond, List, [], ◌∷◌, refl, sym, ap, ◌∙◌, subst, inl, inr, Option, Some, None, Result, Ok, Err}
+use Rattle.std.proofs.Common.{◌≡◌, ℕ, Bool, true, false, cond, List, [], ◌∷◌, refl, sym, ap, ◌∙◌, subst, inl, inr, Option, Some, None, Result, Ok, Err, arith}
 use Rattle.std.specs.Prelude.{◌||◌, ◌&&◌, ◌==◌, IsTrue, IfSome, is_some}
 use Rattle.std.specs.List.{AllByRecursion, list_any, flat_map}
 use Rattle.std.proofs.lemmas.Bool.{true≢false}
@@ -22,15 +22,12 @@ use Rattle.cap_merge.proofs.FromClock.{From, EachFrom, each-from, from-each}
 use Rattle.cap_merge.proofs.Moving.{Each, learns-each, stops-each, Kept, kept-itself, kept-learns_by, ComesAlike, alike-itself, alike-learns_by, alike-waits, items-alike, sound-learns_by, sound-stops, sound-all}
 
 failed_learns : (p q : Part) (h : Option Head) → LearnsBy h p q → q.feed.held.failed ≡ p.feed.held.failed
-failed_learns p q None l = l.1.knows.goes.failed
-failed_learns p q (Some head) l = ap (λ w. w.feed.held.failed) l
+failed_learns p q h l = grind arith
 
 any_failed : (ps qs : List Part) → Each (λ p q. q.feed.held.failed ≡ p.feed.held.failed) ps qs
     → list_any (λ p. p.feed.held.failed) qs ≡ list_any (λ p. p.feed.held.failed) ps
-any_failed [] [] e = refl
-any_failed [] (q ∷ qs) e = absurd e
-any_failed (p ∷ ps) [] e = absurd e
 any_failed (p ∷ ps) (q ∷ qs) e = λ i. e.0 i || any_failed ps qs e.1 i
+any_failed ps qs e = grind arith
 
 failed_each : (ps qs : List Part) → Each (λ p q. q.feed.held.failed ≡ p.feed.held.failed) ps qs → (feed_of qs).held.failed ≡ (feed_of ps).held.failed
 unfolding feed_of
@@ -38,33 +35,27 @@ failed_each ps qs e = any_failed ps qs e
 
 -- all feeds that were asked are known
 pub known_all : (ps qs : List Part) → LearnsAll ps qs → is_known qs ≡ true
-known_all [] [] l = refl
-known_all [] (q ∷ qs) l = absurd l
-known_all (p ∷ ps) [] l = absurd l
 known_all (p ∷ ps) (q ∷ qs) l = rw (known_by p q p.lane.head refl l.0) (known_all ps qs l.1)
+known_all ps qs l = grind arith
 
 -- if all were known before, nothing changes
 same_by : (p q : Part) (h : Option Head) → is_some h ≡ true → LearnsBy h p q → q ≡ p
-same_by p q None e l = absurd (true≢false (sym e))
-same_by p q (Some head) e l = l
+same_by p q h e l = grind arith
 
 same_all : (ps qs : List Part) → is_known ps ≡ true → LearnsAll ps qs → qs ≡ ps
-same_all [] [] k l = refl
-same_all [] (q ∷ qs) k l = absurd l
-same_all (p ∷ ps) [] k l = absurd l
 same_all (p ∷ ps) (q ∷ qs) k l =
     let both = and-both (is_some p.lane.head) (is_known ps) k in
     λ i. same_by p q p.lane.head both.0 l.0 i ∷ same_all ps qs both.1 l.1 i
+same_all ps qs k l = grind arith
 
 -- one that isn't known leaves all unknown
 unknown_stops : (fault : Fault) (ps qs : List Part) → StopsAt fault ps qs → (is_known ps ≡ false) × (is_known qs ≡ false)
-unknown_stops fault [] qs s = absurd s
-unknown_stops fault (p ∷ ps) [] s = absurd s
 unknown_stops fault (p ∷ ps) (q ∷ qs) (inl s) =
     (ap (λ h. is_some h && is_known ps) s.0.unknown, ap (λ w. is_some w.head && is_known qs) s.0.lane ∙ ap (λ h. is_some h && is_known qs) s.0.unknown)
 unknown_stops fault (p ∷ ps) (q ∷ qs) (inr s) =
     let rest = unknown_stops fault ps qs s.1 in
     (and-none (is_some p.lane.head) (is_known ps) rest.0, and-none (is_some q.lane.head) (is_known qs) rest.1)
+unknown_stops fault ps qs s = grind arith
 
 unknown_feed : (ps : List Part) → is_known ps ≡ false → (feed_of ps).known ≡ None
 unfolding feed_of known_of
@@ -97,8 +88,6 @@ abbrev FailsAt : ℕ → List Part → List Part → Type 0
 FailsAt file ps qs = (has_file (flat_map (λ p. p.feed.files) ps) file ≡ true) × (list_any (λ p. p.feed.held.failed) qs ≡ true) × (list_any (λ p. p.feed.can_fail) ps ≡ true)
 
 fails_at : (file offset : ℕ) (ps qs : List Part) → StopsAt (Read file offset) ps qs → FailsAt file ps qs
-fails_at file offset [] qs s = absurd s
-fails_at file offset (p ∷ ps) [] s = absurd s
 fails_at file offset (p ∷ ps) (q ∷ qs) (inl s) = (
   any-front (λ f. f == file) p.feed.files (flat_map (λ x. x.feed.files) ps) s.0.gives.of,
   rw s.0.gives.failed refl,
@@ -110,6 +99,7 @@ fails_at file offset (p ∷ ps) (q ∷ qs) (inr s) =
       or-back q.feed.held.failed (list_any (λ x. x.feed.held.failed) qs) rest.1,
       or-back p.feed.can_fail (list_any (λ x. x.feed.can_fail) ps) rest.2,
     )
+fails_at file offset ps qs s = grind arith
 
 pub asked-keeps : {T : Type 0} (ps qs : List Part) (result : Result T Fault) → AsksAll ps result qs → AllByRecursion (λ q. IsFeed q.feed) qs → Each Kept ps qs
 asked-keeps ps qs (Ok x) a f = learns-each Kept (λ p q _. kept-learns_by p q p.lane.head) ps qs f a
@@ -190,10 +180,8 @@ from_learns clock p q None e l (inr above) =
 from_learns clock p q (Some head) e l f = subst (From clock) (sym l) f
 
 from_all : (clock : Option Stamp) (ps qs : List Part) → Each (λ p q. From clock p → From clock q) ps qs → EachFrom clock ps → EachFrom clock qs
-from_all clock [] [] e f = tt
-from_all clock [] (q ∷ qs) e f = absurd e
-from_all clock (p ∷ ps) [] e f = absurd e
 from_all clock (p ∷ ps) (q ∷ qs) e f = (e.0 f.0, from_all clock ps qs e.1 f.1)
+from_all clock ps qs e f = grind arith
 
 pub clocks-asked : {T : Type 0} (ps qs : List Part) (result : Result T Fault) → AsksAll ps result qs → AllByRecursion (λ q. IsFeed q.feed) qs
     → (clock : Option Stamp) → ClocksFrom clock ps → ClocksFrom clock qs

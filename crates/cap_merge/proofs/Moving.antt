@@ -34,10 +34,9 @@ learns-each R f ps qs l k = grind arith
 pub stops-each : (R : Part → Part → Type 0) (fault : Fault) → ((p : Part) → R p p) → ((p q : Part) → IsFeed q.feed → LearnsBy p.lane.head p q → R p q)
     → ((p q : Part) → Stops p fault q → R p q)
     → (ps qs : List Part) → AllByRecursion (λ q. IsFeed q.feed) qs → StopsAt fault ps qs → Each R ps qs
-stops-each R fault i f g [] qs l h = absurd h
-stops-each R fault i f g (p ∷ ps) [] l h = absurd h
 stops-each R fault i f g (p ∷ ps) (q ∷ qs) l (inl h) = (g p q h.0, same_each R i ps qs h.1)
 stops-each R fault i f g (p ∷ ps) (q ∷ qs) l (inr h) = (f p q l.0 h.0, stops-each R fault i f g ps qs l.1 h.1)
+stops-each R fault i f g ps qs l h = grind arith
 
 abbrev pub Kept : Part → Part → Type 0
 Kept p q = Keeps p.feed q.feed

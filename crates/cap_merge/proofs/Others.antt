@@ -7,8 +7,7 @@ use Rattle.cap_bytes.specs.declared.faults.Fault.{Fault}
 use Rattle.cap_source.specs.Feed.{Feed, IsPacket}
 use Rattle.cap_merge.specs.Lists.{and-both}
 use Rattle.cap_merge.specs.declared.lanes.Lane.{Lane}
-use Rattle.cap_merge.specs.Parts.{Part, parts, is_known, feed_of}
-use Rattle.cap_merge.specs.First.{known_but, OthersKnown}
+use Rattle.cap_merge.specs.Parts.{Part, parts, is_known, known_but, OthersKnown, feed_of}
 use Rattle.cap_merge.specs.Merge.{LearnsAll, Asks, AsksAll, PassesAt}
 use Rattle.cap_merge.proofs.Asking.{part}
 use Rattle.cap_merge.proofs.Firsts.{known-holds}

@@ -1,9 +1,8 @@
 -- The packet that comes first of all is passed.
-use Rattle.std.proofs.Common.{◌≡◌, ℕ, ◌<◌, Bool, true, false, cond, List, [], ◌∷◌, ◌++◌, drop, refl, sym, ap, ◌∙◌, subst, arith, inl, inr, Option, Some, None, Less}
+use Rattle.std.proofs.Common.{◌≡◌, ℕ, ◌<◌, Bool, true, false, cond, List, [], ◌∷◌, ◌++◌, drop, refl, sym, ap, ◌∙◌, subst, arith, inr, Option, Some, None, Less}
 use Rattle.std.specs.Prelude.{◌||◌, ◌⊎◌, map, max, IfSome, is_some}
 use Rattle.std.specs.List.{AllByRecursion, list_all, list_any}
 use Rattle.std.specs.Ordering.{is_lt, is_gt}
-use Rattle.std.proofs.lemmas.Bool.{true≢false}
 use Rattle.std.proofs.lemmas.List.{map-append}
 use Rattle.cap_time.specs.declared.stamps.Stamp.{Stamp}
 use Rattle.cap_source.specs.declared.feeds.Head.{Head}
@@ -14,10 +13,11 @@ use Rattle.cap_merge.specs.Lists.{All-both, all-back, all-each, and-none}
 use Rattle.cap_merge.specs.declared.lanes.Lane.{Lane}
 use Rattle.cap_merge.specs.Clock.{clock_cmp}
 use Rattle.cap_merge.specs.Run.{run}
-use Rattle.cap_merge.specs.Parts.{Part, item_time, is_refusal, has_next, has_file, is_known, known_of, head_by, first_of, tracks, run_of, endings_of, places_of, left_of, most_of, held_of, feed_of}
+use Rattle.cap_merge.specs.First.{has_next}
+use Rattle.cap_merge.specs.Parts.{Part, item_time, is_refusal, has_file, is_known, known_of, head_by, first_of, tracks, run_of, endings_of, places_of, left_of, most_of, held_of, feed_of}
 use Rattle.cap_merge.specs.Merge.{PassesPart}
 use Rattle.cap_merge.specs.Clocks.{AtMost, at_most-itself}
-use Rattle.cap_merge.specs.Leading.{Split, first-split}
+use Rattle.cap_merge.specs.Leading.{Split}
 use Rattle.cap_merge.specs.Sound.{IsSound, AreFrom}
 use Rattle.cap_merge.specs.Coming.{IsReady, leads_known, reached_known, run-first, run_behind}
 use Rattle.cap_merge.specs.Lawful.{ready_all, at_first, places_at, packet_known}
@@ -34,8 +34,7 @@ pub passed-keeps : (before after : List Part) (p q : Part) → PassesPart p q �
 passed-keeps before after p q h = keeps-each (before ++ (p ∷ after)) (before ++ (q ∷ after)) (each_at Kept kept-itself before after p q h.keeps)
 
 no_time : (a : Option Stamp) → is_lt (clock_cmp a None) ≡ false
-no_time None = refl
-no_time (Some a) = refl
+no_time a = grind arith
 
 unknown_sound : (p q : Part) → PassesPart p q → IsSound q
 unknown_sound p q h =
@@ -97,8 +96,7 @@ run-passed ps before after p q meta r s b a e h =
 
 known_is : (ps : List Part) (p : Part) (b : Bool) → is_known ps ≡ b → first_of ps ≡ Some p → b ≡ true → known_of ps ≡ p.lane.head
 unfolding known_of
-known_is ps p true e f h = rw (e, f) refl
-known_is ps p false e f h = absurd (true≢false (sym h))
+known_is ps p b e f h = grind arith
 
 place_passed : (before after : List Part) (p q : Part) (meta : Meta) → p.lane.head ≡ Some (heads.Packet meta) → IsSound p → IsFeed p.feed → PassesPart p q
     → AreFrom 1 (before ++ (q ∷ after)) → meta.offset < places_of (before ++ (q ∷ after)) meta.file
@@ -123,7 +121,6 @@ pub passes-first : (before after : List Part) (p q : Part) (meta : Meta) → (s 
     → Passes (feed_of (before ++ (p ∷ after))) (feed_of (before ++ (q ∷ after)))
 unfolding feed_of known_of
 passes-first before after p q meta s b a e k h sound lawful from =
-    let first = first-split (before ++ (p ∷ after)) p s in
     let own_sound = at_first IsSound (before ++ (p ∷ after)) p sound s in
     let own_lawful = at_first (λ x. IsFeed x.feed) (before ++ (p ∷ after)) p lawful s in
     let kept = each_at Kept kept-itself before after p q h.keeps in
@@ -133,7 +130,7 @@ passes-first before after p q meta s b a e k h sound lawful from =
       held = held_same before after p q h.passes.held;
       left = left_less before after p q h.passes.left;
       place = subst (λ (w : Option Head). IfPacket w (λ m. m.offset < places_of (before ++ (q ∷ after)) m.file))
-          (sym (known_is (before ++ (p ∷ after)) p (is_known (before ++ (p ∷ after))) refl first k ∙ e))
+          (sym (known_is (before ++ (p ∷ after)) p (is_known (before ++ (p ∷ after))) refl s.is_first k ∙ e))
           (place_passed before after p q meta e own_sound own_lawful h (from-each 1 (before ++ (p ∷ after)) (before ++ (q ∷ after)) kept from));
       items = λ t. items_passed before after p q meta s b a e h
           (ready_all (before ++ (p ∷ after)) sound lawful (all-each (λ x. x.feed.told) (before ++ (p ∷ after)) t) (all-each (λ x. is_some x.lane.head) (before ++ (p ∷ after)) k));
@@ -142,10 +139,7 @@ passes-first before after p q meta s b a e k h sound lawful from =
 
 clock_from : (clock : Option Stamp) (x : Part) (o : Option Head) → x.lane.head ≡ o → is_some o ≡ true → (has_next o ≡ true → AtMost clock x.lane.clock)
     → (x.lane.head ≡ Some heads.End) ⊎ AtMost clock x.lane.clock
-clock_from clock x None e k f = absurd (true≢false (sym k))
-clock_from clock x (Some (heads.Packet meta)) e k f = inr (f refl)
-clock_from clock x (Some (heads.Refused refusal)) e k f = inr (f refl)
-clock_from clock x (Some heads.End) e k f = inl e
+clock_from clock x o e k f = grind arith
 
 clocks_from : (clock : Option Stamp) (xs : List Part) → AllByRecursion (λ x. is_some x.lane.head ≡ true) xs
     → AllByRecursion (λ x. has_next x.lane.head ≡ true → AtMost clock x.lane.clock) xs → EachFrom clock xs

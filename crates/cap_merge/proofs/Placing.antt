@@ -1,153 +1,54 @@
 -- The first lane, by place, and the part that it is of.
-use Rattle.std.proofs.Common.{◌≡◌, ℕ, zero, suc, ◌<◌, ◌≤◌, Bool, true, false, cond, List, [], ◌∷◌, ◌++◌, length, get_or, take, drop, refl, sym, ap, ◌∙◌, subst, arith, append_assoc, length-append, Less, Option, Some, None}
-use Rattle.std.specs.Prelude.{◌&&◌, map, is_some}
-use Rattle.std.specs.List.{AllByRecursion, list_all}
-use Rattle.std.specs.Ordering.{is_lt, is_gt}
-use Rattle.std.proofs.Math.Seq.{take-suc}
-use Rattle.std.proofs.lemmas.Bool.{true≢false}
-use Rattle.std.proofs.lemmas.List.{length-map, length-replicate, length-take-le}
-use Rattle.cap_time.specs.declared.stamps.Stamp.{Stamp}
+use Rattle.std.proofs.Common.{◌≡◌, ℕ, zero, suc, ◌<◌, true, List, [], ◌∷◌, ◌++◌, length, get_or, refl, sym, ap, ◌∙◌, subst, arith, map-id, Option, Some, None}
+use Rattle.std.specs.Prelude.{map, is_some, replicate}
+use Rattle.std.specs.List.{AllByRecursion, list_all, slice_get}
+use Rattle.std.specs.Option.{option_and_then}
+use Rattle.std.proofs.Math.Seq.{get_or-append_seam}
+use Rattle.std.proofs.lemmas.List.{length-map, length-replicate}
+use Rattle.std.proofs.lemmas.Option.{slice_get-get_or}
 use Rattle.cap_source.specs.declared.feeds.Head.{Head}
 use Rattle.cap_source.specs.declared.feeds.Head.TheVariants as heads
 use Rattle.cap_source.specs.Feed.{Feed}
-use Rattle.cap_merge.specs.Lists.{All-both, All-implied, all-each, and-both}
+use Rattle.cap_merge.specs.Lists.{all-each, and-both}
 use Rattle.cap_merge.specs.declared.lanes.Lane.{Lane}
-use Rattle.cap_merge.specs.declared.lanes.First.{First}
-use Rattle.cap_merge.specs.Clock.{clock_cmp}
+use Rattle.cap_merge.specs.First.{new_lane, first_place}
 use Rattle.cap_merge.specs.Run.{opened, run}
-use Rattle.cap_merge.specs.Parts.{Part, parts, has_next, is_known, known_of, head_by, clock_of, clock_by, first_of, new_lane, new_parts, item_time, is_refusal, run_of, tracks, Agrees, HasReached, Leads, IsFirstLane, sooner_lane}
-use Rattle.cap_merge.specs.Clocks.{below-at_most, not_below, is_less, clock_total}
-use Rattle.cap_merge.specs.Leading.{Split, IsFirstOf, first_is, first-split}
+use Rattle.cap_merge.specs.Parts.{Part, parts, lanes, is_known, known_of, head_by, first_of, new_parts, item_time, is_refusal, run_of, tracks, Agrees, HasReached}
+use Rattle.cap_merge.specs.Leading.{Split, IsFirstOf, first_is}
 use Rattle.cap_merge.specs.Sound.{IsSound, each-agrees, each-reached}
-use Rattle.std.specs.Prelude.{replicate}
+use Rattle.cap_merge.proofs.Asking.{part, parts-get, length-parts}
+use Rattle.cap_merge.proofs.Finding.{first-within}
 
-alone : (ls : List Lane) (l : Lane) (b : Bool) → has_next l.head ≡ b → AllByRecursion (λ k. has_next k.head ≡ false) ls
-    → IsFirstLane (ls ++ (l ∷ [])) (cond b (Some (record { place = length ls; clock = l.clock })) None)
-alone ls l true e f =
-    record {
-      before = ls;
-      lane = l;
-      after = [];
-      whole = refl;
-      place_is = refl;
-      clock_is = refl;
-      next = e;
-      below = All-implied (λ k. has_next k.head ≡ false) (λ k. has_next k.head ≡ true → clock_cmp l.clock k.clock ≡ Less) ls (λ k no yes. absurd (true≢false (sym yes ∙ no))) f;
-      not_above = tt;
-    }
-alone ls l false e f = All-both (λ k. has_next k.head ≡ false) ls (l ∷ []) f (e, tt)
+lanes-parts : (ls : List Lane) (fs : List Feed) → length fs ≡ length ls → lanes (parts ls fs) ≡ ls
+lanes-parts (l ∷ ls) (x ∷ fs) e = ap (λ ks. l ∷ ks) (lanes-parts ls fs (omega arith))
+lanes-parts ls fs e = grind arith
 
--- what is below the first is below all
-below_all : (ls : List Lane) (place : ℕ) (clock : Option Stamp) (l : Lane) → clock_cmp l.clock clock ≡ Less → Leads ls place clock
-    → AllByRecursion (λ k. has_next k.head ≡ true → clock_cmp l.clock k.clock ≡ Less) ls
-below_all ls place clock l h s =
-    let first : clock_cmp l.clock s.lane.clock ≡ Less = ap (clock_cmp l.clock) s.clock_is ∙ h in
-    subst (λ (xs : List Lane). AllByRecursion (λ k. has_next k.head ≡ true → clock_cmp l.clock k.clock ≡ Less) xs) (sym s.whole)
-    (All-both (λ k. has_next k.head ≡ true → clock_cmp l.clock k.clock ≡ Less) s.before (s.lane ∷ s.after)
-    (All-implied (λ k. has_next k.head ≡ true → clock_cmp s.lane.clock k.clock ≡ Less) (λ k. has_next k.head ≡ true → clock_cmp l.clock k.clock ≡ Less) s.before
-    (λ k f yes. clock_total.trans l.clock s.lane.clock k.clock first (f yes)) s.below) (
-      λ yes. first,
-      All-implied (λ k. has_next k.head ≡ true → is_gt (clock_cmp s.lane.clock k.clock) ≡ false) (λ k. has_next k.head ≡ true → clock_cmp l.clock k.clock ≡ Less) s.after
-          (λ k f yes. below-at_most l.clock s.lane.clock k.clock first (f yes)) s.not_above,
-    ))
-
-stays : (ls : List Lane) (place : ℕ) (clock : Option Stamp) (l : Lane) → (has_next l.head ≡ true → is_gt (clock_cmp clock l.clock) ≡ false)
-    → Leads ls place clock → Leads (ls ++ (l ∷ [])) place clock
-stays ls place clock l h s =
-    record {
-      before = s.before;
-      lane = s.lane;
-      after = s.after ++ (l ∷ []);
-      whole = ap (λ xs. xs ++ (l ∷ [])) s.whole ∙ append_assoc s.before (s.lane ∷ s.after) (l ∷ []);
-      place_is = s.place_is;
-      clock_is = s.clock_is;
-      next = s.next;
-      below = s.below;
-      not_above = All-both (λ k. has_next k.head ≡ true → is_gt (clock_cmp s.lane.clock k.clock) ≡ false) s.after (l ∷ []) s.not_above
-          (λ yes. ap (λ c. is_gt (clock_cmp c l.clock)) s.clock_is ∙ h yes, tt);
-    }
-
-two : (ls : List Lane) (first : First) (l : Lane) (b t : Bool) → has_next l.head ≡ b → is_lt (clock_cmp l.clock first.clock) ≡ t
-    → Leads ls first.place first.clock
-    → IsFirstLane (ls ++ (l ∷ [])) (cond (b && t) (Some (record { place = length ls; clock = l.clock })) (Some first))
-two ls first l true true e c s =
-    record {
-      before = ls;
-      lane = l;
-      after = [];
-      whole = refl;
-      place_is = refl;
-      clock_is = refl;
-      next = e;
-      below = below_all ls first.place first.clock l (is_less (clock_cmp l.clock first.clock) c) s;
-      not_above = tt;
-    }
-two ls first l true false e c s = stays ls first.place first.clock l (λ yes. not_below l.clock first.clock c) s
-two ls first l false t e c s = stays ls first.place first.clock l (λ yes. absurd (true≢false (sym yes ∙ e))) s
-
-pub first-more : (ls : List Lane) (o : Option First) (l : Lane) → IsFirstLane ls o → IsFirstLane (ls ++ (l ∷ [])) (sooner_lane o (length ls) l)
-first-more ls None l f = alone ls l (has_next l.head) refl f
-first-more ls (Some first) l s = two ls first l (has_next l.head) (is_lt (clock_cmp l.clock first.clock)) refl refl s
-
--- the same at the place of a list
-pub first-taken : (ls : List Lane) (place : ℕ) (o : Option First) (d : Lane) → place < length ls → IsFirstLane (take place ls) o
-    → IsFirstLane (take (suc place) ls) (sooner_lane o place (get_or ls place d))
-first-taken ls place o d h f =
-    subst (λ (xs : List Lane). IsFirstLane xs (sooner_lane o place (get_or ls place d))) (sym (take-suc ls place d h))
-    (subst (λ (n : ℕ). IsFirstLane (take place ls ++ (get_or ls place d ∷ [])) (sooner_lane o n (get_or ls place d))) (length-take-le place ls (omega (arith, h)))
-    (first-more (take place ls) o (get_or ls place d) f))
-
-parts_split : (before after : List Lane) (l : Lane) (fs : List Feed) (d : Feed) → length fs ≡ length (before ++ (l ∷ after))
-    → parts (before ++ (l ∷ after)) fs ≡ parts before (take (length before) fs) ++ (record { lane = l; feed = get_or fs (length before) d } ∷ parts after (drop (suc (length before)) fs))
-parts_split [] after l [] d e = absurd (omega arith)
-parts_split [] after l (x ∷ xs) d e = refl
-parts_split (b ∷ before) after l [] d e = absurd (omega arith)
-parts_split (b ∷ before) after l (x ∷ xs) d e = ap (λ ps. record { lane = b; feed = x } ∷ ps) (parts_split before after l xs d (omega arith))
-
-pub parts-each : (P : Lane → Type 0) (ls : List Lane) (fs : List Feed) → AllByRecursion P ls → AllByRecursion (λ p. P p.lane) (parts ls fs)
-parts-each P [] fs f = tt
-parts-each P (l ∷ ls) [] f = tt
-parts-each P (l ∷ ls) (x ∷ xs) f = (f.0, parts-each P ls xs f.1)
-
--- The first lane's part is the first of the parts.
-pub leads-split : (ls : List Lane) (fs : List Feed) (place : ℕ) (clock : Option Stamp) (d : Feed) → length fs ≡ length ls → (s : Leads ls place clock)
-    → Split (parts ls fs) (record { lane = s.lane; feed = get_or fs place d })
-leads-split ls fs place clock d e s =
-    record {
-      before = parts s.before (take (length s.before) fs);
-      after = parts s.after (drop (suc (length s.before)) fs);
-      whole = ap (λ xs. parts xs fs) s.whole
-          ∙ parts_split s.before s.after s.lane fs d (e ∙ ap length s.whole)
-          ∙ ap (λ n. parts s.before (take (length s.before) fs) ++ (record { lane = s.lane; feed = get_or fs n d } ∷ parts s.after (drop (suc (length s.before)) fs))) s.place_is;
-      next = s.next;
-      below = parts-each (λ l. has_next l.head ≡ true → clock_cmp s.lane.clock l.clock ≡ Less) s.before (take (length s.before) fs) s.below;
-      not_above = parts-each (λ l. has_next l.head ≡ true → is_gt (clock_cmp s.lane.clock l.clock) ≡ false) s.after (drop (suc (length s.before)) fs) s.not_above;
-    }
-
-parts_front : (ls : List Lane) (fs : List Feed) → length ls ≤ length fs → length (parts ls (take (length ls) fs)) ≡ length ls
-parts_front [] fs l = refl
-parts_front (y ∷ ls) [] l = absurd (omega arith)
-parts_front (y ∷ ls) (x ∷ xs) l = ap suc (parts_front ls xs (omega arith))
-
--- and stands where the lane does
-pub placed-split : (ls : List Lane) (fs : List Feed) (place : ℕ) (clock : Option Stamp) (d : Feed) → length fs ≡ length ls → (s : Leads ls place clock)
-    → (t : Split (parts ls fs) (record { lane = s.lane; feed = get_or fs place d })) × (length t.before ≡ place)
-unfolding leads-split
-placed-split ls fs place clock d e s = (
-  leads-split ls fs place clock d e s,
-  parts_front s.before fs (omega (arith, ap length s.whole, length-append s.before (s.lane ∷ s.after), e)) ∙ s.place_is,
-)
-
-pub lane-there : (ls : List Lane) (place : ℕ) (clock : Option Stamp) (d : Lane) → (s : Leads ls place clock) → get_or ls place d ≡ s.lane
-lane-there ls place clock d s = ap (λ n. get_or ls n d) (sym s.place_is) ∙ ap (λ xs. get_or xs (length s.before) d) s.whole ∙ there s.before
+split_there : {F : Type 0} (f : F → Feed) (ls : List Lane) (fs : List F) (place : ℕ) (d : Lane) (x : F) (o : Option Part) → IsFirstOf (parts ls (map f fs)) o
+    → first_of (parts ls (map f fs)) ≡ o → length ls ≡ length fs → first_place ls ≡ Some place → place < length ls
+    → (s : Split (parts ls (map f fs)) (part (get_or ls place d) (f (get_or fs place x)))) × (length s.before ≡ place)
+unfolding first_of
+split_there f ls fs place d x None n is e h w =
+    let ps = parts ls (map f fs) in
+    let same : first_place (lanes ps) ≡ Some place = ap first_place (lanes-parts ls (map f fs) (length-map fs f ∙ sym e)) ∙ h in
+    let there : slice_get ps place ≡ None = sym (ap (option_and_then (slice_get ps)) same) ∙ is in
+    absurd (some_none (sym (slice_get-get_or ps place (part d (f x)) (omega (arith, length-parts f ls fs (sym e)))) ∙ there))
   where
-    there : (xs : List Lane) → get_or (xs ++ (s.lane ∷ s.after)) (length xs) d ≡ s.lane
-    there [] = refl
-    there (x ∷ xs) = there xs
+    some_none : {A : Type 0} {y : A} → Some y ≡ None → ⊥
+    some_none e = cc
+split_there f ls fs place d x (Some q) s is e h w =
+    let ps = parts ls (map f fs) in
+    let same : first_place (lanes ps) ≡ Some place = ap first_place (lanes-parts ls (map f fs) (length-map fs f ∙ sym e)) ∙ h in
+    let place_is : length s.before ≡ place = cc (s.place, same) in
+    let first : q ≡ part (get_or ls place d) (f (get_or fs place x)) =
+    sym (ap (λ xs. get_or xs (length s.before) (part d (f x))) s.whole ∙ get_or-append_seam s.before q s.after (part d (f x)))
+    ∙ ap (λ n. get_or ps n (part d (f x))) place_is ∙ parts-get f ls fs place d x w (sym e) in
+    subst (λ (p : Part). (t : Split ps p) × (length t.before ≡ place)) first (s, place_is)
 
-pub place-within : (ls : List Lane) (place : ℕ) (clock : Option Stamp) → Leads ls place clock → place < length ls
-place-within ls place clock s =
-    omega (arith, ap length s.whole, length-append s.before (s.lane ∷ s.after), s.place_is)
+-- The part of the first lane is the first of the parts, and stands where the lane does.
+pub placed-split : {F : Type 0} (f : F → Feed) (ls : List Lane) (fs : List F) (place : ℕ) (d : Lane) (x : F) → length ls ≡ length fs → first_place ls ≡ Some place
+    → (s : Split (parts ls (map f fs)) (part (get_or ls place d) (f (get_or fs place x)))) × (length s.before ≡ place)
+placed-split f ls fs place d x e h =
+    split_there f ls fs place d x (first_of (parts ls (map f fs))) (first_is (parts ls (map f fs))) refl e h (first-within ls place h)
 
 known_parts : (ls : List Lane) (fs : List Feed) → list_all (λ l. is_some l.head) ls ≡ true → is_known (parts ls fs) ≡ true
 known_parts [] fs e = refl
@@ -156,47 +57,26 @@ known_parts (l ∷ ls) (x ∷ xs) e =
     let both = all-each (λ k. is_some k.head) (l ∷ ls) e in
     rw both.0 (known_parts ls xs (and-both (is_some l.head) (list_all (λ k. is_some k.head) ls) e).1)
 
-none_first : (ps : List Part) (o : Option Part) → IsFirstOf ps o → AllByRecursion (λ p. has_next p.lane.head ≡ false) ps → o ≡ None
-none_first ps None s f = refl
-none_first ps (Some q) s f =
-    absurd (true≢false (sym s.next ∙ at_split s.before (subst (λ (xs : List Part). AllByRecursion (λ p. has_next p.lane.head ≡ false) xs) s.whole f)))
-  where
-    at_split : (xs : List Part) → AllByRecursion (λ p. has_next p.lane.head ≡ false) (xs ++ (q ∷ s.after)) → has_next q.lane.head ≡ false
-    at_split [] g = g.0
-    at_split (x ∷ xs) g = at_split xs g.1
-
-pub known-none : (ls : List Lane) (fs : List Feed) → list_all (λ l. is_some l.head) ls ≡ true → AllByRecursion (λ l. has_next l.head ≡ false) ls
-    → known_of (parts ls fs) ≡ Some heads.End
+-- what is known of all is what the first lane tells
+pub known-first : (ls : List Lane) (fs : List Feed) (place : ℕ) (head : Head) (d : Lane) → list_all (λ l. is_some l.head) ls ≡ true → length fs ≡ length ls
+    → first_place ls ≡ Some place → (get_or ls place d).head ≡ Some head → known_of (parts ls fs) ≡ Some head
 unfolding known_of
-known-none ls fs k f =
-    rw (known_parts ls fs k)
-    (ap head_by (none_first (parts ls fs) (first_of (parts ls fs)) (first_is (parts ls fs)) (parts-each (λ l. has_next l.head ≡ false) ls fs f)))
-
-known_first : (ls : List Lane) (fs : List Feed) (place : ℕ) (clock : Option Stamp) (head : Head) (d : Feed) → list_all (λ l. is_some l.head) ls ≡ true → length fs ≡ length ls
-    → (s : Leads ls place clock) → s.lane.head ≡ Some head → known_of (parts ls fs) ≡ Some head
-unfolding known_of
-known_first ls fs place clock head d k e s h =
-    rw (known_parts ls fs k)
-    (ap head_by (first-split (parts ls fs) (record { lane = s.lane; feed = get_or fs place d }) (leads-split ls fs place clock d e s)) ∙ h)
-
-pub known-first : (ls : List Lane) (fs : List Feed) (place : ℕ) (clock : Option Stamp) (head : Head) (l : Lane) → list_all (λ l. is_some l.head) ls ≡ true → length fs ≡ length ls
-    → Leads ls place clock → (get_or ls place l).head ≡ Some head → known_of (parts ls fs) ≡ Some head
-known-first ls [] place clock head l k e s h =
-    let within = place-within ls place clock s in
+known-first ls [] place head d k e h is =
+    let within = first-within ls place h in
     absurd (omega arith)
-known-first ls (x ∷ xs) place clock head l k e s h = known_first ls (x ∷ xs) place clock head x k e s (ap (λ w. w.head) (sym (lane-there ls place clock l s)) ∙ h)
+known-first ls (x ∷ xs) place head d k e h is =
+    let s = placed-split (λ (w : Feed). w) ls (x ∷ xs) place d x (sym e) h in
+    rw (known_parts ls (x ∷ xs) k) (ap head_by (subst (λ ys. first_of (parts ls ys) ≡ Some (part (get_or ls place d) (get_or (x ∷ xs) place x))) (map-id (x ∷ xs)) s.0.is_first) ∙ is)
 
-clock_first : (ls : List Lane) (fs : List Feed) (place : ℕ) (clock : Option Stamp) (d : Feed) → length fs ≡ length ls → Leads ls place clock → clock_of (parts ls fs) ≡ clock
-unfolding clock_of
-clock_first ls fs place clock d e s =
-    ap clock_by (first-split (parts ls fs) (record { lane = s.lane; feed = get_or fs place d }) (leads-split ls fs place clock d e s)) ∙ s.clock_is
+pub known-none : (ls : List Lane) (fs : List Feed) → list_all (λ l. is_some l.head) ls ≡ true → length fs ≡ length ls → first_place ls ≡ None → known_of (parts ls fs) ≡ Some heads.End
+unfolding known_of first_of
+known-none ls fs k e h =
+    rw (known_parts ls fs k) (ap (λ o. head_by (option_and_then (slice_get (parts ls fs)) o)) (ap first_place (lanes-parts ls fs e) ∙ h))
 
--- the clock of what comes next of all
-pub clock-first : (ls : List Lane) (fs : List Feed) (first : First) → length fs ≡ length ls → Leads ls first.place first.clock → first.clock ≡ clock_of (parts ls fs)
-clock-first ls [] first e s =
-    let within = place-within ls first.place first.clock s in
-    absurd (omega arith)
-clock-first ls (x ∷ xs) first e s = sym (clock_first ls (x ∷ xs) first.place first.clock x e s)
+-- no part is first if no lane is
+pub none-placed : (ls : List Lane) (fs : List Feed) → length fs ≡ length ls → first_place ls ≡ None → first_of (parts ls fs) ≡ None
+unfolding first_of
+none-placed ls fs e h = ap (option_and_then (slice_get (parts ls fs))) (ap first_place (lanes-parts ls fs e) ∙ h)
 
 pub parts-new : (fs : List Feed) → parts (replicate (length fs) new_lane) fs ≡ new_parts fs
 parts-new [] = refl

@@ -1,5 +1,5 @@
 -- Clocks are in a total order, up to equal times.
-use Rattle.std.proofs.Common.{◌≡◌, Bool, true, false, cond, refl, sym, ap, ◌∙◌, Ordering, Less, Equal, Greater, Option}
+use Rattle.std.proofs.Common.{◌≡◌, Bool, true, false, cond, refl, sym, ap, ◌∙◌, Ordering, Less, Equal, Greater, Option, arith}
 use Rattle.std.specs.Ordering.{is_lt, is_gt, ordering_reverse}
 use Rattle.std.specs.Cmp.{IsTotalOrder, tied_itself, tied_back, alike_right, upto}
 use Rattle.std.specs.Cmp.Lexicographic.{options_total}
@@ -32,22 +32,16 @@ below-at_most a b c h k = below_by a b c (clock_cmp b c) refl h k
 
 -- what isn't below isn't above, the other way round
 turned_by : (r s : Ordering) → r ≡ ordering_reverse s → is_lt s ≡ false → is_gt r ≡ false
-turned_by r Less e h = absurd (true≢false h)
-turned_by r Equal e h = ap is_gt e
-turned_by r Greater e h = ap is_gt e
+turned_by r s e h = grind arith
 
 pub not_below : (a b : Option Stamp) → is_lt (clock_cmp a b) ≡ false → AtMost b a
 not_below a b h = turned_by (clock_cmp b a) (clock_cmp a b) (clock_total.antisymm b a) h
 
 less-at_most : (r : Ordering) → is_lt r ≡ true → is_gt r ≡ false
-less-at_most Less h = refl
-less-at_most Equal h = refl
-less-at_most Greater h = absurd (true≢false (sym h))
+less-at_most r h = grind arith
 
 pub is_less : (r : Ordering) → is_lt r ≡ true → r ≡ Less
-is_less Less h = refl
-is_less Equal h = absurd (true≢false (sym h))
-is_less Greater h = absurd (true≢false (sym h))
+is_less r h = grind arith
 
 later_by : (a b : Option Stamp) (t : Bool) → is_lt (clock_cmp a b) ≡ t → AtMost a (cond t b a) × AtMost b (cond t b a)
 later_by a b true h = (less-at_most (clock_cmp a b) h, at_most-itself b)
@@ -62,19 +56,14 @@ later-second a b = (later_by a b (is_lt (clock_cmp a b)) refl).1
 
 -- and the later is one of them
 later_one : (P : Option Stamp → Type 0) (a b : Option Stamp) (t : Bool) → P a → P b → P (cond t b a)
-later_one P a b true f g = g
-later_one P a b false f g = f
+later_one P a b t f g = grind arith
 
 pub later-least : (a b c : Option Stamp) → AtMost a c → AtMost b c → AtMost (later a b) c
 later-least a b c = later_one (λ w. AtMost w c) a b (is_lt (clock_cmp a b))
 
 -- what is neither above nor below is equal
 both_by : (r s : Ordering) → r ≡ ordering_reverse s → is_gt r ≡ false → is_gt s ≡ false → r ≡ Equal
-both_by Less Less e h k = absurd (true≢false (ap is_lt e))
-both_by Less Equal e h k = absurd (true≢false (ap is_lt e))
-both_by Less Greater e h k = absurd (true≢false k)
-both_by Equal s e h k = refl
-both_by Greater s e h k = absurd (true≢false h)
+both_by r s e h k = grind arith
 
 pub at_most-both : (a b : Option Stamp) → AtMost a b → AtMost b a → clock_cmp a b ≡ Equal
 at_most-both a b h k = both_by (clock_cmp a b) (clock_cmp b a) (clock_total.antisymm a b) h k

@@ -1,18 +1,17 @@
 -- What is to come of several feeds, by what is known of each.
-use Rattle.std.proofs.Common.{◌≡◌, ℕ, true, false, cond, List, [], ◌∷◌, ◌++◌, drop, refl, sym, ap, ◌∙◌, subst, Less, Option, Some, None}
+use Rattle.std.proofs.Common.{◌≡◌, ℕ, true, false, cond, List, [], ◌∷◌, ◌++◌, drop, refl, sym, ap, ◌∙◌, subst, Less, Option, Some, arith}
 use Rattle.std.specs.Prelude.{IsTrue, IfSome, is_some}
 use Rattle.std.specs.List.{AllByRecursion}
 use Rattle.std.specs.Ordering.{is_lt, is_gt}
-use Rattle.std.proofs.lemmas.Bool.{true≢false}
 use Rattle.std.proofs.lemmas.List.{map-append}
 use Rattle.cap_time.specs.declared.stamps.Stamp.{Stamp}
 use Rattle.cap_source.specs.declared.feeds.Head.{Head}
-use Rattle.cap_source.specs.declared.feeds.Head.TheVariants as heads
 use Rattle.cap_source.specs.Feed.{Item, Leads, IsFeed}
 use Rattle.cap_merge.specs.Lists.{all-back, all-front}
 use Rattle.cap_merge.specs.Clock.{clock_cmp, later}
 use Rattle.cap_merge.specs.Run.{Track, Clocked, run, through_first, HeadClock, IsFirst}
-use Rattle.cap_merge.specs.Parts.{Part, item_time, head_time, known_time, is_refusal, has_next, tracks, run_of}
+use Rattle.cap_merge.specs.First.{has_next}
+use Rattle.cap_merge.specs.Parts.{Part, item_time, head_time, known_time, is_refusal, tracks, run_of}
 use Rattle.cap_merge.specs.MergedList.{merged-next, merged-none, passed}
 use Rattle.cap_merge.specs.Leading.{Split}
 use Rattle.cap_merge.specs.Sound.{IsSound}
@@ -32,17 +31,11 @@ reached_known p h s e = later_stays p.lane.clock (head_time h) (subst (λ (w : O
 
 clock_ahead : (Holds : Option Stamp → Type 0) (h : Head) (clock : Option Stamp) (frame : List ℕ) (items : List Item)
     → Leads (Some h) frame items → later clock (head_time h) ≡ clock → (has_next (Some h) ≡ true → Holds clock) → HeadClock item_time Holds clock items
-clock_ahead Holds (heads.Packet meta) clock frame items l e f =
-    subst (λ (xs : List Item). HeadClock item_time Holds clock xs) (sym l) (subst Holds (sym e) (f refl))
-clock_ahead Holds (heads.Refused refusal) clock frame items l e f =
-    subst (λ (xs : List Item). HeadClock item_time Holds clock xs) (sym l) (subst Holds (sym e) (f refl))
-clock_ahead Holds heads.End clock frame items l e f = subst (λ (xs : List Item). HeadClock item_time Holds clock xs) (sym l) tt
+clock_ahead Holds h clock frame items l e f = grind arith
 
 ahead_by : (Holds : Option Stamp → Type 0) (p : Part) (h : Option Head) → p.lane.head ≡ h → is_some h ≡ true → IsSound p → IsFeed p.feed → IsTrue p.feed.told
     → (has_next p.lane.head ≡ true → Holds p.lane.clock) → HeadClock item_time Holds p.lane.clock p.feed.items
-ahead_by Holds p None e k s f t g = absurd (true≢false (sym k))
-ahead_by Holds p (Some h) e k s f t g =
-    clock_ahead Holds h p.lane.clock p.feed.frame p.feed.items (leads_known p h s f e t) (reached_known p h s e) (λ yes. g (ap has_next e ∙ yes))
+ahead_by Holds p h e k s f t g = grind (arith, clock_ahead, leads_known, reached_known)
 
 -- a part of which all is known and told
 pub record IsReady (p : Part) : Type 0 where
@@ -94,10 +87,7 @@ run-first ps first x r s begins clock_is =
 
 -- if no item comes next, the run is empty
 ended_items : (p : Part) (h : Option Head) → p.lane.head ≡ h → IsReady p → has_next h ≡ false → p.feed.items ≡ []
-ended_items p None e r n = absurd (true≢false (sym r.known ∙ ap is_some e))
-ended_items p (Some (heads.Packet meta)) e r n = absurd (true≢false n)
-ended_items p (Some (heads.Refused refusal)) e r n = absurd (true≢false n)
-ended_items p (Some heads.End) e r n = leads_known p heads.End r.sound r.lawful e r.told
+ended_items p h e r n = grind (arith, leads_known)
 
 ended_all : (ps : List Part) → AllByRecursion IsReady ps → AllByRecursion (λ p. has_next p.lane.head ≡ false) ps → AllByRecursion (λ t. t.items ≡ []) (tracks ps)
 ended_all [] r f = tt

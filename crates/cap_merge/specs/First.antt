@@ -1,10 +1,23 @@
--- The place of the lane whose item comes first.
-use Rattle.std.specs.Prelude.{◌≡◌, ℕ, zero, suc, Bool, true, false, List, [], ◌∷◌, length, get_or, Option, Some, None, ◌&&◌, is_some, if◌then◌else◌}
-use Rattle.std.specs.Coded.{Coded-set, coded_ℕ, coded_bool, coded_option}
+-- Which lane's item comes first: that of the least clock, of equal ones the first.
+use Rattle.std.specs.Prelude.{◌≡◌, ℕ, zero, suc, Bool, true, false, List, length, get_or, Option, Some, None, ◌&&◌, is_some, if◌then◌else◌}
+use Rattle.std.specs.Coded.{Coded-set, coded_ℕ, coded_option}
 use Rattle.std.specs.Ordering.{is_lt}
+use Rattle.cap_source.specs.declared.feeds.Head.{Head}
+use Rattle.cap_source.specs.declared.feeds.Head.TheVariants as heads
+use Rattle.cap_merge.specs.declared.lanes.First.{First}
 use Rattle.cap_merge.specs.declared.lanes.Lane.{Lane}
 use Rattle.cap_merge.specs.Clock.{clock_cmp}
-use Rattle.cap_merge.specs.Parts.{Part, has_next, is_known, new_lane}
+
+-- a lane of which nothing is known
+abbrev pub new_lane : Lane
+new_lane = record { clock = None; head = None }
+
+-- an item is known to come next
+abbrev pub has_next : Option Head → Bool
+has_next None = false
+has_next (Some (heads.Packet meta)) = true
+has_next (Some (heads.Refused refusal)) = true
+has_next (Some heads.End) = false
 
 abbrev pub lane_at : List Lane → ℕ → Lane
 lane_at lanes place = get_or lanes place new_lane
@@ -27,27 +40,14 @@ first_among lanes (suc count) = sooner_place lanes (first_among lanes count) cou
 abbrev pub first_place : List Lane → Option ℕ
 first_place lanes = first_among lanes (length lanes)
 
+-- a place, with the clock of the lane there
+abbrev pub first_at : List Lane → Option ℕ → Option First
+first_at lanes None = None
+first_at lanes (Some place) = Some (record { place = place; clock = (lane_at lanes place).clock })
+
 -- The place that is known, if there is one, is that of the first.
 abbrev pub IsFound : List Lane → Option ℕ → Type 0
 IsFound lanes known = (if is_some known then first_place lanes else None) ≡ known
 
 pub IsFound-prop : (lanes : List Lane) (known : Option ℕ) → IsProp (IsFound lanes known)
 IsFound-prop lanes known = Coded-set (coded_option coded_ℕ) _ _
-
--- what comes next is known of each feed but that at a place
-abbrev pub known_but : List Part → ℕ → Bool
-known_but [] place = false
-known_but (p ∷ ps) zero = is_known ps
-known_but (p ∷ ps) (suc place) = is_some p.lane.head && known_but ps place
-
--- the same if a packet was passed; else nothing is said
-abbrev pub others_known : List Part → Option ℕ → Bool
-others_known ps None = true
-others_known ps (Some place) = known_but ps place
-
--- If a packet was passed, what comes next is known of the other feeds.
-abbrev pub OthersKnown : List Part → Option ℕ → Type 0
-OthersKnown ps passed = others_known ps passed ≡ true
-
-pub OthersKnown-prop : (ps : List Part) (passed : Option ℕ) → IsProp (OthersKnown ps passed)
-OthersKnown-prop ps passed = Coded-set coded_bool _ _

@@ -8,8 +8,9 @@ use Rattle.cap_source.specs.declared.feeds.Head.{Head}
 use Rattle.cap_source.specs.declared.feeds.Head.TheVariants as heads
 use Rattle.cap_source.specs.declared.packets.Meta.{Meta}
 use Rattle.cap_source.specs.Feed.{Item, packet, refused, Leads, IsFeed, IsPacketOf, IfPacket, IsRefusedOf, HasFile}
-use Rattle.cap_merge.specs.Lists.{all-back, all-each, and-both, any-back, any-front}
-use Rattle.cap_merge.specs.Parts.{Part, has_next, has_file, is_known, head_by, known_of, frame_by, first_of, run_of, broken_of, places_of, most_of, left_of, feed_of}
+use Rattle.cap_merge.specs.Lists.{all-back, all-each, any-back, any-front}
+use Rattle.cap_merge.specs.First.{has_next}
+use Rattle.cap_merge.specs.Parts.{Part, has_file, is_known, head_by, known_of, frame_by, first_of, run_of, broken_of, places_of, most_of, left_of, feed_of}
 use Rattle.cap_merge.specs.Leading.{Split, IsFirstOf, first_is}
 use Rattle.cap_merge.specs.Sound.{IsSound, AreFrom}
 use Rattle.cap_merge.specs.Coming.{IsReady, leads_known, reached_known, run-first, run-none, run_behind}
@@ -65,8 +66,7 @@ file_behind n (p ∷ before) after q a =
     (behind.0, omega (arith, behind.1), behind.2)
 
 or-false : (b : Bool) → (b || false) ≡ true → b ≡ true
-or-false true e = refl
-or-false false e = e
+or-false b e = grind arith
 
 pub one_file : (files : List ℕ) (k file : ℕ) → files ≡ k ∷ [] → has_file files file ≡ true → k ≡ file
 one_file files k file e h = eqb-true k file (or-false (k == file) (ap (λ fs. has_file fs file) (sym e) ∙ h))
@@ -74,12 +74,7 @@ one_file files k file e h = eqb-true k file (or-false (k == file) (ap (λ fs. ha
 -- no file is of two parts
 other_file : (n : ℕ) (before after : List Part) (p q : Part) (file : ℕ) → p.feed.files ≡ n ∷ [] → AreFrom (suc n) (before ++ (q ∷ after))
     → has_file q.feed.files file ≡ true → (b : Bool) → has_file p.feed.files file ≡ b → b ≡ false
-other_file n before after p q file e a h true own =
-    let behind = file_behind (suc n) before after q a in
-    let first : n ≡ file = one_file p.feed.files n file e own in
-    let second : behind.0 ≡ file = one_file q.feed.files behind.0 file behind.2 h in
-    absurd (omega (arith, behind.1))
-other_file n before after p q file e a h false own = refl
+other_file n before after p q file e a h b own = grind (arith, file_behind, one_file)
 
 pub places_at : (n : ℕ) (before after : List Part) (q : Part) (file : ℕ) → AreFrom n (before ++ (q ∷ after)) → has_file q.feed.files file ≡ true
     → places_of (before ++ (q ∷ after)) file ≡ q.feed.places file
@@ -137,7 +132,6 @@ packet_known q meta s f e =
 packet_by : (ps : List Part) (q : Part) (h : Option Head) → q.lane.head ≡ h → first_of ps ≡ Some q → AreFrom 1 ps → Split ps q → IsSound q → IsFeed q.feed
     → IfPacket h (λ meta. IsPacketOf (feed_of ps) meta)
 unfolding feed_of
-packet_by ps q None e o a s k f = tt
 packet_by ps q (Some (heads.Packet meta)) e o a s k f =
     let own = packet_known q meta k f e in
     record {
@@ -148,8 +142,7 @@ packet_by ps q (Some (heads.Packet meta)) e o a s k f =
       offset = own.offset;
       left = omega (arith, own.left, left_first ps q s);
     }
-packet_by ps q (Some (heads.Refused refusal)) e o a s k f = tt
-packet_by ps q (Some heads.End) e o a s k f = tt
+packet_by ps q h e o a s k f = grind arith
 
 packet_first : (ps : List Part) (o : Option Part) → first_of ps ≡ o → IsFirstOf ps o → AreFrom 1 ps → AllByRecursion IsSound ps → AllByRecursion (λ p. IsFeed p.feed) ps
     → IfPacket (head_by o) (λ meta. IsPacketOf (feed_of ps) meta)
@@ -164,12 +157,10 @@ packet_if ps false a s f = tt
 
 refusal_by : (ps : List Part) (q : Part) (h : Option Head) → q.lane.head ≡ h → Split ps q → IsSound q → IsFeed q.feed
     → IsRefusedOf (flat_map (λ p. p.feed.files) ps) h
-refusal_by ps q None e s k f = tt
-refusal_by ps q (Some (heads.Packet meta)) e s k f = tt
 refusal_by ps q (Some (heads.Refused refusal)) e s k f =
     let known : q.feed.known ≡ Some (heads.Refused refusal) = subst (λ (w : Option Head). IfSome w (λ head. q.feed.known ≡ Some head)) e k.agrees in
     has_file-first ps q refusal.file s (subst (λ (w : Option Head). IsRefusedOf q.feed.files w) known f.refusal)
-refusal_by ps q (Some heads.End) e s k f = tt
+refusal_by ps q h e s k f = grind arith
 
 refusal_first : (ps : List Part) (o : Option Part) → IsFirstOf ps o → AllByRecursion IsSound ps → AllByRecursion (λ p. IsFeed p.feed) ps
     → IsRefusedOf (flat_map (λ p. p.feed.files) ps) (head_by o)
@@ -184,17 +175,13 @@ refusal_if ps false s f = tt
 pub whole_known : (ps : List Part) → is_known ps ≡ true → broken_of ps ≡ None
 unfolding broken_of
 whole_known [] k = refl
-whole_known (p ∷ ps) k =
-    let both = and-both (is_some p.lane.head) (is_known ps) k in
-    rw both.0 (whole_known ps both.1)
+whole_known (p ∷ ps) k = grind (arith, whole_known ps)
 
 where_some : (h : Option Head) (P : Type 0) → P → IfSome h (λ head. P)
-where_some None P is = tt
-where_some (Some head) P is = is
+where_some h P is = grind arith
 
 whole_if : (ps : List Part) (b : Bool) → is_known ps ≡ b → IfSome (cond b (head_by (first_of ps)) None) (λ head. broken_of ps ≡ None)
-whole_if ps true e = where_some (head_by (first_of ps)) (broken_of ps ≡ None) (whole_known ps e)
-whole_if ps false e = tt
+whole_if ps b e = grind (arith, whole_known)
 
 -- The feeds as one are a lawful feed.
 pub merged-lawful : (ps : List Part) → AreFrom 1 ps → AllByRecursion IsSound ps → AllByRecursion (λ p. IsFeed p.feed) ps → IsFeed (feed_of ps)

@@ -1,23 +1,38 @@
--- Which of some parts comes first.
-use Rattle.std.proofs.Common.{◌≡◌, Bool, true, false, cond, List, [], ◌∷◌, ◌++◌, refl, sym, ap, ◌∙◌, subst, Ordering, Less, Equal, Greater, Option, Some, None}
-use Rattle.std.specs.Prelude.{◌&&◌, not}
-use Rattle.std.specs.List.{AllByRecursion}
-use Rattle.std.specs.Ordering.{is_lt, is_gt, ordering_reverse}
+-- Which part comes first: the law of the place.
+use Rattle.std.proofs.Common.{◌≡◌, ℕ, zero, suc, ◌+◌, ◌<◌, Bool, true, false, cond, List, [], ◌∷◌, ◌++◌, length, get_or, take, drop, refl, sym, ap, ◌∙◌, subst, arith, Less, Option, Some, None}
+use Rattle.std.specs.Prelude.{◌&&◌}
+use Rattle.std.specs.List.{AllByRecursion, slice_get}
+use Rattle.std.specs.Option.{option_and_then}
+use Rattle.std.specs.Ordering.{is_lt}
 use Rattle.std.proofs.lemmas.Bool.{true≢false}
+use Rattle.std.proofs.lemmas.List.{length-map, length-take-le, length-drop, take-append-drop, take-map, drop-map, get_or-map, get_or-take, get_or-drop}
+use Rattle.std.proofs.lemmas.Option.{slice_get-get_or}
+use Rattle.std.proofs.Math.Seq.{drop-cons}
 use Rattle.cap_time.specs.declared.stamps.Stamp.{Stamp}
-use Rattle.cap_merge.specs.Lists.{All-both, All-implied}
+use Rattle.cap_merge.specs.declared.lanes.Lane.{Lane}
 use Rattle.cap_merge.specs.Clock.{clock_cmp}
-use Rattle.cap_merge.specs.Parts.{Part, has_next, sooner, first_of}
-use Rattle.cap_merge.specs.Clocks.{clock_total, AtMost, at_most-trans, not_below, is_less}
+use Rattle.cap_merge.specs.First.{new_lane, has_next, lane_at, sooner_place, first_among, first_place}
+use Rattle.cap_merge.specs.Parts.{Part, lanes, first_of}
+use Rattle.cap_merge.specs.Clocks.{clock_total, AtMost, not_below, below-at_most, is_less}
+
+-- The clock is below that of the lane's item, if one comes next.
+abbrev pub IsBelow : Option Stamp → Lane → Type 0
+IsBelow clock l = has_next l.head ≡ true → clock_cmp clock l.clock ≡ Less
+
+-- The clock isn't above that of the lane's item, if one comes next.
+abbrev pub IsNotAbove : Option Stamp → Lane → Type 0
+IsNotAbove clock l = has_next l.head ≡ true → AtMost clock l.clock
 
 -- The item of a part comes first, of equal clocks the first.
 pub record Split (ps : List Part) (first : Part) : Type 0 where
   pub before : List Part
   pub after : List Part
   pub whole : ps ≡ before ++ (first ∷ after)
+  pub place : first_place (lanes ps) ≡ Some (length before)
+  pub is_first : first_of ps ≡ Some first
   pub next : has_next first.lane.head ≡ true
-  pub below : AllByRecursion (λ p. has_next p.lane.head ≡ true → clock_cmp first.lane.clock p.lane.clock ≡ Less) before
-  pub not_above : AllByRecursion (λ p. has_next p.lane.head ≡ true → AtMost first.lane.clock p.lane.clock) after
+  pub below : AllByRecursion (λ p. IsBelow first.lane.clock p.lane) before
+  pub not_above : AllByRecursion (λ p. IsNotAbove first.lane.clock p.lane) after
 
 -- no item comes next of any part
 abbrev pub NoNext : List Part → Type 0
@@ -27,80 +42,95 @@ abbrev pub IsFirstOf : List Part → Option Part → Type 0
 IsFirstOf ps None = NoNext ps
 IsFirstOf ps (Some first) = Split ps first
 
-no_next : (clock : Option Stamp) (ps : List Part) → NoNext ps → AllByRecursion (λ p. has_next p.lane.head ≡ true → AtMost clock p.lane.clock) ps
-no_next clock ps f = All-implied (λ p. has_next p.lane.head ≡ false) (λ p. has_next p.lane.head ≡ true → AtMost clock p.lane.clock) ps
-    (λ p no yes. absurd (true≢false (sym yes ∙ no))) f
+-- The lane at a place comes first of that many.
+record Leads (ls : List Lane) (count place : ℕ) : Type 0 where
+  within : place < count
+  next : has_next (lane_at ls place).head ≡ true
+  below : (k : ℕ) → k < place → IsBelow (lane_at ls place).clock (lane_at ls k)
+  not_above : (k : ℕ) → place < k → k < count → IsNotAbove (lane_at ls place).clock (lane_at ls k)
 
--- what isn't above the first isn't above any
-under : (clock : Option Stamp) (ps : List Part) (q : Part) → AtMost clock q.lane.clock → Split ps q
-    → AllByRecursion (λ p. has_next p.lane.head ≡ true → AtMost clock p.lane.clock) ps
-under clock ps q h s =
-    subst (λ (xs : List Part). AllByRecursion (λ p. has_next p.lane.head ≡ true → AtMost clock p.lane.clock) xs) (sym s.whole)
-    (All-both (λ p. has_next p.lane.head ≡ true → AtMost clock p.lane.clock) s.before (q ∷ s.after)
-    (All-implied (λ p. has_next p.lane.head ≡ true → clock_cmp q.lane.clock p.lane.clock ≡ Less) (λ p. has_next p.lane.head ≡ true → AtMost clock p.lane.clock) s.before
-    (λ p f yes. at_most-trans clock q.lane.clock p.lane.clock h (ap is_gt (f yes))) s.below) (
-      λ yes. h,
-      All-implied (λ p. has_next p.lane.head ≡ true → AtMost q.lane.clock p.lane.clock) (λ p. has_next p.lane.head ≡ true → AtMost clock p.lane.clock) s.after
-          (λ p f yes. at_most-trans clock q.lane.clock p.lane.clock h (f yes)) s.not_above,
-    ))
+-- No item comes next of that many lanes, or the lane at the place comes first.
+abbrev LeadsOf : List Lane → ℕ → Option ℕ → Type 0
+LeadsOf ls count None = (k : ℕ) → k < count → has_next (lane_at ls k).head ≡ false
+LeadsOf ls count (Some place) = Leads ls count place
 
-alone : (p : Part) (ps : List Part) (b : Bool) → has_next p.lane.head ≡ b → NoNext ps → IsFirstOf (p ∷ ps) (cond b (Some p) None)
-alone p ps true e f = record { before = []; after = ps; whole = refl; next = e; below = tt; not_above = no_next p.lane.clock ps f }
-alone p ps false e f = (e, f)
+-- below a place, there, or above it
+three : (P : ℕ → Type 0) (place k : ℕ) → (k < place → P k) → P place → (place < k → P k) → P k
+three P zero zero a b c = b
+three P zero (suc k) a b c = c (omega arith)
+three P (suc place) zero a b c = a (omega arith)
+three P (suc place) (suc k) a b c = three (λ n. P (suc n)) place k (λ h. a (omega arith)) b (λ h. c (omega arith))
 
-behind : (p q : Part) (ps : List Part) → (has_next p.lane.head ≡ true → clock_cmp q.lane.clock p.lane.clock ≡ Less) → Split ps q → Split (p ∷ ps) q
-behind p q ps f s = record { before = p ∷ s.before; after = s.after; whole = ap (λ xs. p ∷ xs) s.whole; next = s.next; below = (f, s.below); not_above = s.not_above }
+alone : (ls : List Lane) (count : ℕ) (b : Bool) → has_next (lane_at ls count).head ≡ b → LeadsOf ls count None → LeadsOf ls (suc count) (cond b (Some count) None)
+alone ls count true e f = record { within = omega arith; next = e; below = λ k h yes. absurd (true≢false (sym yes ∙ f k h)); not_above = λ k h l. absurd (omega arith) }
+alone ls count false e f = λ k h. three (λ n. has_next (lane_at ls n).head ≡ false) count k (f k) e (λ l. absurd (omega arith))
 
-two : (p q : Part) (ps : List Part) (b t : Bool) → has_next p.lane.head ≡ b → is_lt (clock_cmp q.lane.clock p.lane.clock) ≡ t
-    → Split ps q → IsFirstOf (p ∷ ps) (cond (b && not t) (Some p) (Some q))
-two p q ps true true e l s = behind p q ps (λ yes. is_less (clock_cmp q.lane.clock p.lane.clock) l) s
-two p q ps true false e l s =
-    record { before = []; after = ps; whole = refl; next = e; below = tt; not_above = under p.lane.clock ps q (not_below q.lane.clock p.lane.clock l) s }
-two p q ps false t e l s = behind p q ps (λ yes. absurd (true≢false (sym yes ∙ e))) s
+stays : (ls : List Lane) (count place : ℕ) → IsNotAbove (lane_at ls place).clock (lane_at ls count) → Leads ls count place → Leads ls (suc count) place
+stays ls count place h s =
+    record {
+      within = omega (arith, s.within);
+      next = s.next;
+      below = s.below;
+      not_above = λ k l m. three (λ n. IsNotAbove (lane_at ls place).clock (lane_at ls n)) count k (s.not_above k l) h (λ n. absurd (omega arith));
+    }
 
-sooner_is : (p : Part) (ps : List Part) (r : Option Part) → IsFirstOf ps r → IsFirstOf (p ∷ ps) (sooner p r)
-sooner_is p ps None f = alone p ps (has_next p.lane.head) refl f
-sooner_is p ps (Some q) s = two p q ps (has_next p.lane.head) (is_lt (clock_cmp q.lane.clock p.lane.clock)) refl refl s
+two : (ls : List Lane) (count place : ℕ) (b t : Bool) → has_next (lane_at ls count).head ≡ b → is_lt (clock_cmp (lane_at ls count).clock (lane_at ls place).clock) ≡ t
+    → Leads ls count place → LeadsOf ls (suc count) (cond (b && t) (Some count) (Some place))
+two ls count place true true e c s =
+    let clock = (lane_at ls count).clock in
+    let first = (lane_at ls place).clock in
+    let less = is_less (clock_cmp clock first) c in
+    record {
+      within = omega arith;
+      next = e;
+      below = λ k h. three (λ n. IsBelow clock (lane_at ls n)) place k (λ l yes. clock_total.trans clock first (lane_at ls k).clock less (s.below k l yes)) (λ yes. less)
+          (λ l yes. below-at_most clock first (lane_at ls k).clock less (s.not_above k l h yes));
+      not_above = λ k h l. absurd (omega arith);
+    }
+two ls count place true false e c s = stays ls count place (λ yes. not_below (lane_at ls count).clock (lane_at ls place).clock c) s
+two ls count place false t e c s = stays ls count place (λ yes. absurd (true≢false (sym yes ∙ e))) s
 
+sooner_is : (ls : List Lane) (count : ℕ) (o : Option ℕ) → LeadsOf ls count o → LeadsOf ls (suc count) (sooner_place ls o count)
+sooner_is ls count None f = alone ls count (has_next (lane_at ls count).head) refl f
+sooner_is ls count (Some place) s = two ls count place (has_next (lane_at ls count).head) (is_lt (clock_cmp (lane_at ls count).clock (lane_at ls place).clock)) refl refl s
+
+among_is : (ls : List Lane) (count : ℕ) → LeadsOf ls count (first_among ls count)
+unfolding first_among
+among_is ls zero = λ k h. absurd (omega arith)
+among_is ls (suc count) = sooner_is ls count (first_among ls count) (among_is ls count)
+
+-- what is true of the lane at each place of some parts
+each_lane : (P : Lane → Type 0) (ps : List Part) → ((k : ℕ) → k < length ps → P (lane_at (lanes ps) k)) → AllByRecursion (λ p. P p.lane) ps
+each_lane P [] f = tt
+each_lane P (p ∷ ps) f = (f 0 (omega arith), each_lane P ps (λ k h. f (suc k) (omega arith)))
+
+split_at : (d : Part) (ps : List Part) (place : ℕ) → first_place (lanes ps) ≡ Some place → Leads (lanes ps) (length (lanes ps)) place → Split ps (get_or ps place d)
+unfolding first_of
+split_at d ps place e s =
+    let within : place < length ps = omega (arith, s.within, length-map ps (λ p. p.lane)) in
+    let lane_is : lane_at (lanes ps) place ≡ (get_or ps place d).lane = get_or-map (λ p. p.lane) ps place d new_lane within in
+    record {
+      before = take place ps;
+      after = drop (suc place) ps;
+      whole = sym (take-append-drop place ps) ∙ ap (λ xs. take place ps ++ xs) (drop-cons ps place d within);
+      place = e ∙ ap Some (sym (length-take-le place ps (omega arith)));
+      is_first = ap (option_and_then (slice_get ps)) e ∙ slice_get-get_or ps place d within;
+      next = ap (λ (l : Lane). has_next l.head) (sym lane_is) ∙ s.next;
+      below = each_lane (IsBelow (get_or ps place d).lane.clock) (take place ps) (λ k h.
+          let l : k < place = omega (arith, length-take-le place ps (omega arith)) in
+          rw (← lane_is, ← take-map (λ p. p.lane) place ps, get_or-take place (lanes ps) k new_lane l) (s.below k l));
+      not_above = each_lane (IsNotAbove (get_or ps place d).lane.clock) (drop (suc place) ps) (λ k h.
+          rw (← lane_is, ← drop-map (λ p. p.lane) (suc place) ps, get_or-drop (suc place) (lanes ps) k new_lane)
+          (s.not_above (suc place + k) (omega arith) (omega (arith, length-drop (suc place) ps, length-map ps (λ p. p.lane)))));
+    }
+
+first_by : (ps : List Part) (o : Option ℕ) → first_place (lanes ps) ≡ o → LeadsOf (lanes ps) (length (lanes ps)) o → IsFirstOf ps (option_and_then (slice_get ps) o)
+first_by ps None e f = each_lane (λ l. has_next l.head ≡ false) ps (λ k h. f k (omega (arith, length-map ps (λ p. p.lane))))
+first_by [] (Some place) e s = tt
+first_by (p ∷ ps) (Some place) e s =
+    subst (IsFirstOf (p ∷ ps)) (sym (slice_get-get_or (p ∷ ps) place p (omega (arith, s.within, length-map (p ∷ ps) (λ p. p.lane))))) (split_at p (p ∷ ps) place e s)
+
+-- The part at the place comes first; if there is no place, no item comes next.
 pub first_is : (ps : List Part) → IsFirstOf ps (first_of ps)
 unfolding first_of
-first_is [] = tt
-first_is (p ∷ ps) = sooner_is p ps (first_of ps) (first_is ps)
-
-at_split : (P : Part → Type 0) (ps : List Part) (q : Part) → AllByRecursion P ps → Split ps q → P q
-at_split P ps q f s = behind_all s.before (subst (λ (xs : List Part). AllByRecursion P xs) s.whole f)
-  where
-    behind_all : (xs : List Part) → AllByRecursion P (xs ++ (q ∷ s.after)) → P q
-    behind_all [] g = g.0
-    behind_all (x ∷ xs) g = behind_all xs g.1
-
-at_most-lt : (a b : Option Stamp) → AtMost a b → is_lt (clock_cmp b a) ≡ false
-at_most-lt a b h = turned (clock_cmp a b) (clock_cmp b a) (clock_total.antisymm a b) h
-  where
-    turned : (r s : Ordering) → r ≡ ordering_reverse s → is_gt r ≡ false → is_lt s ≡ false
-    turned r Less e k = absurd (true≢false (ap is_gt (sym e) ∙ k))
-    turned r Equal e k = refl
-    turned r Greater e k = refl
-
-own : (p : Part) (ps : List Part) (r : Option Part) → IsFirstOf ps r → has_next p.lane.head ≡ true
-    → AllByRecursion (λ q. has_next q.lane.head ≡ true → AtMost p.lane.clock q.lane.clock) ps → sooner p r ≡ Some p
-own p ps None f e g = rw e refl
-own p ps (Some q) s e g =
-    rw (e, at_most-lt p.lane.clock q.lane.clock (at_split (λ x. has_next x.lane.head ≡ true → AtMost p.lane.clock x.lane.clock) ps q g s s.next)) refl
-
-pass_on : (p q : Part) (b : Bool) → has_next p.lane.head ≡ b → (has_next p.lane.head ≡ true → clock_cmp q.lane.clock p.lane.clock ≡ Less)
-    → cond (b && not (is_lt (clock_cmp q.lane.clock p.lane.clock))) (Some p) (Some q) ≡ Some q
-pass_on p q true e f = rw (f e) refl
-pass_on p q false e f = refl
-
-first_behind : (before after : List Part) (q : Part) → has_next q.lane.head ≡ true
-    → AllByRecursion (λ p. has_next p.lane.head ≡ true → clock_cmp q.lane.clock p.lane.clock ≡ Less) before
-    → AllByRecursion (λ p. has_next p.lane.head ≡ true → AtMost q.lane.clock p.lane.clock) after
-    → first_of (before ++ (q ∷ after)) ≡ Some q
-unfolding first_of
-first_behind [] after q e f g = own q after (first_of after) (first_is after) e g
-first_behind (p ∷ before) after q e f g =
-    ap (sooner p) (first_behind before after q e f.1 g) ∙ pass_on p q (has_next p.lane.head) refl f.0
-
-pub first-split : (ps : List Part) (q : Part) → Split ps q → first_of ps ≡ Some q
-first-split ps q s = ap first_of s.whole ∙ first_behind s.before s.after q s.next s.below s.not_above
+first_is ps = first_by ps (first_place (lanes ps)) refl (among_is (lanes ps) (length (lanes ps)))

@@ -1,5 +1,5 @@
 -- Lists and tests of their items.
-use Rattle.std.proofs.Common.{◌≡◌, ℕ, Bool, true, false, List, [], ◌∷◌, ◌++◌, refl, sym, ap}
+use Rattle.std.proofs.Common.{◌≡◌, ℕ, Bool, true, false, List, [], ◌∷◌, ◌++◌, refl, sym, ap, arith}
 use Rattle.std.specs.Prelude.{◌&&◌, ◌||◌, map}
 use Rattle.std.specs.List.{AllByRecursion, list_all, list_any}
 use Rattle.std.proofs.lemmas.Bool.{true≢false}
@@ -36,8 +36,7 @@ alike-mapped f g [] h = refl
 alike-mapped f g (x ∷ xs) h = λ i. h.0 i ∷ alike-mapped f g xs h.1 i
 
 pub and-both : (a b : Bool) → (a && b) ≡ true → (a ≡ true) × (b ≡ true)
-and-both true b e = (refl, e)
-and-both false b e = absurd (true≢false (sym e))
+and-both a b e = grind arith
 
 pub all-each : {A : Type 0} (p : A → Bool) (xs : List A) → list_all p xs ≡ true → AllByRecursion (λ x. p x ≡ true) xs
 all-each p [] e = tt
@@ -48,8 +47,7 @@ each-all p [] h = refl
 each-all p (x ∷ xs) h = rw h.0 (each-all p xs h.1)
 
 pub or-back : (a b : Bool) → b ≡ true → (a || b) ≡ true
-or-back true b e = refl
-or-back false b e = e
+or-back a b e = grind arith
 
 pub any-back : (test : ℕ → Bool) (xs ys : List ℕ) → list_any test ys ≡ true → list_any test (xs ++ ys) ≡ true
 any-back test [] ys e = e
@@ -64,5 +62,4 @@ any-front test (x ∷ xs) ys e = first (test x) (list_any test xs) (list_any tes
     first false b c e f = f e
 
 pub and-none : (a b : Bool) → b ≡ false → (a && b) ≡ false
-and-none true b e = e
-and-none false b e = refl
+and-none a b e = grind arith

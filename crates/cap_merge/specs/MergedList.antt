@@ -4,7 +4,6 @@ use Rattle.std.specs.Prelude.{◌≢◌, map, ◌==◌}
 use Rattle.std.specs.List.{AllByRecursion}
 use Rattle.std.specs.Ordering.{nat_cmp, ordering_then, is_gt, MatchOrdering}
 use Rattle.std.specs.Cmp.{IsTotalOrder, then_total, on_total, nat_cmp_total, nat_cmp_is, ranks}
-use Rattle.std.proofs.lemmas.Bool.{true≢false}
 use Rattle.std.proofs.lemmas.Bool.Decides.{nat_tests}
 use Rattle.std.proofs.lemmas.List.{map-append}
 use Rattle.cap_time.specs.declared.stamps.Stamp.{Stamp}
@@ -37,9 +36,7 @@ placed_from-stands time file place clock (x ∷ xs) = (
 )
 
 then_less : (r s : Ordering) → is_gt r ≡ false → s ≡ Less → ordering_then r s ≡ Less
-then_less Less s h e = refl
-then_less Equal s h e = e
-then_less Greater s h e = absurd (true≢false h)
+then_less r s h e = grind arith
 
 before_later : {A : Type 0} (m y : Placed A) → clock_cmp m.clock y.clock ≡ Less → placed_cmp m y ≡ Less
 before_later m y e = ap (λ r. ordering_then r (ordering_then (nat_cmp m.file y.file) (nat_cmp m.place y.place))) e
@@ -110,8 +107,7 @@ nat_cmp-suc : (a b : ℕ) → nat_cmp (suc a) (suc b) ≡ nat_cmp a b
 nat_cmp-suc a b = grind (arith, nat_tests)
 
 both_moved : (p q : ℕ) (b : Bool) → nat_cmp (cond b (suc p) p) (cond b (suc q) q) ≡ nat_cmp p q
-both_moved p q true = nat_cmp-suc p q
-both_moved p q false = refl
+both_moved p q b = grind (arith, nat_cmp-suc)
 
 same_turn : (f g file p q : ℕ) (r : Ordering) → MatchOrdering r (f < g) (f ≡ g) (g < f)
     → ordering_then r (nat_cmp (cond (f == file) (suc p) p) (cond (g == file) (suc q) q)) ≡ ordering_then r (nat_cmp p q)

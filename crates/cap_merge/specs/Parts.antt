@@ -1,8 +1,8 @@
 -- The feeds of a merge at one moment, each with what is known of it.
-use Rattle.std.specs.Prelude.{◌≡◌, ⊤, ◌+◌, ◌^◌, pos, int_lt, ℕ, Bool, true, false, ◌&&◌, ◌||◌, List, [], ◌∷◌, ◌++◌, length, map, max, not, Option, Some, None, is_some, Result, Ok, Err, if◌then◌else◌, ◌==◌}
-use Rattle.std.specs.List.{AllByRecursion, list_all, list_any, flat_map, range_with_len}
+use Rattle.std.specs.Prelude.{◌≡◌, ⊤, ◌+◌, ◌^◌, pos, int_lt, ℕ, zero, suc, Bool, true, false, ◌&&◌, ◌||◌, List, [], ◌∷◌, length, map, max, not, Option, Some, None, is_some, Result, Ok, Err, if◌then◌else◌, ◌==◌}
+use Rattle.std.specs.List.{list_all, list_any, flat_map, range_with_len, slice_get}
+use Rattle.std.specs.Option.{option_and_then}
 use Rattle.std.specs.Ordering.{is_lt, is_gt}
-use Rattle.std.specs.declared.cmp.Ordering.TheVariants.{Less}
 use Rattle.cap_bytes.specs.declared.faults.Fault.{Fault}
 use Rattle.cap_bytes.specs.declared.faults.Fault.TheVariants.{Refused, Read, Write, Memory}
 use Rattle.cap_time.specs.declared.stamps.Stamp.{Stamp}
@@ -15,8 +15,8 @@ use Rattle.cap_source.specs.declared.packets.Format.TheVariants.{Pcap}
 use Rattle.cap_source.specs.Feed.{Item, packet, refused, Feed}
 use Rattle.cap_source.specs.Times.{meta_time}
 use Rattle.cap_merge.specs.declared.lanes.Lane.{Lane}
-use Rattle.cap_merge.specs.declared.lanes.First.{First}
 use Rattle.cap_merge.specs.Clock.{clock_cmp}
+use Rattle.cap_merge.specs.First.{new_lane, first_place}
 use Rattle.cap_merge.specs.Run.{Track, Clocked, run}
 
 abbrev pub head_time : Head → Option Stamp
@@ -69,13 +69,6 @@ is_bounded (Some clock) = int_lt (seconds_of clock) (pos (2 ^ 65))
 abbrev pub AreBounded : List Part → Type 0
 AreBounded ps = list_all (λ p. is_bounded p.lane.clock) ps ≡ true
 
--- an item is known to come next
-abbrev pub has_next : Option Head → Bool
-has_next None = false
-has_next (Some (heads.Packet meta)) = true
-has_next (Some (heads.Refused refusal)) = true
-has_next (Some heads.End) = false
-
 -- nothing comes any more
 abbrev pub is_end : Option Head → Bool
 is_end None = false
@@ -83,18 +76,31 @@ is_end (Some (heads.Packet meta)) = false
 is_end (Some (heads.Refused refusal)) = false
 is_end (Some heads.End) = true
 
--- of a part and the first of those after it, the one whose item comes first: of equal clocks the first
-abbrev pub sooner : Part → Option Part → Option Part
-sooner p None = if has_next p.lane.head then Some p else None
-sooner p (Some q) = if has_next p.lane.head && not (is_lt (clock_cmp q.lane.clock p.lane.clock)) then Some p else Some q
+-- the lane of each part
+abbrev pub lanes : List Part → List Lane
+lanes ps = map (λ p. p.lane) ps
 
--- the part whose item comes first
+-- the part whose item comes first: that of the first lane
 unfoldable pub first_of : List Part → Option Part
-first_of [] = None
-first_of (p ∷ ps) = sooner p (first_of ps)
+first_of ps = option_and_then (slice_get ps) (first_place (lanes ps))
 
 abbrev pub is_known : List Part → Bool
 is_known ps = list_all (λ p. is_some p.lane.head) ps
+
+-- what comes next is known of each feed but that at a place
+abbrev pub known_but : List Part → ℕ → Bool
+known_but [] place = false
+known_but (p ∷ ps) zero = is_known ps
+known_but (p ∷ ps) (suc place) = is_some p.lane.head && known_but ps place
+
+-- the same if a packet was passed; else nothing is said
+abbrev pub others_known : List Part → Option ℕ → Bool
+others_known ps None = true
+others_known ps (Some place) = known_but ps place
+
+-- If a packet was passed, what comes next is known of the other feeds.
+abbrev pub OthersKnown : List Part → Option ℕ → Type 0
+OthersKnown ps passed = others_known ps passed ≡ true
 
 abbrev pub head_by : Option Part → Option Head
 head_by None = Some heads.End
@@ -206,27 +212,6 @@ abbrev pub BeginsAt : Option Stamp → List (Clocked Item) → Type 0
 BeginsAt clock [] = ⊥
 BeginsAt clock (x ∷ xs) = x.clock ≡ clock
 
--- Where an item comes first, of equal clocks the first.
-pub record Leads (lanes : List Lane) (place : ℕ) (clock : Option Stamp) : Type 0 where
-  pub before : List Lane
-  pub lane : Lane
-  pub after : List Lane
-  pub whole : lanes ≡ before ++ (lane ∷ after)
-  pub place_is : length before ≡ place
-  pub clock_is : lane.clock ≡ clock
-  pub next : has_next lane.head ≡ true
-  pub below : AllByRecursion (λ l. has_next l.head ≡ true → clock_cmp lane.clock l.clock ≡ Less) before
-  pub not_above : AllByRecursion (λ l. has_next l.head ≡ true → is_gt (clock_cmp lane.clock l.clock) ≡ false) after
-
--- What comes first of some lanes, if an item comes next of any.
-abbrev pub IsFirstLane : List Lane → Option First → Type 0
-IsFirstLane lanes None = AllByRecursion (λ l. has_next l.head ≡ false) lanes
-IsFirstLane lanes (Some first) = Leads lanes first.place first.clock
-
--- a lane of which nothing is known
-abbrev pub new_lane : Lane
-new_lane = record { clock = None; head = None }
-
 -- a lane after the packet that was passed
 abbrev pub passed_lane : Lane → Lane
 passed_lane lane = record { clock = lane.clock; head = None }
@@ -234,12 +219,6 @@ passed_lane lane = record { clock = lane.clock; head = None }
 -- feeds of which nothing is known
 abbrev pub new_parts : List Feed → List Part
 new_parts feeds = map (λ f. record { lane = new_lane; feed = f }) feeds
-
--- of the first so far and one more lane after it, the first
-abbrev pub sooner_lane : Option First → ℕ → Lane → Option First
-sooner_lane None place lane = if has_next lane.head then Some (record { place = place; clock = lane.clock }) else None
-sooner_lane (Some first) place lane =
-    if has_next lane.head && is_lt (clock_cmp lane.clock first.clock) then Some (record { place = place; clock = lane.clock }) else Some first
 
 -- the greater numbers of two, and whether a device of one has failed
 abbrev pub both_held : FeedHeld → FeedHeld → FeedHeld

@@ -1,9 +1,9 @@
 -- What a merge keeps, and what is known of its clocks, has one proof at most.
-use Rattle.std.specs.Prelude.{List}
+use Rattle.std.specs.Prelude.{ℕ, List, Option}
 use Rattle.std.specs.Coded.{Coded-set, coded_ℕ, coded_list, coded_option, coded_bool}
 use Rattle.cap_source.specs.contracts.feeds.Head as head
 use Rattle.cap_source.specs.Feed.{Feed}
-use Rattle.cap_merge.specs.Parts.{Part, IsNumbered, Agrees, HasReached, AreBounded}
+use Rattle.cap_merge.specs.Parts.{Part, IsNumbered, Agrees, HasReached, AreBounded, OthersKnown}
 
 pub IsNumbered-prop : (feeds : List Feed) → IsProp (IsNumbered feeds)
 IsNumbered-prop feeds = Coded-set (coded_list (coded_list coded_ℕ)) _ _
@@ -16,3 +16,6 @@ HasReached-prop ps = Coded-set coded_bool _ _
 
 pub AreBounded-prop : (ps : List Part) → IsProp (AreBounded ps)
 AreBounded-prop ps = Coded-set coded_bool _ _
+
+pub OthersKnown-prop : (ps : List Part) (passed : Option ℕ) → IsProp (OthersKnown ps passed)
+OthersKnown-prop ps passed = Coded-set coded_bool _ _

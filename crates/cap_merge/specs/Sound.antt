@@ -1,9 +1,8 @@
 -- What a merge keeps of its parts, part by part.
-use Rattle.std.proofs.Common.{◌≡◌, ℕ, suc, ◌+◌, Bool, true, false, cond, List, [], ◌∷◌, length, refl, sym, ap, ◌∙◌, subst, arith, Option, Some, None}
+use Rattle.std.proofs.Common.{◌≡◌, ℕ, suc, ◌+◌, Bool, true, false, cond, List, [], ◌∷◌, length, ap, ◌∙◌, subst, arith, Option, Some, None}
 use Rattle.std.specs.Prelude.{not, map, ⊤, is_some, IfSome}
 use Rattle.std.specs.List.{AllByRecursion, range_with_len}
 use Rattle.std.specs.Ordering.{is_lt}
-use Rattle.std.proofs.lemmas.Bool.{true≢false}
 use Rattle.std.proofs.lemmas.List.{length-map}
 use Rattle.cap_source.specs.declared.feeds.Head.{Head}
 use Rattle.cap_source.specs.Feed.{Feed, IsFeed}
@@ -18,16 +17,13 @@ pub record IsSound (p : Part) : Type 0 where
   pub reached : is_lt (clock_cmp p.lane.clock (known_time p.lane.head)) ≡ false
 
 agreed : (h k : Option Head) → cond (is_some h) k None ≡ h → IfSome h (λ head. k ≡ Some head)
-agreed None k e = tt
-agreed (Some head) k e = e
+agreed h k e = grind arith
 
 agreed-back : (h k : Option Head) → IfSome h (λ head. k ≡ Some head) → cond (is_some h) k None ≡ h
-agreed-back None k e = refl
-agreed-back (Some head) k e = e
+agreed-back h k e = grind arith
 
 not-true : (b : Bool) → not b ≡ true → b ≡ false
-not-true true e = absurd (true≢false (sym e))
-not-true false e = refl
+not-true b e = grind arith
 
 both_each : (ps : List Part) → AllByRecursion (λ p. cond (is_some p.lane.head) p.feed.known None ≡ p.lane.head) ps
     → AllByRecursion (λ p. not (is_lt (clock_cmp p.lane.clock (known_time p.lane.head))) ≡ true) ps → AllByRecursion IsSound ps

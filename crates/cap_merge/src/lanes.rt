@@ -3,9 +3,9 @@ ghost use Rattle.std.specs.Prelude.{◌≡◌, ◌<◌, ◌≤◌, List, replica
 ghost use Rattle.std.specs.List.{list_all};
 ghost use Rattle.cap_merge.specs.Clock.{later};
 ghost use Rattle.cap_source.specs.Feed.{Feed, IsPacket, Passes, Keeps};
-ghost use Rattle.cap_merge.specs.Parts.{parts, head_time, known_time, is_bounded, has_next, known_of, IsFirstLane, passed_lane, new_lane, both_held};
+ghost use Rattle.cap_merge.specs.Parts.{parts, head_time, known_time, is_bounded, known_of, passed_lane, both_held, known_but, OthersKnown};
 ghost use Rattle.cap_source.specs.declared.feeds.Head.{Head};
-ghost use Rattle.cap_merge.specs.First.{lane_at, comes_before, sooner_place, first_place, known_but, IsFound, OthersKnown};
+ghost use Rattle.cap_merge.specs.First.{new_lane, has_next, lane_at, comes_before, sooner_place, first_place, first_at, IsFound};
 ghost use Rattle.cap_merge.specs.Merge.{Asks, AsksAll, IsPacketAt, PassesAt};
 
 use arrayvec::ArrayVec;
@@ -230,7 +230,7 @@ pub(crate) fn found(lanes: &[Lane], known: Option<usize>) -> Option<usize>
 #[inline(always)]
 pub(crate) fn first_of(lanes: &[Lane], known: Option<usize>) -> Option<First>
     requires { IsFound lanes.now known }
-    ensures { IsFirstLane lanes.now result }
+    ensures { result ≡ first_at lanes.now (first_place lanes.now) }
 {
     match found(lanes, known) {
         Some(place) => Some(First {

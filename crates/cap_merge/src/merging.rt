@@ -8,10 +8,10 @@ ghost use Rattle.cap_merge.specs.Clock.{clock_cmp};
 ghost use Rattle.cap_source.specs.declared.feeds.Head.{Head};
 ghost use Rattle.cap_source.specs.Feed.{GivesHead, Keeps, KeepsItems, Passes, IsPacket, HasFile, IsFeed};
 ghost use Rattle.cap_merge.specs.Run.{opened, run};
-ghost use Rattle.cap_merge.specs.Parts.{item_time, is_refusal, parts, IsNumbered, Agrees, HasReached, AreBounded, feed_of, new_parts, clock_of, run_of, has_next, ClocksFrom, MovesClocks, KeepsRun, BeginsAt};
-ghost use Rattle.cap_merge.specs.First.{IsFound, IsFound-prop, OthersKnown, OthersKnown-prop};
+ghost use Rattle.cap_merge.specs.Parts.{item_time, is_refusal, parts, IsNumbered, Agrees, HasReached, AreBounded, feed_of, new_parts, clock_of, run_of, OthersKnown, ClocksFrom, MovesClocks, KeepsRun, BeginsAt};
+ghost use Rattle.cap_merge.specs.First.{has_next, IsFound, IsFound-prop};
 ghost use Rattle.cap_merge.specs.Merge.{AsksAll};
-ghost use Rattle.cap_merge.specs.PartsProps.{IsNumbered-prop, Agrees-prop, HasReached-prop, AreBounded-prop};
+ghost use Rattle.cap_merge.specs.PartsProps.{IsNumbered-prop, Agrees-prop, HasReached-prop, AreBounded-prop, OthersKnown-prop};
 
 use crate::lanes::{
     Lane, ask_all, first_lane, first_of, found, greater, head_of, new_lanes, packet_at, pass_first,
