@@ -1,5 +1,5 @@
 -- What a list of packets that comes one by one is at one moment, and what its calls do.
-use Rattle.std.specs.Prelude.{◌≡◌, ◌==◌, ◌*◌, ◌^◌, ◌≤◌, ◌<◌, ℕ, List, [], ◌∷◌, length, drop, Bool, IsTrue, Option, Some, None, IfSome, Result, Ok, Err, ⊤}
+use Rattle.std.specs.Prelude.{◌≡◌, ◌==◌, ◌*◌, ◌^◌, ◌≤◌, ◌<◌, ℕ, List, [], ◌∷◌, length, drop, Bool, true, false, IsTrue, Option, Some, None, IfSome, Result, Ok, Err, ⊤}
 use Rattle.std.specs.List.{list_any}
 use Rattle.cap_bytes.specs.declared.faults.Fault.{Fault}
 use Rattle.cap_bytes.specs.declared.faults.Fault.TheVariants.{Refused, Read, Write, Memory}
@@ -116,6 +116,23 @@ KeepsItems old (Err (Refused refusal)) new = ⊥
 KeepsItems old (Err (Read file offset)) new = ⊤
 KeepsItems old (Err Write) new = ⊥
 KeepsItems old (Err Memory) new = SameItems old new
+
+-- what `has_packet` answers: whether a packet comes next, or a refusal, which is answered as a fault
+abbrev pub FindsPacket : Feed → Result Bool Fault → Feed → Type 0
+FindsPacket old (Ok true) new = (meta : Meta) × Knows old (heads.Packet meta) new
+FindsPacket old (Ok false) new = Knows old heads.End new
+FindsPacket old (Err (Refused refusal)) new = Knows old (heads.Refused refusal) new
+FindsPacket old (Err (Read file offset)) new = Breaks old file offset new
+FindsPacket old (Err Write) new = ⊥
+FindsPacket old (Err Memory) new = Waits old new
+
+-- what it does to the items to come
+abbrev pub FindsItem : Feed → Result Bool Fault → Feed → Type 0
+FindsItem old (Ok found) new = SameItems old new
+FindsItem old (Err (Refused refusal)) new = SameItems old new
+FindsItem old (Err (Read file offset)) new = ⊤
+FindsItem old (Err Write) new = ⊥
+FindsItem old (Err Memory) new = SameItems old new
 
 -- The packet that came next is dropped: the packets of its file that are to come begin after its offset.
 pub record Passes (old new : Feed) : Type 0 where

@@ -9,6 +9,7 @@ ghost use Rattle.cap_source.specs.Readers.{state_of, is_there, reader_room};
 
 use crate::feeds::{Ending, FeedHeld, Head, PacketFeed};
 use crate::learning::learn;
+use crate::packets::Meta;
 use crate::reached::{Reached, nothing_reached};
 use crate::readers::{Next, Reader, ending_of, failed_of, held_of, number_of, part_of};
 use cap_bytes::{Fault, Source, Tail, Window};
@@ -91,6 +92,23 @@ impl<R: Source> PacketFeed for Capture<R> {
             Some(Next::Refused(refusal, _)) => Ok(Head::Refused(*refusal)),
             Some(Next::End(_)) => Ok(Head::End),
             None => unreachable!(),
+        }
+    }
+
+    fn has_packet(&mut self) -> Result<bool, Fault> {
+        learn(&mut self.reader, &mut self.reached, &mut self.next)?;
+        match &self.next {
+            Some(Next::Packet(_, _)) => Ok(true),
+            Some(Next::Refused(refusal, _)) => Err(Fault::Refused(*refusal)),
+            Some(Next::End(_)) => Ok(false),
+            None => unreachable!(),
+        }
+    }
+
+    fn packet(&self) -> &Meta {
+        match &self.next {
+            Some(Next::Packet(meta, _)) => meta,
+            _ => unreachable!(),
         }
     }
 

@@ -1,6 +1,6 @@
 //! A list of packets that comes one by one, from wherever it comes.
 ghost use Rattle.std.specs.Prelude.{◌≡◌, IsTrue, Some};
-ghost use Rattle.cap_source.specs.Feed.{Feed, GivesHead, Keeps, KeepsItems, Passes, IsPacket, HasFile, IsFeed};
+ghost use Rattle.cap_source.specs.Feed.{Feed, GivesHead, Keeps, KeepsItems, FindsPacket, FindsItem, Passes, IsPacket, HasFile, IsFeed};
 
 use crate::packets::{Format, Meta};
 use cap_bytes::{Fault, Refusal};
@@ -53,6 +53,19 @@ pub trait PacketFeed: Drop {
         ensures keeps { Keeps (feed self.old) (feed self.new) }
         ensures items { IsTrue (feed self.old).told
             → KeepsItems (feed self.old) result (feed self.new) };
+
+    /// Whether a packet comes next, which is known then: what `head` answers, without a copy of the packet. A refusal is
+    /// answered as a fault, again and again.
+    fn has_packet(&mut self) -> Result<bool, Fault>
+        ensures answer { FindsPacket (feed self.old) result (feed self.new) }
+        ensures keeps { Keeps (feed self.old) (feed self.new) }
+        ensures items { IsTrue (feed self.old).told
+            → FindsItem (feed self.old) result (feed self.new) };
+
+    /// The packet that comes next, without its bytes.
+    fn packet(&self) -> &Meta
+        requires packet { IsPacket (feed self.now).known }
+        ensures packet { (feed self.now).known ≡ Some (Head.Packet result.now) };
 
     /// The captured bytes of the packet that comes next.
     fn frame(&self) -> &[u8]

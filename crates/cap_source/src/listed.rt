@@ -85,6 +85,21 @@ impl PacketFeed for Listed {
         }
     }
 
+    fn has_packet(&mut self) -> Result<bool, Fault> {
+        match self.head()? {
+            Head::Packet(_) => Ok(true),
+            Head::Refused(refusal) => Err(Fault::Refused(refusal)),
+            Head::End => Ok(false),
+        }
+    }
+
+    fn packet(&self) -> &Meta {
+        match &self.next {
+            Some(Head::Packet(meta)) => meta,
+            _ => unreachable!(),
+        }
+    }
+
     fn frame(&self) -> &[u8] {
         &[]
     }

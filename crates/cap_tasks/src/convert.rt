@@ -10,6 +10,15 @@ use cap_source::{Capture, Format};
 use cap_write::{to_pcap, to_pcapng};
 use std::alloc::Global;
 
+/// How packets are written.
+#[derive(Clone, Copy, Debug, PartialEq, Eq)]
+pub struct Encoding {
+    /// The format of the file.
+    pub format: Format,
+    /// The byte order of its numbers.
+    pub order: Order,
+}
+
 /// Writes the packets of a capture file of either format as a file of that format, with numbers in that
 /// byte order, exactly as they were read, up to the first refusal, which it answers: one of the file that is
 /// read, or of a packet that the format can't hold (rules 13 and 17 in pcapng, 17 to 21 in pcap, as of
@@ -19,19 +28,18 @@ pub fn convert_to<R: Source, W: Sink>(
     alloc: Global,
     source: R,
     tail: Tail,
-    order: Order,
-    format: Format,
+    encoding: Encoding,
     writer: &mut W,
 ) -> Result<(), Fault>
     ensures text { IsTrue (R.tells_coming source) → IsTrue (W.tells_held writer.old)
-        → Prints (convert_text format order tail (R.coming source)) (convert_refusal format tail (R.coming source))
+        → Prints (convert_text encoding.format encoding.order tail (R.coming source)) (convert_refusal encoding.format tail (R.coming source))
         (W.held writer.old) result (W.held writer.new) }
     ensures writer { WriterKeeps (writer_of W.Sink writer.old) (is_write result) (writer_of W.Sink writer.new) }
     ensures read { FailsOf 1 (R.can_fail source) result }
 {
     let mut capture = Capture::new(alloc, source, 1, tail);
-    match format {
-        Format::Pcap => to_pcap(&mut capture, order, writer),
-        Format::Pcapng => to_pcapng(alloc, &mut capture, order, writer),
+    match encoding.format {
+        Format::Pcap => to_pcap(&mut capture, encoding.order, writer),
+        Format::Pcapng => to_pcapng(alloc, &mut capture, encoding.order, writer),
     }
 }

@@ -8,7 +8,7 @@ ghost use Rattle.cap_bytes.specs.Printing.{is_write};
 ghost use Rattle.cap_source.specs.ReadFaults.{FailsOf};
 
 use crate::blocks::blocks_to;
-use crate::convert::convert_to;
+use crate::convert::{Encoding, convert_to};
 use crate::join::join_to;
 use crate::list::list_to;
 use crate::merge::merge_to;
@@ -62,8 +62,11 @@ pub fn job_to<R: Source, W: Sink>(
         Task::Info => file_lines(alloc, sources, tail, writer),
         Task::Report => report(alloc, sources, tail, writer),
         Task::Convert => {
-            let format = job.to.unwrap();
-            convert_to(alloc, only(sources), tail, job.order, format, writer)
+            let encoding = Encoding {
+                format: job.to.unwrap(),
+                order: job.order,
+            };
+            convert_to(alloc, only(sources), tail, encoding, writer)
         }
         Task::Merge => merge_to(alloc, sources, tail, job.order, writer),
         Task::Join => join_to(alloc, sources, tail, job.order, writer),

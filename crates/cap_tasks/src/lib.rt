@@ -13,7 +13,7 @@ mod progress;
 mod watched;
 
 pub use crate::blocks::blocks_to;
-pub use crate::convert::convert_to;
+pub use crate::convert::{Encoding, convert_to};
 pub use crate::jobs::job_to;
 pub use crate::join::join_to;
 pub use crate::list::list_to;

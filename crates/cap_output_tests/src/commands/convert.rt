@@ -4,7 +4,7 @@ ghost use Rattle.std.specs.Prelude.{◌≤◌};
 use crate::commands::refused;
 use cap_bytes::{Fault, Order, Pieces, Room, Rule, Tail};
 use cap_source::Format;
-use cap_tasks::convert_to;
+use cap_tasks::{Encoding, convert_to};
 use std::alloc::Global;
 use std::test::Fail;
 
@@ -147,7 +147,8 @@ fn convert(
 {
     let pieces = Pieces::new(hex::decode(alloc, capture)?, piece, None);
     let mut writer = Room::new(Vec::with_capacity(alloc, 256)?);
-    let answer = convert_to(alloc, pieces, Tail::Refuse, order, format, &mut writer);
+    let encoding = Encoding { format, order };
+    let answer = convert_to(alloc, pieces, Tail::Refuse, encoding, &mut writer);
     Ok((writer, answer))
 }
 
