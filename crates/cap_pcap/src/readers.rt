@@ -1,10 +1,10 @@
 //! A reader of pcap files.
-ghost use Rattle.std.specs.Prelude.{◌≡◌, ◌↔◌, ◌≤◌, ◌+◌, length, IsTrue, IsSome, Some, IfSome, OnErr, is_some};
+ghost use Rattle.std.specs.Prelude.{◌≡◌, ◌↔◌, ◌≤◌, ◌+◌, length, IsTrue, IsSome, IsNone, Some, Ok, IfSome, OnErr, is_some};
 ghost use Rattle.cap_bytes.specs.Reader.{opened, Keeps, HasWindow};
 ghost use Rattle.cap_pcap.specs.Reader.{items_of, GivesHeader, GivesNext, KeepsHeader, KeepsItems, TakesItem, RefusesAgain, size_of, place_after};
 
 use crate::headers::{HEADER_SIZE, PcapHeader, look_for_header};
-use crate::records::{HEAD_SIZE, Record, look_for_record};
+use crate::records::{HEAD_SIZE, Record, look_for_record, take_shown};
 use cap_bytes::{Fault, Source, Stop, Tail, Window};
 use std::marker::Model;
 
@@ -110,7 +110,30 @@ impl<R: Source> PcapReader<R> {
         self.read_header()
     }
 
+    // Takes the next record if the window shows it whole already, as most are.
+    #[inline(always)]
+    fn take_shown(&mut self, header: PcapHeader) -> Option<Record>
+        requires { self.old.known ≡ Some header }
+        ensures answer { IfSome result (λ r. GivesNext header self.old (Ok (Some r)) self.new) }
+        ensures place { IfSome result (λ r. self.new.offset ≡ place_after self.old.offset (Ok (Some r))) }
+        ensures header { self.new.known ≡ self.old.known }
+        ensures keeps { Keeps self.old self.new }
+        ensures none { IsNone result → self.new ≡ self.old }
+    {
+        if self.stop.is_some() {
+            return None;
+        }
+        match take_shown(&mut self.window, size_given(self.captured), header) {
+            Some(record) => {
+                self.captured = Some(record.captured as usize);
+                Some(record)
+            }
+            None => None,
+        }
+    }
+
     // Looks for the next record, after the one that was given last.
+    #[inline(never)]
     fn read_record(&mut self, header: PcapHeader) -> Result<Option<Record>, Fault>
         requires { self.old.known ≡ Some header }
         ensures answer { GivesNext header self.old result self.new }
@@ -140,6 +163,7 @@ impl<R: Source> PcapReader<R> {
     /// than 262,144 bytes were captured, and if the record would end past byte 2^40; if a cut
     /// tail is accepted, a cut rest is the end instead. `Memory` leaves what is to come; `Read` comes
     /// again. draft-ietf-opsawg-pcap, 5.
+    #[inline(always)]
     pub fn next_record(&mut self) -> Result<Option<Record>, Fault>
         requires { IsSome self.old.known }
         ensures answer { IfSome self.old.known
@@ -151,7 +175,10 @@ impl<R: Source> PcapReader<R> {
             → TakesItem (items_of self.old) result self.new.lent (items_of self.new) }
     {
         let header = self.header.unwrap();
-        self.read_record(header)
+        match self.take_shown(header) {
+            Some(record) => Ok(Some(record)),
+            None => self.read_record(header),
+        }
     }
 
     /// The captured bytes of the record that was given last, which lie in the window.
