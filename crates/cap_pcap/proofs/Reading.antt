@@ -1,5 +1,5 @@
 -- What a look at the window makes of a reader, and what that does to the items to come.
-use Rattle.std.proofs.Common.{◌≡◌, ℕ, ◌+◌, ◌≤◌, List, [], ◌∷◌, length, drop, Option, Some, None, IsSomeAnd, true, false, IsTrue, Result, refl, sym, ◌∙◌, ap, arith, add-zero, length-drop, length-take-le}
+use Rattle.std.proofs.Common.{◌≡◌, ℕ, ◌+◌, ◌≤◌, List, [], ◌∷◌, length, drop, Option, Some, None, Ok, IfSome, IsSomeAnd, true, false, IsTrue, Result, refl, sym, ◌∙◌, ap, arith, add-zero, length-drop, length-take-le}
 use Rattle.std.proofs.lemmas.List.{take-append-le}
 use Rattle.cap_bytes.specs.Items.{stop_where, given, stopped, items_by_stop}
 use Rattle.cap_bytes.specs.Reader.{State, Keeps}
@@ -117,3 +117,10 @@ TakesItem_next header old new result known g k t =
     (λ free. ended_items old.known header old.tail old.file old.offset old.coming known)
     (λ r. GivesRecord header old r new) (λ r. IsSomeAnd new.lent (λ bytes. items_of old ≡ given r bytes ∷ items_of new)) 262160 _ result
     (λ r h. record_taken header old new r new.lent refl known h k t) g k t
+
+-- The same of a record that was shown already.
+pub TakesItem_shown : (header : PcapHeader) (old new : State PcapHeader) (found : Option Record) → old.known ≡ Some header
+    → IfSome found (λ r. GivesNext header old (Ok (Some r)) new) → Keeps old new → IsTrue old.told
+    → IfSome found (λ r. TakesItem (items_of old) (Ok (Some r)) new.lent (items_of new))
+TakesItem_shown header old new None known g k t = tt
+TakesItem_shown header old new (Some r) known g k t = TakesItem_next header old new (Ok (Some r)) known g k t

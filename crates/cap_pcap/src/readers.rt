@@ -95,6 +95,14 @@ impl<R: Source> PcapReader<R> {
         }
     }
 
+    /// The file's header, once it was read.
+    #[inline]
+    pub fn known(&self) -> Option<PcapHeader>
+        ensures { result ≡ self.now.known }
+    {
+        self.header
+    }
+
     /// The file's header. It comes again at each call. `Refused` comes, now and at each later call,
     /// if the header is cut, has another magic or is of another version; if a header read from
     /// elsewhere than the file's first byte would end past byte 2^40; and if a record was refused.
@@ -110,9 +118,25 @@ impl<R: Source> PcapReader<R> {
         self.read_header()
     }
 
-    // Takes the next record if the window shows it whole already, as most are.
+    /// The next record, if the window shows it whole already, as it does most of them: what `next_record` answers then, at
+    /// less cost. `None` says nothing of the record, and leaves the reader as it is. The header is the file's.
     #[inline(always)]
-    fn take_shown(&mut self, header: PcapHeader) -> Option<Record>
+    pub fn take_shown(&mut self, header: PcapHeader) -> Option<Record>
+        requires { self.old.known ≡ Some header }
+        ensures answer { IfSome result (λ r. GivesNext header self.old (Ok (Some r)) self.new) }
+        ensures place { IfSome result (λ r. self.new.offset ≡ place_after self.old.offset (Ok (Some r))) }
+        ensures header { self.new.known ≡ self.old.known }
+        ensures keeps { Keeps self.old self.new }
+        ensures items { IsTrue self.old.told → IfSome result (λ r.
+            TakesItem (items_of self.old) (Ok (Some r)) self.new.lent (items_of self.new)) }
+        ensures none { IsNone result → self.new ≡ self.old }
+    {
+        self.read_shown(header)
+    }
+
+    // The same.
+    #[inline(always)]
+    fn read_shown(&mut self, header: PcapHeader) -> Option<Record>
         requires { self.old.known ≡ Some header }
         ensures answer { IfSome result (λ r. GivesNext header self.old (Ok (Some r)) self.new) }
         ensures place { IfSome result (λ r. self.new.offset ≡ place_after self.old.offset (Ok (Some r))) }
@@ -133,7 +157,6 @@ impl<R: Source> PcapReader<R> {
     }
 
     // Looks for the next record, after the one that was given last.
-    #[inline(never)]
     fn read_record(&mut self, header: PcapHeader) -> Result<Option<Record>, Fault>
         requires { self.old.known ≡ Some header }
         ensures answer { GivesNext header self.old result self.new }
@@ -163,7 +186,6 @@ impl<R: Source> PcapReader<R> {
     /// than 262,144 bytes were captured, and if the record would end past byte 2^40; if a cut
     /// tail is accepted, a cut rest is the end instead. `Memory` leaves what is to come; `Read` comes
     /// again. draft-ietf-opsawg-pcap, 5.
-    #[inline(always)]
     pub fn next_record(&mut self) -> Result<Option<Record>, Fault>
         requires { IsSome self.old.known }
         ensures answer { IfSome self.old.known
@@ -175,10 +197,7 @@ impl<R: Source> PcapReader<R> {
             → TakesItem (items_of self.old) result self.new.lent (items_of self.new) }
     {
         let header = self.header.unwrap();
-        match self.take_shown(header) {
-            Some(record) => Ok(Some(record)),
-            None => self.read_record(header),
-        }
+        self.read_record(header)
     }
 
     /// The captured bytes of the record that was given last, which lie in the window.
