@@ -8,10 +8,10 @@ use Rattle.cap_source.specs.Feed.{Feed}
 use Rattle.cap_time.specs.Stamp.{seconds_of}
 use Rattle.cap_time.specs.declared.stamps.Stamp.{Stamp}
 use Rattle.cap_merge.specs.declared.lanes.Lane.{Lane}
-use Rattle.cap_merge.specs.First.{first_place}
+use Rattle.cap_merge.specs.First.{fresh_lane, lane_at, first_place}
 use Rattle.cap_merge.specs.Parts.{Part, parts, turns, is_bounded, AreBounded}
-use Rattle.cap_merge.proofs.Placing.{lane_at, place_within}
-use Rattle.cap_merge.specs.Merge.{fresh_lane, LearnsAll, StopsAt, AsksAll, PassesAt}
+use Rattle.cap_merge.proofs.Placing.{place_within}
+use Rattle.cap_merge.specs.Merge.{LearnsAll, StopsAt, AsksAll, PassesAt}
 
 all_learned : (ps qs : List Part) → LearnsAll ps qs → AreBounded ps → AreBounded qs
 all_learned (p ∷ ps) (q ∷ qs) l h = grind (arith, all_learned ps qs l.1)

@@ -1,9 +1,9 @@
 -- The place of the lane whose item comes first, as it is looked for.
-use Rattle.std.proofs.Common.{◌≡◌, ℕ, zero, suc, ◌<◌, ◌≤◌, List, length, get_or, cond, [], ◌∷◌, refl, sym, ap, ◌∙◌, subst, arith, Option, Some, None}
-use Rattle.std.specs.Prelude.{IfSome, map}
-use Rattle.std.proofs.lemmas.List.{get_or-map, length-map}
+use Rattle.std.proofs.Common.{◌≡◌, ℕ, zero, suc, ◌<◌, ◌≤◌, Bool, List, length, get_or, cond, [], ◌∷◌, refl, sym, ap, ◌∙◌, subst, arith, Option, Some, None}
+use Rattle.std.specs.Prelude.{IfSome}
+use Rattle.std.proofs.lemmas.List.{length-map}
 use Rattle.cap_merge.specs.declared.lanes.Lane.{Lane}
-use Rattle.cap_merge.specs.First.{Turn, lane_turn, lane_turns, turn_at, no_turn, has_item, sooner_place, first_among, first_place, IsFound}
+use Rattle.cap_merge.specs.First.{Turn, lane_turn, lane_turns, has_item, sooner_place, first_among, first_place, IsFound}
 
 sooner_within : (ts : List Turn) (o : Option ℕ) (place : ℕ) → IfSome o (λ n. n < place) → IfSome (sooner_place ts o place) (λ n. n < suc place)
 sooner_within ts o place h = grind arith
@@ -28,6 +28,9 @@ pub lanes-within : (ls : List Lane) (o : Option ℕ) (count : ℕ) → count ≤
 lanes-within ls o count h e =
     subst (λ (k : ℕ). IfSome o (λ n. n < k)) (length-map ls lane_turn) (so-far-within (lane_turns ls) o count (omega (arith, length-map ls lane_turn)) e)
 
+pub among-all : (ls : List Lane) (o : Option ℕ) (count : ℕ) → count ≡ length ls → o ≡ first_among (lane_turns ls) count → o ≡ first_place (lane_turns ls)
+among-all ls o count h e = e ∙ ap (first_among (lane_turns ls)) (h ∙ sym (length-map ls lane_turn))
+
 pub lane-within : (ls : List Lane) (place : ℕ) → first_place (lane_turns ls) ≡ Some place → place < length ls
 lane-within ls place e = omega (arith, first-within (lane_turns ls) place e, length-map ls lane_turn)
 
@@ -44,12 +47,7 @@ pub found-here : (ls : List Lane) (o : Option ℕ) → o ≡ first_place (lane_t
 found-here ls o e = grind arith
 
 -- of one lane
-pub first-alone : (ls : List Lane) (d : Lane) → length ls ≡ 1 → cond (has_item (get_or ls 0 d).next) (Some 0) None ≡ first_place (lane_turns ls)
+pub first-alone : (ls : List Lane) (l : Lane) (b : Bool) → length ls ≡ 1 → l ≡ get_or ls 0 l → b ≡ has_item l.next → first_place (lane_turns ls) ≡ cond b (Some 0) None
 unfolding first_among
-first-alone [] d e = absurd (omega arith)
-first-alone (l ∷ []) d e = refl
-first-alone (l ∷ m ∷ ls) d e = absurd (omega arith)
-
--- the turn of a lane at a place
-pub turn-there : (ls : List Lane) (place : ℕ) (d : Lane) → place < length ls → turn_at (lane_turns ls) place ≡ lane_turn (get_or ls place d)
-turn-there ls place d h = get_or-map lane_turn ls place d no_turn h
+first-alone (k ∷ []) l b e is h = λ i. cond (sym (h ∙ ap (λ (w : Lane). has_item w.next) is) i) (Some 0) None
+first-alone ls l b e is h = grind arith

@@ -14,9 +14,9 @@ use Rattle.cap_source.specs.declared.feeds.FeedHeld.{FeedHeld}
 use Rattle.cap_source.specs.Feed.{packet, refused, Feed, IsFeed, IsPacket, Keeps, Passes, HasFile}
 use Rattle.cap_merge.specs.Lists.{all-each}
 use Rattle.cap_merge.specs.declared.lanes.Lane.{Lane}
-use Rattle.cap_merge.specs.First.{has_next, first_place}
+use Rattle.cap_merge.specs.First.{has_next, fresh_lane, lane_at, first_place}
 use Rattle.cap_merge.specs.Parts.{Part, part, parts, turns, is_known, known_of, head_by, frame_by, clock_of, first_of, run_of, endings_of, held_of, both_held, has_file, feed_of, ClocksFrom, BeginsAt, IsNumbered, HasReached, clock_by}
-use Rattle.cap_merge.specs.Merge.{fresh_lane, IsPacketAt, PassesAt, PassesPart}
+use Rattle.cap_merge.specs.Merge.{IsPacketAt, PassesAt, PassesPart}
 use Rattle.cap_merge.specs.Clocks.{AtMost}
 use Rattle.cap_merge.specs.Leading.{Split, NoNext, IsFirstOf, first_is}
 use Rattle.cap_merge.specs.Sound.{IsSound, AreFrom, sound-parts, lawful-each, numbered-from}
@@ -26,7 +26,7 @@ use Rattle.cap_merge.proofs.Calls.{told_all}
 use Rattle.cap_merge.proofs.FromClock.{each-from, from-each}
 use Rattle.cap_merge.proofs.Moving.{Each, each-itself, Kept, kept-itself}
 use Rattle.cap_merge.proofs.Passing.{passes-first, passed-keeps, passed-sound, run-passed, clocks-first, clocks-passed}
-use Rattle.cap_merge.proofs.Placing.{lane_at, placed-split, none-placed}
+use Rattle.cap_merge.proofs.Placing.{placed-split, none-placed}
 
 known_parts : (ps : List Part) (b : Bool) → is_known ps ≡ b → (Holds : Option Head → Type 0) → (Holds None → ⊥) → Holds (cond b (head_by (first_of ps)) None)
     → (is_known ps ≡ true) × Holds (head_by (first_of ps))
@@ -171,7 +171,7 @@ passed-first ps qs first place s e p h sound lawful from =
     let at = passed_at s.before s.after first qs there in
     subst (λ (xs : List Part). Passed xs qs) (sym s.whole) (subst (λ (ys : List Part). Passed (s.before ++ (first ∷ s.after)) ys) (sym at.2)
     (passed_split s.before s.after first at.0 of.1.0
-    (record { before = s.before; after = s.after; whole = refl; place = subst (λ (xs : List Part). first_place (lanes xs) ≡ Some (length s.before)) s.whole s.place; is_first = subst (λ (xs : List Part). first_of xs ≡ Some first) s.whole s.is_first; next = s.next; below = s.below; not_above = s.not_above }) refl refl of.1.1
+    (record { before = s.before; after = s.after; whole = refl; place = subst (λ (xs : List Part). first_place (turns xs) ≡ Some (length s.before)) s.whole s.place; is_first = subst (λ (xs : List Part). first_of xs ≡ Some first) s.whole s.is_first; next = s.next; below = s.below; not_above = s.not_above }) refl refl of.1.1
     (subst (λ (xs : List Part). is_known xs ≡ true) s.whole of.0) at.1
     (subst (λ (xs : List Part). AllByRecursion IsSound xs) s.whole sound) (subst (λ (xs : List Part). AllByRecursion (λ x. IsFeed x.feed) xs) s.whole lawful)
     (subst (λ (xs : List Part). AreFrom 1 xs) s.whole from)))

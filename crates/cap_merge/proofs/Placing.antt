@@ -11,18 +11,13 @@ use Rattle.cap_merge.specs.Lists.{all-each, and-both}
 use Rattle.cap_merge.specs.declared.lanes.Lane.{Lane}
 use Rattle.cap_merge.specs.declared.lanes.Coming.{Coming}
 use Rattle.cap_merge.specs.declared.lanes.Coming.TheVariants as comings
-use Rattle.cap_merge.specs.First.{coming_of, lane_turn, lane_turns, first_place}
-use Rattle.cap_merge.specs.Merge.{fresh_lane}
+use Rattle.cap_merge.specs.First.{coming_of, fresh_lane, lane_turn, lane_turns, first_place}
 use Rattle.cap_merge.specs.Run.{opened, run}
 use Rattle.cap_merge.specs.Parts.{Part, part, parts, turn, turns, is_known, known_of, head_by, first_of, new_lane, new_parts, item_time, is_refusal, run_of, tracks, Matches, Agrees, HasReached}
 use Rattle.cap_merge.specs.Leading.{Split, IsFirstOf, first_is}
 use Rattle.cap_merge.specs.Sound.{IsSound, each-reached}
 use Rattle.cap_merge.proofs.Asking.{parts-get, length-parts, matches-there}
 use Rattle.cap_merge.proofs.Finding.{first-within}
-
--- the lane at a place
-abbrev pub lane_at : List Lane → ℕ → Lane
-lane_at ls place = get_or ls place fresh_lane
 
 -- lanes have the turns of the parts that they are of
 pub turns-agree : (ls : List Lane) (fs : List Feed) → Agrees ls fs → turns (parts ls fs) ≡ lane_turns ls

@@ -28,6 +28,14 @@ has_item (Some End) = false
 abbrev pub has_next : Option Head → Bool
 has_next head = has_item (coming_of head)
 
+-- a lane of which nothing is known
+abbrev pub fresh_lane : Lane
+fresh_lane = record { clock = None; next = None }
+
+-- the lane at a place
+abbrev pub lane_at : List Lane → ℕ → Lane
+lane_at lanes place = get_or lanes place fresh_lane
+
 -- What says which of several is first: whether an item is known to come next, and the clock that was reached.
 pub record Turn : Type 0 where
   pub has_item : Bool

@@ -9,10 +9,6 @@ use Rattle.cap_merge.specs.declared.lanes.Lane.{Lane}
 use Rattle.cap_merge.specs.Clock.{later}
 use Rattle.cap_merge.specs.Parts.{Part, LaneState, head_time, is_bounded, passed_lane}
 
--- a lane of which nothing is known
-abbrev pub fresh_lane : Lane
-fresh_lane = record { clock = None; next = None }
-
 -- What a lane does with a fault of its feed: a refusal is what comes next, another fault is answered.
 abbrev pub Answers : {T : Type 0} → Lane → Fault → Result T Fault → Lane → Type 0
 Answers old (Refused refusal) result new = (is_ok result ≡ true) × (new ≡ record { clock = old.clock; next = Some (comings.Refused refusal) })

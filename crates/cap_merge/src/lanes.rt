@@ -4,8 +4,8 @@ ghost use Rattle.std.specs.List.{list_all};
 ghost use Rattle.cap_merge.specs.Clock.{later};
 ghost use Rattle.cap_source.specs.Feed.{Feed, IsPacket};
 ghost use Rattle.cap_merge.specs.Parts.{part, parts, is_bounded, known_of, both_held, known_but, OthersKnown, Matches, Agrees};
-ghost use Rattle.cap_merge.specs.First.{coming_of, has_item, lane_turn, lane_turns, comes_before, sooner_place, first_place, IsFound};
-ghost use Rattle.cap_merge.specs.Merge.{fresh_lane, Answers, Asks, AsksAll, IsPacketAt, PassesAt, PassesPart};
+ghost use Rattle.cap_merge.specs.First.{coming_of, fresh_lane, lane_at, has_item, lane_turn, lane_turns, comes_before, sooner_place, first_place, IsFound};
+ghost use Rattle.cap_merge.specs.Merge.{Answers, Asks, AsksAll, IsPacketAt, PassesAt, PassesPart};
 
 use arrayvec::ArrayVec;
 use cap_bytes::{Fault, Refusal};
@@ -269,6 +269,15 @@ pub(crate) fn coming_at(lanes: &[Lane], first: Option<usize>) -> Coming
         },
         None => Coming::End,
     }
+}
+
+/// The clock of the lane at a place.
+#[inline(always)]
+pub(crate) fn clock_at(lanes: &[Lane], place: usize) -> Option<Stamp>
+    requires { place < length lanes.now }
+    ensures { result ≡ (lane_at lanes.now place).clock }
+{
+    lanes[place].clock
 }
 
 // Drops the packet that comes next of a feed.

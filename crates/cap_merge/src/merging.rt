@@ -1,5 +1,5 @@
 //! Several feeds as one.
-ghost use Rattle.std.specs.Prelude.{◌≡◌, ◌≤◌, ◌<ℤ◌, ◌^◌, pos, length, map, drop, vec_len, true, false, IsTrue, Some, Option, IfSome, IfOk};
+ghost use Rattle.std.specs.Prelude.{◌≡◌, ◌<◌, ◌≤◌, ◌<ℤ◌, ◌^◌, pos, length, map, drop, vec_len, true, false, IsTrue, Some, Option, IfSome, IfOk};
 ghost use Rattle.std.specs.List.{range_with_len};
 ghost use Rattle.std.specs.Ordering.{is_gt};
 ghost use Rattle.cap_time.specs.declared.stamps.Stamp.{Stamp};
@@ -14,7 +14,7 @@ ghost use Rattle.cap_merge.specs.Merge.{AsksAll, LooksAll};
 ghost use Rattle.cap_merge.specs.PartsProps.{IsNumbered-prop, Agrees-prop, HasReached-prop, AreBounded-prop, OthersKnown-prop};
 
 use crate::lanes::{
-    Coming, Lane, ask_all, coming_at, first_lane, found, greater, new_lanes, pass_first,
+    Coming, Lane, ask_all, clock_at, coming_at, first_lane, found, greater, new_lanes, pass_first,
 };
 use arrayvec::ArrayVec;
 use cap_bytes::Fault;
@@ -85,7 +85,7 @@ impl<F: PacketFeed> Merged<F> {
             → BeginsAt result (run_of (parts_of self.now)) }
     {
         match self.first_place() {
-            Some(place) => self.lanes[place].clock,
+            Some(place) => clock_at(self.lanes.as_slice(), place),
             None => unreachable!(),
         }
     }
@@ -93,7 +93,8 @@ impl<F: PacketFeed> Merged<F> {
     // The place of the feed whose item comes first.
     #[inline(always)]
     fn first_place(&self) -> Option<usize>
-        ensures { result ≡ first_place (turns (parts_of self.now)) }
+        ensures place { result ≡ first_place (turns (parts_of self.now)) }
+        ensures within { IfSome result (λ n. n < length self.now.feeds.items) }
     {
         found(self.lanes.as_slice(), self.first)
     }

@@ -1,7 +1,6 @@
-use Rattle.std.proofs.Common.{◌∙◌, arith, add-one, sym, ap}
-use Rattle.std.proofs.lemmas.List.{length-map}
-use Rattle.cap_merge.specs.First.{lane_turn, lane_turns, first_among}
-use Rattle.cap_merge.proofs.Finding.{among-none, among-more, lanes-within}
+use Rattle.std.proofs.Common.{◌∙◌, arith, add-one}
+use Rattle.cap_merge.specs.First.{lane_turns}
+use Rattle.cap_merge.proofs.Finding.{among-none, among-more, lanes-within, among-all}
 use Rattle.cap_merge.proofs.lanes.first_of_several.Goals as goal
 
 pub loop-place-init : goal.loop-place-init
@@ -14,4 +13,7 @@ pub loop-place-preserved : goal.loop-place-preserved
 loop-place-preserved c = rw add-one (c.sooner-first.ensures ∙ among-more (lane_turns c.args.lanes.now) c.loop-place.first c.loop-place.place c.loop-place.invariant)
 
 pub returns : goal.returns
-returns c = ?
+returns c = record {
+  place = among-all c.args.lanes.now c.loop-place.first c.loop-place.place (omega arith) c.loop-place.invariant;
+  within = lanes-within c.args.lanes.now c.loop-place.first c.loop-place.place (omega arith) c.loop-place.invariant;
+}
