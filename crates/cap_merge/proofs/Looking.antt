@@ -7,7 +7,7 @@ use Rattle.cap_bytes.specs.declared.faults.Refusal.{Refusal}
 use Rattle.cap_source.specs.declared.feeds.Head.{Head}
 use Rattle.cap_source.specs.declared.feeds.Head.TheVariants as heads
 use Rattle.cap_source.specs.declared.packets.Meta.{Meta}
-use Rattle.cap_source.specs.Feed.{IsFeed, IsPacket, GivesHead, Keeps, KeepsItems, FindsPacket, FindsItem}
+use Rattle.cap_source.specs.Feed.{Feed, IsFeed, IsPacket, GivesHead, Keeps, KeepsItems, FindsPacket, FindsItem}
 use Rattle.cap_merge.specs.declared.lanes.Coming.TheVariants as comings
 use Rattle.cap_merge.specs.First.{coming_of}
 use Rattle.cap_merge.specs.Merge.{LearnsAll, StopsAt, AsksAll, LooksAll}
@@ -70,8 +70,30 @@ found_of (Ok (heads.Refused refusal)) = Err (Refused refusal)
 found_of (Ok heads.End) = Ok false
 found_of (Err fault) = Err fault
 
+answers_by : (old new : Feed) (r : Result Head Fault) → GivesHead old r new → FindsPacket old (found_of r) new
+answers_by old new (Ok (heads.Packet meta)) h = (meta, h)
+answers_by old new (Ok (heads.Refused refusal)) h = h
+answers_by old new (Ok heads.End) h = h
+answers_by old new (Err fault) h = grind arith
+
+items_by : (old new : Feed) (r : Result Head Fault) → KeepsItems old r new → FindsItem old (found_of r) new
+items_by old new r h = grind arith
+
+asks_by : (ps qs : List Part) (r : Result Head Fault) → GivesHead (feed_of ps) r (feed_of qs) → AsksAll ps r qs → LooksAll ps (found_of r) qs
+asks_by ps qs r h a = grind arith
+
+run_by : (ps qs : List Part) (r : Result Head Fault) → KeepsRun ps r qs → ShowsRun ps (found_of r) qs
+run_by ps qs r h = grind arith
+
 pub finds-by : (ps qs : List Part) (r : Result Head Fault) → Heads ps r qs → Finds ps (found_of r) qs
-finds-by ps qs r h = grind arith
+finds-by ps qs r h = record {
+  answer = answers_by (feed_of ps) (feed_of qs) r h.answer;
+  keeps = h.keeps;
+  items = λ t. items_by (feed_of ps) (feed_of qs) r (h.items t);
+  asks = asks_by ps qs r h.answer h.asks;
+  run = λ t. run_by ps qs r (h.run t);
+  clocks = h.clocks;
+}
 
 -- what comes next, by what a lane says
 pub packet-comes : (h : Option Head) → coming_of h ≡ Some comings.Packet → (meta : Meta) × (h ≡ Some (heads.Packet meta))

@@ -20,7 +20,7 @@ returns-in_err-look g c =
 pub packet-requires : goal.packet-requires
 packet-requires g c =
     let n = c.look.new.self in
-    record { packet = is-packet (feed_of (parts n.lanes.items (map g.F.PacketFeed.feed n.feeds.items))).known c.in_ok-look.ensures.next }
+    record { packet = is-packet (feed_of (parts n.lanes.items (map g.F.PacketFeed.feed n.feeds.items))).known (rw c.in-Packet.is at c.in_ok-look.ensures.next) }
 
 pub returns-in-Packet : goal.returns-in-Packet
 returns-in-Packet g c =
