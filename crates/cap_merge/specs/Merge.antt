@@ -69,7 +69,7 @@ abbrev pub LooksAll : {T : Type 0} → List Part → Result T Fault → List Par
 LooksAll ps (Ok x) qs = LearnsAll ps qs
 LooksAll ps (Err (Refused refusal)) qs = LearnsAll ps qs
 LooksAll ps (Err (Read file offset)) qs = StopsAt (Read file offset) ps qs
-LooksAll ps (Err Write) qs = StopsAt Write ps qs
+LooksAll ps (Err Write) qs = ⊥
 LooksAll ps (Err Memory) qs = StopsAt Memory ps qs
 
 -- The packet of a part is passed: its feed drops it, and nothing more is known.

@@ -184,6 +184,7 @@ fn has_item(lane: &Lane) -> bool
 }
 
 // Whether a lane's item comes before that of an earlier lane.
+#[inline(always)]
 fn comes_before(lane: &Lane, first: &Lane) -> bool
     ensures { result ≡ comes_before (lane_turn lane.now) (lane_turn first.now) }
 {
@@ -191,6 +192,7 @@ fn comes_before(lane: &Lane, first: &Lane) -> bool
 }
 
 // The place of the first of those so far and of one more lane: of equal clocks the one before stays.
+#[inline(always)]
 fn sooner(lanes: &[Lane], first: Option<usize>, place: usize) -> Option<usize>
     requires first { IfSome first (λ n. n < length lanes.now) }
     requires place { place < length lanes.now }

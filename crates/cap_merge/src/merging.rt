@@ -142,6 +142,7 @@ impl<F: PacketFeed> PacketFeed for Merged<F> {
         }
     }
 
+    #[inline]
     fn has_packet(&mut self) -> Result<bool, Fault>
         ensures answer { FindsPacket (feed_of (parts_of self.old)) result
             (feed_of (parts_of self.new)) }
@@ -162,6 +163,7 @@ impl<F: PacketFeed> PacketFeed for Merged<F> {
         }
     }
 
+    #[inline(always)]
     fn packet(&self) -> &Meta {
         match self.first_place() {
             Some(place) => self.feeds[place].packet(),
