@@ -1,6 +1,6 @@
 -- What the calls of a merge keep, over the lists of its lanes and feeds.
 use Rattle.std.proofs.lemmas.Grind.{common_steps}
-use Rattle.std.proofs.Common.{ℕ, ◌≡◌, true, List, ◌∷◌, length, sym, ◌∙◌, arith, Result, Err, suc}
+use Rattle.std.proofs.Common.{ℕ, ◌≡◌, true, List, ◌∷◌, length, sym, arith, Result, Err, suc}
 use Rattle.std.specs.Prelude.{map, IsTrue, is_some}
 use Rattle.std.specs.List.{AllByRecursion, list_all, range_with_len, flat_map}
 use Rattle.std.proofs.lemmas.List.{length-map}

@@ -1,4 +1,4 @@
-use Rattle.std.proofs.Common.{sym, arith}
+use Rattle.std.proofs.Common.{arith}
 use Rattle.cap_merge.proofs.Finding.{first-alone}
 use Rattle.cap_merge.proofs.lanes.first_lane.Goals as goal
 

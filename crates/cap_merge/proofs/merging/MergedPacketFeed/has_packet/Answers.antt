@@ -1,4 +1,4 @@
-use Rattle.std.proofs.Common.{map, ◌∙◌, Ok, Err}
+use Rattle.std.proofs.Common.{map, Ok, Err}
 use Rattle.std.proofs.lemmas.Result.{err_from_is_err_and}
 use Rattle.cap_source.specs.declared.feeds.Head.TheVariants.{Packet, Refused, End}
 use Rattle.cap_merge.specs.Parts.{parts, feed_of}
