@@ -87,7 +87,7 @@ impl<R: Source> Window<R> {
     pub fn shows(&self, n: usize) -> bool
         ensures { IsTrue result ↔ ((self.now.broken ≡ None) × (n ≤ length self.now.shown)) }
     {
-        self.broken.is_none() && n <= self.end - self.start
+        n <= self.end - self.start && self.broken.is_none()
     }
 
     // The same, if fewer bytes are shown or a read has failed.
