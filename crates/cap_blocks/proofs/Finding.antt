@@ -1,18 +1,21 @@
 -- A look at a block's header, and then one at its body.
-use Rattle.std.proofs.Common.{◌≡◌, ℕ, ◌<◌, List, length, Option, Some, None, is_some, Bool, IsTrue, Err, inr, refl, sym, ◌∙◌, ap, subst, arith}
+use Rattle.std.proofs.Common.{◌≡◌, ℕ, ◌<◌, List, length, Option, Some, None, is_some, Bool, IsTrue, Ok, Err, ◌+◌, ◌≤◌, true, drop, inr, refl, sym, ◌∙◌, ap, subst, arith, length-append, length-drop}
 use Rattle.cap_bytes.specs.Items.{stop_by}
 use Rattle.cap_bytes.specs.Parsing.{SeesStop, FailsBy}
-use Rattle.cap_bytes.specs.Window.{State, coming}
+use Rattle.std.proofs.lemmas.List.{take_all}
+use Rattle.cap_bytes.specs.Window.{State, Goes, Shows, Passes, coming}
 use Rattle.cap_bytes.proofs.Parsing.{Goes-trans, some_left, SeesStop-fault, FailsBy-later}
 use Rattle.cap_bytes.specs.declared.faults.Fault.{Fault}
 use Rattle.cap_bytes.specs.declared.faults.Rule.{Rule}
 use Rattle.cap_bytes.specs.declared.faults.Tail.{Tail}
 use Rattle.cap_bytes.specs.declared.numbers.Order.{Order}
 use Rattle.cap_blocks.specs.Grammar.{is_known}
-use Rattle.cap_blocks.specs.Parsing.{Stays, SeesHeader, SeesBody, SeesBlock, Leaves, LooksAtBody}
-use Rattle.cap_blocks.specs.Split.{order_at, body_fault, block_fault, block_at, LacksRoom}
+use Rattle.cap_blocks.specs.Parsing.{ParsesHeader, IsHeader, Stays, SeesHeader, SeesBody, SeesBlock, Leaves, LooksAtBody}
+use Rattle.cap_blocks.specs.Split.{order_at, header_fault, body_fault, block_fault, block_at, LacksRoom}
 use Rattle.cap_blocks.specs.declared.blocks.Block.{Block}
-use Rattle.cap_blocks.proofs.Faults.{block_fault-body, stop_at-whole}
+use Rattle.cap_blocks.proofs.Behind.{SeesBody-known}
+use Rattle.cap_blocks.proofs.Faults.{block_fault-body, block_at-append, header_fault-append, stop_at-whole}
+use Rattle.cap_blocks.proofs.Looking.{IsHeader-at}
 
 -- the order of a block that stands there
 pub order_told : (section : Option Order) (offset : ℕ) (bytes : List ℕ) (block : Block) → block ≡ block_at section offset bytes
@@ -68,3 +71,38 @@ FailsBy-body section block a b c fault f k h =
       ap (λ (w : Block). is_known w.kind) (sym (f.block_is t)) ∙ lacks.0,
       subst (λ (w : Block). a.room < w.total) (f.block_is t) (omega (arith, k.room, lacks.1)),
     )) h
+
+-- a block of a known kind is shown already
+pub SeesBlock-shown : (section : Option Order) (tail : Tail) (block : Block) (u : State) → u.broken ≡ None → 12 ≤ length u.shown
+    → header_fault section u.offset u.shown ≡ None → block ≡ block_at section u.offset u.shown → is_known block.kind ≡ true
+    → block.total ≤ length u.shown → None ≡ body_fault block.order u.shown → SeesBlock section tail block u u
+SeesBlock-shown section tail block u whole head none is known enough fault =
+    let h : IsHeader block u.offset u.shown = rw is (IsHeader-at section u.offset u.shown none) in
+    let goes : Goes u u = record { before = whole; after = whole; failed = refl } in
+    let shows : Shows u u = record { goes = goes; offset = refl; front = take_all (length u.shown) u.shown (omega arith); coming_same = λ t. refl } in
+    let body = SeesBody-known block u u None h known (shows, enough) fault in
+    let told : block ≡ block_at section u.offset (coming u) = is ∙ sym (block_at-append section u.offset u.shown u.unread head) in
+    record {
+      goes = goes;
+      offset = h.offset_is;
+      allowed = h.allowed;
+      limit = h.limit;
+      least = h.least;
+      left = body.left refl;
+      none = λ t. stop_at-whole section tail u.file u.offset (coming u) (omega (arith, length-append u.shown u.unread, head))
+          (block_fault-body section u.offset (coming u) None (header_fault-append section u.offset u.shown u.unread head ∙ none)
+          (rw (← order_told section u.offset (coming u) block told) (body.told_fault t)));
+      block_is = λ t. told;
+    }
+
+-- the same after the bytes that are passed
+pub SeesBlock-passed : (section : Option Order) (tail : Tail) (block : Block) (w u : State) (given offset : ℕ) (bytes : List ℕ) → Passes given w u
+    → bytes ≡ drop given w.shown → offset ≡ w.offset + given → w.broken ≡ None → given + 12 ≤ length w.shown
+    → ParsesHeader section offset bytes (Ok block) → is_known block.kind ≡ true → block.total ≤ length bytes
+    → None ≡ body_fault block.order bytes → SeesBlock section tail block u u
+SeesBlock-passed section tail block w u given offset bytes p is place whole head parsed known enough fault =
+    let e : bytes ≡ u.shown = is ∙ sym p.shown in
+    let o : offset ≡ u.offset = place ∙ sym p.offset in
+    let q : ParsesHeader section u.offset u.shown (Ok block) = rw (e, o) at parsed in
+    SeesBlock-shown section tail block u (p.broken ∙ whole) (omega (arith, ap length p.shown, length-drop given w.shown, head))
+    q.0 q.1 known (rw e at enough) (rw e at fault)

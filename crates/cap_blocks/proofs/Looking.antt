@@ -9,7 +9,7 @@ use Rattle.cap_bytes.proofs.Parsing.{all_shown, some_left, SeesStop-fault, SeesS
 use Rattle.cap_bytes.specs.declared.faults.Rule.{Rule}
 use Rattle.cap_bytes.specs.declared.faults.Tail.{Tail}
 use Rattle.cap_bytes.specs.declared.numbers.Order.{Order}
-use Rattle.cap_blocks.specs.Parsing.{FindsOwnOrder, FindsOrder, IsHeader, SeesHeader}
+use Rattle.cap_blocks.specs.Parsing.{FindsOwnOrder, FindsOrder, ParsesHeader, IsHeader, SeesHeader}
 use Rattle.cap_blocks.specs.Split.{is_section, own_order, order_at, header_fault, block_fault, block_at}
 use Rattle.cap_blocks.specs.declared.blocks.Block.{Block}
 use Rattle.cap_bytes.specs.declared.stops.Stop.TheVariants as stops
@@ -52,3 +52,9 @@ pub SeesStop-none : (there : Bool) (section : Option Order) (tail : Tail) (old n
     → (is_some section && (length new.shown == 0)) ≡ true
     → SeesStop (is_some section) (block_fault section old.offset (coming old)) tail stops.End old new
 SeesStop-none there section tail old new n ends = grind (arith, ends_now, SeesStop-end, is_some, all_shown)
+
+-- the same of a block that was parsed
+pub IsHeader-parsed : (section : Option Order) (offset : ℕ) (bytes : List ℕ) (block : Block) → ParsesHeader section offset bytes (Ok block)
+    → IsHeader block block.offset bytes
+unfolding block_at
+IsHeader-parsed section offset bytes block p = rw p.1 (IsHeader-at section offset bytes p.0)

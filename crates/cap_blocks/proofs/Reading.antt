@@ -1,15 +1,26 @@
 -- What a look at the window makes of a reader, and what that does to the items to come.
-use Rattle.std.proofs.Common.{arith, ◌≡◌, ℕ, ◌+◌, List, ◌∷◌, drop, Option, Some, None, is_some, IsTrue, Result}
+use Rattle.std.proofs.Common.{arith, ◌≡◌, ℕ, ◌+◌, ◌-◌, ◌≤◌, List, ◌∷◌, ◌++◌, length, drop, Option, Some, None, Ok, IfSome, true, is_some, IsTrue, Result, refl, sym, ◌∙◌, length-drop, length-take-le}
+use Rattle.std.proofs.lemmas.List.{take-append-le, drop-append-le}
 use Rattle.cap_bytes.specs.Items.{given, items_by_stop}
 use Rattle.cap_bytes.specs.Reader.{State, Keeps}
 use Rattle.cap_bytes.specs.declared.faults.Fault.{Fault}
 use Rattle.cap_bytes.specs.declared.faults.Tail.{Tail}
 use Rattle.cap_bytes.specs.declared.numbers.Order.{Order}
 use Rattle.cap_bytes.specs.declared.stops.Stop.{Stop}
-use Rattle.cap_blocks.specs.Reader.{GivesBlock, GivesNext, TakesItem, items_of}
+use Rattle.cap_bytes.specs.Window.{State as WindowState, Passes}
+use Rattle.cap_bytes.proofs.Parsing.{coming-passed}
+use Rattle.cap_bytes.proofs.Readers.{Stands-passed, Gives-seen}
+use Rattle.cap_blocks.specs.Grammar.{is_known}
+use Rattle.cap_blocks.specs.Parsing.{SeesBlock}
+use Rattle.cap_blocks.specs.Reader.{GivesBlock, GivesNext, TakesItem, items_of, size_of, body_of, state_of}
 use Rattle.cap_blocks.specs.Split.{block_at, body_in, stop_at, items_from}
 use Rattle.cap_blocks.specs.declared.blocks.Block.{Block}
 use Rattle.cap_blocks.proofs.Items.{items_from-stop, items_from-block}
+
+-- the body of a block stands in its bytes, whatever comes after them
+body_in-append : (total : ℕ) (xs ys : List ℕ) → 12 ≤ total → total ≤ length xs → body_in total (xs ++ ys) ≡ body_in total xs
+body_in-append total xs ys least enough =
+    rw (drop-append-le 8 xs ys (omega arith), take-append-le (total - 12) (drop 8 xs) ys (omega (arith, length-drop 8 xs))) refl
 
 -- a block that is given is the first item
 taken_items : (s t : Option Stop) (a b : Option Order) (tail tail' : Tail) (file file' offset offset' : ℕ) (bytes bytes' : List ℕ) (block : Block)
@@ -28,3 +39,27 @@ taken old new block g k t = grind (arith, taken_items)
 pub TakesItem_next : (old new : State Order) (result : Result (Option Block) Fault) → GivesNext old result new → Keeps old new → IsTrue old.told
     → TakesItem old result new
 TakesItem_next old new result g k t = grind (arith, is_some, items_from-stop, taken)
+
+-- A block of a known kind is shown already, after the one that was given last.
+pub GivesBlock-shown : (w u : WindowState) (tail : Tail) (section : Option Order) (shown : Option ℕ) (stop : Option Stop) (block : Block)
+    → stop ≡ None → size_of shown ≤ length w.shown → Passes (size_of shown) w u → is_known block.kind ≡ true → SeesBlock section tail block u u
+    → GivesBlock (state_of w tail section shown stop) block (state_of u tail (Some block.order) (Some block.total) stop)
+GivesBlock-shown w u tail section shown stop block free within p known s =
+    let enough : block.total ≤ length u.shown = grind (arith, s.left) in record {
+      gives = Gives-seen (state_of w tail section shown stop) u u (Stands-passed w u tail section (size_of shown) (body_of shown w.shown) stop free within p)
+          (Some block.order) block.total block.total (body_of (Some block.total) u.shown) s.goes refl (λ t. refl);
+      offset = s.offset ∙ p.offset;
+      allowed = s.allowed;
+      least = s.least;
+      known = sym known;
+      size = omega (arith, length-take-le (block.total - 12) (drop 8 u.shown) (omega (arith, enough, s.least, length-drop 8 u.shown)), s.least);
+      none = λ t. grind (arith, coming-passed);
+      block_is = λ t. grind (arith, coming-passed);
+      body_is = λ t. grind (arith, coming-passed, body_in-append);
+    }
+
+-- What a block that was shown already does to the items to come.
+pub TakesItem_shown : (old new : State Order) (found : Option Block) → IfSome found (λ block. GivesNext old (Ok (Some block)) new) → Keeps old new
+    → IsTrue old.told → IfSome found (λ block. TakesItem old (Ok (Some block)) new)
+TakesItem_shown old new None g k t = tt
+TakesItem_shown old new (Some block) g k t = TakesItem_next old new (Ok (Some block)) g k t

@@ -10,8 +10,9 @@ use cap_bytes::{Fault, Rule, Source, Window, u16_at, u32_at};
 // How many bytes the total length takes after the body.
 const TRAILER_SIZE: usize = 4;
 
-// What a block is refused by that is there whole.
-fn body_rule(block: Block, bytes: &[u8]) -> Option<Rule>
+/// What a block is refused by that is there whole.
+#[inline(always)]
+pub fn body_rule(block: Block, bytes: &[u8]) -> Option<Rule>
     requires header { IsHeader block block.offset bytes.now }
     requires whole { block.total ≤ length bytes.now }
     ensures { result ≡ body_fault block.order bytes.now }

@@ -58,6 +58,7 @@ fn own_order(bytes: &[u8]) -> Option<Order>
 }
 
 // The order of the block at the front, unless it is a section header without an order magic.
+#[inline(always)]
 fn order_of(section: Option<Order>, bytes: &[u8]) -> Option<Order>
     requires head { 12 ≤ length bytes.now }
     requires first { first_fault section bytes.now ≡ None }
@@ -72,6 +73,7 @@ fn order_of(section: Option<Order>, bytes: &[u8]) -> Option<Order>
 /// The block that stands at the front of some bytes, which begin at `offset`, as far as its first 12
 /// bytes tell it. If there is none, the first rule that they break; `Rule::Cut` if they are too
 /// few. The order is that of the section that is being read, if one is.
+#[inline(always)]
 pub fn header_of(section: Option<Order>, offset: u64, bytes: &[u8]) -> Result<Block, Rule>
     requires { offset ≤ 2 ^ 40 }
     ensures { ParsesHeader section offset bytes.now result }

@@ -233,3 +233,18 @@ pub refusal_kept : (refusal : Refusal) (ending : Ending) (old new : State Order)
     → Learns (pcapng_state old p) (nexts.Refused refusal ending) (pcapng_state new p)
 refusal_kept refusal ending old new p is_ending free g k same =
     subst (λ (e : Ending). Learns (pcapng_state old p) (nexts.Refused refusal e) (pcapng_state new p)) (sym is_ending) (refusal_learned refusal old new p free g k same)
+
+-- a packet, or a refusal of one, leaves what was read of the file
+pub behind-packet : (p : Progress) (said : Result Packet Rule) → p ≡ behind p (of_body contents.Packet said)
+behind-packet p (Ok packet) = refl
+behind-packet p (Err rule) = refl
+
+-- what was said of the body that is lent
+pub content_lent : (said : Result Content Rule) (these those : List Interface) (kind : ℕ) (order : Order) (lent : Option (List ℕ)) (body : List ℕ)
+    → said ≡ content_in these enhanced_kind order body → these ≡ those → kind ≡ enhanced_kind → lent ≡ Some body
+    → said ≡ content_in those kind order (unwrap_or lent [])
+content_lent said these those kind order lent body is same kind_is lent_is = rw (kind_is, lent_is, ← same) is
+
+-- the body of an enhanced packet block has its fixed fields
+pub enhanced_size : (kind total size : ℕ) → IsTrue (is_total kind total) → size + 12 ≡ total → kind ≡ enhanced_kind → 20 ≤ size
+enhanced_size kind total size allowed is kind_is = let least = rw kind_is at (total_least kind total size allowed is) in omega (arith, least)

@@ -95,6 +95,7 @@ impl<R: Source> PacketFeed for Capture<R> {
         }
     }
 
+    #[inline(always)]
     fn has_packet(&mut self) -> Result<bool, Fault> {
         learn(&mut self.reader, &mut self.reached, &mut self.next)?;
         match &self.next {
@@ -105,6 +106,7 @@ impl<R: Source> PacketFeed for Capture<R> {
         }
     }
 
+    #[inline(always)]
     fn packet(&self) -> &Meta {
         match &self.next {
             Some(Next::Packet(meta, _)) => meta,

@@ -1,7 +1,7 @@
 //! What the blocks of a pcapng file say. draft-ietf-opsawg-pcapng, 4.
 ghost use Rattle.std.specs.Prelude.{◌≡◌, ◌≤◌, ◌+◌, ◌%◌, length};
-ghost use Rattle.cap_blocks.specs.Grammar.{least_total};
-ghost use Rattle.cap_source.specs.Contents.{fitting, timed_in, simple_captured, simple_in, content_in};
+ghost use Rattle.cap_blocks.specs.Grammar.{enhanced_kind, least_total};
+ghost use Rattle.cap_source.specs.Contents.{fitting, timed_in, simple_captured, simple_in, of_body, content_in};
 
 use crate::interfaces::interface_of;
 use cap_blocks::{ENHANCED_PACKET, INTERFACE, OBSOLETE_PACKET, SECTION, SIMPLE_PACKET};
@@ -45,6 +45,7 @@ pub enum Content {
 
 // A packet whose captured bytes are within the limit and within the body.
 #[tactic(auto, unfolding(crate::specs::Contents::fitting))]
+#[inline(always)]
 fn fit(packet: Packet, size: usize) -> Result<Packet, Rule>
     ensures { result ≡ fitting packet size }
 {
@@ -60,6 +61,7 @@ fn fit(packet: Packet, size: usize) -> Result<Packet, Rule>
 // The packet of an enhanced or an obsolete packet block, which names the interface of that number.
 // draft-ietf-opsawg-pcapng, 4.3 and Appendix A.
 #[tactic(auto, unfolding(crate::specs::Contents::timed_in))]
+#[inline(always)]
 fn timed_packet(
     interfaces: &[Interface],
     number: u32,
@@ -85,6 +87,16 @@ fn timed_packet(
         }
         None => Err(Rule::InterfaceUnknown),
     }
+}
+
+/// What an enhanced packet block says, or the first rule that its body breaks. draft-ietf-opsawg-pcapng, 4.3.
+#[tactic(auto, unfolding(crate::specs::Contents::content_in))]
+#[inline(always)]
+pub fn enhanced_packet(interfaces: &[Interface], order: Order, body: &[u8]) -> Result<Packet, Rule>
+    requires { 20 ≤ length body.now }
+    ensures { of_body Content.Packet result ≡ content_in interfaces.now enhanced_kind order body.now }
+{
+    timed_packet(interfaces, u32_at(order, body, 0), order, body)
 }
 
 // How many bytes are captured of a simple packet.

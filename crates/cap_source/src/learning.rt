@@ -8,11 +8,11 @@ ghost use Rattle.cap_source.specs.Readers.{state_of, is_there, IsReady, is_stopp
 ghost use Rattle.cap_source.specs.declared.reached.Reached.{Reached};
 
 use crate::packets::Format;
-use crate::pcap;
 use crate::pcap::next_of_pcap;
 use crate::pcapng::next_of_blocks;
 use crate::reached::Reached;
 use crate::readers::{Next, Reader};
+use crate::{pcap, pcapng};
 use cap_blocks::{BlockReader, is_section};
 use cap_bytes::{Fault, Source, Window};
 use cap_pcap::PcapReader;
@@ -72,17 +72,23 @@ fn open<R: Source>(reader: &mut Reader<R>) -> Result<(), Fault>
 // Puts the packet that comes next of a file into `known`, if the window shows it already. Answers whether it did: if not,
 // nothing has changed.
 #[inline(always)]
-fn take_shown<R: Source>(reader: &mut Reader<R>, known: &mut Option<Next>) -> bool
+fn take_shown<R: Source>(
+    reader: &mut Reader<R>,
+    reached: &Reached,
+    known: &mut Option<Next>,
+) -> bool
     requires unknown { known.old ≡ None }
     requires there { IsTrue (is_there reader.old) }
+    requires counted { counted (progress_of reached.now) ≤ 2 ^ 40 }
     ensures there { IsTrue (is_there reader.new) }
-    ensures answer { (progress : Progress) → TakesShown (state_of reader.old progress) result known.new (state_of reader.new progress) }
-    ensures keeps { (progress : Progress) → FileKeeps (state_of reader.old progress) (state_of reader.new progress) }
-    ensures room { (reached : Reached) → IsTrue (reader_room reader.old reached) → IsTrue (reader_room reader.new reached) }
+    ensures answer { TakesShown (state_of reader.old (progress_of reached.now)) result known.new (state_of reader.new (progress_of reached.now)) }
+    ensures keeps { FileKeeps (state_of reader.old (progress_of reached.now)) (state_of reader.new (progress_of reached.now)) }
+    ensures room { IsTrue (reader_room reader.old reached.now) → IsTrue (reader_room reader.new reached.now) }
     ensures none { result ≡ false → (reader.new ≡ reader.old) × (known.new ≡ None) }
 {
     match reader {
         Reader::Pcap(reader) => pcap::take_shown(reader, known),
+        Reader::Pcapng(reader) => pcapng::take_shown(reader, reached, known),
         _ => false,
     }
 }
@@ -134,7 +140,7 @@ pub fn learn<R: Source>(
     match known {
         Some(_) => Ok(()),
         None => {
-            if take_shown(reader, known) {
+            if take_shown(reader, reached, known) {
                 return Ok(());
             }
             next_of(reader, reached, known)

@@ -1,12 +1,12 @@
 //! What comes next of a pcapng file.
-ghost use Rattle.std.specs.Prelude.{◌≡◌, ◌≤◌, ◌<◌, ◌+◌, ◌^◌, [], length, IsTrue, IfSome, None, is_some, unwrap_or, vec_len, vec_capacity};
+ghost use Rattle.std.specs.Prelude.{◌≡◌, ◌≤◌, ◌<◌, ◌+◌, ◌^◌, [], length, false, IsTrue, IfSome, None, Some, is_some, unwrap_or, vec_len, vec_capacity};
 ghost use Rattle.cap_blocks.specs.Grammar.{is_known, is_total};
-ghost use Rattle.cap_source.specs.Contents.{content_in};
+ghost use Rattle.cap_source.specs.Contents.{content_in, of_body};
 ghost use Rattle.cap_source.specs.Items.{ending_with, meta_in, behind};
-ghost use Rattle.cap_source.specs.FileState.{Answers, FileKeeps, Steps, pcapng_state, next_at};
+ghost use Rattle.cap_source.specs.FileState.{Answers, TakesShown, FileKeeps, Steps, pcapng_state, next_at};
 ghost use Rattle.cap_source.specs.Reached.{progress_of, counted, has_room};
 
-use crate::contents::{Content, Packet, content_of};
+use crate::contents::{Content, Packet, content_of, enhanced_packet};
 use crate::feeds::Ending;
 use crate::packets::{Format, Meta};
 use crate::reached::{Reached, go_on};
@@ -96,6 +96,51 @@ fn take_content(
                 ending_of_blocks(reached, false),
             ));
         }
+    }
+}
+
+/// Puts what comes next of a pcapng file into `known`, if it is a packet in an enhanced packet block that the window shows
+/// already, as most are. Answers whether it did: if not, nothing has changed.
+#[inline(always)]
+pub fn take_shown<R: Source>(
+    reader: &mut BlockReader<R>,
+    reached: &Reached,
+    known: &mut Option<Next>,
+) -> bool
+    requires unknown { known.old ≡ None }
+    requires counted { counted (progress_of reached.now) ≤ 2 ^ 40 }
+    ensures answer { TakesShown (pcapng_state reader.old (progress_of reached.now)) result known.new (pcapng_state reader.new (progress_of reached.now)) }
+    ensures keeps { FileKeeps (pcapng_state reader.old (progress_of reached.now)) (pcapng_state reader.new (progress_of reached.now)) }
+    ensures room { IsTrue (has_room reader.old.broken reached.now) → IsTrue (has_room reader.new.broken reached.now) }
+    ensures none { result ≡ false → (reader.new ≡ reader.old) × (known.new ≡ None) }
+{
+    let file = reader.window().file();
+    match reader.take_packet() {
+        Some(block) => {
+            let said = enhanced_packet(&reached.interfaces, block.order, reader.body());
+            *known = Some(next_of_packet(reached, file, block, said));
+            true
+        }
+        None => false,
+    }
+}
+
+// What comes next after an enhanced packet block that says this.
+#[inline(always)]
+fn next_of_packet(reached: &Reached, file: u32, block: Block, said: Result<Packet, Rule>) -> Next
+    requires { reached.now.base < 2 ^ 63 }
+    ensures { Some result ≡ next_at file (progress_of reached.now) block (of_body Content.Packet said) }
+{
+    match said {
+        Ok(packet) => { Next::Packet(meta_of_packet(file, block, reached, packet), packet.place) }
+        Err(rule) => Next::Refused(
+            Refusal {
+                file,
+                offset: block.offset,
+                rule,
+            },
+            ending_of_blocks(reached, false),
+        ),
     }
 }
 
