@@ -1,22 +1,22 @@
 -- One step of a table.
-use Rattle.std.proofs.Common.{◌≡◌, ℕ, ◌≤◌, Bool, true, false, List, [], ◌∷◌, drop, map, refl, sym, ◌∙◌, ap, subst, ◌&&◌, true≢false, Option, Some, None, Err, IsTrue}
+use Rattle.std.proofs.Common.{◌≡◌, ℕ, ◌≤◌, Bool, true, false, List, [], ◌∷◌, drop, map, refl, sym, ◌∙◌, ap, subst, ◌&&◌, true≢false, Option, Some, None, Ok, Err, IsTrue, inl}
 use Rattle.std.specs.Prelude.{is_some, if◌then◌else◌, IfSome}
 use Rattle.std.specs.List.{range_with_len}
 use Rattle.cap_bytes.specs.declared.faults.Fault.{Fault}
-use Rattle.cap_bytes.specs.declared.faults.Fault.TheVariants.{Read, Memory}
+use Rattle.cap_bytes.specs.declared.faults.Fault.TheVariants.{Refused, Read, Write, Memory}
 use Rattle.cap_bytes.specs.declared.faults.Refusal.{Refusal}
 use Rattle.cap_join.specs.declared.datagrams.Datagram.{Datagram}
 use Rattle.cap_join.specs.Joiners.{JoinerState}
 use Rattle.cap_merge.proofs.RunItems.{items-of-run, first-of-run}
-use Rattle.cap_merge.specs.Merge.{LearnsBy, LearnsAll}
-use Rattle.cap_merge.specs.Parts.{Part, feed_of, run_of, clock_of, known_of, is_known, head_by, first_of, BeginsAt}
+use Rattle.cap_merge.specs.Merge.{LearnsBy, LearnsAll, LooksAll}
+use Rattle.cap_merge.specs.Parts.{Part, feed_of, run_of, clock_of, known_of, is_known, head_by, first_of, BeginsAt, ShowsRun}
 use Rattle.cap_merge.specs.Run.{Clocked}
-use Rattle.cap_source.specs.Feed.{Feed, Item, packet, refused, Leads, IsFeed, GivesHead, IsPacket, IsPacketOf, IfPacket, HasFile}
+use Rattle.cap_source.specs.Feed.{Feed, Item, packet, refused, Leads, IsFeed, GivesHead, FindsPacket, FindsItem, Keeps, Knows, IsPacket, IsPacketOf, IfPacket, HasFile}
 use Rattle.cap_source.specs.declared.feeds.Head.{Head}
 use Rattle.cap_source.specs.declared.feeds.Head.TheVariants as heads
 use Rattle.cap_source.specs.declared.packets.Meta.{Meta}
 use Rattle.cap_time.specs.declared.stamps.Stamp.{Stamp}
-use Rattle.cap_talks.specs.Stepping.{next_by, next_taken, TableStands}
+use Rattle.cap_talks.specs.Stepping.{next_by, next_taken, TableStands, Steps}
 use Rattle.cap_talks.specs.Taken.{Taken}
 use Rattle.cap_talks.specs.Files.Totals.{TotalsState}
 use Rattle.cap_talks.specs.Tallies.{TallyState, Joins, Stands}
@@ -149,6 +149,32 @@ failed totals tally done ps qs fault xs gives h = record { totals = h.totals; ta
     before old new Memory h = h.before
     before old new fault h = absurd h
 
+-- a step that a fault of the feeds ends
+pub faulted : (totals : TotalsState) (tally : TallyState) (done : Bool) (ps qs : List Part) (fault : Fault) → IsFeed (feed_of qs) → Keeps (feed_of ps) (feed_of qs)
+    → FindsPacket (feed_of ps) (Err fault) (feed_of qs) → (IsTrue (feed_of ps).told → FindsItem (feed_of ps) (Err fault) (feed_of qs)) → LooksAll {T = Bool} ps (Err fault) qs
+    → (IsTrue (feed_of ps).told → ShowsRun {A = Bool} ps (Err fault) qs)
+    → Steps (record { parts = ps; totals = totals; tally = tally; done = done }) (Err fault) (record { parts = qs; totals = totals; tally = tally; done = done })
+faulted totals tally done ps qs (Refused refusal) law keeps answer items asks run =
+    inl (record {
+      known = answer.known;
+      run = λ t.
+          let one = run-refused qs refusal law (keeps.told t) answer.known in
+          (one.0, sym (run t) ∙ one.1);
+      same = λ t. record { run = run t; endings = (items t).endings };
+      goes = answer.goes;
+      stays = record { stands = λ xs h. asked totals tally done ps qs xs asks h; going = refl };
+    })
+faulted totals tally done ps qs (Read file offset) law keeps answer items asks run =
+    record { breaks = answer; stays = record { stands = λ xs h. failed totals tally done ps qs (Read file offset) xs answer h; going = refl } }
+faulted totals tally done ps qs Write law keeps answer items asks run = absurd answer
+faulted totals tally done ps qs Memory law keeps answer items asks run =
+    record {
+      cause = inl answer;
+      same = λ t. record { run = run t; endings = (items t).endings };
+      goes = answer.goes;
+      stays = record { stands = λ xs h. failed totals tally done ps qs Memory xs answer h; going = refl };
+    }
+
 -- ---- what is true of a packet that comes next
 
 packet-law : (feed : Feed) (meta : Meta) → IsFeed feed → feed.known ≡ Some (heads.Packet meta) → IsPacketOf feed meta
@@ -162,8 +188,16 @@ pub is-left : (feed : Feed) (meta : Meta) → IsFeed feed → feed.known ≡ Som
 is-left feed meta law known = (packet-law feed meta law known).left
 
 -- the packet that is lent is the one that was answered
-pub packet-is : (feed : Feed) (head : Head) (meta : Meta) → feed.known ≡ Some head → feed.known ≡ Some (heads.Packet meta) → head ≡ heads.Packet meta
-packet-is feed head meta h m = let e : Some head ≡ Some (heads.Packet meta) = sym h ∙ m in cc
+pub known-packet : (old new : Feed) (found : Bool) (meta : Meta) → found ≡ true → FindsPacket old (Ok found) new → new.known ≡ Some (heads.Packet meta)
+    → Knows old (heads.Packet meta) new
+known-packet old new true meta e h is =
+    let same : heads.Packet meta ≡ heads.Packet h.0 = cc (is, h.1.known) in
+    subst (λ (w : Head). Knows old w new) (sym same) h.1
+known-packet old new false meta e h is = absurd (true≢false (sym e))
+
+pub known-end : (old new : Feed) (found : Bool) → found ≡ false → FindsPacket old (Ok found) new → Knows old heads.End new
+known-end old new true e h = absurd (true≢false e)
+known-end old new false e h = h
 
 pub is-packet : (feed : Feed) (meta : Meta) → feed.known ≡ Some (heads.Packet meta) → IsPacket feed.known
 is-packet feed meta known = subst IsPacket (sym known) tt

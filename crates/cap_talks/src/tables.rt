@@ -24,7 +24,7 @@ use crate::tallies::Tally;
 use arrayvec::ArrayVec;
 use cap_bytes::{Fault, Refusal, Rule, Sink, put_all};
 use cap_merge::Merged;
-use cap_source::{Ending, Head, Meta, PacketFeed};
+use cap_source::{Ending, Meta, PacketFeed};
 use std::alloc::Global;
 
 /// What a step did.
@@ -106,13 +106,9 @@ impl<F: PacketFeed> Table<F> {
         ensures keeps { StepKeeps (table_of self.old) (table_of self.new) }
         ensures again { AnswersAgain (feed_of (table_of self.old).parts).known result }
     {
-        match self.merged.head()? {
-            Head::Packet(_) => {}
-            Head::Refused(refusal) => return Err(Fault::Refused(refusal)),
-            Head::End => {
-                self.done = true;
-                return Ok(Step::Done);
-            }
+        if !self.merged.has_packet()? {
+            self.done = true;
+            return Ok(Step::Done);
         }
         let meta = self.merged.packet();
         let clock = self.merged.clock();

@@ -1,43 +1,36 @@
-use Rattle.std.proofs.Common.{◌∷◌, drop, length, List, Option, Err, inl, inr, sym, ap, ◌∙◌, subst, arith, refl}
+use Rattle.std.proofs.Common.{◌∷◌, drop, length, List, Option, Err, inr, sym, ap, ◌∙◌, subst, arith, refl}
+use Rattle.std.proofs.lemmas.Result.{err_from_is_err_and}
 use Rattle.cap_merge.specs.MergedLaws.{merged-is-feed}
 use Rattle.cap_merge.specs.Parts.{feed_of}
 use Rattle.cap_merge.specs.View.{parts_of}
 use Rattle.cap_source.specs.declared.feeds.FeedHeld.{FeedHeld}
-use Rattle.cap_source.specs.Feed.{Knows}
 use Rattle.cap_talks.specs.Looking.{taken}
 use Rattle.cap_talks.specs.Stepping.{next_taken, clocked}
 use Rattle.cap_talks.specs.Taken.{Taken}
 use Rattle.cap_talks.specs.Tallies.{LimitBy, Stands}
 use Rattle.cap_talks.specs.CountedUnits.{is_limit_at}
-use Rattle.cap_talks.proofs.Stepping.{packet-is, asked, stands-asked, next-is, first-asked, run-packet, run-end, run-refused, of-file, is-left, is-packet}
+use Rattle.cap_talks.proofs.Stepping.{known-packet, known-end, faulted, stands-asked, next-is, first-asked, run-packet, run-end, of-file, is-left, is-packet}
 use Rattle.cap_merge.proofs.Unread.{numbers-within}
 use Rattle.cap_talks.proofs.tables.Table.step.Goals as goal
 
-pub returns-in-Refused-clause-step : goal.returns-in-Refused-clause-step
-returns-in-Refused-clause-step g c =
-    let m = c.head.new.self in
+pub returns-in_err-has_packet-clause-step : goal.returns-in_err-has_packet-clause-step
+returns-in_err-has_packet-clause-step g c =
+    let m = c.has_packet.new.self in
     let p = parts_of c.args.self.now.merged in
     let q = parts_of m in
-    let e = c.in_ok-head.ensures in
-    let known = subst (λ h. Knows (feed_of p) h (feed_of q)) c.in-Refused.is e.answer in
     let law = merged-is-feed g.F.PacketFeed.feed g.met.F.PacketFeed.lawful m.lanes.items m.feeds.items m.alike m.numbered m.reached in
-    inl (record {
-      known = known.known;
-      run = λ t.
-          let one = run-refused q c.in-Refused.refusal law (e.keeps.told t) known.known in
-          (one.0, sym (e.run t) ∙ one.1);
-      same = λ t. record { run = e.run t; endings = (e.items t).endings };
-      goes = known.goes;
-      stays = record { stands = λ xs h. asked c.args.self.now.totals c.args.self.now.tally c.args.self.now.done p q xs e.asks h; going = refl };
-    })
+    let e = c.in_err-has_packet.ensures in
+    let t = c.args.self.now in
+    let is = err_from_is_err_and c.from_residual.result c.from_residual.ensures.1 in
+    rw (is.1, is.2) (faulted t.totals t.tally t.done p q c.in_err-has_packet.field-0.0 law e.keeps e.answer e.items e.asks e.run)
 
-pub returns-in-End-clause-step : goal.returns-in-End-clause-step
-returns-in-End-clause-step g c =
-    let m = c.head.new.self in
+pub returns-then-not-branch-clause-step : goal.returns-then-not-branch-clause-step
+returns-then-not-branch-clause-step g c =
+    let m = c.has_packet.new.self in
     let p = parts_of c.args.self.now.merged in
     let q = parts_of m in
-    let e = c.in_ok-head.ensures in
-    let known = subst (λ h. Knows (feed_of p) h (feed_of q)) c.in-End.is e.answer in
+    let e = c.in_ok-has_packet.ensures in
+    let known = known-end (feed_of p) (feed_of q) c.in_ok-has_packet.field-0 c.if-not-branch.true e.answer in
     let law = merged-is-feed g.F.PacketFeed.feed g.met.F.PacketFeed.lawful m.lanes.items m.feeds.items m.alike m.numbered m.reached in
     record {
       known = known.known;
@@ -51,12 +44,12 @@ returns-in-End-clause-step g c =
 -- the packet is of one of the files
 pub take-requires-in-Ok-clause-first : goal.take-requires-in-Ok-clause-first
 take-requires-in-Ok-clause-first g c =
-    let m = c.head.new.self in
+    let m = c.has_packet.new.self in
     let p = parts_of c.args.self.now.merged in
     let q = parts_of m in
-    let e = c.in_ok-head.ensures in
+    let e = c.in_ok-has_packet.ensures in
     let meta = c.packet-meta.result.now in
-    let known = subst (λ h. Knows (feed_of p) h (feed_of q)) (packet-is (feed_of q) c.in_ok-head.field-0 meta e.answer.known c.packet-meta.ensures) e.answer in
+    let known = known-packet (feed_of p) (feed_of q) c.in_ok-has_packet.field-0 meta c.if-not-branch.false e.answer c.packet-meta.ensures.packet in
     let law = merged-is-feed g.F.PacketFeed.feed g.met.F.PacketFeed.lawful m.lanes.items m.feeds.items m.alike m.numbered m.reached in
     let t = c.args.self.now in
     (numbers-within 1 (length t.totals.files) meta.file
@@ -64,12 +57,12 @@ take-requires-in-Ok-clause-first g c =
 
 pub take-requires-in-Ok-clause-last : goal.take-requires-in-Ok-clause-last
 take-requires-in-Ok-clause-last g c =
-    let m = c.head.new.self in
+    let m = c.has_packet.new.self in
     let p = parts_of c.args.self.now.merged in
     let q = parts_of m in
-    let e = c.in_ok-head.ensures in
+    let e = c.in_ok-has_packet.ensures in
     let meta = c.packet-meta.result.now in
-    let known = subst (λ h. Knows (feed_of p) h (feed_of q)) (packet-is (feed_of q) c.in_ok-head.field-0 meta e.answer.known c.packet-meta.ensures) e.answer in
+    let known = known-packet (feed_of p) (feed_of q) c.in_ok-has_packet.field-0 meta c.if-not-branch.false e.answer c.packet-meta.ensures.packet in
     let law = merged-is-feed g.F.PacketFeed.feed g.met.F.PacketFeed.lawful m.lanes.items m.feeds.items m.alike m.numbered m.reached in
     let t = c.args.self.now in
     omega (
@@ -80,24 +73,24 @@ take-requires-in-Ok-clause-last g c =
 
 pub take-requires-in-Ok-clause-few : goal.take-requires-in-Ok-clause-few
 take-requires-in-Ok-clause-few g c =
-    let m = c.head.new.self in
+    let m = c.has_packet.new.self in
     let p = parts_of c.args.self.now.merged in
     let q = parts_of m in
-    let e = c.in_ok-head.ensures in
+    let e = c.in_ok-has_packet.ensures in
     let meta = c.packet-meta.result.now in
-    let known = subst (λ h. Knows (feed_of p) h (feed_of q)) (packet-is (feed_of q) c.in_ok-head.field-0 meta e.answer.known c.packet-meta.ensures) e.answer in
+    let known = known-packet (feed_of p) (feed_of q) c.in_ok-has_packet.field-0 meta c.if-not-branch.false e.answer c.packet-meta.ensures.packet in
     let law = merged-is-feed g.F.PacketFeed.feed g.met.F.PacketFeed.lawful m.lanes.items m.feeds.items m.alike m.numbered m.reached in
     let t = c.args.self.now in
     omega (arith, t.counted, t.places, e.keeps.left, is-left (feed_of q) meta law known.known)
 
 pub returns-in-Ok-clause-step : goal.returns-in-Ok-clause-step
 returns-in-Ok-clause-step g c =
-    let m = c.head.new.self in
+    let m = c.has_packet.new.self in
     let p = parts_of c.args.self.now.merged in
     let q = parts_of m in
-    let e = c.in_ok-head.ensures in
+    let e = c.in_ok-has_packet.ensures in
     let meta = c.packet-meta.result.now in
-    let known = subst (λ h. Knows (feed_of p) h (feed_of q)) (packet-is (feed_of q) c.in_ok-head.field-0 meta e.answer.known c.packet-meta.ensures) e.answer in
+    let known = known-packet (feed_of p) (feed_of q) c.in_ok-has_packet.field-0 meta c.if-not-branch.false e.answer c.packet-meta.ensures.packet in
     let law = merged-is-feed g.F.PacketFeed.feed g.met.F.PacketFeed.lawful m.lanes.items m.feeds.items m.alike m.numbered m.reached in
     let x = taken c.clock-clock.result meta c.frame-frame.result.now in
     let next = next-is q meta c.clock-clock.result c.frame-frame.result.now known.known c.clock-clock.ensures.clock c.frame-frame.ensures.frame in
@@ -122,12 +115,12 @@ returns-in-Ok-clause-step g c =
 
 pub returns-in-Err-Limit-clause-step : goal.returns-in-Err-Limit-clause-step
 returns-in-Err-Limit-clause-step g c =
-    let m = c.head.new.self in
+    let m = c.has_packet.new.self in
     let p = parts_of c.args.self.now.merged in
     let q = parts_of m in
-    let e = c.in_ok-head.ensures in
+    let e = c.in_ok-has_packet.ensures in
     let meta = c.packet-meta.result.now in
-    let known = subst (λ h. Knows (feed_of p) h (feed_of q)) (packet-is (feed_of q) c.in_ok-head.field-0 meta e.answer.known c.packet-meta.ensures) e.answer in
+    let known = known-packet (feed_of p) (feed_of q) c.in_ok-has_packet.field-0 meta c.if-not-branch.false e.answer c.packet-meta.ensures.packet in
     let law = merged-is-feed g.F.PacketFeed.feed g.met.F.PacketFeed.lawful m.lanes.items m.feeds.items m.alike m.numbered m.reached in
     let x = taken c.clock-clock.result meta c.frame-frame.result.now in
     let next = next-is q meta c.clock-clock.result c.frame-frame.result.now known.known c.clock-clock.ensures.clock c.frame-frame.ensures.frame in
@@ -155,12 +148,12 @@ returns-in-Err-Limit-clause-step g c =
 
 pub returns-in-Err-Memory-clause-step : goal.returns-in-Err-Memory-clause-step
 returns-in-Err-Memory-clause-step g c =
-    let m = c.head.new.self in
+    let m = c.has_packet.new.self in
     let p = parts_of c.args.self.now.merged in
     let q = parts_of m in
-    let e = c.in_ok-head.ensures in
+    let e = c.in_ok-has_packet.ensures in
     let meta = c.packet-meta.result.now in
-    let known = subst (λ h. Knows (feed_of p) h (feed_of q)) (packet-is (feed_of q) c.in_ok-head.field-0 meta e.answer.known c.packet-meta.ensures) e.answer in
+    let known = known-packet (feed_of p) (feed_of q) c.in_ok-has_packet.field-0 meta c.if-not-branch.false e.answer c.packet-meta.ensures.packet in
     let law = merged-is-feed g.F.PacketFeed.feed g.met.F.PacketFeed.lawful m.lanes.items m.feeds.items m.alike m.numbered m.reached in
     let next = next-is q meta c.clock-clock.result c.frame-frame.result.now known.known c.clock-clock.ensures.clock c.frame-frame.ensures.frame in
     record {
