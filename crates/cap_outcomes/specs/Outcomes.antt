@@ -8,8 +8,8 @@ use Rattle.cap_bytes.specs.Printing.{PrintsFront}
 use Rattle.cap_jobs.specs.declared.texts.TheConstants.{USAGE}
 use Rattle.cap_jobs.specs.declared.faults.LineFault.{LineFault}
 use Rattle.cap_jobs.specs.declared.faults.LineFault.TheVariants as lines
-use Rattle.cap_tasks.specs.declared.outcomes.Outcome.{Outcome}
-use Rattle.cap_tasks.specs.declared.outcomes.Outcome.TheVariants as outcomes
+use Rattle.cap_outcomes.specs.declared.outcomes.Outcome.{Outcome}
+use Rattle.cap_outcomes.specs.declared.outcomes.Outcome.TheVariants as outcomes
 
 -- how a run ends by what its command answered
 abbrev pub ends_by : {A : Type 0} → Result A Fault → Result A Outcome

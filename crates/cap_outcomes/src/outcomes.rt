@@ -1,7 +1,7 @@
 //! How a run ends: its status, and what is told of it.
 ghost use Rattle.std.specs.Prelude.{◌≡◌, ◌++◌, is_err, IsTrue, IsFalse, IsOk, IsErr, IsOkUnless};
 ghost use Rattle.cap_bytes.specs.Device.{Puts, WriterKeeps, writer_of};
-ghost use Rattle.cap_tasks.specs.Outcomes.{ends_by, status_after, outcome_text, refusal_text, read_text, open_text, told_text, is_help, HelpEnds};
+ghost use Rattle.cap_outcomes.specs.Outcomes.{ends_by, status_after, outcome_text, refusal_text, read_text, open_text, told_text, is_help, HelpEnds};
 ghost use Rattle.cap_bytes.specs.Printing.{PrintsFront};
 
 use cap_bytes::{Fault, Refusal, Sink, put_all};

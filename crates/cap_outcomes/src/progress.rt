@@ -1,7 +1,7 @@
 //! How far a run is, shown at a terminal while the run takes long.
 ghost use Rattle.std.specs.Prelude.{◌≡◌, ◌+◌, ◌<◌, ◌≤◌, ◌^◌, ◌++◌, length};
 ghost use Rattle.arrayvec.specs.ArrayVec.{array_vec_len};
-ghost use Rattle.cap_tasks.specs.Progress.{amount_text, left_text, of_text, progress_text, time_text};
+ghost use Rattle.cap_outcomes.specs.Progress.{amount_text, left_text, of_text, progress_text, time_text};
 
 use cap_print::{Line, put_field, put_text};
 use std::cell::Cell;

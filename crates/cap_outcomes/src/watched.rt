@@ -1,6 +1,6 @@
 //! A device whose bytes are counted for the line that shows how far a run is.
 ghost use Rattle.std.specs.Prelude.{◌≡◌};
-ghost use Rattle.cap_tasks.specs.Watched.{inner_of};
+ghost use Rattle.cap_outcomes.specs.Watched.{inner_of};
 
 use crate::progress::Progress;
 use cap_bytes::{Broken, Device, Sink, Source};
