@@ -4,7 +4,7 @@ use Rattle.cap_bytes.specs.declared.faults.Fault.{Fault}
 use Rattle.cap_source.specs.declared.feeds.Head.{Head}
 use Rattle.cap_source.specs.Feed.{Keeps, SameItems, Knows, GivesHead, KeepsItems, Passes, IsPacket}
 use Rattle.cap_merge.specs.declared.lanes.Lane.{Lane}
-use Rattle.cap_merge.specs.Clock.{later}
+use Rattle.cap_time.specs.Clock.{later}
 use Rattle.cap_merge.specs.Parts.{Part, head_time, is_bounded, passed_lane}
 
 -- a lane that has learned what comes next

@@ -1,7 +1,7 @@
 //! What is known of each feed, and which of them comes first.
 ghost use Rattle.std.specs.Prelude.{◌≡◌, ◌<◌, ◌≤◌, List, replicate, length, true, IsTrue, is_some, Some, IfSome, map};
 ghost use Rattle.std.specs.List.{list_all};
-ghost use Rattle.cap_merge.specs.Clock.{later};
+ghost use Rattle.cap_time.specs.Clock.{later};
 ghost use Rattle.cap_source.specs.Feed.{Feed, IsPacket, Passes, Keeps};
 ghost use Rattle.cap_merge.specs.Parts.{parts, head_time, known_time, is_bounded, known_of, passed_lane, both_held, known_but, OthersKnown};
 ghost use Rattle.cap_source.specs.declared.feeds.Head.{Head};

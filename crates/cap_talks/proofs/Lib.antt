@@ -1,6 +1,5 @@
 pub mod FileLemmas
 pub mod TalkLemmas
-pub mod Chosen
 pub mod Recount
 pub mod Steps
 pub mod Frames

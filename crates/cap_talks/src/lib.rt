@@ -2,7 +2,6 @@
 #![tactic(auto)]
 
 mod classes;
-mod files;
 mod laws;
 mod looks;
 mod report_lines;
@@ -11,8 +10,9 @@ mod run_packets;
 mod tables;
 mod talks;
 mod tallies;
+mod totals;
 
-pub use crate::files::file_lines;
 pub use crate::laws::{one_class, talk_laws, worked_report, worked_talks};
 pub use crate::reports::report;
 pub use crate::tables::{Held, Step, Table};
+pub use cap_counts::file_lines;

@@ -5,7 +5,7 @@ use Rattle.std.specs.List.{AllByRecursion}
 use Rattle.std.specs.Ordering.{is_lt, ordering_reverse}
 use Rattle.std.proofs.lemmas.List.Elements.{Contains-get_or, Contains-append_right}
 use Rattle.cap_talks.specs.declared.talks.units.TimedFrame.{TimedFrame}
-use Rattle.cap_talks.proofs.Chosen.{chosen, not_trans}
+use Rattle.cap_time.proofs.Chosen.{chosen, not_trans}
 use Rattle.cap_talks.proofs.TalkLemmas.FrameOrder.{by_time_total, by_time_down_total, earlier_is, later_is}
 use Rattle.cap_talks.specs.Talks.Laws.{with_frame, firsts, lasts, IsFirstIn, FrameLaw}
 use Rattle.cap_talks.specs.declared.talks.units.CountedUnit.{CountedUnit}
