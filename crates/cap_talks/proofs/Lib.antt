@@ -1,5 +1,4 @@
 pub mod FileLemmas
-pub mod TalkLemmas
 pub mod Recount
 pub mod Steps
 pub mod Frames

@@ -16,13 +16,13 @@ ghost use Rattle.cap_talks.specs.Taken.{Taken};
 
 use crate::report_lines::total_line;
 use crate::run_packets::RunPacket;
-use crate::talks::TalksFault;
 use crate::tallies::Tally;
 use crate::totals::Totals;
 use arrayvec::ArrayVec;
 use cap_bytes::{Fault, Refusal, Rule, Sink, put_all};
 use cap_counts::{Counted, Counts, put_files};
 use cap_merge::Merged;
+use cap_rows::TalksFault;
 use cap_source::{Ending, Head, Meta, PacketFeed};
 use std::alloc::Global;
 
