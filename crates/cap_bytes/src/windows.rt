@@ -1,5 +1,5 @@
 //! A window over a reader: the one cursor by which bytes are read.
-ghost use Rattle.std.specs.Prelude.{◌≡◌, ℕ, ◌+◌, ◌^◌, ◌≤◌, ◌<◌, IsSome, None, length};
+ghost use Rattle.std.specs.Prelude.{◌≡◌, ℕ, ◌+◌, ◌^◌, ◌≤◌, ◌<◌, IsSome, IsTrue, ◌↔◌, None, length};
 ghost use Rattle.cap_bytes.specs.SourceState.{source_of, IsWithin};
 ghost use Rattle.cap_bytes.specs.Window.{opened, Keeps, Needs, Passes, Skips, FailsAt};
 
@@ -80,6 +80,14 @@ impl<R: Source> Window<R> {
             return Ok(true);
         }
         self.need_more(n)
+    }
+
+    /// Whether the next n bytes are shown already, and no read has failed: `need` answers true then, and changes nothing.
+    #[inline(always)]
+    pub fn shows(&self, n: usize) -> bool
+        ensures { IsTrue result ↔ ((self.now.broken ≡ None) × (n ≤ length self.now.shown)) }
+    {
+        self.broken.is_none() && n <= self.end - self.start
     }
 
     // The same, if fewer bytes are shown or a read has failed.

@@ -8,7 +8,7 @@ use Rattle.cap_source.specs.Feed.{Feed, IsPacket}
 use Rattle.std.specs.List.{refill}
 use Rattle.std.proofs.lemmas.List.{take_at}
 use Rattle.cap_merge.specs.declared.lanes.Lane.{Lane}
-use Rattle.cap_merge.specs.Parts.{Part, parts}
+use Rattle.cap_merge.specs.Parts.{Part, part, parts, Matches, Agrees}
 use Rattle.cap_merge.specs.Merge.{LearnsBy, Stops, LearnsAll, StopsAt, IsPacketAt, PassesAt, PassesPart}
 
 -- The first n feeds were asked, the others are as they were.
@@ -48,9 +48,6 @@ asked-all i (p ∷ ps) [] a l = absurd a
 asked-all zero (p ∷ ps) (q ∷ qs) a l = absurd (omega arith)
 asked-all (suc i) (p ∷ ps) (q ∷ qs) a l = (a.0, asked-all i ps qs a.1 (omega arith))
 
-abbrev pub part : Lane → Feed → Part
-part lane feed = record { lane = lane; feed = feed }
-
 pub length-parts : {F : Type 0} (f : F → Feed) (ls : List Lane) (fs : List F) → length fs ≡ length ls → length (parts ls (map f fs)) ≡ length ls
 length-parts f (l ∷ ls) (x ∷ xs) e = ap suc (length-parts f ls xs (omega arith))
 length-parts f ls fs e = grind arith
@@ -67,7 +64,7 @@ parts-get f ls fs i l x h e = grind arith
 
 pub lanes-more : {F : Type 0} (f : F → Feed) (ps : List Part) (ls : List Lane) (fs : List F) (i : ℕ) (l m : Lane) (x y : F)
     → AskedUpTo i ps (parts ls (map f fs)) → i < length ls → length fs ≡ length ls
-    → LearnsBy (get_or ls i l).head (part (get_or ls i l) (f (get_or fs i x))) (part m (f y))
+    → LearnsBy (part (get_or ls i l) (f (get_or fs i x))).lane.head (part (get_or ls i l) (f (get_or fs i x))) (part m (f y))
     → AskedUpTo (suc i) ps (parts (set ls i m) (map f (set fs i y)))
 lanes-more f ps ls fs i l m x y a h e learns =
     subst (λ (ws : List Part). AskedUpTo (suc i) ps ws) (sym (parts-set f ls fs i m y))
@@ -82,12 +79,20 @@ lanes-stop f ps ls fs i l m x y fault a h e stops =
     (asked-stops i ps (parts ls (map f fs)) (part l (f x)) (part m (f y)) fault a (omega (arith, length-parts f ls fs e))
     (subst (λ (w : Part). Stops w fault (part m (f y))) (sym (parts-get f ls fs i l x h e)) stops))
 
+-- what a lane says is what its feed knows, at each place
+pub matches-there : {F : Type 0} (f : F → Feed) (ls : List Lane) (fs : List F) (i : ℕ) (l : Lane) (x : F) → i < length ls → length fs ≡ length ls
+    → Agrees ls (map f fs) → Matches (get_or ls i l) (f (get_or fs i x))
+matches-there f (k ∷ ls) (z ∷ zs) (suc i) l x h e a = grind (arith, matches-there f ls zs i l x (omega arith) (omega arith))
+matches-there f ls fs i l x h e a = grind arith
+
+-- and so it is if it is at a place that is written
+pub agrees-set : {F : Type 0} (f : F → Feed) (ls : List Lane) (fs : List F) (i : ℕ) (m : Lane) (y : F) → Agrees ls (map f fs) → Matches m (f y)
+    → Agrees (set ls i m) (map f (set fs i y))
+agrees-set f (k ∷ ls) (z ∷ zs) (suc i) m y a h = grind (arith, agrees-set f ls zs i m y)
+agrees-set f ls fs i m y a h = grind arith
+
 refilled : {A : Type 0} (xs ws : List A) (n : ℕ) → length ws ≡ n → take n (ws ++ drop (length ws) xs) ≡ ws
 refilled xs ws n e = take_at ws (drop (length ws) xs) n e
-
-pub written : {F : Type 0} (f : F → Feed) (ls ms : List Lane) (fs ys : List F) (n : ℕ) → length ms ≡ length ls → length ys ≡ n
-    → parts (refill (length ls) ls ms) (map f (take n (ys ++ drop (length ys) fs))) ≡ parts ms (map f ys)
-written f ls ms fs ys n e h = λ i. parts (refilled ls ms (length ls) e i) (map f (refilled fs ys n h i))
 
 pub length-written : {A : Type 0} (xs ws : List A) (n : ℕ) → length ws ≡ n → length (take n (ws ++ drop (length ws) xs)) ≡ n
 length-written xs ws n e = ap length (refilled xs ws n e) ∙ e
@@ -102,9 +107,12 @@ pub passes-there : {F : Type 0} (f : F → Feed) (ls : List Lane) (fs : List F) 
 passes-there f (k ∷ ls) (z ∷ zs) (suc i) l m x y h e p = (refl, passes-there f ls zs i l m x y (omega arith) (omega arith) p)
 passes-there f ls fs i l m x y h e p = grind arith
 
--- the same if the slices showed other lists that are equal
-pub kept-written : {F : Type 0} (f : F → Feed) (Holds : List Part → List Part → Type 0) (ls ks ms : List Lane) (fs gs ys : List F) (n : ℕ)
+-- What is true of what slices show, before and after, is true of the lists that they are of.
+pub kept-written : {F : Type 0} (Holds : List Lane → List F → List Lane → List F → Type 0) (ls ks ms : List Lane) (fs gs ys : List F) (n : ℕ)
     → ks ≡ ls → gs ≡ fs → length ms ≡ length ks → length ys ≡ length gs → n ≡ length fs
-    → Holds (parts ks (map f gs)) (parts ms (map f ys))
-    → Holds (parts ls (map f fs)) (parts (refill (length ls) ls ms) (map f (take n (ys ++ drop (length ys) fs))))
-kept-written f Holds ls ks ms fs gs ys n a b d e m h = grind (arith, parts, written)
+    → Holds ks gs ms ys → Holds ls fs (refill (length ls) ls ms) (take n (ys ++ drop (length ys) fs))
+kept-written {F} Holds ls ks ms fs gs ys n a b d e m h =
+    let lanes = refilled ls ms (length ls) (d ∙ ap length a) in
+    let feeds = refilled fs ys n (e ∙ ap length b ∙ sym m) in
+    subst (λ (w : List Lane × List F). Holds w.0 w.1 (refill (length ls) ls ms) (take n (ys ++ drop (length ys) fs))) (λ i. (a i, b i))
+    (subst (λ (w : List Lane × List F). Holds ks gs w.0 w.1) (λ i. (sym lanes i, sym feeds i)) h)

@@ -1,15 +1,16 @@
 -- The clocks that the feeds of a merge have reached have seconds below 2^65.
-use Rattle.std.proofs.Common.{◌≡◌, ℕ, suc, true, List, ◌∷◌, length, ◌<◌, Some, arith, ap, ◌∙◌, inl, inr, Option, IfSome, Result, pos, ◌^◌}
-use Rattle.std.specs.Prelude.{◌<ℤ◌, replicate}
+use Rattle.std.proofs.Common.{◌≡◌, ℕ, suc, true, List, ◌∷◌, length, ◌<◌, Some, arith, ap, ◌∙◌, sym, inl, inr, Option, IfSome, Result, pos, ◌^◌}
+use Rattle.std.specs.Prelude.{◌<ℤ◌, replicate, map}
 use Rattle.std.specs.List.{list_all}
+use Rattle.std.proofs.lemmas.List.{length-map}
 use Rattle.cap_bytes.specs.declared.faults.Fault.{Fault}
 use Rattle.cap_source.specs.Feed.{Feed}
 use Rattle.cap_time.specs.Stamp.{seconds_of}
 use Rattle.cap_time.specs.declared.stamps.Stamp.{Stamp}
 use Rattle.cap_merge.specs.declared.lanes.Lane.{Lane}
-use Rattle.cap_merge.specs.First.{new_lane, lane_at, first_place}
-use Rattle.cap_merge.specs.Parts.{Part, parts, is_bounded, AreBounded}
-use Rattle.cap_merge.proofs.Finding.{first-within}
+use Rattle.cap_merge.specs.First.{fresh_lane, lane_at, first_place}
+use Rattle.cap_merge.specs.Parts.{Part, parts, turns, is_bounded, AreBounded}
+use Rattle.cap_merge.proofs.Placing.{place_within}
 use Rattle.cap_merge.specs.Merge.{LearnsAll, StopsAt, AsksAll, PassesAt}
 
 all_learned : (ps qs : List Part) → LearnsAll ps qs → AreBounded ps → AreBounded qs
@@ -31,11 +32,11 @@ passed-bounded (p ∷ ps) (q ∷ qs) (suc place) l h = grind (arith, passed-boun
 passed-bounded ps qs place l g = grind arith
 
 -- nothing was reached at first
-new_bounded : (n : ℕ) (feeds : List Feed) → AreBounded (parts (replicate n new_lane) feeds)
+new_bounded : (n : ℕ) (feeds : List Feed) → AreBounded (parts (replicate n fresh_lane) feeds)
 new_bounded (suc n) (f ∷ fs) = new_bounded n fs
 new_bounded n feeds = grind arith
 
-pub new-bounded : (lanes : List Lane) (n : ℕ) (feeds : List Feed) → lanes ≡ replicate n new_lane → AreBounded (parts lanes feeds)
+pub new-bounded : (lanes : List Lane) (n : ℕ) (feeds : List Feed) → lanes ≡ replicate n fresh_lane → AreBounded (parts lanes feeds)
 new-bounded lanes n feeds e = ap (λ ls. list_all (λ p. is_bounded p.lane.clock) (parts ls feeds)) e ∙ new_bounded n feeds
 
 bounded_at : (ls : List Lane) (fs : List Feed) (place : ℕ) → length fs ≡ length ls → place < length ls → AreBounded (parts ls fs) → is_bounded (lane_at ls place).clock ≡ true
@@ -46,6 +47,7 @@ in_bounds : (clock : Option Stamp) → is_bounded clock ≡ true → IfSome cloc
 in_bounds clock e = grind arith
 
 -- so the clock of what comes first is
-pub first-bounded : (ls : List Lane) (fs : List Feed) (place : ℕ) → length fs ≡ length ls → first_place ls ≡ Some place → AreBounded (parts ls fs)
-    → IfSome (lane_at ls place).clock (λ c. seconds_of c <ℤ pos (2 ^ 65))
-first-bounded ls fs place e h b = in_bounds (lane_at ls place).clock (bounded_at ls fs place e (first-within ls place h) b)
+pub first-bounded : {F : Type 0} (f : F → Feed) (ls : List Lane) (fs : List F) (place : ℕ) → length ls ≡ length fs → first_place (turns (parts ls (map f fs))) ≡ Some place
+    → AreBounded (parts ls (map f fs)) → IfSome (lane_at ls place).clock (λ c. seconds_of c <ℤ pos (2 ^ 65))
+first-bounded f ls fs place e h b =
+    in_bounds (lane_at ls place).clock (bounded_at ls (map f fs) place (length-map fs f ∙ sym e) (place_within f ls fs place e h) b)

@@ -1,6 +1,6 @@
 -- What the calls of a merge keep, over the lists of its lanes and feeds.
 use Rattle.std.proofs.lemmas.Grind.{common_steps}
-use Rattle.std.proofs.Common.{ℕ, ◌≡◌, true, List, ◌∷◌, length, sym, ◌∙◌, arith, Result, Err, suc}
+use Rattle.std.proofs.Common.{ℕ, ◌≡◌, true, List, ◌∷◌, length, sym, arith, Result, Err, suc}
 use Rattle.std.specs.Prelude.{map, IsTrue, is_some}
 use Rattle.std.specs.List.{AllByRecursion, list_all, range_with_len, flat_map}
 use Rattle.std.proofs.lemmas.List.{length-map}
@@ -9,7 +9,7 @@ use Rattle.cap_source.specs.Feed.{Feed, IsFeed, Keeps}
 use Rattle.cap_merge.specs.declared.lanes.Lane.{Lane}
 use Rattle.cap_merge.specs.Parts.{Part, parts, IsNumbered, Agrees, HasReached, is_known, run_of, feed_of, KeepsRun}
 use Rattle.cap_merge.specs.Merge.{LearnsAll, StopsAt, AsksAll}
-use Rattle.cap_merge.specs.Sound.{IsSound, sound-each, lawful-each, AreFrom, numbered-from}
+use Rattle.cap_merge.specs.Sound.{IsSound, sound-parts, lawful-each, AreFrom, numbered-from}
 use Rattle.cap_merge.proofs.Moving.{Each, Kept, ComesAlike, learns-each, stops-each, alike-itself, alike-learns_by, alike-waits, run-alike, keeps-each}
 use Rattle.cap_merge.proofs.Heads.{asked-keeps, asked-sound, known_all, never}
 
@@ -28,9 +28,9 @@ pub asked-numbered : {F : Type 0} (f : F → Feed) → ((x : F) → IsFeed (f x)
 asked-numbered f law ls ms fs ys result a b d h = grind (arith, numbered-kept, asked-keeps, parts, lawful-each)
 
 pub asked-sound-each : {F : Type 0} (f : F → Feed) → ((x : F) → IsFeed (f x)) → (ls ms : List Lane) (fs ys : List F) {T : Type 0} (result : Result T Fault)
-    → AsksAll (parts ls (map f fs)) result (parts ms (map f ys)) → Agrees (parts ls (map f fs)) → HasReached (parts ls (map f fs))
+    → AsksAll (parts ls (map f fs)) result (parts ms (map f ys)) → HasReached (parts ls (map f fs))
     → AllByRecursion IsSound (parts ms (map f ys))
-asked-sound-each f law ls ms fs ys result h agrees reached = grind (arith, asked-sound, parts, lawful-each, sound-each)
+asked-sound-each f law ls ms fs ys result h reached = grind (arith, asked-sound, parts, lawful-each, sound-parts)
 
 pub asked-keeps-all : {T : Type 0} (ps qs : List Part) (result : Result T Fault) → AsksAll ps result qs → AllByRecursion (λ q. IsFeed q.feed) qs → Keeps (feed_of ps) (feed_of qs)
 asked-keeps-all ps qs result h f = keeps-each ps qs (asked-keeps ps qs result h f)
@@ -46,13 +46,12 @@ pub run-stopped : (ps qs : List Part) (fault : Fault) → StopsAt fault ps qs �
 run-stopped ps qs fault s f t = grind (arith, never, run-alike, stops-each, alike-itself, alike-learns_by, alike-waits, told_all)
 
 -- all lanes are known after all feeds were asked
-known_lanes : (ls : List Lane) (fs : List Feed) → length fs ≡ length ls → is_known (parts ls fs) ≡ true → list_all (λ l. is_some l.head) ls ≡ true
-known_lanes (l ∷ ls) (x ∷ xs) e k = grind (arith, known_lanes ls xs (omega arith))
-known_lanes ls fs e k = grind arith
+known_lanes : (ls : List Lane) (fs : List Feed) → Agrees ls fs → is_known (parts ls fs) ≡ true → list_all (λ l. is_some l.next) ls ≡ true
+known_lanes (l ∷ ls) (x ∷ fs) a k = grind (arith, known_lanes ls fs)
+known_lanes ls fs a k = grind arith
 
-pub asked-known : {F : Type 0} (f : F → Feed) (ls ms : List Lane) (fs ys : List F) → length ms ≡ length ys → LearnsAll (parts ls (map f fs)) (parts ms (map f ys))
-    → list_all (λ l. is_some l.head) ms ≡ true
-asked-known f ls ms fs ys e h = known_lanes ms (map f ys) (length-map ys f ∙ sym e) (known_all (parts ls (map f fs)) (parts ms (map f ys)) h)
+pub asked-known : (ps : List Part) (ms : List Lane) (fs : List Feed) → Agrees ms fs → LearnsAll ps (parts ms fs) → list_all (λ l. is_some l.next) ms ≡ true
+asked-known ps ms fs a h = known_lanes ms fs a (known_all ps (parts ms fs) h)
 
 count_files : {F : Type 0} (f : F → Feed) (n : ℕ) (ls : List Lane) (fs : List F) → length ls ≡ length fs → AreFrom n (parts ls (map f fs))
     → length (flat_map (λ p. p.feed.files) (parts ls (map f fs))) ≡ length fs

@@ -4,7 +4,7 @@ use Rattle.std.specs.Prelude.{◌⊎◌, ◌||◌, ◌==◌, max, map, IsTrue, I
 use Rattle.std.specs.List.{AllByRecursion, list_any, flat_map}
 use Rattle.std.proofs.Math.Seq.{take-suc}
 use Rattle.std.proofs.lemmas.Bool.{true≢false}
-use Rattle.std.proofs.lemmas.List.{length-map, map-append, take_all}
+use Rattle.std.proofs.lemmas.List.{map-append, take_all}
 use Rattle.cap_time.specs.declared.stamps.Stamp.{Stamp}
 use Rattle.cap_source.specs.declared.feeds.Head.{Head}
 use Rattle.cap_source.specs.declared.feeds.Head.TheVariants as heads
@@ -14,15 +14,14 @@ use Rattle.cap_source.specs.declared.feeds.FeedHeld.{FeedHeld}
 use Rattle.cap_source.specs.Feed.{packet, refused, Feed, IsFeed, IsPacket, Keeps, Passes, HasFile}
 use Rattle.cap_merge.specs.Lists.{all-each}
 use Rattle.cap_merge.specs.declared.lanes.Lane.{Lane}
-use Rattle.cap_merge.specs.First.{has_next, lane_at, first_place, new_lane}
-use Rattle.cap_merge.specs.Parts.{Part, parts, lanes, is_known, known_of, head_by, frame_by, clock_of, first_of, run_of, endings_of, held_of, both_held, has_file, feed_of, ClocksFrom, BeginsAt, IsNumbered, Agrees, HasReached, clock_by}
+use Rattle.cap_merge.specs.First.{has_next, fresh_lane, lane_at, first_place}
+use Rattle.cap_merge.specs.Parts.{Part, part, parts, turns, is_known, known_of, head_by, frame_by, clock_of, first_of, run_of, endings_of, held_of, both_held, has_file, feed_of, ClocksFrom, BeginsAt, IsNumbered, HasReached, clock_by}
 use Rattle.cap_merge.specs.Merge.{IsPacketAt, PassesAt, PassesPart}
 use Rattle.cap_merge.specs.Clocks.{AtMost}
 use Rattle.cap_merge.specs.Leading.{Split, NoNext, IsFirstOf, first_is}
-use Rattle.cap_merge.specs.Sound.{IsSound, AreFrom, sound-each, lawful-each, numbered-from}
+use Rattle.cap_merge.specs.Sound.{IsSound, AreFrom, sound-parts, lawful-each, numbered-from}
 use Rattle.cap_merge.specs.Coming.{IsReady, leads_known, reached_known, run-first}
 use Rattle.cap_merge.specs.Lawful.{ready_all, at_first}
-use Rattle.cap_merge.proofs.Asking.{part}
 use Rattle.cap_merge.proofs.Calls.{told_all}
 use Rattle.cap_merge.proofs.FromClock.{each-from, from-each}
 use Rattle.cap_merge.proofs.Moving.{Each, each-itself, Kept, kept-itself}
@@ -58,28 +57,32 @@ frame_first : (ps : List Part) (first : Part) → Split ps first → (feed_of ps
 unfolding feed_of
 frame_first ps first s = ap frame_by s.is_first
 
-pub split-of : {F : Type 0} (f : F → Feed) (ls : List Lane) (fs : List F) (place : ℕ) (x : F) → length ls ≡ length fs → first_place ls ≡ Some place
+pub split-of : {F : Type 0} (f : F → Feed) (ls : List Lane) (fs : List F) (place : ℕ) (x : F) → length ls ≡ length fs → first_place (turns (parts ls (map f fs))) ≡ Some place
     → Split (parts ls (map f fs)) (part (lane_at ls place) (f (get_or fs place x)))
-split-of f ls fs place x e h = (placed-split f ls fs place new_lane x e h).0
+split-of f ls fs place x e h = (placed-split f ls fs place fresh_lane x e h).0
 
--- the feed of the first lane knows that a packet comes next
-pub packet-known : {F : Type 0} (f : F → Feed) (ls : List Lane) (fs : List F) (place : ℕ) (x : F) → length ls ≡ length fs → first_place ls ≡ Some place
-    → Agrees (parts ls (map f fs)) → HasReached (parts ls (map f fs)) → IsPacket (feed_of (parts ls (map f fs))).known → IsPacket (f (get_or fs place x)).known
-packet-known f ls fs place x e s agrees reached p =
-    let split = split-of f ls fs place x e s in
-    let of = packet-of-first (parts ls (map f fs)) (part (lane_at ls place) (f (get_or fs place x))) split p in
-    let sound = at_first IsSound (parts ls (map f fs)) (part (lane_at ls place) (f (get_or fs place x))) (sound-each (parts ls (map f fs)) agrees reached) split in
-    let known : (f (get_or fs place x)).known ≡ Some (heads.Packet of.1.0) =
-    subst (λ (w : Option Head). IfSome w (λ head. (f (get_or fs place x)).known ≡ Some head)) of.1.1 sound.agrees in
-    subst IsPacket (sym known) tt
+head_known : (b : Bool) (k h : Option Head) → h ≡ cond b k None → IsPacket h → h ≡ k
+head_known b k h e p = grind arith
 
-pub frame-of : {F : Type 0} (f : F → Feed) (ls : List Lane) (fs : List F) (place : ℕ) (x : F) → length ls ≡ length fs → first_place ls ≡ Some place
+known_first : (ps : List Part) (first : Part) → Split ps first → IsPacket (feed_of ps).known → (feed_of ps).known ≡ first.lane.head
+unfolding feed_of known_of
+known_first ps first s p = rw (known-holds ps IsPacket (λ never. never) p).0 (ap head_by s.is_first)
+
+-- The packet that comes next of all is that of the feed that comes first.
+pub feed-known : {F : Type 0} (f : F → Feed) (ls : List Lane) (fs : List F) (place : ℕ) (x : F) → length ls ≡ length fs → first_place (turns (parts ls (map f fs))) ≡ Some place
+    → IsPacket (feed_of (parts ls (map f fs))).known → (feed_of (parts ls (map f fs))).known ≡ (f (get_or fs place x)).known
+feed-known f ls fs place x e s p =
+    let first = part (lane_at ls place) (f (get_or fs place x)) in
+    head_known (is_some (lane_at ls place).next) (f (get_or fs place x)).known (feed_of (parts ls (map f fs))).known
+    (known_first (parts ls (map f fs)) first (split-of f ls fs place x e s) p) p
+
+pub frame-of : {F : Type 0} (f : F → Feed) (ls : List Lane) (fs : List F) (place : ℕ) (x : F) → length ls ≡ length fs → first_place (turns (parts ls (map f fs))) ≡ Some place
     → (f (get_or fs place x)).frame ≡ (feed_of (parts ls (map f fs))).frame
 frame-of f ls fs place x e s = sym (frame_first (parts ls (map f fs)) (part (lane_at ls place) (f (get_or fs place x))) (split-of f ls fs place x e s))
 
-pub frame-none : {F : Type 0} (f : F → Feed) (ls : List Lane) (fs : List F) → length ls ≡ length fs → first_place ls ≡ None → [] ≡ (feed_of (parts ls (map f fs))).frame
+pub frame-none : {F : Type 0} (f : F → Feed) (ls : List Lane) (fs : List F) → first_place (turns (parts ls (map f fs))) ≡ None → [] ≡ (feed_of (parts ls (map f fs))).frame
 unfolding feed_of
-frame-none f ls fs e h = sym (ap frame_by (none-placed ls (map f fs) (length-map fs f ∙ sym e) h))
+frame-none f ls fs h = sym (ap frame_by (none-placed (parts ls (map f fs)) h))
 
 has_next-none : has_next None ≡ true → ⊥
 has_next-none e = true≢false (sym e)
@@ -141,7 +144,7 @@ clock_first : (ps : List Part) (first : Part) → Split ps first → clock_of ps
 unfolding clock_of
 clock_first ps first s = ap clock_by s.is_first
 
-pub clock-of-first : {F : Type 0} (f : F → Feed) (ls : List Lane) (fs : List F) (place : ℕ) → 1 ≤ length fs → length ls ≡ length fs → first_place ls ≡ Some place
+pub clock-of-first : {F : Type 0} (f : F → Feed) (ls : List Lane) (fs : List F) (place : ℕ) → 1 ≤ length fs → length ls ≡ length fs → first_place (turns (parts ls (map f fs))) ≡ Some place
     → (lane_at ls place).clock ≡ clock_of (parts ls (map f fs))
 clock-of-first f ls [] place n e s = absurd (omega arith)
 clock-of-first f ls (x ∷ xs) place n e s = sym (clock_first (parts ls (map f (x ∷ xs))) (part (lane_at ls place) (f (get_or (x ∷ xs) place x))) (split-of f ls (x ∷ xs) place x e s))
@@ -168,7 +171,7 @@ passed-first ps qs first place s e p h sound lawful from =
     let at = passed_at s.before s.after first qs there in
     subst (λ (xs : List Part). Passed xs qs) (sym s.whole) (subst (λ (ys : List Part). Passed (s.before ++ (first ∷ s.after)) ys) (sym at.2)
     (passed_split s.before s.after first at.0 of.1.0
-    (record { before = s.before; after = s.after; whole = refl; place = subst (λ (xs : List Part). first_place (lanes xs) ≡ Some (length s.before)) s.whole s.place; is_first = subst (λ (xs : List Part). first_of xs ≡ Some first) s.whole s.is_first; next = s.next; below = s.below; not_above = s.not_above }) refl refl of.1.1
+    (record { before = s.before; after = s.after; whole = refl; place = subst (λ (xs : List Part). first_place (turns xs) ≡ Some (length s.before)) s.whole s.place; is_first = subst (λ (xs : List Part). first_of xs ≡ Some first) s.whole s.is_first; next = s.next; below = s.below; not_above = s.not_above }) refl refl of.1.1
     (subst (λ (xs : List Part). is_known xs ≡ true) s.whole of.0) at.1
     (subst (λ (xs : List Part). AllByRecursion IsSound xs) s.whole sound) (subst (λ (xs : List Part). AllByRecursion (λ x. IsFeed x.feed) xs) s.whole lawful)
     (subst (λ (xs : List Part). AreFrom 1 xs) s.whole from)))
@@ -248,11 +251,11 @@ endings_are ps file = refl
 
 -- A file of the feeds is that of the feed at its place, which is at its end.
 pub ended-file : {F : Type 0} (f : F → Feed) (file : ℕ) (ls : List Lane) (fs : List F) → length ls ≡ length fs → AreFrom 1 (parts ls (map f fs))
-    → Agrees (parts ls (map f fs)) → HasReached (parts ls (map f fs)) → (feed_of (parts ls (map f fs))).known ≡ Some heads.End
+    → HasReached (parts ls (map f fs)) → (feed_of (parts ls (map f fs))).known ≡ Some heads.End
     → HasFile (feed_of (parts ls (map f fs))).files file → FileAt f fs 1 file (λ n. (feed_of (parts ls (map f fs))).endings n)
-ended-file f file ls fs l a agrees reached e h =
+ended-file f file ls fs l a reached e h =
     subst (λ (r : ℕ → Ending). FileAt f fs 1 file r) (λ i n. sym (endings_are (parts ls (map f fs)) n) i)
-    (file-at f 1 file ls fs l a (all-ended (parts ls (map f fs)) (sound-each (parts ls (map f fs)) agrees reached) e) (files_of (parts ls (map f fs)) file h))
+    (file-at f 1 file ls fs l a (all-ended (parts ls (map f fs)) (sound-parts f ls fs reached) e) (files_of (parts ls (map f fs)) file h))
 
 -- the greatest of what some feeds hold
 abbrev pub held_all : List Feed → FeedHeld
@@ -301,36 +304,36 @@ pub held-done : {F : Type 0} (f : F → Feed) (ls : List Lane) (fs : List F) (n 
 held-done f ls fs n held e l h =
     h ∙ ap (λ xs. held_all (map f xs)) (take_all n fs l) ∙ sym (held-parts f ls fs e) ∙ sym (held_is (parts ls (map f fs)))
 
-pub clocks-of : {F : Type 0} (f : F → Feed) (ls : List Lane) (fs : List F) (place : ℕ) → 1 ≤ length fs → length ls ≡ length fs → first_place ls ≡ Some place
+pub clocks-of : {F : Type 0} (f : F → Feed) (ls : List Lane) (fs : List F) (place : ℕ) → 1 ≤ length fs → length ls ≡ length fs → first_place (turns (parts ls (map f fs))) ≡ Some place
     → has_next (feed_of (parts ls (map f fs))).known ≡ true → ClocksFrom (lane_at ls place).clock (parts ls (map f fs))
 clocks-of f ls [] place n e s h = absurd (omega arith)
 clocks-of f ls (x ∷ xs) place n e s h =
     (clocks-of-first (parts ls (map f (x ∷ xs))) (part (lane_at ls place) (f (get_or (x ∷ xs) place x))) (split-of f ls (x ∷ xs) place x e s) h)
 
-pub begins-of : {F : Type 0} (f : F → Feed) → ((x : F) → IsFeed (f x)) → (ls : List Lane) (fs : List F) (place : ℕ) → 1 ≤ length fs → length ls ≡ length fs → first_place ls ≡ Some place
-    → has_next (feed_of (parts ls (map f fs))).known ≡ true → Agrees (parts ls (map f fs)) → HasReached (parts ls (map f fs))
+pub begins-of : {F : Type 0} (f : F → Feed) → ((x : F) → IsFeed (f x)) → (ls : List Lane) (fs : List F) (place : ℕ) → 1 ≤ length fs → length ls ≡ length fs → first_place (turns (parts ls (map f fs))) ≡ Some place
+    → has_next (feed_of (parts ls (map f fs))).known ≡ true → HasReached (parts ls (map f fs))
     → IsTrue (feed_of (parts ls (map f fs))).told → BeginsAt (lane_at ls place).clock (run_of (parts ls (map f fs)))
-begins-of f law ls [] place n e s h agrees reached t = absurd (omega arith)
-begins-of f law ls (x ∷ xs) place n e s h agrees reached t =
+begins-of f law ls [] place n e s h reached t = absurd (omega arith)
+begins-of f law ls (x ∷ xs) place n e s h reached t =
     (begins-at (parts ls (map f (x ∷ xs))) (part (lane_at ls place) (f (get_or (x ∷ xs) place x))) (split-of f ls (x ∷ xs) place x e s) h
-    (sound-each (parts ls (map f (x ∷ xs))) agrees reached) (lawful-each f law ls (x ∷ xs)) t)
+    (sound-parts f ls (x ∷ xs) reached) (lawful-each f law ls (x ∷ xs)) t)
 
-pub packet-at-first : {F : Type 0} (f : F → Feed) (ls : List Lane) (fs : List F) (place : ℕ) → 1 ≤ length fs → length ls ≡ length fs → first_place ls ≡ Some place
-    → Agrees (parts ls (map f fs)) → HasReached (parts ls (map f fs)) → IsPacket (feed_of (parts ls (map f fs))).known → IsPacketAt (parts ls (map f fs)) place
-packet-at-first f ls [] place n e s agrees reached p = absurd (omega arith)
-packet-at-first f ls (x ∷ xs) place n e s agrees reached p =
-    let at = placed-split f ls (x ∷ xs) place new_lane x e s in
+pub packet-at-first : {F : Type 0} (f : F → Feed) (ls : List Lane) (fs : List F) (place : ℕ) → 1 ≤ length fs → length ls ≡ length fs → first_place (turns (parts ls (map f fs))) ≡ Some place
+    → IsPacket (feed_of (parts ls (map f fs))).known → IsPacketAt (parts ls (map f fs)) place
+packet-at-first f ls [] place n e s p = absurd (omega arith)
+packet-at-first f ls (x ∷ xs) place n e s p =
+    let at = placed-split f ls (x ∷ xs) place fresh_lane x e s in
     packet-at (parts ls (map f (x ∷ xs))) (part (lane_at ls place) (f (get_or (x ∷ xs) place x))) place at.0 at.1
-    (packet-known f ls (x ∷ xs) place x e s agrees reached p)
+    (subst IsPacket (feed-known f ls (x ∷ xs) place x e s p) p)
 
-pub passed-of : {F : Type 0} (f : F → Feed) → ((x : F) → IsFeed (f x)) → (ls ms : List Lane) (fs ys : List F) (place : ℕ) → 1 ≤ length fs → length ls ≡ length fs → first_place ls ≡ Some place
-    → IsNumbered (map f fs) → Agrees (parts ls (map f fs)) → HasReached (parts ls (map f fs)) → IsPacket (feed_of (parts ls (map f fs))).known
+pub passed-of : {F : Type 0} (f : F → Feed) → ((x : F) → IsFeed (f x)) → (ls ms : List Lane) (fs ys : List F) (place : ℕ) → 1 ≤ length fs → length ls ≡ length fs → first_place (turns (parts ls (map f fs))) ≡ Some place
+    → IsNumbered (map f fs) → HasReached (parts ls (map f fs)) → IsPacket (feed_of (parts ls (map f fs))).known
     → PassesAt (parts ls (map f fs)) place (parts ms (map f ys)) → Passed (parts ls (map f fs)) (parts ms (map f ys))
-passed-of f law ls ms [] ys place n e s numbered agrees reached p h = absurd (omega arith)
-passed-of f law ls ms (x ∷ xs) ys place n e s numbered agrees reached p h =
-    let at = placed-split f ls (x ∷ xs) place new_lane x e s in
+passed-of f law ls ms [] ys place n e s numbered reached p h = absurd (omega arith)
+passed-of f law ls ms (x ∷ xs) ys place n e s numbered reached p h =
+    let at = placed-split f ls (x ∷ xs) place fresh_lane x e s in
     passed-first (parts ls (map f (x ∷ xs))) (parts ms (map f ys)) (part (lane_at ls place) (f (get_or (x ∷ xs) place x))) place at.0 at.1 p h
-    (sound-each (parts ls (map f (x ∷ xs))) agrees reached) (lawful-each f law ls (x ∷ xs)) (numbered-from f ls (x ∷ xs) e numbered)
+    (sound-parts f ls (x ∷ xs) reached) (lawful-each f law ls (x ∷ xs)) (numbered-from f ls (x ∷ xs) e numbered)
 
 -- a pass keeps what each feed keeps
 pub passes-each : (place : ℕ) (ps qs : List Part) → PassesAt ps place qs → Each Kept ps qs
@@ -338,26 +341,11 @@ passes-each zero (p ∷ ps) (q ∷ qs) h = (h.0.keeps, subst (λ (xs : List Part
 passes-each (suc place) (p ∷ ps) (q ∷ qs) h = (subst (λ (w : Part). Kept p w) (sym h.0) (kept-itself p), passes-each place ps qs h.1)
 passes-each place ps qs h = grind arith
 
-pub packet-here : {F : Type 0} (f : F → Feed) (ls : List Lane) (fs : List F) (place : ℕ) (x : F) → x ≡ get_or fs place x → length ls ≡ length fs → first_place ls ≡ Some place
-    → Agrees (parts ls (map f fs)) → HasReached (parts ls (map f fs)) → IsPacket (feed_of (parts ls (map f fs))).known → IsPacket (f x).known
-packet-here {F} f ls fs place x is e s agrees reached p = subst (λ (w : F). IsPacket (f w).known) (sym is) (packet-known f ls fs place x e s agrees reached p)
+pub known-there : {F : Type 0} (f : F → Feed) (ls : List Lane) (fs : List F) (place : ℕ) (x : F) → x ≡ get_or fs place x → length ls ≡ length fs
+    → first_place (turns (parts ls (map f fs))) ≡ Some place → IsPacket (feed_of (parts ls (map f fs))).known → (feed_of (parts ls (map f fs))).known ≡ (f x).known
+known-there f ls fs place x is e s p = feed-known f ls fs place x e s p ∙ sym (ap (λ w. (f w).known) is)
 
-known_lane : (ps : List Part) (first : Part) → Split ps first → IsPacket (feed_of ps).known → (feed_of ps).known ≡ first.lane.head
-unfolding feed_of known_of
-known_lane ps first s p = rw (known-holds ps IsPacket (λ never. never) p).0 (ap head_by s.is_first)
-
--- The packet that comes next of all is that of the first lane.
-pub lane-known : {F : Type 0} (f : F → Feed) (ls : List Lane) (fs : List F) (place : ℕ) → 1 ≤ length fs → length ls ≡ length fs → first_place ls ≡ Some place
-    → IsPacket (feed_of (parts ls (map f fs))).known → (feed_of (parts ls (map f fs))).known ≡ (lane_at ls place).head
-lane-known f ls [] place n e s p = absurd (omega arith)
-lane-known f ls (x ∷ xs) place n e s p =
-    known_lane (parts ls (map f (x ∷ xs))) (part (lane_at ls place) (f (get_or (x ∷ xs) place x))) (split-of f ls (x ∷ xs) place x e s) p
-
-pub packet-lane : {F : Type 0} (f : F → Feed) (ls : List Lane) (fs : List F) (place : ℕ) → 1 ≤ length fs → length ls ≡ length fs → first_place ls ≡ Some place
-    → IsPacket (feed_of (parts ls (map f fs))).known → IsPacket (lane_at ls place).head
-packet-lane f ls fs place n e s p = subst IsPacket (lane-known f ls fs place n e s p) p
-
-pub frame-here : {F : Type 0} (f : F → Feed) (ls : List Lane) (fs : List F) (place : ℕ) (x : F) → x ≡ get_or fs place x → length ls ≡ length fs → first_place ls ≡ Some place
+pub frame-here : {F : Type 0} (f : F → Feed) (ls : List Lane) (fs : List F) (place : ℕ) (x : F) → x ≡ get_or fs place x → length ls ≡ length fs → first_place (turns (parts ls (map f fs))) ≡ Some place
     → (f x).frame ≡ (feed_of (parts ls (map f fs))).frame
 frame-here f ls fs place x is e s = ap (λ w. (f w).frame) is ∙ frame-of f ls fs place x e s
 
@@ -381,7 +369,7 @@ at_first_from : (clock : Option Stamp) (p : Part) → has_next p.lane.head ≡ t
 at_first_from clock p n h = grind arith
 
 -- what isn't above the clocks of all items to come isn't above that of the first
-pub not-below-first : {F : Type 0} (f : F → Feed) (ls : List Lane) (fs : List F) (place : ℕ) → 1 ≤ length fs → length ls ≡ length fs → first_place ls ≡ Some place
+pub not-below-first : {F : Type 0} (f : F → Feed) (ls : List Lane) (fs : List F) (place : ℕ) → 1 ≤ length fs → length ls ≡ length fs → first_place (turns (parts ls (map f fs))) ≡ Some place
     → (clock : Option Stamp) → ClocksFrom clock (parts ls (map f fs)) → AtMost clock (lane_at ls place).clock
 not-below-first f ls [] place n e s clock h = absurd (omega arith)
 not-below-first f ls (x ∷ xs) place n e s clock h =

@@ -1,5 +1,4 @@
 -- What asking all feeds, and passing the first packet, does to the feeds as one.
-use Rattle.cap_merge.specs.declared.lanes.Lane.{Lane}
 use Rattle.std.proofs.Common.{◌≡◌, ℕ, Bool, true, false, cond, List, [], ◌∷◌, refl, sym, ap, ◌∙◌, subst, inl, inr, Option, Some, None, Result, Ok, Err, arith}
 use Rattle.std.specs.Prelude.{◌||◌, ◌&&◌, ◌==◌, IsTrue, IfSome, is_some}
 use Rattle.std.specs.List.{AllByRecursion, list_any, flat_map}
@@ -12,7 +11,7 @@ use Rattle.cap_source.specs.declared.feeds.Head.TheVariants as heads
 use Rattle.cap_source.specs.Feed.{IsFeed, SameItems, Knows, Breaks, Waits, GivesHead, KeepsItems}
 use Rattle.cap_merge.specs.Lists.{and-both, and-none, any-back, any-front, or-back}
 use Rattle.cap_time.specs.Clock.{later}
-use Rattle.cap_merge.specs.Parts.{Part, head_time, has_file, is_known, known_of, head_by, first_of, feed_of, ClocksFrom}
+use Rattle.cap_merge.specs.Parts.{Part, LaneState, head_time, has_file, is_known, known_of, head_by, first_of, feed_of, ClocksFrom}
 use Rattle.cap_merge.specs.Merge.{LearnsBy, Stops, LearnsAll, StopsAt, AsksAll}
 use Rattle.cap_merge.specs.Clocks.{AtMost, at_most-trans, later-first}
 use Rattle.cap_merge.specs.Sound.{IsSound, AreFrom}
@@ -189,4 +188,4 @@ clocks-asked ps qs (Ok x) a f clock = λ h. each-from clock qs
     (from_all clock ps qs (learns-each (λ p q. From clock p → From clock q) (λ p q _. from_learns clock p q p.lane.head refl) ps qs f a) (from-each clock ps h))
 clocks-asked ps qs (Err fault) a f clock = λ h. each-from clock qs
     (from_all clock ps qs (stops-each (λ p q. From clock p → From clock q) fault (λ p g. g) (λ p q _. from_learns clock p q p.lane.head refl)
-    (λ p q s. subst (λ (w : Lane). From clock p → From clock (record { lane = w; feed = q.feed })) (sym s.lane) (λ g. g)) ps qs f a) (from-each clock ps h))
+    (λ p q s. subst (λ (w : LaneState). From clock p → From clock (record { lane = w; feed = q.feed })) (sym s.lane) (λ g. g)) ps qs f a) (from-each clock ps h))

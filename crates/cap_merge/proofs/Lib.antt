@@ -9,6 +9,7 @@ pub mod Finding
 pub mod Others
 pub mod Calls
 pub mod Firsts
+pub mod Looking
 pub mod RunLaws
 pub mod Rounds
 pub mod FromClock

@@ -7,9 +7,8 @@ use Rattle.cap_bytes.specs.declared.faults.Fault.{Fault}
 use Rattle.cap_source.specs.Feed.{Feed, IsPacket}
 use Rattle.cap_merge.specs.Lists.{and-both}
 use Rattle.cap_merge.specs.declared.lanes.Lane.{Lane}
-use Rattle.cap_merge.specs.Parts.{Part, parts, is_known, known_but, OthersKnown, feed_of}
+use Rattle.cap_merge.specs.Parts.{Part, part, parts, is_known, known_but, OthersKnown, feed_of}
 use Rattle.cap_merge.specs.Merge.{LearnsAll, Asks, AsksAll, PassesAt}
-use Rattle.cap_merge.proofs.Asking.{part}
 use Rattle.cap_merge.proofs.Firsts.{known-holds}
 
 known_behind : (p : Part) (ps : List Part) → is_known (p ∷ ps) ≡ true → (is_some p.lane.head ≡ true) × (is_known ps ≡ true)

@@ -10,11 +10,10 @@ use Rattle.cap_source.specs.declared.feeds.Head.TheVariants as heads
 use Rattle.cap_source.specs.declared.packets.Meta.{Meta}
 use Rattle.cap_source.specs.Feed.{packet, IsFeed, Keeps, Passes, IfPacket}
 use Rattle.cap_merge.specs.Lists.{All-both, all-back, all-each, and-none}
-use Rattle.cap_merge.specs.declared.lanes.Lane.{Lane}
 use Rattle.cap_time.specs.Clock.{clock_cmp}
 use Rattle.cap_merge.specs.Run.{run}
 use Rattle.cap_merge.specs.First.{has_next}
-use Rattle.cap_merge.specs.Parts.{Part, item_time, is_refusal, has_file, is_known, known_of, head_by, first_of, tracks, run_of, endings_of, places_of, left_of, most_of, held_of, feed_of}
+use Rattle.cap_merge.specs.Parts.{Part, LaneState, item_time, is_refusal, has_file, is_known, known_of, head_by, first_of, tracks, run_of, endings_of, places_of, left_of, most_of, held_of, feed_of}
 use Rattle.cap_merge.specs.Merge.{PassesPart}
 use Rattle.cap_merge.specs.Clocks.{AtMost, at_most-itself}
 use Rattle.cap_merge.specs.Leading.{Split}
@@ -38,7 +37,7 @@ no_time a = grind arith
 
 unknown_sound : (p q : Part) → PassesPart p q → IsSound q
 unknown_sound p q h =
-    subst (λ (w : Lane). IsSound (record { lane = w; feed = q.feed })) (sym h.lane) (record { agrees = tt; reached = no_time p.lane.clock })
+    subst (λ (w : LaneState). IsSound (record { lane = w; feed = q.feed })) (sym h.lane) (record { agrees = tt; reached = no_time p.lane.clock })
 
 pub passed-sound : (before after : List Part) (p q : Part) → PassesPart p q → AllByRecursion IsSound (before ++ (p ∷ after)) → AllByRecursion IsSound (before ++ (q ∷ after))
 passed-sound before after p q h s =
@@ -162,5 +161,5 @@ clocks-first ps p s k =
 
 pub clocks-passed : (before after : List Part) (p q : Part) → PassesPart p q → EachFrom p.lane.clock (before ++ (p ∷ after)) → EachFrom p.lane.clock (before ++ (q ∷ after))
 clocks-passed [] after p q h f =
-    (inr (subst (λ (w : Lane). AtMost p.lane.clock w.clock) (sym h.lane) (at_most-itself p.lane.clock)), f.1)
+    (inr (subst (λ (w : LaneState). AtMost p.lane.clock w.clock) (sym h.lane) (at_most-itself p.lane.clock)), f.1)
 clocks-passed (x ∷ before) after p q h f = (f.0, clocks-passed before after p q h f.1)

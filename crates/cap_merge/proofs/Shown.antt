@@ -1,8 +1,9 @@
 -- What comes next of a feed, as the items to come have it.
 use Rattle.std.proofs.Common.{arith, ◌≡◌, IsTrue, Some, None, Ok, Err}
+use Rattle.cap_bytes.specs.declared.faults.Fault.{Fault}
 use Rattle.cap_bytes.specs.declared.faults.Fault.TheVariants.{Refused}
 use Rattle.cap_bytes.specs.declared.faults.Refusal.{Refusal}
-use Rattle.cap_source.specs.Feed.{Feed, SameItems, IsFeed}
+use Rattle.cap_source.specs.Feed.{Feed, SameItems, FindsPacket, FindsItem, IsFeed}
 use Rattle.cap_source.specs.Walk.{ShowsItem}
 use Rattle.cap_source.specs.declared.feeds.Head.TheVariants as heads
 use Rattle.cap_source.specs.declared.packets.Meta.{Meta}
@@ -18,3 +19,8 @@ shows-refused old new r law t known same = grind arith
 
 pub shows-end : (old new : Feed) → IsFeed new → IsTrue new.told → new.known ≡ Some heads.End → SameItems old new → ShowsItem old (Ok None) new
 shows-end old new law t known same = grind arith
+
+pub shows-fault : (old new : Feed) (fault : Fault) → IsFeed new → IsTrue new.told → FindsPacket old (Err fault) new → FindsItem old (Err fault) new
+    → ShowsItem old (Err fault) new
+shows-fault old new (Refused r) law t answer same = shows-refused old new r law t answer.known same
+shows-fault old new fault law t answer same = grind arith

@@ -1,53 +1,83 @@
 -- Which lane's item comes first: that of the least clock, of equal ones the first.
-use Rattle.std.specs.Prelude.{◌≡◌, ℕ, zero, suc, Bool, true, false, List, length, get_or, Option, Some, None, ◌&&◌, is_some, if◌then◌else◌}
+use Rattle.std.specs.Prelude.{◌≡◌, ℕ, zero, suc, Bool, true, false, List, length, map, get_or, Option, Some, None, ◌&&◌, is_some, if◌then◌else◌}
 use Rattle.std.specs.Coded.{Coded-set, coded_ℕ, coded_option}
 use Rattle.std.specs.Ordering.{is_lt}
+use Rattle.cap_time.specs.declared.stamps.Stamp.{Stamp}
 use Rattle.cap_source.specs.declared.feeds.Head.{Head}
 use Rattle.cap_source.specs.declared.feeds.Head.TheVariants as heads
-use Rattle.cap_merge.specs.declared.lanes.First.{First}
+use Rattle.cap_merge.specs.declared.lanes.Coming.{Coming}
+use Rattle.cap_merge.specs.declared.lanes.Coming.TheVariants.{Packet, Refused, End}
 use Rattle.cap_merge.specs.declared.lanes.Lane.{Lane}
 use Rattle.cap_time.specs.Clock.{clock_cmp}
 
--- a lane of which nothing is known
-abbrev pub new_lane : Lane
-new_lane = record { clock = None; head = None }
+-- what a lane says of what its feed knows to come next
+abbrev pub coming_of : Option Head → Option Coming
+coming_of None = None
+coming_of (Some (heads.Packet meta)) = Some Packet
+coming_of (Some (heads.Refused refusal)) = Some (Refused refusal)
+coming_of (Some heads.End) = Some End
+
+-- an item is known to come next, by what a lane says
+abbrev pub has_item : Option Coming → Bool
+has_item None = false
+has_item (Some Packet) = true
+has_item (Some (Refused refusal)) = true
+has_item (Some End) = false
 
 -- an item is known to come next
 abbrev pub has_next : Option Head → Bool
-has_next None = false
-has_next (Some (heads.Packet meta)) = true
-has_next (Some (heads.Refused refusal)) = true
-has_next (Some heads.End) = false
+has_next head = has_item (coming_of head)
 
+-- a lane of which nothing is known
+abbrev pub fresh_lane : Lane
+fresh_lane = record { clock = None; next = None }
+
+-- the lane at a place
 abbrev pub lane_at : List Lane → ℕ → Lane
-lane_at lanes place = get_or lanes place new_lane
+lane_at lanes place = get_or lanes place fresh_lane
 
--- a lane's item comes before that of an earlier lane: of equal clocks the earlier lane's is first
-abbrev pub comes_before : Lane → Lane → Bool
-comes_before lane first = has_next lane.head && is_lt (clock_cmp lane.clock first.clock)
+-- What says which of several is first: whether an item is known to come next, and the clock that was reached.
+pub record Turn : Type 0 where
+  pub has_item : Bool
+  pub clock : Option Stamp
 
--- of the first so far and one more lane after it, the place of the first
-abbrev pub sooner_place : List Lane → Option ℕ → ℕ → Option ℕ
-sooner_place lanes None place = if has_next (lane_at lanes place).head then Some place else None
-sooner_place lanes (Some first) place = if comes_before (lane_at lanes place) (lane_at lanes first) then Some place else Some first
+-- the turn of a lane
+abbrev pub lane_turn : Lane → Turn
+lane_turn lane = record { has_item = has_item lane.next; clock = lane.clock }
 
--- the place of the first of that many lanes
-unfoldable pub first_among : List Lane → ℕ → Option ℕ
-first_among lanes zero = None
-first_among lanes (suc count) = sooner_place lanes (first_among lanes count) count
+-- the turns of some lanes
+abbrev pub lane_turns : List Lane → List Turn
+lane_turns lanes = map lane_turn lanes
 
--- the place of the first of all lanes
-abbrev pub first_place : List Lane → Option ℕ
-first_place lanes = first_among lanes (length lanes)
+-- a turn of which nothing is known
+abbrev pub no_turn : Turn
+no_turn = record { has_item = false; clock = None }
 
--- a place, with the clock of the lane there
-abbrev pub first_at : List Lane → Option ℕ → Option First
-first_at lanes None = None
-first_at lanes (Some place) = Some (record { place = place; clock = (lane_at lanes place).clock })
+-- the turn at a place
+abbrev pub turn_at : List Turn → ℕ → Turn
+turn_at turns place = get_or turns place no_turn
+
+-- an item comes before that of an earlier turn: of equal clocks the earlier one is first
+abbrev pub comes_before : Turn → Turn → Bool
+comes_before turn first = turn.has_item && is_lt (clock_cmp turn.clock first.clock)
+
+-- of the first so far and one more after it, the place of the first
+abbrev pub sooner_place : List Turn → Option ℕ → ℕ → Option ℕ
+sooner_place turns None place = if (turn_at turns place).has_item then Some place else None
+sooner_place turns (Some first) place = if comes_before (turn_at turns place) (turn_at turns first) then Some place else Some first
+
+-- the place of the first of that many
+unfoldable pub first_among : List Turn → ℕ → Option ℕ
+first_among turns zero = None
+first_among turns (suc count) = sooner_place turns (first_among turns count) count
+
+-- the place of the first of all
+abbrev pub first_place : List Turn → Option ℕ
+first_place turns = first_among turns (length turns)
 
 -- The place that is known, if there is one, is that of the first.
 abbrev pub IsFound : List Lane → Option ℕ → Type 0
-IsFound lanes known = (if is_some known then first_place lanes else None) ≡ known
+IsFound lanes known = (if is_some known then first_place (lane_turns lanes) else None) ≡ known
 
 pub IsFound-prop : (lanes : List Lane) (known : Option ℕ) → IsProp (IsFound lanes known)
 IsFound-prop lanes known = Coded-set (coded_option coded_ℕ) _ _

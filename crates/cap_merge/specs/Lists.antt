@@ -24,17 +24,6 @@ pub all-back : {A : Type 0} (P : A → Type 0) (xs ys : List A) → AllByRecursi
 all-back P [] ys f = f
 all-back P (x ∷ xs) ys f = all-back P xs ys f.1
 
-pub mapped-alike : {A B : Type 0} (f g : A → B) (xs : List A) → map f xs ≡ map g xs → AllByRecursion (λ x. f x ≡ g x) xs
-mapped-alike f g [] e = tt
-mapped-alike f g (x ∷ xs) e =
-    let first : f x ≡ g x = cc in
-    let rest : map f xs ≡ map g xs = cc in
-    (first, mapped-alike f g xs rest)
-
-pub alike-mapped : {A B : Type 0} (f g : A → B) (xs : List A) → AllByRecursion (λ x. f x ≡ g x) xs → map f xs ≡ map g xs
-alike-mapped f g [] h = refl
-alike-mapped f g (x ∷ xs) h = λ i. h.0 i ∷ alike-mapped f g xs h.1 i
-
 pub and-both : (a b : Bool) → (a && b) ≡ true → (a ≡ true) × (b ≡ true)
 and-both a b e = grind arith
 

@@ -1,14 +1,23 @@
 -- What asking the feeds of a merge does to them.
-use Rattle.std.specs.Prelude.{◌≡◌, true, ⊤, ℕ, zero, suc, IsTrue, List, [], ◌∷◌, Option, Some, None, ◌⊎◌, Result, Ok, Err}
+use Rattle.std.specs.Prelude.{◌≡◌, true, ⊤, ℕ, zero, suc, IsTrue, List, [], ◌∷◌, Option, Some, None, ◌⊎◌, Result, Ok, Err, is_ok}
 use Rattle.cap_bytes.specs.declared.faults.Fault.{Fault}
+use Rattle.cap_bytes.specs.declared.faults.Fault.TheVariants.{Refused, Read, Write, Memory}
 use Rattle.cap_source.specs.declared.feeds.Head.{Head}
 use Rattle.cap_source.specs.Feed.{Keeps, SameItems, Knows, GivesHead, KeepsItems, Passes, IsPacket}
+use Rattle.cap_merge.specs.declared.lanes.Coming.TheVariants as comings
 use Rattle.cap_merge.specs.declared.lanes.Lane.{Lane}
 use Rattle.cap_time.specs.Clock.{later}
-use Rattle.cap_merge.specs.Parts.{Part, head_time, is_bounded, passed_lane}
+use Rattle.cap_merge.specs.Parts.{Part, LaneState, head_time, is_bounded, passed_lane}
 
--- a lane that has learned what comes next
-abbrev pub learned : Lane → Head → Lane
+-- What a lane does with a fault of its feed: a refusal is what comes next, another fault is answered.
+abbrev pub Answers : {T : Type 0} → Lane → Fault → Result T Fault → Lane → Type 0
+Answers old (Refused refusal) result new = (is_ok result ≡ true) × (new ≡ record { clock = old.clock; next = Some (comings.Refused refusal) })
+Answers old (Read file offset) result new = (result ≡ Err (Read file offset)) × (new ≡ old)
+Answers old Write result new = (result ≡ Err Write) × (new ≡ old)
+Answers old Memory result new = (result ≡ Err Memory) × (new ≡ old)
+
+-- what is known of a feed that has told what comes next
+abbrev pub learned : LaneState → Head → LaneState
 learned lane head = record { clock = later lane.clock (head_time head); head = Some head }
 
 -- What comes next of a feed is asked for, and is known then.
@@ -54,6 +63,14 @@ StopsAt fault (p ∷ ps) (q ∷ qs) = (Stops p fault q × (qs ≡ ps)) ⊎ (Lear
 abbrev pub AsksAll : {T : Type 0} → List Part → Result T Fault → List Part → Type 0
 AsksAll ps (Ok x) qs = LearnsAll ps qs
 AsksAll ps (Err fault) qs = StopsAt fault ps qs
+
+-- The same of a call that answers a refusal as a fault, once all feeds were asked.
+abbrev pub LooksAll : {T : Type 0} → List Part → Result T Fault → List Part → Type 0
+LooksAll ps (Ok x) qs = LearnsAll ps qs
+LooksAll ps (Err (Refused refusal)) qs = LearnsAll ps qs
+LooksAll ps (Err (Read file offset)) qs = StopsAt (Read file offset) ps qs
+LooksAll ps (Err Write) qs = ⊥
+LooksAll ps (Err Memory) qs = StopsAt Memory ps qs
 
 -- The packet of a part is passed: its feed drops it, and nothing more is known.
 pub record PassesPart (p q : Part) : Type 0 where

@@ -2,13 +2,13 @@
 use Rattle.std.specs.Prelude.{◌≡◌, List, length, map}
 use Rattle.cap_source.specs.Feed.{Feed, IsFeed}
 use Rattle.cap_merge.specs.declared.lanes.Lane.{Lane}
-use Rattle.cap_merge.specs.Parts.{parts, IsNumbered, Agrees, HasReached, feed_of}
-use Rattle.cap_merge.specs.Sound.{sound-each, lawful-each, numbered-from}
+use Rattle.cap_merge.specs.Parts.{parts, IsNumbered, HasReached, feed_of}
+use Rattle.cap_merge.specs.Sound.{sound-parts, lawful-each, numbered-from}
 use Rattle.cap_merge.specs.Lawful.{merged-lawful}
 
 pub merged-is-feed : {F : Type 0} (f : F → Feed) → ((x : F) → IsFeed (f x)) → (ls : List Lane) (fs : List F)
-    → length ls ≡ length fs → IsNumbered (map f fs) → Agrees (parts ls (map f fs)) → HasReached (parts ls (map f fs))
+    → length ls ≡ length fs → IsNumbered (map f fs) → HasReached (parts ls (map f fs))
     → IsFeed (feed_of (parts ls (map f fs)))
-merged-is-feed f law ls fs alike numbered agrees reached =
+merged-is-feed f law ls fs alike numbered reached =
     merged-lawful (parts ls (map f fs)) (numbered-from f ls fs alike numbered)
-    (sound-each (parts ls (map f fs)) agrees reached) (lawful-each f law ls fs)
+    (sound-parts f ls fs reached) (lawful-each f law ls fs)

@@ -16,7 +16,7 @@ use Rattle.cap_source.specs.Feed.{Item, packet, refused, Feed}
 use Rattle.cap_source.specs.Times.{meta_time}
 use Rattle.cap_merge.specs.declared.lanes.Lane.{Lane}
 use Rattle.cap_time.specs.Clock.{clock_cmp}
-use Rattle.cap_merge.specs.First.{new_lane, first_place}
+use Rattle.cap_merge.specs.First.{Turn, coming_of, has_next, first_place}
 use Rattle.cap_merge.specs.Run.{Track, Clocked, run}
 
 abbrev pub head_time : Head → Option Stamp
@@ -32,24 +32,38 @@ abbrev pub is_refusal : Item → Bool
 is_refusal (packet meta frame) = false
 is_refusal (refused refusal) = true
 
+-- What is known of a feed: the clock that it has reached, by the packets that were passed and by the packet that is known to come
+-- next, and what comes next, once that was asked for.
+pub record LaneState : Type 0 where
+  pub clock : Option Stamp
+  pub head : Option Head
+
 -- A feed, and what is known of it.
 pub record Part : Type 0 where
-  pub lane : Lane
+  pub lane : LaneState
   pub feed : Feed
+
+-- a feed with its lane: what comes next is what the feed knows, once the lane says that it does
+abbrev pub part : Lane → Feed → Part
+part lane feed = record { lane = record { clock = lane.clock; head = if is_some lane.next then feed.known else None }; feed = feed }
 
 -- each feed with its lane
 abbrev pub parts : List Lane → List Feed → List Part
 parts [] feeds = []
 parts (l ∷ ls) [] = []
-parts (l ∷ ls) (f ∷ fs) = record { lane = l; feed = f } ∷ parts ls fs
+parts (l ∷ ls) (f ∷ fs) = part l f ∷ parts ls fs
 
 -- Feed i is of file i alone, from 1.
 abbrev pub IsNumbered : List Feed → Type 0
 IsNumbered feeds = map (λ f. f.files) feeds ≡ map (λ n. n ∷ []) (range_with_len 1 (length feeds))
 
--- what is known of a feed is what it knows
-abbrev pub Agrees : List Part → Type 0
-Agrees ps = map (λ p. if is_some p.lane.head then p.feed.known else None) ps ≡ map (λ p. p.lane.head) ps
+-- What a lane says comes next is what its feed knows.
+abbrev pub Matches : Lane → Feed → Type 0
+Matches lane feed = coming_of (part lane feed).lane.head ≡ lane.next
+
+-- What each lane says comes next is what its feed knows.
+abbrev pub Agrees : List Lane → List Feed → Type 0
+Agrees lanes feeds = map (λ p. coming_of p.lane.head) (parts lanes feeds) ≡ map (λ l. l.next) lanes
 
 -- the time of what is known to come next
 abbrev pub known_time : Option Head → Option Stamp
@@ -76,13 +90,17 @@ is_end (Some (heads.Packet meta)) = false
 is_end (Some (heads.Refused refusal)) = false
 is_end (Some heads.End) = true
 
--- the lane of each part
-abbrev pub lanes : List Part → List Lane
-lanes ps = map (λ p. p.lane) ps
+-- the turn of a part
+abbrev pub turn : Part → Turn
+turn p = record { has_item = has_next p.lane.head; clock = p.lane.clock }
 
--- the part whose item comes first: that of the first lane
+-- the turns of some parts
+abbrev pub turns : List Part → List Turn
+turns ps = map turn ps
+
+-- the part whose item comes first
 unfoldable pub first_of : List Part → Option Part
-first_of ps = option_and_then (slice_get ps) (first_place (lanes ps))
+first_of ps = option_and_then (slice_get ps) (first_place (turns ps))
 
 abbrev pub is_known : List Part → Bool
 is_known ps = list_all (λ p. is_some p.lane.head) ps
@@ -212,9 +230,13 @@ abbrev pub BeginsAt : Option Stamp → List (Clocked Item) → Type 0
 BeginsAt clock [] = ⊥
 BeginsAt clock (x ∷ xs) = x.clock ≡ clock
 
--- a lane after the packet that was passed
-abbrev pub passed_lane : Lane → Lane
+-- what is known after a packet was passed
+abbrev pub passed_lane : LaneState → LaneState
 passed_lane lane = record { clock = lane.clock; head = None }
+
+-- nothing is known of a feed
+abbrev pub new_lane : LaneState
+new_lane = record { clock = None; head = None }
 
 -- feeds of which nothing is known
 abbrev pub new_parts : List Feed → List Part

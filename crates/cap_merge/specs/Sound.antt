@@ -6,46 +6,37 @@ use Rattle.std.specs.Ordering.{is_lt}
 use Rattle.std.proofs.lemmas.List.{length-map}
 use Rattle.cap_source.specs.declared.feeds.Head.{Head}
 use Rattle.cap_source.specs.Feed.{Feed, IsFeed}
-use Rattle.cap_merge.specs.Lists.{alike-mapped, all-each, each-all, mapped-alike}
+use Rattle.cap_merge.specs.Lists.{all-each, each-all}
 use Rattle.cap_merge.specs.declared.lanes.Lane.{Lane}
 use Rattle.cap_time.specs.Clock.{clock_cmp}
-use Rattle.cap_merge.specs.Parts.{Part, parts, IsNumbered, Agrees, HasReached, known_time}
+use Rattle.cap_merge.specs.Parts.{Part, part, parts, IsNumbered, HasReached, known_time}
 
 -- What is known of a part is what its feed knows, and its clock was reached.
 pub record IsSound (p : Part) : Type 0 where
   pub agrees : IfSome p.lane.head (λ head. p.feed.known ≡ Some head)
   pub reached : is_lt (clock_cmp p.lane.clock (known_time p.lane.head)) ≡ false
 
-agreed : (h k : Option Head) → cond (is_some h) k None ≡ h → IfSome h (λ head. k ≡ Some head)
-agreed h k e = grind arith
-
-agreed-back : (h k : Option Head) → IfSome h (λ head. k ≡ Some head) → cond (is_some h) k None ≡ h
-agreed-back h k e = grind arith
-
 not-true : (b : Bool) → not b ≡ true → b ≡ false
 not-true b e = grind arith
 
-both_each : (ps : List Part) → AllByRecursion (λ p. cond (is_some p.lane.head) p.feed.known None ≡ p.lane.head) ps
-    → AllByRecursion (λ p. not (is_lt (clock_cmp p.lane.clock (known_time p.lane.head))) ≡ true) ps → AllByRecursion IsSound ps
-both_each [] f g = tt
-both_each (p ∷ ps) f g =
-    (record { agrees = agreed p.lane.head p.feed.known f.0; reached = not-true (is_lt (clock_cmp p.lane.clock (known_time p.lane.head))) g.0 }, both_each ps f.1 g.1)
+agreed : (b : Bool) (k : Option Head) → IfSome (cond b k None) (λ head. k ≡ Some head)
+agreed b k = grind arith
 
-pub sound-each : (ps : List Part) → Agrees ps → HasReached ps → AllByRecursion IsSound ps
-sound-each ps a r =
-    both_each ps (mapped-alike (λ p. cond (is_some p.lane.head) p.feed.known None) (λ p. p.lane.head) ps a)
-    (all-each (λ p. not (is_lt (clock_cmp p.lane.clock (known_time p.lane.head)))) ps r)
+sound_each : (ls : List Lane) (fs : List Feed) → AllByRecursion (λ p. not (is_lt (clock_cmp p.lane.clock (known_time p.lane.head))) ≡ true) (parts ls fs)
+    → AllByRecursion IsSound (parts ls fs)
+sound_each [] fs r = tt
+sound_each (l ∷ ls) [] r = tt
+sound_each (l ∷ ls) (f ∷ fs) r =
+    (record { agrees = agreed (is_some l.next) f.known; reached = not-true (is_lt (clock_cmp l.clock (known_time (part l f).lane.head))) r.0 }, sound_each ls fs r.1)
 
-agrees_each : (ps : List Part) → AllByRecursion IsSound ps → AllByRecursion (λ p. cond (is_some p.lane.head) p.feed.known None ≡ p.lane.head) ps
-agrees_each [] f = tt
-agrees_each (p ∷ ps) f = (agreed-back p.lane.head p.feed.known f.0.agrees, agrees_each ps f.1)
+-- lanes with their feeds are sound
+pub sound-parts : {F : Type 0} (f : F → Feed) (ls : List Lane) (fs : List F) → HasReached (parts ls (map f fs)) → AllByRecursion IsSound (parts ls (map f fs))
+sound-parts f ls fs r =
+    sound_each ls (map f fs) (all-each (λ p. not (is_lt (clock_cmp p.lane.clock (known_time p.lane.head)))) (parts ls (map f fs)) r)
 
 reached_each : (ps : List Part) → AllByRecursion IsSound ps → AllByRecursion (λ p. not (is_lt (clock_cmp p.lane.clock (known_time p.lane.head))) ≡ true) ps
 reached_each [] f = tt
 reached_each (p ∷ ps) f = (ap not f.0.reached, reached_each ps f.1)
-
-pub each-agrees : (ps : List Part) → AllByRecursion IsSound ps → Agrees ps
-each-agrees ps f = alike-mapped (λ p. cond (is_some p.lane.head) p.feed.known None) (λ p. p.lane.head) ps (agrees_each ps f)
 
 pub each-reached : (ps : List Part) → AllByRecursion IsSound ps → HasReached ps
 each-reached ps f = each-all (λ p. not (is_lt (clock_cmp p.lane.clock (known_time p.lane.head)))) ps (reached_each ps f)

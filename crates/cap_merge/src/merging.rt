@@ -1,20 +1,20 @@
 //! Several feeds as one.
-ghost use Rattle.std.specs.Prelude.{◌≡◌, ◌≤◌, ◌<ℤ◌, ◌^◌, pos, length, map, drop, vec_len, true, false, IsTrue, Some, Option, IfSome};
+ghost use Rattle.std.specs.Prelude.{◌≡◌, ◌<◌, ◌≤◌, ◌<ℤ◌, ◌^◌, pos, length, map, drop, vec_len, true, false, IsTrue, Some, Option, IfSome, IfOk};
 ghost use Rattle.std.specs.List.{range_with_len};
 ghost use Rattle.std.specs.Ordering.{is_gt};
 ghost use Rattle.cap_time.specs.declared.stamps.Stamp.{Stamp};
 ghost use Rattle.cap_time.specs.Stamp.{seconds_of};
 ghost use Rattle.cap_time.specs.Clock.{clock_cmp};
 ghost use Rattle.cap_source.specs.declared.feeds.Head.{Head};
-ghost use Rattle.cap_source.specs.Feed.{GivesHead, Keeps, KeepsItems, Passes, IsPacket, HasFile, IsFeed};
+ghost use Rattle.cap_source.specs.Feed.{GivesHead, Keeps, KeepsItems, FindsPacket, FindsItem, Passes, IsPacket, HasFile, IsFeed};
 ghost use Rattle.cap_merge.specs.Run.{opened, run};
-ghost use Rattle.cap_merge.specs.Parts.{item_time, is_refusal, parts, IsNumbered, Agrees, HasReached, AreBounded, feed_of, new_parts, clock_of, run_of, OthersKnown, ClocksFrom, MovesClocks, KeepsRun, BeginsAt};
-ghost use Rattle.cap_merge.specs.First.{has_next, IsFound, IsFound-prop};
-ghost use Rattle.cap_merge.specs.Merge.{AsksAll};
+ghost use Rattle.cap_merge.specs.Parts.{item_time, is_refusal, parts, IsNumbered, Agrees, HasReached, AreBounded, feed_of, new_parts, clock_of, run_of, OthersKnown, ClocksFrom, MovesClocks, KeepsRun, ShowsRun, BeginsAt, turns};
+ghost use Rattle.cap_merge.specs.First.{coming_of, has_next, first_place, IsFound, IsFound-prop};
+ghost use Rattle.cap_merge.specs.Merge.{AsksAll, LooksAll};
 ghost use Rattle.cap_merge.specs.PartsProps.{IsNumbered-prop, Agrees-prop, HasReached-prop, AreBounded-prop, OthersKnown-prop};
 
 use crate::lanes::{
-    Lane, ask_all, first_lane, first_of, found, greater, head_of, new_lanes, packet_at, pass_first,
+    Coming, Lane, ask_all, clock_at, coming_at, first_lane, found, greater, new_lanes, pass_first,
 };
 use arrayvec::ArrayVec;
 use cap_bytes::Fault;
@@ -35,7 +35,7 @@ pub struct Merged<F: PacketFeed> {
     ghost some: { 1 ≤ length feeds.items },
     ghost most: { length feeds.items ≤ 32 },
     ghost numbered: { IsNumbered (map F.feed feeds.items) } by { IsNumbered-prop (map F.feed feeds.items) },
-    ghost agrees: { Agrees (parts lanes.items (map F.feed feeds.items)) } by { Agrees-prop (parts lanes.items (map F.feed feeds.items)) },
+    ghost agrees: { Agrees lanes.items (map F.feed feeds.items) } by { Agrees-prop lanes.items (map F.feed feeds.items) },
     ghost reached: { HasReached (parts lanes.items (map F.feed feeds.items)) } by { HasReached-prop (parts lanes.items (map F.feed feeds.items)) },
     ghost bounded: { AreBounded (parts lanes.items (map F.feed feeds.items)) } by { AreBounded-prop (parts lanes.items (map F.feed feeds.items)) },
     ghost found: { IsFound lanes.items first } by { IsFound-prop lanes.items first },
@@ -72,17 +72,6 @@ impl<F: PacketFeed> Merged<F> {
         self.feeds.len() as u32
     }
 
-    /// The packet that is known to come next, without its bytes: what `head` answered, and not a copy of it.
-    pub fn packet(&self) -> &Meta
-        requires { IsPacket (feed_of (parts_of self.now)).known }
-        ensures { (feed_of (parts_of self.now)).known ≡ Some (Head.Packet result.now) }
-    {
-        match found(self.lanes.as_slice(), self.first) {
-            Some(place) => packet_at(self.lanes.as_slice(), place),
-            None => unreachable!(),
-        }
-    }
-
     /// The clock of what comes next: the greatest time of the packets of its file up to it, and none
     /// if there is no such time. Its seconds are below 2^65.
     pub fn clock(&self) -> Option<Stamp>
@@ -95,10 +84,33 @@ impl<F: PacketFeed> Merged<F> {
         ensures run { IsTrue (feed_of (parts_of self.now)).told
             → BeginsAt result (run_of (parts_of self.now)) }
     {
-        match first_of(self.lanes.as_slice(), self.first) {
-            Some(first) => first.clock,
+        match self.first_place() {
+            Some(place) => clock_at(self.lanes.as_slice(), place),
             None => unreachable!(),
         }
+    }
+
+    // The place of the feed whose item comes first.
+    #[inline(always)]
+    fn first_place(&self) -> Option<usize>
+        ensures place { result ≡ first_place (turns (parts_of self.now)) }
+        ensures within { IfSome result (λ n. n < length self.now.feeds.items) }
+    {
+        found(self.lanes.as_slice(), self.first)
+    }
+
+    // Asks each feed what comes next, unless that is known, and finds whose item comes first.
+    #[inline(always)]
+    fn look(&mut self) -> Result<Coming, Fault>
+        ensures asks { AsksAll (parts_of self.old) result (parts_of self.new) }
+        ensures next { IfOk result (λ coming. coming_of (feed_of (parts_of self.new)).known ≡ Some coming) }
+    {
+        let passed = self.passed;
+        self.first = None;
+        self.passed = None;
+        ask_all(&mut self.lanes, &mut self.feeds, passed)?;
+        self.first = first_lane(self.lanes.as_slice());
+        Ok(coming_at(self.lanes.as_slice(), self.first))
     }
 }
 
@@ -108,7 +120,7 @@ impl<F: PacketFeed> PacketFeed for Merged<F> {
 
     ghost feed = { λ m. feed_of (parts_of m) };
 
-    ghost lawful = { λ m. merged-is-feed F.feed F.lawful m.lanes.items m.feeds.items m.alike m.numbered m.agrees m.reached };
+    ghost lawful = { λ m. merged-is-feed F.feed F.lawful m.lanes.items m.feeds.items m.alike m.numbered m.reached };
 
     fn head(&mut self) -> Result<Head, Fault>
         ensures answer { GivesHead (feed_of (parts_of self.old)) result
@@ -123,16 +135,44 @@ impl<F: PacketFeed> PacketFeed for Merged<F> {
             → KeepsRun (parts_of self.old) result (parts_of self.new) }
         ensures clocks { MovesClocks (parts_of self.old) (parts_of self.new) }
     {
-        let passed = self.passed;
-        self.first = None;
-        self.passed = None;
-        ask_all(&mut self.lanes, &mut self.feeds, passed)?;
-        self.first = first_lane(self.lanes.as_slice());
-        Ok(head_of(self.lanes.as_slice(), self.first))
+        match self.look()? {
+            Coming::Packet => Ok(Head::Packet(*self.packet())),
+            Coming::Refused(refusal) => Ok(Head::Refused(refusal)),
+            Coming::End => Ok(Head::End),
+        }
+    }
+
+    #[inline]
+    fn has_packet(&mut self) -> Result<bool, Fault>
+        ensures answer { FindsPacket (feed_of (parts_of self.old)) result
+            (feed_of (parts_of self.new)) }
+        ensures keeps { Keeps (feed_of (parts_of self.old))
+            (feed_of (parts_of self.new)) }
+        ensures items { IsTrue (feed_of (parts_of self.old)).told
+            → FindsItem (feed_of (parts_of self.old)) result
+            (feed_of (parts_of self.new)) }
+        ensures asks { LooksAll (parts_of self.old) result (parts_of self.new) }
+        ensures run { IsTrue (feed_of (parts_of self.old)).told
+            → ShowsRun (parts_of self.old) result (parts_of self.new) }
+        ensures clocks { MovesClocks (parts_of self.old) (parts_of self.new) }
+    {
+        match self.look()? {
+            Coming::Packet => Ok(true),
+            Coming::Refused(refusal) => Err(Fault::Refused(refusal)),
+            Coming::End => Ok(false),
+        }
+    }
+
+    #[inline(always)]
+    fn packet(&self) -> &Meta {
+        match self.first_place() {
+            Some(place) => self.feeds[place].packet(),
+            None => unreachable!(),
+        }
     }
 
     fn frame(&self) -> &[u8] {
-        match found(self.lanes.as_slice(), self.first) {
+        match self.first_place() {
             Some(place) => self.feeds[place].frame(),
             None => &[],
         }
@@ -148,7 +188,7 @@ impl<F: PacketFeed> PacketFeed for Merged<F> {
             → run_of (parts_of self.new) ≡ drop 1 (run_of (parts_of self.old)) }
         ensures clocks { ClocksFrom (clock_of (parts_of self.old)) (parts_of self.new) }
     {
-        match found(self.lanes.as_slice(), self.first) {
+        match self.first_place() {
             Some(place) => {
                 self.first = None;
                 self.passed = Some(place);

@@ -7,7 +7,7 @@ ghost use Rattle.cap_source.specs.Walk.{GivesPacket, ShowsItem};
 
 use crate::merging::Merged;
 use cap_bytes::Fault;
-use cap_source::{Head, Meta, PacketFeed};
+use cap_source::{Meta, PacketFeed};
 
 /// What comes next of a run: a packet, which stays until it is passed, or none at the end. `Refused` comes
 /// if a refusal comes next, `Read` if a device failed, and `Memory` if a growth was refused. The run stays
@@ -20,9 +20,9 @@ pub fn next_of<F: PacketFeed>(merged: &mut Merged<F>) -> Result<Option<Meta>, Fa
         → ShowsItem (feed_of (parts_of merged.old)) result (feed_of (parts_of merged.new)) }
     ensures run { IsTrue (feed_of (parts_of merged.old)).told → ShowsRun (parts_of merged.old) result (parts_of merged.new) }
 {
-    match merged.head()? {
-        Head::Packet(meta) => Ok(Some(meta)),
-        Head::Refused(refusal) => Err(Fault::Refused(refusal)),
-        Head::End => Ok(None),
+    if merged.has_packet()? {
+        Ok(Some(*merged.packet()))
+    } else {
+        Ok(None)
     }
 }

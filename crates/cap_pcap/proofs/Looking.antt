@@ -1,18 +1,18 @@
 -- What a window shows of a header or a record.
 use Rattle.std.proofs.lemmas.Bool.Decides.{nat_tests}
 use Rattle.std.proofs.lemmas.Grind.{common_steps}
-use Rattle.std.proofs.Common.{◌≡◌, ℕ, ◌+◌, ◌≤◌, ◌<◌, ◌^◌, [], length, Some, None, Bool, true, false, IsTrue, Ok, Err, refl, sym, ◌∙◌, ap, arith}
-use Rattle.std.proofs.lemmas.List.{nil_from_length}
+use Rattle.std.proofs.Common.{◌≡◌, ℕ, ◌+◌, ◌≤◌, ◌<◌, ◌^◌, List, [], length, drop, Some, None, Bool, true, false, IsTrue, Ok, Err, refl, sym, ◌∙◌, ap, arith, length-drop}
+use Rattle.std.proofs.lemmas.List.{nil_from_length, take_all}
 use Rattle.cap_bytes.specs.Items.{stop_by}
 use Rattle.cap_bytes.specs.Parsing.{SeesStop, FailsBy}
-use Rattle.cap_bytes.specs.Window.{State, Shows, Needs, Keeps, coming}
+use Rattle.cap_bytes.specs.Window.{State, Shows, Needs, Keeps, Passes, coming}
 use Rattle.cap_bytes.specs.declared.faults.Fault.{Fault}
 use Rattle.cap_bytes.specs.declared.faults.Rule.{Rule}
 use Rattle.cap_bytes.specs.declared.faults.Rule.TheVariants.{Cut}
 use Rattle.cap_bytes.specs.declared.faults.Tail.{Tail}
 use Rattle.cap_bytes.specs.declared.stops.Stop.TheVariants as stops
 use Rattle.cap_bytes.proofs.Parsing.{all_shown, longer_shown, Shows-trans, FailsBy-need, FailsBy-later, some_left, SeesStop-fault, SeesStop-end}
-use Rattle.cap_pcap.specs.Parsing.{SeesHeader, SeesRecord}
+use Rattle.cap_pcap.specs.Parsing.{SeesHeader, SeesRecord, Measures}
 use Rattle.cap_pcap.specs.Split.{header_fault, header_at, captured_at, record_fault, record_at, stop_at}
 use Rattle.cap_pcap.specs.declared.headers.PcapHeader.{PcapHeader}
 use Rattle.cap_pcap.proofs.Faults.{Fits, FitsHeader-from_none, Fits-append, captured_at-append, captured_at-front, header_fault-append, header_at-append, record_fault-append, record_fault-cut, stop_at-fits}
@@ -91,3 +91,35 @@ module _ (header : PcapHeader) (tail : Tail) (old : State) where
           none = λ t. ap (stop_at header.order tail old.file old.offset) (sym (shows.coming_same t))
               ∙ stop_at-fits header.order tail old.file old.offset (coming c) (Fits-append header.order old.offset c.shown c.unread fits);
         }
+
+-- A record is shown already, after the bytes that are passed.
+pub SeesRecord-shown : (header : PcapHeader) (tail : Tail) (new : State) (size : ℕ) → new.broken ≡ None → 16 ≤ length new.shown
+    → size ≡ 16 + captured_at header.order new.shown → size ≤ 262160 → new.offset + size ≤ 2 ^ 40 → size ≤ length new.shown
+    → SeesRecord header tail (record_at header.order header.unit new.offset new.shown) new new
+unfolding record_at
+SeesRecord-shown header tail new size whole head is few limit enough =
+    let fits : Fits header.order new.offset new.shown = record {
+      head = head;
+      captured = omega (arith, is);
+      limit = omega (arith, is);
+      whole = omega (arith, is);
+    } in
+    record {
+      shows = record { goes = record { before = whole; after = whole; failed = refl }; offset = refl; front = take_all (length new.shown) new.shown (omega arith); coming_same = λ t. refl };
+      size = fits.whole;
+      captured = fits.captured;
+      limit = fits.limit;
+      offset = refl;
+      spelled = SpellsRecord-at header.order header.unit new.offset new.shown fits;
+      none = λ t. stop_at-fits header.order tail new.file new.offset (coming new) (Fits-append header.order new.offset new.shown new.unread fits);
+    }
+
+pub SeesRecord-passed : (header : PcapHeader) (tail : Tail) (w u : State) (given size offset : ℕ) (bytes : List ℕ) → Passes given w u → bytes ≡ drop given w.shown
+    → offset ≡ w.offset + given → w.broken ≡ None → given + 16 ≤ length w.shown → Measures header.order offset bytes (Ok size) → size ≤ length bytes
+    → SeesRecord header tail (record_at header.order header.unit offset bytes) u u
+SeesRecord-passed header tail w u given size offset bytes p is place whole head m enough =
+    let e : bytes ≡ u.shown = is ∙ sym p.shown in
+    let o : offset ≡ u.offset = place ∙ sym p.offset in
+    rw (e, o)
+    (SeesRecord-shown header tail u size (p.broken ∙ whole) (omega (arith, ap length p.shown, length-drop given w.shown, head))
+    (rw e at m.0) m.1 (rw o at m.2) (rw e at enough))

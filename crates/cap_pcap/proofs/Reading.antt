@@ -1,5 +1,6 @@
 -- What a look at the window makes of a reader, and what that does to the items to come.
-use Rattle.std.proofs.Common.{◌≡◌, ℕ, ◌+◌, List, [], ◌∷◌, length, drop, Option, Some, None, IsSomeAnd, true, false, IsTrue, Result, refl, sym, ◌∙◌, ap, arith, add-zero}
+use Rattle.std.proofs.Common.{◌≡◌, ℕ, ◌+◌, ◌≤◌, List, [], ◌∷◌, length, drop, Option, Some, None, Ok, IfSome, IsSomeAnd, true, false, IsTrue, Result, refl, sym, ◌∙◌, ap, arith, add-zero, length-drop, length-take-le}
+use Rattle.std.proofs.lemmas.List.{take-append-le}
 use Rattle.cap_bytes.specs.Items.{stop_where, given, stopped, items_by_stop}
 use Rattle.cap_bytes.specs.Reader.{State, Keeps}
 use Rattle.cap_bytes.specs.Window.{State as WindowState, Passes, coming}
@@ -7,11 +8,11 @@ use Rattle.cap_bytes.specs.declared.faults.Fault.{Fault}
 use Rattle.cap_bytes.specs.declared.faults.Rule.{Rule}
 use Rattle.cap_bytes.specs.declared.faults.Tail.{Tail}
 use Rattle.cap_bytes.specs.declared.stops.Stop.{Stop}
-use Rattle.cap_bytes.proofs.Readers.{Stands, Stands-here, Gives-seen, waits_kept, stop_kept}
+use Rattle.cap_bytes.proofs.Readers.{Stands, Stands-here, Stands-passed, Gives-seen, waits_kept, stop_kept}
 use Rattle.cap_bytes.proofs.Readers as readers
 use Rattle.cap_bytes.proofs.Parsing.{coming-passed, from_none, from_some}
-use Rattle.cap_pcap.specs.Reader.{HasHeader, GivesHeader, packet_of, GivesRecord, GivesNext, KeepsItems, TakesItem, items_at, items_of, state_of, IsInOrder, MayGoOn}
-use Rattle.cap_pcap.specs.Parsing.{SeesHeader}
+use Rattle.cap_pcap.specs.Reader.{HasHeader, GivesHeader, packet_of, GivesRecord, GivesNext, KeepsItems, TakesItem, items_at, items_of, size_of, frame_of, state_of, IsInOrder, MayGoOn}
+use Rattle.cap_pcap.specs.Parsing.{SeesHeader, SeesRecord}
 use Rattle.cap_pcap.specs.Split.{header_fault, header_at, record_fault, stop_at, record_at, frame_at, file_items}
 use Rattle.cap_pcap.specs.declared.headers.PcapHeader.{PcapHeader}
 use Rattle.cap_pcap.specs.declared.records.Record.{Record}
@@ -43,6 +44,20 @@ HasHeader-seen w v u tail header s p =
         spelled = λ t. rw (s.header_is t) (SpellsHeader-at w.offset (coming w) (FitsHeader-from_none w.offset (coming w) (s.whole t)));
       };
     }
+
+-- a record is shown already, after the one that was given last
+pub GivesRecord-shown : (header : PcapHeader) (w u : WindowState) (tail : Tail) (known : Option PcapHeader) (captured : Option ℕ) (stop : Option Stop) (r : Record)
+    → stop ≡ None → size_of captured ≤ length w.shown → Passes (size_of captured) w u → SeesRecord header tail r u u
+    → GivesRecord header (state_of w tail known captured stop) r (state_of u tail known (Some r.captured) stop)
+GivesRecord-shown header w u tail known captured stop r free within p s = record {
+  gives = Gives-seen (state_of w tail known captured stop) u u (Stands-passed w u tail known (size_of captured) (frame_of captured w.shown) stop free within p)
+      known (16 + r.captured) (16 + r.captured) (frame_of (Some r.captured) u.shown) s.shows.goes refl (λ t. refl);
+  offset = s.offset ∙ p.offset;
+  captured = s.captured;
+  frame = length-take-le r.captured (drop 16 u.shown) (omega (arith, s.size, length-drop 16 u.shown));
+  none = λ t. grind (arith, coming-passed);
+  spelled = λ t. grind (arith, coming-passed, take-append-le);
+}
 
 -- the items of a file whose header is refused
 header_ends : (a : Option PcapHeader) (tail : Tail) (file offset : ℕ) (bytes : List ℕ) (fault : Option Rule) (stop : Stop) → a ≡ None
@@ -102,3 +117,10 @@ TakesItem_next header old new result known g k t =
     (λ free. ended_items old.known header old.tail old.file old.offset old.coming known)
     (λ r. GivesRecord header old r new) (λ r. IsSomeAnd new.lent (λ bytes. items_of old ≡ given r bytes ∷ items_of new)) 262160 _ result
     (λ r h. record_taken header old new r new.lent refl known h k t) g k t
+
+-- The same of a record that was shown already.
+pub TakesItem_shown : (header : PcapHeader) (old new : State PcapHeader) (found : Option Record) → old.known ≡ Some header
+    → IfSome found (λ r. GivesNext header old (Ok (Some r)) new) → Keeps old new → IsTrue old.told
+    → IfSome found (λ r. TakesItem (items_of old) (Ok (Some r)) new.lent (items_of new))
+TakesItem_shown header old new None known g k t = tt
+TakesItem_shown header old new (Some r) known g k t = TakesItem_next header old new (Ok (Some r)) known g k t

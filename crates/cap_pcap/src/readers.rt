@@ -1,10 +1,10 @@
 //! A reader of pcap files.
-ghost use Rattle.std.specs.Prelude.{◌≡◌, ◌↔◌, ◌≤◌, ◌+◌, length, IsTrue, IsSome, Some, IfSome, OnErr, is_some};
+ghost use Rattle.std.specs.Prelude.{◌≡◌, ◌↔◌, ◌≤◌, ◌+◌, length, IsTrue, IsSome, IsNone, Some, Ok, IfSome, OnErr, is_some};
 ghost use Rattle.cap_bytes.specs.Reader.{opened, Keeps, HasWindow};
 ghost use Rattle.cap_pcap.specs.Reader.{items_of, GivesHeader, GivesNext, KeepsHeader, KeepsItems, TakesItem, RefusesAgain, size_of, place_after};
 
 use crate::headers::{HEADER_SIZE, PcapHeader, look_for_header};
-use crate::records::{HEAD_SIZE, Record, look_for_record};
+use crate::records::{HEAD_SIZE, Record, look_for_record, take_shown};
 use cap_bytes::{Fault, Source, Stop, Tail, Window};
 use std::marker::Model;
 
@@ -95,6 +95,14 @@ impl<R: Source> PcapReader<R> {
         }
     }
 
+    /// The file's header, once it was read.
+    #[inline]
+    pub fn known(&self) -> Option<PcapHeader>
+        ensures { result ≡ self.now.known }
+    {
+        self.header
+    }
+
     /// The file's header. It comes again at each call. `Refused` comes, now and at each later call,
     /// if the header is cut, has another magic or is of another version; if a header read from
     /// elsewhere than the file's first byte would end past byte 2^40; and if a record was refused.
@@ -108,6 +116,44 @@ impl<R: Source> PcapReader<R> {
             → KeepsItems (items_of self.old) result (items_of self.new) }
     {
         self.read_header()
+    }
+
+    /// The next record, if the window shows it whole already, as it does most of them: what `next_record` answers then, at
+    /// less cost. `None` says nothing of the record, and leaves the reader as it is. The header is the file's.
+    #[inline(always)]
+    pub fn take_shown(&mut self, header: PcapHeader) -> Option<Record>
+        requires { self.old.known ≡ Some header }
+        ensures answer { IfSome result (λ r. GivesNext header self.old (Ok (Some r)) self.new) }
+        ensures place { IfSome result (λ r. self.new.offset ≡ place_after self.old.offset (Ok (Some r))) }
+        ensures header { self.new.known ≡ self.old.known }
+        ensures keeps { Keeps self.old self.new }
+        ensures items { IsTrue self.old.told → IfSome result (λ r.
+            TakesItem (items_of self.old) (Ok (Some r)) self.new.lent (items_of self.new)) }
+        ensures none { IsNone result → self.new ≡ self.old }
+    {
+        self.read_shown(header)
+    }
+
+    // The same.
+    #[inline(always)]
+    fn read_shown(&mut self, header: PcapHeader) -> Option<Record>
+        requires { self.old.known ≡ Some header }
+        ensures answer { IfSome result (λ r. GivesNext header self.old (Ok (Some r)) self.new) }
+        ensures place { IfSome result (λ r. self.new.offset ≡ place_after self.old.offset (Ok (Some r))) }
+        ensures header { self.new.known ≡ self.old.known }
+        ensures keeps { Keeps self.old self.new }
+        ensures none { IsNone result → self.new ≡ self.old }
+    {
+        if self.stop.is_some() {
+            return None;
+        }
+        match take_shown(&mut self.window, size_given(self.captured), header) {
+            Some(record) => {
+                self.captured = Some(record.captured as usize);
+                Some(record)
+            }
+            None => None,
+        }
     }
 
     // Looks for the next record, after the one that was given last.

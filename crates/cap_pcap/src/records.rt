@@ -1,9 +1,10 @@
 //! The records of a pcap file. draft-ietf-opsawg-pcap, 5.
-ghost use Rattle.std.specs.Prelude.{◌≡◌, ◌+◌, ◌≤◌, ◌^◌, length, take, IsTrue, is_err, IsOkUnless};
+ghost use Rattle.std.specs.Prelude.{◌≡◌, ◌+◌, ◌≤◌, ◌^◌, length, take, IsTrue, IsNone, IfSome, OnSome, is_err, IsOkUnless};
 ghost use Rattle.cap_bytes.specs.Device.{Puts, WriterKeeps, writer_of};
-ghost use Rattle.cap_bytes.specs.Window.{Keeps};
+ghost use Rattle.cap_bytes.specs.Window.{Keeps, Passes};
+ghost use Rattle.cap_bytes.specs.declared.faults.Tail.{Tail};
 ghost use Rattle.cap_pcap.specs.Grammar.{head_bytes, record_bytes};
-ghost use Rattle.cap_pcap.specs.Parsing.{Measures, LooksForRecord};
+ghost use Rattle.cap_pcap.specs.Parsing.{Measures, LooksForRecord, SeesRecord};
 ghost use Rattle.cap_pcap.specs.Split.{record_at};
 
 use crate::headers::PcapHeader;
@@ -70,6 +71,38 @@ fn record_of(header: PcapHeader, offset: u64, bytes: &[u8]) -> Record
         units: seconds * header.unit.in_second() as u64 + fraction,
         captured: u32_at(header.order, bytes, 8),
         original: u32_at(header.order, bytes, 12),
+    }
+}
+
+// Passes the first bytes that a window shows, if it shows a whole record after them.
+#[inline(always)]
+pub fn take_shown<R: Source>(
+    window: &mut Window<R>,
+    given: usize,
+    header: PcapHeader,
+) -> Option<Record>
+    requires given { given ≤ length window.old.shown }
+    requires limit { window.old.offset + given ≤ 2 ^ 40 }
+    ensures passes { OnSome result (Passes given window.old window.new) }
+    ensures held { OnSome result (window.new.held ≤ 524288) }
+    ensures sees { IfSome result (λ r. (tail : Tail) → SeesRecord header tail r window.new window.new) }
+    ensures none { IsNone result → window.new ≡ window.old }
+{
+    if !window.shows(given + HEAD_SIZE) {
+        return None;
+    }
+    let (_, bytes) = window.bytes().split_at(given);
+    let offset = window.offset() + given as u64;
+    match measure(header.order, offset, bytes) {
+        Ok(size) => {
+            if bytes.len() < size {
+                return None;
+            }
+            let record = record_of(header, offset, bytes);
+            window.pass(given);
+            Some(record)
+        }
+        Err(_) => None,
     }
 }
 

@@ -17,7 +17,7 @@ use Rattle.cap_bytes.specs.declared.stops.Stop.{Stop}
 use Rattle.cap_bytes.specs.declared.stops.Stop.TheVariants as stops
 use Rattle.cap_source.specs.Feed as feeds
 use Rattle.cap_source.specs.Items.{Progress, interface_of, meta_of, pcap_items, pcap_ending, pcap_ending_with, is_cut}
-use Rattle.cap_source.specs.FileState.{pcap_state, header_or, first_of, size_of, part_of, Learns, Waits, FileKeeps}
+use Rattle.cap_source.specs.FileState.{pcap_state, noted_by, header_or, first_of, size_of, part_of, Learns, Waits, FileKeeps}
 use Rattle.cap_source.specs.declared.readers.Next.TheVariants as nexts
 
 known_header : (h : Option PcapHeader) (header : PcapHeader) (bytes : List ℕ) → h ≡ Some header → header_or h bytes ≡ header
@@ -56,11 +56,11 @@ none_stops stop is = rw is refl
 
 -- A record is given, whose packet comes next.
 pub record_learned : (header : PcapHeader) (file : ℕ) (r : Record) (old new : State PcapHeader) (progress : Progress)
-    → file ≡ old.file → old.known ≡ Some header → progress.first ≡ Some (interface_of header)
+    → file ≡ old.file → old.known ≡ Some header
     → GivesRecord header old r new → Keeps old new
     → (IsTrue old.told → IsSomeAnd new.lent (λ bytes. items_of old ≡ given r bytes ∷ items_of new))
     → Learns (pcap_state old progress) (nexts.Packet (meta_of file (interface_of header) r) 0) (pcap_state new progress)
-record_learned header file r old new progress named known first g k taken =
+record_learned header file r old new progress named known g k taken =
     let known_new : new.known ≡ Some header = g.gives.known_is ∙ known in
     record {
       is = record {
@@ -79,7 +79,7 @@ record_learned header file r old new progress named known first g k taken =
           (ap interface_of (known_header new.known header new.coming known_new ∙ sym (known_header old.known header old.coming known)))
           g.frame (taken t);
       ending = λ t. ending_given r new.lent (items_of old) (items_of new) (taken t);
-      first = λ t. first ∙ sym (known_first old.known header old.stop old.offset old.coming known);
+      first = λ t. ap noted_by known_new ∙ sym (known_first old.known header old.stop old.offset old.coming known);
     }
 
 stopped_again : (new : State PcapHeader) (stop : Stop) → new.stop ≡ Some stop → items_of new ≡ stopped stop ∷ []
@@ -111,11 +111,11 @@ refused_items refusal file i items is = rw is refl
 
 -- The records end.
 pub end_learned : (header : PcapHeader) (cut : Bool) (stop : Stop) (old new : State PcapHeader) (progress : Progress)
-    → old.known ≡ Some header → progress.first ≡ Some (interface_of header) → old.stop ≡ None
+    → old.known ≡ Some header → old.stop ≡ None
     → IsEnd stop → GivesStop true (record_fault header.order old.offset old.coming) stop old new → IsTrue cut ↔ (new.stop ≡ Some stops.Cut) → Keeps old new
     → (IsTrue old.told → items_of new ≡ items_of old)
     → Learns (pcap_state old progress) (nexts.End (pcap_ending_with cut)) (pcap_state new progress)
-end_learned header cut stop old new progress known first free ends g was k same =
+end_learned header cut stop old new progress known free ends g was k same =
     let at = from_none old.stop _ free g.first in
     let which = cut_is cut stop (rw (g.stop_is) at was) in
     record {
@@ -125,16 +125,16 @@ end_learned header cut stop old new progress known first free ends g was k same 
       goes = record { before = at.goes.before; after = at.goes.after; failed = at.goes.failed };
       items = λ t. no_items stop old.file (interface_of (header_or old.known old.coming)) (items_of old) ends (sym (same t) ∙ stopped_again new stop g.stop_is);
       ending = λ t. ap pcap_ending_with which ∙ ending_stopped stop (items_of old) (sym (same t) ∙ stopped_again new stop g.stop_is);
-      first = λ t. first ∙ sym (known_first old.known header old.stop old.offset old.coming known);
+      first = λ t. ap noted_by (at.known_same ∙ known) ∙ sym (known_first old.known header old.stop old.offset old.coming known);
     }
 
 -- A rest is refused.
 pub refusal_learned : (header : PcapHeader) (refusal : Refusal) (old new : State PcapHeader) (progress : Progress)
-    → old.known ≡ Some header → progress.first ≡ Some (interface_of header) → old.stop ≡ None
+    → old.known ≡ Some header → old.stop ≡ None
     → GivesStop true (record_fault header.order old.offset old.coming) (stops.Refused refusal) old new → Keeps old new
     → (IsTrue old.told → items_of old ≡ stopped (stops.Refused refusal) ∷ [])
     → Learns (pcap_state old progress) (nexts.Refused refusal (pcap_ending_with false)) (pcap_state new progress)
-refusal_learned header refusal old new progress known first free g k same =
+refusal_learned header refusal old new progress known free g k same =
     let at = from_none old.stop _ free g.first in
     record {
       is = record { file = at.is_stop.0 ∙ sym k.file; lent = omega arith; captured = omega arith; behind = omega arith };
@@ -143,7 +143,7 @@ refusal_learned header refusal old new progress known first free g k same =
       goes = record { before = at.goes.before; after = at.goes.after; failed = at.goes.failed };
       items = λ t. refused_items refusal old.file (interface_of (header_or old.known old.coming)) (items_of old) (same t);
       ending = λ t. ending_stopped (stops.Refused refusal) (items_of old) (same t);
-      first = λ t. first ∙ sym (known_first old.known header old.stop old.offset old.coming known);
+      first = λ t. ap noted_by (at.known_same ∙ known) ∙ sym (known_first old.known header old.stop old.offset old.coming known);
     }
 
 refused_first : (h : Option PcapHeader) (stop : Option Stop) (offset : ℕ) (bytes : List ℕ) (rule : Rule) → h ≡ None → stop ≡ None
@@ -151,11 +151,11 @@ refused_first : (h : Option PcapHeader) (stop : Option Stop) (offset : ℕ) (byt
 refused_first h stop offset bytes rule unknown free is = rw (unknown, free, is) refl
 
 -- The file's header is refused.
-pub header_refused : (refusal : Refusal) (old new : State PcapHeader) (p q : Progress) → q.first ≡ None → old.stop ≡ None
+pub header_refused : (refusal : Refusal) (old new : State PcapHeader) (p : Progress) → old.stop ≡ None
     → GivesHeader old (Err (Refused refusal)) new → Keeps old new
     → (IsTrue old.told → items_of old ≡ stopped (stops.Refused refusal) ∷ [])
-    → Learns (pcap_state old p) (nexts.Refused refusal (pcap_ending_with false)) (pcap_state new q)
-header_refused refusal old new p q none free g k same =
+    → Learns (pcap_state old p) (nexts.Refused refusal (pcap_ending_with false)) (pcap_state new p)
+header_refused refusal old new p free g k same =
     let at = from_none old.stop _ free g.0.first in
     record {
       is = record { file = at.is_stop.0 ∙ sym k.file; lent = omega arith; captured = omega arith; behind = omega arith };
@@ -164,7 +164,7 @@ header_refused refusal old new p q none free g k same =
       goes = record { before = at.goes.before; after = at.goes.after; failed = at.goes.failed };
       items = λ t. refused_items refusal old.file (interface_of (header_or old.known old.coming)) (items_of old) (same t);
       ending = λ t. ending_stopped (stops.Refused refusal) (items_of old) (same t);
-      first = λ t. none ∙ refused_first old.known old.stop old.offset old.coming refusal.rule (from_none old.stop _ free g.1) free
+      first = λ t. ap noted_by (at.known_same ∙ from_none old.stop _ free g.1) ∙ refused_first old.known old.stop old.offset old.coming refusal.rule (from_none old.stop _ free g.1) free
           (rule_told old.tail old.file old.offset old.coming (header_fault old.offset old.coming) refusal (at.told_stop t));
     }
 
@@ -197,9 +197,9 @@ header_free header None old new is free h = (from_none old.known (ReadsHeader he
 header_free header (Some was) old new is free h = ap (λ (s : State PcapHeader). s.stop) (from_some old.known was (λ w. (header ≡ w) × (new ≡ old)) is h.again).1 ∙ free
 
 -- The file's header is read, after which everything is to come as before.
-pub header_waits : (header : PcapHeader) (old new : State PcapHeader) (p q : Progress) → old.stop ≡ None → HasHeader header old new → Keeps old new
-    → (IsTrue old.told → items_of new ≡ items_of old) → Waits (pcap_state old p) (pcap_state new q)
-header_waits header old new p q free h k same = record {
+pub header_waits : (header : PcapHeader) (old new : State PcapHeader) (p : Progress) → old.stop ≡ None → HasHeader header old new → Keeps old new
+    → (IsTrue old.told → items_of new ≡ items_of old) → Waits (pcap_state old p) (pcap_state new p)
+header_waits header old new p free h k same = record {
   stops = none_stops new.stop (header_free header old.known old new refl free h);
   broken = header_broken header old.known old new refl h;
   failed = header_failed header old.known old new refl h;
@@ -214,15 +214,14 @@ header_waits header old new p q free h k same = record {
       };
 }
 
-pub pcap_keeps : (old new : State PcapHeader) (p q : Progress) → q.interfaces ≡ p.interfaces → q.base ≡ p.base → q.skipped ≡ p.skipped → Keeps old new
-    → FileKeeps (pcap_state old p) (pcap_state new q)
-pcap_keeps old new p q i b s k = record {
+pub pcap_keeps : (old new : State PcapHeader) (p : Progress) → Keeps old new → FileKeeps (pcap_state old p) (pcap_state new p)
+pcap_keeps old new p k = record {
   file = k.file;
   told = k.told;
   can_fail = k.can_fail;
   offset = k.offset;
   limit = λ h. k.limit;
   held = λ h. k.held;
-  interfaces = λ h. rw i h;
-  counted = λ h. rw (i, b, s) (omega (arith, h, k.offset));
+  interfaces = λ h. h;
+  counted = λ h. omega (arith, h, k.offset);
 }

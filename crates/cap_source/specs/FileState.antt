@@ -84,6 +84,11 @@ abbrev pub first_of : Option PcapHeader → Option Stop → ℕ → List ℕ →
 first_of (Some header) stop offset bytes = Some (interface_of header)
 first_of None stop offset bytes = first_unless stop offset bytes
 
+-- its interface as far as the file was read
+abbrev pub noted_by : Option PcapHeader → Option Interface
+noted_by None = None
+noted_by (Some header) = Some (interface_of header)
+
 -- a pcap file
 abbrev pub pcap_state : State PcapHeader → Progress → FileState
 pcap_state reader progress =
@@ -93,7 +98,7 @@ pcap_state reader progress =
       items = pcap_items reader.file (interface_of (header_or reader.known reader.coming)) (pcaps.items_of reader);
       ending = pcap_ending (pcaps.items_of reader);
       first = first_of reader.known reader.stop reader.offset reader.coming;
-      noted = progress.first;
+      noted = noted_by reader.known;
       offset = reader.offset;
       lent = reader.lent;
       stops = is_some reader.stop;
@@ -307,6 +312,11 @@ Answers old (Err (Refused refusal)) after new = ⊥
 Answers old (Err (Read file offset)) after new = (after ≡ None) × Fails old file offset new
 Answers old (Err Write) after new = ⊥
 Answers old (Err Memory) after new = (after ≡ None) × Waits old new × (old.broken ≡ None)
+
+-- what a look at what is shown already answers: whether it was enough
+abbrev pub TakesShown : FileState → Bool → Option Next → FileState → Type 0
+TakesShown old true after new = (next : Next) × (after ≡ Some next) × Learns old next new
+TakesShown old false after new = ⊤
 
 -- the same of a look at one block, after which a pcapng file may go on
 pub record GoesOn (old new : FileState) : Type 0 where

@@ -11,7 +11,7 @@ use crate::feeds::{Ending, FeedHeld, Head, PacketFeed};
 use crate::learning::learn;
 use crate::packets::Meta;
 use crate::reached::{Reached, nothing_reached};
-use crate::readers::{Next, Reader, ending_of, failed_of, held_of, number_of, part_of};
+use crate::readers::{Next, Reader, ending_of, failed_of, held_of, noted_of, number_of, part_of};
 use cap_bytes::{Fault, Source, Tail, Window};
 use cap_time::Interface;
 use std::alloc::Global;
@@ -78,7 +78,7 @@ impl<R: Source> Capture<R> {
             → KeepsFirst (⟦<Capture<R> as PacketFeed>⟧.feed self.old) (first_of self.old) result (⟦<Capture<R> as PacketFeed>⟧.feed self.new) (first_of self.new) }
     {
         learn(&mut self.reader, &mut self.reached, &mut self.next)?;
-        Ok(self.reached.first)
+        Ok(noted_of(&self.reader, &self.reached))
     }
 }
 

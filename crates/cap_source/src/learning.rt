@@ -2,12 +2,13 @@
 ghost use Rattle.std.specs.Prelude.{◌≡◌, ◌≤◌, ◌^◌, false, IsTrue, IfOk, None};
 ghost use Rattle.cap_bytes.specs.Window as windows;
 ghost use Rattle.cap_source.specs.Items.{Progress};
-ghost use Rattle.cap_source.specs.FileState.{IsSound, LearnsNext, Answers, FileKeeps};
+ghost use Rattle.cap_source.specs.FileState.{IsSound, LearnsNext, Answers, TakesShown, FileKeeps};
 ghost use Rattle.cap_source.specs.Reached.{progress_of, counted};
 ghost use Rattle.cap_source.specs.Readers.{state_of, is_there, IsReady, is_stopped, Opens, LooksAtWindow, reader_by, reader_room};
 ghost use Rattle.cap_source.specs.declared.reached.Reached.{Reached};
 
 use crate::packets::Format;
+use crate::pcap;
 use crate::pcap::next_of_pcap;
 use crate::pcapng::next_of_blocks;
 use crate::reached::Reached;
@@ -68,8 +69,27 @@ fn open<R: Source>(reader: &mut Reader<R>) -> Result<(), Fault>
     }
 }
 
+// Puts the packet that comes next of a file into `known`, if the window shows it already. Answers whether it did: if not,
+// nothing has changed.
+#[inline(always)]
+fn take_shown<R: Source>(reader: &mut Reader<R>, known: &mut Option<Next>) -> bool
+    requires unknown { known.old ≡ None }
+    requires there { IsTrue (is_there reader.old) }
+    ensures there { IsTrue (is_there reader.new) }
+    ensures answer { (progress : Progress) → TakesShown (state_of reader.old progress) result known.new (state_of reader.new progress) }
+    ensures keeps { (progress : Progress) → FileKeeps (state_of reader.old progress) (state_of reader.new progress) }
+    ensures room { (reached : Reached) → IsTrue (reader_room reader.old reached) → IsTrue (reader_room reader.new reached) }
+    ensures none { result ≡ false → (reader.new ≡ reader.old) × (known.new ≡ None) }
+{
+    match reader {
+        Reader::Pcap(reader) => pcap::take_shown(reader, known),
+        _ => false,
+    }
+}
+
 /// Puts into `known` what comes next of a file: it is written where it is kept, since copies of it cost more than
 /// reading it.
+#[inline(never)]
 pub fn next_of<R: Source>(
     reader: &mut Reader<R>,
     reached: &mut Reached,
@@ -88,7 +108,7 @@ pub fn next_of<R: Source>(
 {
     open(reader)?;
     match reader {
-        Reader::Pcap(reader) => next_of_pcap(reader, reached, known),
+        Reader::Pcap(reader) => next_of_pcap(reader, known),
         Reader::Pcapng(reader) => next_of_blocks(reader, reached, known),
         _ => unreachable!(),
     }
@@ -113,6 +133,11 @@ pub fn learn<R: Source>(
 {
     match known {
         Some(_) => Ok(()),
-        None => next_of(reader, reached, known),
+        None => {
+            if take_shown(reader, known) {
+                return Ok(());
+            }
+            next_of(reader, reached, known)
+        }
     }
 }

@@ -1,12 +1,10 @@
 //! What comes next of a pcap file.
-ghost use Rattle.std.specs.Prelude.{◌≡◌, None, Some};
+ghost use Rattle.std.specs.Prelude.{◌≡◌, None, Some, false};
 ghost use Rattle.cap_source.specs.Items.{Progress, resolution_of_unit, interface_of, pcap_ending_with, meta_of};
-ghost use Rattle.cap_source.specs.FileState.{Answers, FileKeeps, pcap_state};
-ghost use Rattle.cap_source.specs.Reached.{progress_of};
+ghost use Rattle.cap_source.specs.FileState.{Answers, TakesShown, FileKeeps, noted_by, pcap_state};
 
 use crate::feeds::Ending;
 use crate::packets::{Format, Meta};
-use crate::reached::Reached;
 use crate::readers::Next;
 use cap_bytes::{Fault, Source};
 use cap_pcap::{PcapHeader, PcapReader, Record};
@@ -63,6 +61,39 @@ fn meta_of_record(file: u32, header: PcapHeader, given: Record) -> Meta
     }
 }
 
+/// The interface of a pcap file, as far as the file was read.
+pub fn noted_of_pcap<R: Source>(reader: &PcapReader<R>) -> Option<Interface>
+    ensures { result ≡ noted_by reader.now.known }
+{
+    match reader.known() {
+        Some(header) => Some(interface_of_pcap(header)),
+        None => None,
+    }
+}
+
+/// Puts the packet that comes next of a pcap file into `known`, if the window shows its record already, as it does most of
+/// them. Answers whether it did: if not, nothing has changed.
+#[inline(always)]
+pub fn take_shown<R: Source>(reader: &mut PcapReader<R>, known: &mut Option<Next>) -> bool
+    requires unknown { known.old ≡ None }
+    ensures answer { (progress : Progress) → TakesShown (pcap_state reader.old progress) result known.new (pcap_state reader.new progress) }
+    ensures keeps { (progress : Progress) → FileKeeps (pcap_state reader.old progress) (pcap_state reader.new progress) }
+    ensures none { result ≡ false → (reader.new ≡ reader.old) × (known.new ≡ None) }
+{
+    let Some(header) = reader.known() else {
+        return false;
+    };
+    let file = reader.window().file();
+    match reader.take_shown(header) {
+        Some(record) => {
+            let meta = meta_of_record(file, header, record);
+            *known = Some(Next::Packet(meta, 0));
+            true
+        }
+        None => false,
+    }
+}
+
 // Puts into `known` what comes next of a pcap file whose header is known.
 fn next_record_of<R: Source>(
     reader: &mut PcapReader<R>,
@@ -72,8 +103,7 @@ fn next_record_of<R: Source>(
     requires unknown { known.old ≡ None }
     requires header { reader.old.known ≡ Some header }
     requires free { reader.old.stop ≡ None }
-    ensures answer { (progress : Progress) → progress.first ≡ Some (interface_of header)
-        → Answers (pcap_state reader.old progress) result known.new (pcap_state reader.new progress) }
+    ensures answer { (progress : Progress) → Answers (pcap_state reader.old progress) result known.new (pcap_state reader.new progress) }
     ensures keeps { (progress : Progress) → FileKeeps (pcap_state reader.old progress) (pcap_state reader.new progress) }
 {
     let file = reader.window().file();
@@ -99,21 +129,16 @@ fn next_record_of<R: Source>(
 /// Puts into `known` what comes next of a pcap file.
 pub fn next_of_pcap<R: Source>(
     reader: &mut PcapReader<R>,
-    reached: &mut Reached,
     known: &mut Option<Next>,
 ) -> Result<(), Fault>
     requires unknown { known.old ≡ None }
     requires free { reader.old.stop ≡ None }
-    ensures answer { Answers (pcap_state reader.old (progress_of reached.old)) result known.new (pcap_state reader.new (progress_of reached.new)) }
-    ensures keeps { FileKeeps (pcap_state reader.old (progress_of reached.old)) (pcap_state reader.new (progress_of reached.new)) }
+    ensures answer { (progress : Progress) → Answers (pcap_state reader.old progress) result known.new (pcap_state reader.new progress) }
+    ensures keeps { (progress : Progress) → FileKeeps (pcap_state reader.old progress) (pcap_state reader.new progress) }
 {
     match reader.header() {
-        Ok(header) => {
-            reached.first = Some(interface_of_pcap(header));
-            next_record_of(reader, header, known)
-        }
+        Ok(header) => next_record_of(reader, header, known),
         Err(Fault::Refused(refusal)) => {
-            reached.first = None;
             *known = Some(Next::Refused(refusal, ending_of_pcap(false)));
             Ok(())
         }

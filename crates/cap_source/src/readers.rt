@@ -3,13 +3,17 @@ ghost use Rattle.std.specs.Prelude.{◌≡◌, ◌≤◌, IsTrue, IsSome, Some};
 ghost use Rattle.cap_source.specs.Feed.{IsPacket};
 ghost use Rattle.cap_source.specs.Items.{Progress};
 ghost use Rattle.cap_source.specs.FileState.{head_by, end_of, size_of, frame_of, ending_by};
+ghost use Rattle.cap_source.specs.Reached.{progress_of};
 ghost use Rattle.cap_source.specs.Readers.{state_of, is_there, lent_of};
 
 use crate::feeds::{Ending, Head};
 use crate::packets::Meta;
+use crate::pcap::noted_of_pcap;
+use crate::reached::Reached;
 use cap_blocks::BlockReader;
 use cap_bytes::{Refusal, Source, Tail, Window};
 use cap_pcap::PcapReader;
+use cap_time::Interface;
 
 /// What comes next of a file, and how the file ends there.
 #[derive(Clone, Copy)]
@@ -82,6 +86,19 @@ pub fn number_of<R: Source>(reader: &Reader<R>) -> u32
         Reader::Unread(window, _) => window.file(),
         Reader::Pcap(reader) => reader.window().file(),
         Reader::Pcapng(reader) => reader.window().file(),
+        Reader::Moved => unreachable!(),
+    }
+}
+
+/// The first interface of a file, as far as it was read.
+pub fn noted_of<R: Source>(reader: &Reader<R>, reached: &Reached) -> Option<Interface>
+    requires { IsTrue (is_there reader.now) }
+    ensures { result ≡ (state_of reader.now (progress_of reached.now)).noted }
+{
+    match reader {
+        Reader::Unread(_, _) => reached.first,
+        Reader::Pcap(reader) => noted_of_pcap(reader),
+        Reader::Pcapng(_) => reached.first,
         Reader::Moved => unreachable!(),
     }
 }

@@ -1,88 +1,54 @@
-use Rattle.std.proofs.Common.{arith, refl, sym, ◌∙◌, map}
+use Rattle.std.proofs.Common.{map}
 use Rattle.std.proofs.lemmas.Result.{err_from_is_err_and}
-use Rattle.std.proofs.lemmas.List.{length-map}
-use Rattle.cap_merge.specs.Parts.{parts}
-use Rattle.cap_merge.specs.Sound.{each-agrees, each-reached, lawful-each, numbered-from}
-use Rattle.cap_merge.proofs.Bounds.{asked-bounded}
-use Rattle.cap_merge.proofs.Heads.{asked-keeps, knows-asked, items-asked, gives-stopped, items-stopped, clocks-asked}
-use Rattle.cap_merge.proofs.Moving.{from-each}
-use Rattle.cap_merge.proofs.Calls.{asked-numbered, asked-sound-each, asked-keeps-all, asked-known, run-asked, run-stopped}
-use Rattle.cap_merge.proofs.Finding.{found-here}
+use Rattle.cap_source.specs.declared.feeds.Head.TheVariants.{Packet, Refused, End}
+use Rattle.cap_merge.specs.Parts.{parts, feed_of}
+use Rattle.cap_merge.specs.Sound.{lawful-each, numbered-from}
+use Rattle.cap_merge.proofs.Looking.{heads-known, heads-stopped, is-packet, refusal-comes, end-comes}
 use Rattle.cap_merge.proofs.merging.MergedPacketFeed.head.Goals as goal
 
-pub invariant_of-self : goal.invariant_of-self
-invariant_of-self g c =
+pub returns-in_err-look : goal.returns-in_err-look
+returns-in_err-look g c =
     let m = c.args.self.now in
-    let asks = c.ask_all.ensures.asks in
-    let law = g.met.F.PacketFeed.lawful in
-    let sound = asked-sound-each g.F.PacketFeed.feed law m.lanes.items c.ask_all.new.lanes.items m.feeds.items c.ask_all.new.feeds.items c.ask_all.result asks m.agrees m.reached in
-    record {
-      alike = c.ask_all.ensures.lanes ∙ m.alike ∙ sym c.ask_all.ensures.feeds;
-      some = rw c.ask_all.ensures.feeds m.some;
-      most = rw c.ask_all.ensures.feeds m.most;
-      numbered = asked-numbered g.F.PacketFeed.feed law m.lanes.items c.ask_all.new.lanes.items m.feeds.items c.ask_all.new.feeds.items c.ask_all.result m.alike c.ask_all.ensures.lanes c.ask_all.ensures.feeds asks m.numbered;
-      agrees = each-agrees (parts c.ask_all.new.lanes.items (map g.F.PacketFeed.feed c.ask_all.new.feeds.items)) sound;
-      reached = each-reached (parts c.ask_all.new.lanes.items (map g.F.PacketFeed.feed c.ask_all.new.feeds.items)) sound;
-      bounded = asked-bounded (parts m.lanes.items (map g.F.PacketFeed.feed m.feeds.items)) (parts c.ask_all.new.lanes.items (map g.F.PacketFeed.feed c.ask_all.new.feeds.items)) c.ask_all.result asks m.bounded;
-      found = refl;
-      others = refl;
-    }
-
-pub invariant_of-self-2 : goal.invariant_of-self-2
-invariant_of-self-2 g c =
-    let m = c.args.self.now in
-    let asks = c.ask_all.ensures.asks in
-    let law = g.met.F.PacketFeed.lawful in
-    let sound = asked-sound-each g.F.PacketFeed.feed law m.lanes.items c.ask_all.new.lanes.items m.feeds.items c.ask_all.new.feeds.items c.ask_all.result asks m.agrees m.reached in
-    record {
-      alike = c.ask_all.ensures.lanes ∙ m.alike ∙ sym c.ask_all.ensures.feeds;
-      some = rw c.ask_all.ensures.feeds m.some;
-      most = rw c.ask_all.ensures.feeds m.most;
-      numbered = asked-numbered g.F.PacketFeed.feed law m.lanes.items c.ask_all.new.lanes.items m.feeds.items c.ask_all.new.feeds.items c.ask_all.result m.alike c.ask_all.ensures.lanes c.ask_all.ensures.feeds asks m.numbered;
-      agrees = each-agrees (parts c.ask_all.new.lanes.items (map g.F.PacketFeed.feed c.ask_all.new.feeds.items)) sound;
-      reached = each-reached (parts c.ask_all.new.lanes.items (map g.F.PacketFeed.feed c.ask_all.new.feeds.items)) sound;
-      bounded = asked-bounded (parts m.lanes.items (map g.F.PacketFeed.feed m.feeds.items)) (parts c.ask_all.new.lanes.items (map g.F.PacketFeed.feed c.ask_all.new.feeds.items)) c.ask_all.result asks m.bounded;
-      found = found-here c.ask_all.new.lanes.items c.first_lane-self.result (rw c.as_slice.ensures.value at c.first_lane-self.ensures.place);
-      others = refl;
-    }
-
-pub returns-in_err-ask_all : goal.returns-in_err-ask_all
-returns-in_err-ask_all g c =
-    let m = c.args.self.now in
+    let n = c.look.new.self in
     let ps = parts m.lanes.items (map g.F.PacketFeed.feed m.feeds.items) in
-    let qs = parts c.ask_all.new.lanes.items (map g.F.PacketFeed.feed c.ask_all.new.feeds.items) in
+    let qs = parts n.lanes.items (map g.F.PacketFeed.feed n.feeds.items) in
+    let lawful = lawful-each g.F.PacketFeed.feed g.met.F.PacketFeed.lawful n.lanes.items n.feeds.items in
     let p = err_from_is_err_and c.from_residual.result c.from_residual.ensures.1 in
-    let fault = c.in_err-ask_all.field-0.0 in
-    let stops = c.in_err-ask_all.ensures.asks in
-    let lawful = lawful-each g.F.PacketFeed.feed g.met.F.PacketFeed.lawful c.ask_all.new.lanes.items c.ask_all.new.feeds.items in
-    let from = from-each 1 ps qs (asked-keeps ps qs c.ask_all.result c.ask_all.ensures.asks lawful) (numbered-from g.F.PacketFeed.feed m.lanes.items m.feeds.items m.alike m.numbered) in
-    rw (p.1, p.2)
-    (record {
-      answer = gives-stopped ps qs fault from stops lawful;
-      keeps = asked-keeps-all ps qs c.ask_all.result c.ask_all.ensures.asks lawful;
-      items = items-stopped ps qs fault stops lawful;
-      asks = stops;
-      run = run-stopped ps qs fault stops lawful;
-      clocks = clocks-asked ps qs c.ask_all.result c.ask_all.ensures.asks lawful;
-    })
+    let h = heads-stopped ps qs c.in_err-look.field-0.0 (numbered-from g.F.PacketFeed.feed m.lanes.items m.feeds.items m.alike m.numbered) c.in_err-look.ensures.asks lawful in
+    rw (p.1, p.2) (record { answer = h.answer; keeps = h.keeps; items = h.items; asks = h.asks; run = h.run; clocks = h.clocks })
 
-pub head_of-requires : goal.head_of-requires
-head_of-requires g c = grind (arith, asked-known)
+pub packet-requires : goal.packet-requires
+packet-requires g c =
+    let n = c.look.new.self in
+    record { packet = is-packet (feed_of (parts n.lanes.items (map g.F.PacketFeed.feed n.feeds.items))).known (rw c.in-Packet.is at c.in_ok-look.ensures.next) }
 
-pub returns : goal.returns
-returns g c =
+pub returns-in-Packet : goal.returns-in-Packet
+returns-in-Packet g c =
     let m = c.args.self.now in
+    let n = c.look.new.self in
     let ps = parts m.lanes.items (map g.F.PacketFeed.feed m.feeds.items) in
-    let qs = parts c.ask_all.new.lanes.items (map g.F.PacketFeed.feed c.ask_all.new.feeds.items) in
-    let learns = c.in_ok-ask_all.ensures.asks in
-    let lawful = lawful-each g.F.PacketFeed.feed g.met.F.PacketFeed.lawful c.ask_all.new.lanes.items c.ask_all.new.feeds.items in
-    let known = (rw c.as_slice-2.ensures.value at c.head_of.ensures) (map g.F.PacketFeed.feed c.ask_all.new.feeds.items)
-    (length-map c.ask_all.new.feeds.items g.F.PacketFeed.feed ∙ c.ask_all.ensures.feeds ∙ sym m.alike ∙ sym c.ask_all.ensures.lanes) in
-    record {
-      answer = knows-asked ps qs c.head_of.result learns known lawful;
-      keeps = asked-keeps-all ps qs c.ask_all.result c.ask_all.ensures.asks lawful;
-      items = items-asked ps qs learns lawful;
-      asks = learns;
-      run = run-asked ps qs learns lawful;
-      clocks = clocks-asked ps qs c.ask_all.result c.ask_all.ensures.asks lawful;
-    }
+    let qs = parts n.lanes.items (map g.F.PacketFeed.feed n.feeds.items) in
+    let lawful = lawful-each g.F.PacketFeed.feed g.met.F.PacketFeed.lawful n.lanes.items n.feeds.items in
+    let h = heads-known ps qs (Packet c.packet.result.now) c.in_ok-look.ensures.asks c.packet.ensures.packet lawful in
+    record { answer = h.answer; keeps = h.keeps; items = h.items; asks = h.asks; run = h.run; clocks = h.clocks }
+
+pub returns-in-Refused : goal.returns-in-Refused
+returns-in-Refused g c =
+    let m = c.args.self.now in
+    let n = c.look.new.self in
+    let ps = parts m.lanes.items (map g.F.PacketFeed.feed m.feeds.items) in
+    let qs = parts n.lanes.items (map g.F.PacketFeed.feed n.feeds.items) in
+    let lawful = lawful-each g.F.PacketFeed.feed g.met.F.PacketFeed.lawful n.lanes.items n.feeds.items in
+    let known = refusal-comes (feed_of qs).known c.in-Refused.refusal (rw c.in-Refused.is at c.in_ok-look.ensures.next) in
+    let h = heads-known ps qs (Refused c.in-Refused.refusal) c.in_ok-look.ensures.asks known lawful in
+    record { answer = h.answer; keeps = h.keeps; items = h.items; asks = h.asks; run = h.run; clocks = h.clocks }
+
+pub returns-in-End : goal.returns-in-End
+returns-in-End g c =
+    let m = c.args.self.now in
+    let n = c.look.new.self in
+    let ps = parts m.lanes.items (map g.F.PacketFeed.feed m.feeds.items) in
+    let qs = parts n.lanes.items (map g.F.PacketFeed.feed n.feeds.items) in
+    let lawful = lawful-each g.F.PacketFeed.feed g.met.F.PacketFeed.lawful n.lanes.items n.feeds.items in
+    let h = heads-known ps qs End c.in_ok-look.ensures.asks (end-comes (feed_of qs).known (rw c.in-End.is at c.in_ok-look.ensures.next)) lawful in
+    record { answer = h.answer; keeps = h.keeps; items = h.items; asks = h.asks; run = h.run; clocks = h.clocks }

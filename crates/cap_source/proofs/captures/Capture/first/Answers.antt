@@ -1,5 +1,5 @@
-use Rattle.std.proofs.Common.{arith}
-use Rattle.cap_source.proofs.Firsts.{knows, first_told}
+use Rattle.std.proofs.Common.{◌∙◌}
+use Rattle.cap_source.proofs.Firsts.{knows, first_told, first_kept}
 use Rattle.cap_source.specs.FileState.{head_of}
 use Rattle.cap_source.specs.Reached.{progress_of}
 use Rattle.cap_source.specs.Readers.{state_of}
@@ -14,8 +14,13 @@ returns-clause-answer g c =
     let next = tells.0 in (
       head_of next,
       knows old new was.next c.learn.new.known next was.whole tells.1 tells.2,
-      first_told old c.learn.new.reader (progress_of c.learn.new.reached) was.next c.learn.new.known next c.learn.ensures.there tells.1 tells.2,
+      λ t. c.noted_of.ensures ∙ first_told old c.learn.new.reader (progress_of c.learn.new.reached) was.next c.learn.new.known next c.learn.ensures.there tells.1 tells.2 t,
     )
 
 pub returns-clause-items : goal.returns-clause-items
-returns-clause-items g c = grind arith
+returns-clause-items g c =
+    let was = c.args.self.now in
+    let old = state_of was.reader (progress_of was.reached) in
+    let new = state_of c.learn.new.reader (progress_of c.learn.new.reached) in
+    let tells = c.in_ok-learn.ensures.answer in
+    λ t. first_kept old new was.next c.learn.new.known tells.0 tells.1 tells.2 t

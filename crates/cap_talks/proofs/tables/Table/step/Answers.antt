@@ -20,7 +20,7 @@ returns-in-Refused-clause-step g c =
     let q = parts_of m in
     let e = c.in_ok-head.ensures in
     let known = subst (λ h. Knows (feed_of p) h (feed_of q)) c.in-Refused.is e.answer in
-    let law = merged-is-feed g.F.PacketFeed.feed g.met.F.PacketFeed.lawful m.lanes.items m.feeds.items m.alike m.numbered m.agrees m.reached in
+    let law = merged-is-feed g.F.PacketFeed.feed g.met.F.PacketFeed.lawful m.lanes.items m.feeds.items m.alike m.numbered m.reached in
     inl (record {
       known = known.known;
       run = λ t.
@@ -38,7 +38,7 @@ returns-in-End-clause-step g c =
     let q = parts_of m in
     let e = c.in_ok-head.ensures in
     let known = subst (λ h. Knows (feed_of p) h (feed_of q)) c.in-End.is e.answer in
-    let law = merged-is-feed g.F.PacketFeed.feed g.met.F.PacketFeed.lawful m.lanes.items m.feeds.items m.alike m.numbered m.agrees m.reached in
+    let law = merged-is-feed g.F.PacketFeed.feed g.met.F.PacketFeed.lawful m.lanes.items m.feeds.items m.alike m.numbered m.reached in
     record {
       known = known.known;
       run = λ t. sym (e.run t) ∙ run-end q law (e.keeps.told t) known.known;
@@ -57,7 +57,7 @@ take-requires-in-Ok-clause-first g c =
     let e = c.in_ok-head.ensures in
     let meta = c.packet-meta.result.now in
     let known = subst (λ h. Knows (feed_of p) h (feed_of q)) (packet-is (feed_of q) c.in_ok-head.field-0 meta e.answer.known c.packet-meta.ensures) e.answer in
-    let law = merged-is-feed g.F.PacketFeed.feed g.met.F.PacketFeed.lawful m.lanes.items m.feeds.items m.alike m.numbered m.agrees m.reached in
+    let law = merged-is-feed g.F.PacketFeed.feed g.met.F.PacketFeed.lawful m.lanes.items m.feeds.items m.alike m.numbered m.reached in
     let t = c.args.self.now in
     (numbers-within 1 (length t.totals.files) meta.file
     (of-file (feed_of q) meta (length t.totals.files) law known.known (e.keeps.files ∙ t.numbered))).0
@@ -70,7 +70,7 @@ take-requires-in-Ok-clause-last g c =
     let e = c.in_ok-head.ensures in
     let meta = c.packet-meta.result.now in
     let known = subst (λ h. Knows (feed_of p) h (feed_of q)) (packet-is (feed_of q) c.in_ok-head.field-0 meta e.answer.known c.packet-meta.ensures) e.answer in
-    let law = merged-is-feed g.F.PacketFeed.feed g.met.F.PacketFeed.lawful m.lanes.items m.feeds.items m.alike m.numbered m.agrees m.reached in
+    let law = merged-is-feed g.F.PacketFeed.feed g.met.F.PacketFeed.lawful m.lanes.items m.feeds.items m.alike m.numbered m.reached in
     let t = c.args.self.now in
     omega (
       arith,
@@ -86,7 +86,7 @@ take-requires-in-Ok-clause-few g c =
     let e = c.in_ok-head.ensures in
     let meta = c.packet-meta.result.now in
     let known = subst (λ h. Knows (feed_of p) h (feed_of q)) (packet-is (feed_of q) c.in_ok-head.field-0 meta e.answer.known c.packet-meta.ensures) e.answer in
-    let law = merged-is-feed g.F.PacketFeed.feed g.met.F.PacketFeed.lawful m.lanes.items m.feeds.items m.alike m.numbered m.agrees m.reached in
+    let law = merged-is-feed g.F.PacketFeed.feed g.met.F.PacketFeed.lawful m.lanes.items m.feeds.items m.alike m.numbered m.reached in
     let t = c.args.self.now in
     omega (arith, t.counted, t.places, e.keeps.left, is-left (feed_of q) meta law known.known)
 
@@ -98,7 +98,7 @@ returns-in-Ok-clause-step g c =
     let e = c.in_ok-head.ensures in
     let meta = c.packet-meta.result.now in
     let known = subst (λ h. Knows (feed_of p) h (feed_of q)) (packet-is (feed_of q) c.in_ok-head.field-0 meta e.answer.known c.packet-meta.ensures) e.answer in
-    let law = merged-is-feed g.F.PacketFeed.feed g.met.F.PacketFeed.lawful m.lanes.items m.feeds.items m.alike m.numbered m.agrees m.reached in
+    let law = merged-is-feed g.F.PacketFeed.feed g.met.F.PacketFeed.lawful m.lanes.items m.feeds.items m.alike m.numbered m.reached in
     let x = taken c.clock-clock.result meta c.frame-frame.result.now in
     let next = next-is q meta c.clock-clock.result c.frame-frame.result.now known.known c.clock-clock.ensures.clock c.frame-frame.ensures.frame in
     let after = parts_of c.pass.new.self in
@@ -128,7 +128,7 @@ returns-in-Err-Limit-clause-step g c =
     let e = c.in_ok-head.ensures in
     let meta = c.packet-meta.result.now in
     let known = subst (λ h. Knows (feed_of p) h (feed_of q)) (packet-is (feed_of q) c.in_ok-head.field-0 meta e.answer.known c.packet-meta.ensures) e.answer in
-    let law = merged-is-feed g.F.PacketFeed.feed g.met.F.PacketFeed.lawful m.lanes.items m.feeds.items m.alike m.numbered m.agrees m.reached in
+    let law = merged-is-feed g.F.PacketFeed.feed g.met.F.PacketFeed.lawful m.lanes.items m.feeds.items m.alike m.numbered m.reached in
     let x = taken c.clock-clock.result meta c.frame-frame.result.now in
     let next = next-is q meta c.clock-clock.result c.frame-frame.result.now known.known c.clock-clock.ensures.clock c.frame-frame.ensures.frame in
     let now = λ (xs : List Taken) (h : Stands c.args.self.now.tally xs (next_taken p)).
@@ -161,7 +161,7 @@ returns-in-Err-Memory-clause-step g c =
     let e = c.in_ok-head.ensures in
     let meta = c.packet-meta.result.now in
     let known = subst (λ h. Knows (feed_of p) h (feed_of q)) (packet-is (feed_of q) c.in_ok-head.field-0 meta e.answer.known c.packet-meta.ensures) e.answer in
-    let law = merged-is-feed g.F.PacketFeed.feed g.met.F.PacketFeed.lawful m.lanes.items m.feeds.items m.alike m.numbered m.agrees m.reached in
+    let law = merged-is-feed g.F.PacketFeed.feed g.met.F.PacketFeed.lawful m.lanes.items m.feeds.items m.alike m.numbered m.reached in
     let next = next-is q meta c.clock-clock.result c.frame-frame.result.now known.known c.clock-clock.ensures.clock c.frame-frame.ensures.frame in
     record {
       cause = inr (is-packet (feed_of q) meta known.known);
