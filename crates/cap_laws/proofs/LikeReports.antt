@@ -21,11 +21,11 @@ use Rattle.cap_source.specs.Feed.{Item, packet, refused}
 use Rattle.cap_talks.specs.Classes.{class_by, class_in, class_of, classes, classes_in, counts_of, group_class, groups_of, has_place}
 use Rattle.cap_talks.specs.CountedUnits.{unit_by, unit_at, listed, units_of, is_limit_at, counted_in}
 use Rattle.cap_talks.specs.ReportText.{body_text, bytes_of, truncated_of, with_item, taken_after, refusal_here}
-use Rattle.cap_talks.specs.Talks.Rows.{is_refused, talk_limit}
+use Rattle.cap_rows.specs.Rows.{is_refused, talk_limit}
 use Rattle.cap_talks.specs.Taken.{Taken, Look, plain, datagram, fragment, look_at, look, events_with, events_of}
-use Rattle.cap_talks.specs.Talks.{key_of, rows_of}
+use Rattle.cap_rows.specs.Talks.{key_of, rows_of}
 use Rattle.cap_talks.specs.declared.classes.Class.TheVariants as class
-use Rattle.cap_talks.specs.declared.talks.units.CountedUnit.{CountedUnit}
+use Rattle.cap_rows.specs.declared.units.CountedUnit.{CountedUnit}
 use Rattle.cap_time.specs.declared.stamps.Stamp.{Stamp}
 use Rattle.cap_laws.proofs.LikePieces.{IsLike, IsLikeFrame, Like, LikeEvent, data-like, events-groups, header-like, pieces-alike, place-like}
 use Rattle.cap_laws.proofs.LikeUnits.{LikeUnit, LikeUnits, first_unit-like, key-like, refused-like, rows-like}

@@ -5,7 +5,7 @@ use Rattle.std.specs.declared.cmp.Ordering.TheVariants.{Equal}
 use Rattle.cap_blocks.specs.Split.{AreBytes}
 use Rattle.cap_bytes.specs.declared.faults.Tail.{Tail}
 use Rattle.cap_bytes.specs.declared.numbers.Order.{Order}
-use Rattle.cap_merge.specs.Clock.{clock_cmp}
+use Rattle.cap_time.specs.Clock.{clock_cmp}
 use Rattle.cap_merge.specs.Files.{clocked_run}
 use Rattle.cap_merge.specs.Run.{Clocked}
 use Rattle.cap_source.specs.Feed.{Item}
@@ -13,9 +13,9 @@ use Rattle.cap_source.specs.Items.{file_first, file_items}
 use Rattle.cap_talks.specs.Classes.{classes, counts_of}
 use Rattle.cap_talks.specs.CountedUnits.{units_of, joined_in, given_up_in}
 use Rattle.cap_talks.specs.ReportText.{body_text, bytes_of, truncated_of, total_text, frames_text, joined_text, taken_after}
-use Rattle.cap_talks.specs.Talks.Lines.{talk_texts, talks_text}
+use Rattle.cap_rows.specs.Lines.{talk_texts, talks_text}
 use Rattle.cap_talks.specs.Taken.{Taken}
-use Rattle.cap_talks.specs.Talks.{Talk, rows_of}
+use Rattle.cap_rows.specs.Talks.{Talk, rows_of}
 use Rattle.cap_write.specs.Pcap.{pcap_bytes, pcap_refusal}
 use Rattle.cap_laws.specs.Reports.{refused_at}
 

@@ -7,7 +7,7 @@ use Rattle.cap_time.specs.declared.stamps.Stamp.{Stamp}
 use Rattle.cap_source.specs.declared.feeds.Head.{Head}
 use Rattle.cap_source.specs.declared.feeds.Head.TheVariants as heads
 use Rattle.cap_merge.specs.Lists.{all-each, each-all}
-use Rattle.cap_merge.specs.Clock.{clock_cmp}
+use Rattle.cap_time.specs.Clock.{clock_cmp}
 use Rattle.cap_merge.specs.Clocks.{AtMost}
 use Rattle.cap_merge.specs.Parts.{Part, is_end, ClocksFrom}
 

@@ -10,7 +10,7 @@ use Rattle.cap_source.specs.declared.feeds.Head.{Head}
 use Rattle.cap_source.specs.declared.feeds.Head.TheVariants as heads
 use Rattle.cap_source.specs.Feed.{IsFeed, SameItems, Knows, Breaks, Waits, GivesHead, KeepsItems}
 use Rattle.cap_merge.specs.Lists.{and-both, and-none, any-back, any-front, or-back}
-use Rattle.cap_merge.specs.Clock.{later}
+use Rattle.cap_time.specs.Clock.{later}
 use Rattle.cap_merge.specs.Parts.{Part, LaneState, head_time, has_file, is_known, known_of, head_by, first_of, feed_of, ClocksFrom}
 use Rattle.cap_merge.specs.Merge.{LearnsBy, Stops, LearnsAll, StopsAt, AsksAll}
 use Rattle.cap_merge.specs.Clocks.{AtMost, at_most-trans, later-first}

@@ -10,7 +10,7 @@ use Rattle.cap_source.specs.declared.feeds.Head.TheVariants as heads
 use Rattle.cap_source.specs.declared.packets.Meta.{Meta}
 use Rattle.cap_source.specs.Feed.{packet, IsFeed, Keeps, Passes, IfPacket}
 use Rattle.cap_merge.specs.Lists.{All-both, all-back, all-each, and-none}
-use Rattle.cap_merge.specs.Clock.{clock_cmp}
+use Rattle.cap_time.specs.Clock.{clock_cmp}
 use Rattle.cap_merge.specs.Run.{run}
 use Rattle.cap_merge.specs.First.{has_next}
 use Rattle.cap_merge.specs.Parts.{Part, LaneState, item_time, is_refusal, has_file, is_known, known_of, head_by, first_of, tracks, run_of, endings_of, places_of, left_of, most_of, held_of, feed_of}

@@ -5,7 +5,7 @@ use Rattle.std.specs.List.{AllByRecursion}
 use Rattle.std.specs.Ordering.{is_lt, is_gt}
 use Rattle.cap_time.specs.declared.stamps.Stamp.{Stamp}
 use Rattle.cap_merge.specs.Lists.{All-both, All-implied, all-back, all-front}
-use Rattle.cap_merge.specs.Clock.{clock_cmp, later, greatest_from, greatest}
+use Rattle.cap_time.specs.Clock.{clock_cmp, later, greatest_from, greatest}
 use Rattle.cap_merge.specs.Run.{Clocked, Track, opened, merged, run, through_first, HeadClock, IsFirst}
 use Rattle.cap_merge.specs.Clocks.{AtMost, at_most-trans, later-first, later-second, later-least, not_below, is_less, at_most-both, equal-at_most}
 use Rattle.cap_merge.specs.MergedList.{passed, merged-next, merged-none}

@@ -6,7 +6,7 @@ use Rattle.std.specs.Cmp.Lexicographic.{options_total}
 use Rattle.std.proofs.lemmas.Bool.{true≢false}
 use Rattle.cap_time.specs.declared.stamps.Stamp.{Stamp}
 use Rattle.cap_time.specs.StampLaws.{stamp_cmp_total}
-use Rattle.cap_merge.specs.Clock.{clock_cmp, later}
+use Rattle.cap_time.specs.Clock.{clock_cmp, later}
 
 pub clock_total : IsTotalOrder clock_cmp
 clock_total = options_total stamp_cmp_total

@@ -8,7 +8,7 @@ use Rattle.cap_time.specs.declared.stamps.Stamp.{Stamp}
 use Rattle.cap_source.specs.declared.feeds.Head.{Head}
 use Rattle.cap_source.specs.Feed.{Item, Leads, IsFeed}
 use Rattle.cap_merge.specs.Lists.{all-back, all-front}
-use Rattle.cap_merge.specs.Clock.{clock_cmp, later}
+use Rattle.cap_time.specs.Clock.{clock_cmp, later}
 use Rattle.cap_merge.specs.Run.{Track, Clocked, run, through_first, HeadClock, IsFirst}
 use Rattle.cap_merge.specs.First.{has_next}
 use Rattle.cap_merge.specs.Parts.{Part, item_time, head_time, known_time, is_refusal, tracks, run_of}

@@ -8,7 +8,7 @@ use Rattle.cap_source.specs.declared.feeds.Head.TheVariants as heads
 use Rattle.cap_merge.specs.declared.lanes.Coming.{Coming}
 use Rattle.cap_merge.specs.declared.lanes.Coming.TheVariants.{Packet, Refused, End}
 use Rattle.cap_merge.specs.declared.lanes.Lane.{Lane}
-use Rattle.cap_merge.specs.Clock.{clock_cmp}
+use Rattle.cap_time.specs.Clock.{clock_cmp}
 
 -- what a lane says of what its feed knows to come next
 abbrev pub coming_of : Option Head → Option Coming

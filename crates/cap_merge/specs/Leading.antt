@@ -9,7 +9,7 @@ use Rattle.std.proofs.lemmas.List.{length-map, length-take-le, length-drop, take
 use Rattle.std.proofs.lemmas.Option.{slice_get-get_or}
 use Rattle.std.proofs.Math.Seq.{drop-cons}
 use Rattle.cap_time.specs.declared.stamps.Stamp.{Stamp}
-use Rattle.cap_merge.specs.Clock.{clock_cmp}
+use Rattle.cap_time.specs.Clock.{clock_cmp}
 use Rattle.cap_merge.specs.First.{Turn, has_next, no_turn, turn_at, sooner_place, first_among, first_place}
 use Rattle.cap_merge.specs.Parts.{Part, turn, turns, first_of}
 use Rattle.cap_merge.specs.Clocks.{clock_total, AtMost, not_below, below-at_most, is_less}

@@ -1,4 +1,4 @@
-pub mod Clock
+pub use Rattle.cap_time.specs.Clock
 pub mod Run
 pub mod Parts
 pub mod First

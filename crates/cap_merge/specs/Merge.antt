@@ -6,7 +6,7 @@ use Rattle.cap_source.specs.declared.feeds.Head.{Head}
 use Rattle.cap_source.specs.Feed.{Keeps, SameItems, Knows, GivesHead, KeepsItems, Passes, IsPacket}
 use Rattle.cap_merge.specs.declared.lanes.Coming.TheVariants as comings
 use Rattle.cap_merge.specs.declared.lanes.Lane.{Lane}
-use Rattle.cap_merge.specs.Clock.{later}
+use Rattle.cap_time.specs.Clock.{later}
 use Rattle.cap_merge.specs.Parts.{Part, LaneState, head_time, is_bounded, passed_lane}
 
 -- What a lane does with a fault of its feed: a refusal is what comes next, another fault is answered.

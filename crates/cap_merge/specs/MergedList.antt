@@ -8,7 +8,7 @@ use Rattle.std.proofs.lemmas.Bool.Decides.{nat_tests}
 use Rattle.std.proofs.lemmas.List.{map-append}
 use Rattle.cap_time.specs.declared.stamps.Stamp.{Stamp}
 use Rattle.cap_merge.specs.Lists.{All-both, All-implied, map-twice}
-use Rattle.cap_merge.specs.Clock.{clock_cmp, later}
+use Rattle.cap_time.specs.Clock.{clock_cmp, later}
 use Rattle.cap_merge.specs.Run.{in_order, Placed, placed_cmp, clocked_of, Track, placed_from, placed_all, merged, HeadClock, IsFirst}
 use Rattle.cap_merge.specs.Clocks.{clock_total, AtMost, at_most-trans, below-at_most, later-first}
 use Rattle.cap_merge.specs.Ordered.{least_first, order-mapped}

@@ -5,7 +5,7 @@ use Rattle.std.specs.Ordering.{nat_cmp, ordering_then, is_lt, is_gt}
 use Rattle.std.specs.declared.cmp.Ordering.{Ordering}
 use Rattle.std.specs.declared.cmp.Ordering.TheVariants.{Less}
 use Rattle.cap_time.specs.declared.stamps.Stamp.{Stamp}
-use Rattle.cap_merge.specs.Clock.{clock_cmp, later}
+use Rattle.cap_time.specs.Clock.{clock_cmp, later}
 
 -- how many of some items are smaller than one: its place among them
 abbrev pub merged_place : {A : Type 0} → (A → A → Ordering) → List A → A → ℕ

@@ -8,7 +8,7 @@ use Rattle.cap_source.specs.declared.feeds.Head.{Head}
 use Rattle.cap_source.specs.Feed.{Feed, IsFeed}
 use Rattle.cap_merge.specs.Lists.{all-each, each-all}
 use Rattle.cap_merge.specs.declared.lanes.Lane.{Lane}
-use Rattle.cap_merge.specs.Clock.{clock_cmp}
+use Rattle.cap_time.specs.Clock.{clock_cmp}
 use Rattle.cap_merge.specs.Parts.{Part, part, parts, IsNumbered, HasReached, known_time}
 
 -- What is known of a part is what its feed knows, and its clock was reached.

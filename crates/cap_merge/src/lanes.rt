@@ -1,7 +1,7 @@
 //! What is known of each feed, and which of them comes first.
 ghost use Rattle.std.specs.Prelude.{◌≡◌, ◌<◌, ◌≤◌, List, replicate, length, true, is_some, None, Some, IfSome, map};
 ghost use Rattle.std.specs.List.{list_all};
-ghost use Rattle.cap_merge.specs.Clock.{later};
+ghost use Rattle.cap_time.specs.Clock.{later};
 ghost use Rattle.cap_source.specs.Feed.{Feed, IsPacket};
 ghost use Rattle.cap_merge.specs.Parts.{part, parts, is_bounded, known_of, both_held, known_but, OthersKnown, Matches, Agrees};
 ghost use Rattle.cap_merge.specs.First.{coming_of, fresh_lane, lane_at, has_item, lane_turn, lane_turns, comes_before, sooner_place, first_place, IsFound};

@@ -2,7 +2,7 @@
 
 use cap_bytes::{Fault, Refusal, Room, Rule};
 use cap_jobs::{LineFault, USAGE};
-use cap_tasks::{Outcome, end_of, outcome_line, status_of, tell};
+use cap_outcomes::{Outcome, end_of, outcome_line, status_of, tell};
 use std::alloc::Global;
 use std::io;
 use std::io::{BufWriter, Write};

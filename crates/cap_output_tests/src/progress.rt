@@ -1,7 +1,7 @@
 //! The line that shows how far a run is, and devices that are watched.
 
 use cap_bytes::{Device, Pieces, Room, Sink, Source};
-use cap_tasks::{Progress, Watched, progress_line};
+use cap_outcomes::{Progress, Watched, progress_line};
 
 #[test]
 fn a_line_tells_bytes_rate_and_time_left(rt: HostRuntime) {

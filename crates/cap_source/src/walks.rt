@@ -3,7 +3,7 @@ ghost use Rattle.std.specs.Prelude.{IsTrue};
 ghost use Rattle.cap_source.specs.Feed.{Keeps};
 ghost use Rattle.cap_source.specs.Walk.{GivesPacket, ShowsItem};
 
-use crate::feeds::{Head, PacketFeed};
+use crate::feeds::PacketFeed;
 use crate::packets::Meta;
 use cap_bytes::Fault;
 
@@ -17,9 +17,9 @@ pub fn next_packet<F: PacketFeed>(feed: &mut F) -> Result<Option<Meta>, Fault>
     ensures items { IsTrue (F.feed feed.old).told
         → ShowsItem (F.feed feed.old) result (F.feed feed.new) }
 {
-    match feed.head()? {
-        Head::Packet(meta) => Ok(Some(meta)),
-        Head::Refused(refusal) => Err(Fault::Refused(refusal)),
-        Head::End => Ok(None),
+    if feed.has_packet()? {
+        Ok(Some(*feed.packet()))
+    } else {
+        Ok(None)
     }
 }

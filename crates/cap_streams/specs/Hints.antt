@@ -4,8 +4,8 @@ use Rattle.cap_bytes.specs.declared.faults.Fault.{Fault}
 use Rattle.cap_bytes.specs.declared.faults.Fault.TheVariants as faults
 use Rattle.cap_jobs.specs.declared.faults.LineFault.{LineFault}
 use Rattle.cap_jobs.specs.declared.faults.LineFault.TheVariants as lines
-use Rattle.cap_tasks.specs.declared.outcomes.Outcome.{Outcome}
-use Rattle.cap_tasks.specs.declared.outcomes.Outcome.TheVariants as outcomes
+use Rattle.cap_outcomes.specs.declared.outcomes.Outcome.{Outcome}
+use Rattle.cap_outcomes.specs.declared.outcomes.Outcome.TheVariants as outcomes
 
 -- whether a fault is of one of the files that are read
 abbrev pub is_of_input : Fault → Bool

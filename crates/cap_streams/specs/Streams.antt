@@ -4,8 +4,8 @@ use Rattle.std.specs.Str.{bytes_eq}
 use Rattle.cap_bytes.specs.Tracked.{inner_of}
 use Rattle.cap_bytes.specs.declared.faults.Fault.TheVariants as faults
 use Rattle.cap_bytes.specs.declared.streams.Tracked.{Tracked}
-use Rattle.cap_tasks.specs.declared.outcomes.Outcome.{Outcome}
-use Rattle.cap_tasks.specs.declared.outcomes.Outcome.TheVariants as outcomes
+use Rattle.cap_outcomes.specs.declared.outcomes.Outcome.{Outcome}
+use Rattle.cap_outcomes.specs.declared.outcomes.Outcome.TheVariants as outcomes
 use Rattle.cap_streams.specs.declared.streams.Input.{Input}
 use Rattle.cap_streams.specs.declared.streams.Input.TheVariants as inputs
 use Rattle.cap_streams.specs.declared.streams.Output.{Output}

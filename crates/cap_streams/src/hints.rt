@@ -5,7 +5,7 @@ ghost use Rattle.cap_streams.specs.Hints.{is_of_file, is_of_names};
 use crate::regular::{id_of, is_input, regular_at, regular_file};
 use cap_bytes::{Fault, Rule};
 use cap_jobs::{Job, LineFault};
-use cap_tasks::Outcome;
+use cap_outcomes::Outcome;
 use std::alloc::Global;
 use std::fmt::Display;
 use std::fs::{File, OpenOptions};

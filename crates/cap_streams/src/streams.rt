@@ -1,11 +1,11 @@
 //! The files and the standard streams of a run.
 ghost use Rattle.std.specs.Prelude.{◌≡◌, ◌≢◌, ◌≤◌, codes, length, map, vec_len, IfOk, IfErr, IsErr, IsFalse, IsTrue, option_map, Some, None};
-ghost use Rattle.cap_tasks.specs.Watched.{inner_of};
+ghost use Rattle.cap_outcomes.specs.Watched.{inner_of};
 ghost use Rattle.cap_streams.specs.Streams.{IsOutFile, IsStandardOut, StopsOpening, StopsCreating, is_dash, is_standard, standards_of};
 
 use crate::regular::{FileId, Regular, id_of, is_input, regular_at, regular_file, regular_of};
 use cap_bytes::{Fault, Tracked};
-use cap_tasks::{Outcome, Progress, Watched};
+use cap_outcomes::{Outcome, Progress, Watched};
 use std::alloc::Global;
 use std::fs::{File, OpenOptions};
 use std::io;

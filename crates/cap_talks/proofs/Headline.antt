@@ -19,8 +19,8 @@ use Rattle.cap_talks.specs.Reporting.{TookAll, TakesAll}
 use Rattle.cap_talks.specs.ReportText.{text_of, taken_after, refusal_after, report_text, report_refusal}
 use Rattle.cap_talks.specs.Stepping.{TableState, TableStands, endings_so_far}
 use Rattle.cap_talks.specs.Taken.{Taken}
-use Rattle.cap_talks.specs.Telling.{Tells}
-use Rattle.cap_talks.proofs.FileLemmas.Printing.{tells-printed}
+use Rattle.cap_counts.specs.Telling.{Tells}
+use Rattle.cap_counts.proofs.Printing.{tells-printed}
 
 length-range : (first count : ℕ) → length (range_with_len first count) ≡ count
 length-range first zero = refl

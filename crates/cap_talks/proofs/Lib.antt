@@ -1,6 +1,4 @@
 pub mod FileLemmas
-pub mod TalkLemmas
-pub mod Chosen
 pub mod Recount
 pub mod Steps
 pub mod Frames

@@ -3,15 +3,15 @@ use Rattle.std.proofs.Common.{arith, ◌≡◌, ℕ, List, ◌++◌, length, Opt
 use Rattle.cap_source.specs.declared.feeds.Ending.{Ending}
 use Rattle.cap_talks.specs.Classes.{classes, counts_of}
 use Rattle.cap_talks.specs.CountedUnits.{units_of, joined_in, given_up_in}
-use Rattle.cap_talks.specs.Files.Lines.{files_text}
-use Rattle.cap_talks.specs.Files.Reading.{ended_from, counted_texts}
+use Rattle.cap_counts.specs.Lines.{files_text}
+use Rattle.cap_counts.specs.Reading.{ended_from, counted_texts}
 use Rattle.cap_talks.specs.ReportText.{files_part, body_text, text_of, total_text, frames_text, joined_text, bytes_of, truncated_of}
 use Rattle.cap_talks.specs.Taken.{Taken}
-use Rattle.cap_talks.specs.Talks.{rows_of}
-use Rattle.cap_talks.specs.Talks.Lines.{talk_texts, talks_text}
+use Rattle.cap_rows.specs.Talks.{rows_of}
+use Rattle.cap_rows.specs.Lines.{talk_texts, talks_text}
 use Rattle.cap_talks.specs.Tallies.{TallyState, Stands, tally_text}
 use Rattle.cap_talks.specs.Files.Totals.{TotalsState, TotalsStand}
-use Rattle.cap_talks.specs.declared.files.Counted.{Counted}
+use Rattle.cap_counts.specs.declared.files.Counted.{Counted}
 use Rattle.cap_talks.proofs.FileLemmas.TableLines.{ended-length, lines-counted}
 use Rattle.cap_talks.proofs.Waiting.{given-up}
 

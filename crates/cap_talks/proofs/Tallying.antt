@@ -11,8 +11,8 @@ use Rattle.cap_join.specs.History.{arrives, flushes, joined_pieces, state_of}
 use Rattle.cap_join.specs.Joiners.{JoinerState, open_limit}
 use Rattle.cap_join.specs.Joiners as joiners
 use Rattle.cap_join.specs.declared.datagrams.Datagram.{Datagram}
-use Rattle.cap_talks.specs.Talks.Rows.{TalksState, is_refused, talk_limit}
-use Rattle.cap_talks.specs.Talks.Rows as talks
+use Rattle.cap_rows.specs.Rows.{TalksState, is_refused, talk_limit}
+use Rattle.cap_rows.specs.Rows as talks
 use Rattle.cap_talks.proofs.Recount.{some_of}
 use Rattle.cap_talks.proofs.Steps.{classes-plain, classes-datagram, classes-kept, classes-completed}
 use Rattle.cap_talks.specs.Talks.Adding.{datagram_unit, datagram_class}

@@ -10,8 +10,8 @@ use Rattle.cap_join.specs.Fragments.{piece_of}
 use Rattle.cap_join.specs.History.{joined_pieces, step, state_of}
 use Rattle.cap_link.specs.Links.{typed, raw, network_of}
 use Rattle.cap_link.specs.Tags.{is_tag, ended as tag_ended, payload, carried}
-use Rattle.cap_talks.specs.Files.Counting.{counted}
-use Rattle.cap_talks.specs.Talks.{rows_of}
+use Rattle.cap_counts.specs.Counting.{counted}
+use Rattle.cap_rows.specs.Talks.{rows_of}
 use Rattle.cap_time.specs.Code.{units_of_code}
 use Rattle.cap_time.specs.Stamp.{stamp_cmp, stamp_in, stamp_plus}
 use Rattle.cap_time.specs.Time.{time_cmp, time_at}

@@ -10,12 +10,12 @@ use Rattle.cap_join.specs.Frames.{original_bytes, first_frame, last_frame}
 use Rattle.cap_join.specs.History.{Event, joined_pieces, state_of}
 use Rattle.cap_join.specs.Joiners.{open_limit}
 use Rattle.cap_join.specs.declared.datagrams.Stamped.{Stamped}
-use Rattle.cap_talks.specs.Talks.Rows.{is_refused, talk_limit}
-use Rattle.cap_talks.specs.Talks.{key_of, rows_of}
-use Rattle.cap_talks.specs.Talks.Units.{ends_of, timed_frame}
-use Rattle.cap_talks.specs.declared.talks.units.CountedUnit.{CountedUnit}
-use Rattle.cap_talks.specs.declared.talks.units.End.{End}
-use Rattle.cap_talks.specs.declared.talks.units.TimedFrame.{TimedFrame}
+use Rattle.cap_rows.specs.Rows.{is_refused, talk_limit}
+use Rattle.cap_rows.specs.Talks.{key_of, rows_of}
+use Rattle.cap_rows.specs.Units.{ends_of, timed_frame}
+use Rattle.cap_rows.specs.declared.units.CountedUnit.{CountedUnit}
+use Rattle.cap_rows.specs.declared.units.End.{End}
+use Rattle.cap_rows.specs.declared.units.TimedFrame.{TimedFrame}
 use Rattle.cap_time.specs.declared.stamps.Stamp.{Stamp}
 use Rattle.cap_talks.specs.Classes.{group_class, groups_of, is_class}
 use Rattle.cap_join.specs.Completed.{if_complete}

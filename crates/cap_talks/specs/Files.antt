@@ -1,7 +1,7 @@
 -- What is told of files.
-pub mod Counting
-pub mod Lines
-pub mod Reading
+pub use Rattle.cap_counts.specs.Counting
+pub use Rattle.cap_counts.specs.Lines
+pub use Rattle.cap_counts.specs.Reading
 pub mod Totals
 pub mod TotalsView
 pub mod Props

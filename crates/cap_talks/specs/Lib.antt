@@ -1,5 +1,5 @@
 pub mod Files
-pub mod Telling
+pub use Rattle.cap_counts.specs.Telling
 pub mod Talks
 pub mod Taken
 pub mod Classes

@@ -7,11 +7,11 @@ use Rattle.cap_merge.specs.Run.{Clocked}
 use Rattle.cap_source.specs.Feed.{Item, packet, refused}
 use Rattle.cap_source.specs.declared.feeds.Ending.{Ending}
 use Rattle.cap_source.specs.declared.packets.Meta.{Meta}
-use Rattle.cap_talks.specs.Files.Counting.{counted}
-use Rattle.cap_talks.specs.Files.Lines.{file_text, files_text, ending_at, or_else}
+use Rattle.cap_counts.specs.Counting.{counted}
+use Rattle.cap_counts.specs.Lines.{file_text, files_text, ending_at, or_else}
 use Rattle.cap_time.specs.declared.stamps.Stamp.{Stamp}
-use Rattle.cap_talks.specs.Talks.Lines.{talk_texts, talks_text}
-use Rattle.cap_talks.specs.Talks.{rows_of}
+use Rattle.cap_rows.specs.Lines.{talk_texts, talks_text}
+use Rattle.cap_rows.specs.Talks.{rows_of}
 use Rattle.cap_talks.specs.Classes.{classes, counts_of}
 use Rattle.cap_talks.specs.Taken.{Taken}
 use Rattle.cap_talks.specs.CountedUnits.{units_of, joined_in, given_up_in, is_limit_at}

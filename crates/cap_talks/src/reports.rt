@@ -11,7 +11,7 @@ ghost use Rattle.cap_talks.specs.Reporting.{TakesAll};
 ghost use Rattle.cap_talks.specs.ReportText.{report_text, report_refusal};
 ghost use Rattle.cap_talks.specs.Stepping.{IsMore};
 ghost use Rattle.cap_talks.specs.TableView.{table_of};
-ghost use Rattle.cap_talks.specs.Telling.{Tells};
+ghost use Rattle.cap_counts.specs.Telling.{Tells};
 
 use crate::tables::{Step, Table};
 use cap_bytes::{Fault, Sink, Source, Tail};

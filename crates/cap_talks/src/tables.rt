@@ -7,23 +7,22 @@ ghost use Rattle.cap_merge.specs.Parts.{feed_of, is_end};
 ghost use Rattle.cap_merge.specs.View.{parts_of};
 ghost use Rattle.cap_source.specs.Feed.{HasFile};
 ghost use Rattle.cap_talks.specs.Files.Props.{IsNumbered-prop};
-ghost use Rattle.cap_talks.specs.Files.Lines.{ending_at};
-ghost use Rattle.cap_talks.specs.Files.Reading.{ended_from};
+ghost use Rattle.cap_counts.specs.Lines.{ending_at};
+ghost use Rattle.cap_counts.specs.Reading.{ended_from};
 ghost use Rattle.cap_talks.specs.Holding.{held_of};
 ghost use Rattle.cap_talks.specs.Stepping.{TableStands, StepKeeps, Steps, AnswersAgain, endings_so_far};
 ghost use Rattle.cap_talks.specs.ReportText.{refusal_at, text_of};
 ghost use Rattle.cap_talks.specs.Taken.{Taken};
 
-use crate::files::counts::Counts;
-use crate::files::totals::Totals;
-use crate::files::{Counted, put_files};
 use crate::report_lines::total_line;
 use crate::run_packets::RunPacket;
-use crate::talks::TalksFault;
 use crate::tallies::Tally;
+use crate::totals::Totals;
 use arrayvec::ArrayVec;
 use cap_bytes::{Fault, Refusal, Rule, Sink, put_all};
+use cap_counts::{Counted, Counts, put_files};
 use cap_merge::Merged;
+use cap_rows::TalksFault;
 use cap_source::{Ending, Meta, PacketFeed};
 use std::alloc::Global;
 

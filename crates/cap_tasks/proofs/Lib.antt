@@ -1,4 +1,3 @@
 pub mod BlockListing
 pub mod Listing
-pub mod Telling
 pub mod Merging

@@ -5,6 +5,6 @@ pub mod Lines
 pub mod ListText
 pub mod JoinText
 pub mod MergeText
-pub mod Outcomes
-pub mod Progress
-pub mod Watched
+pub use Rattle.cap_outcomes.specs.Outcomes
+pub use Rattle.cap_outcomes.specs.Progress
+pub use Rattle.cap_outcomes.specs.Watched

@@ -1,3 +1,4 @@
 pub mod PrintedForm
 pub mod WholeUnits
 pub mod StampForms
+pub mod Chosen

@@ -6,3 +6,4 @@ pub mod StampLaws
 pub mod Time
 pub mod TimeLaws
 pub mod Unit
+pub mod Clock

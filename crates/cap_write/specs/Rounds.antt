@@ -7,7 +7,7 @@ use Rattle.cap_bytes.specs.declared.faults.Rule.{Rule}
 use Rattle.cap_source.specs.Feed.{Item, packet, refused}
 use Rattle.cap_source.specs.declared.packets.Format.TheVariants.{Pcapng}
 use Rattle.cap_source.specs.declared.packets.Meta.{Meta}
-use Rattle.cap_merge.specs.Clock.{clock_cmp, greatest}
+use Rattle.cap_time.specs.Clock.{clock_cmp, greatest}
 use Rattle.cap_write.specs.Numbering.{Numbered, numbered, refusal_in}
 use Rattle.cap_merge.specs.Files.{run_of_lists}
 use Rattle.cap_merge.specs.Run.{Clocked, opened, run}

@@ -4,12 +4,12 @@ use Rattle.std.specs.Prelude.{replicate, slice_set, slice_index_or, if◌then◌
 use Rattle.std.specs.List.{AllByRecursion, refill}
 use Rattle.std.proofs.lemmas.Bool.Decides.{nat_tests}
 use Rattle.cap_source.specs.declared.packets.Meta.{Meta}
-use Rattle.cap_talks.specs.Files.Counting.{counted, with_packet, original_bytes, truncated_packets}
+use Rattle.cap_counts.specs.Counting.{counted, with_packet, original_bytes, truncated_packets}
 use Rattle.cap_talks.specs.ReportText.{metas_of, bytes_of, truncated_of}
 use Rattle.cap_talks.specs.Taken.{Taken}
 use Rattle.cap_talks.specs.Files.Totals.{TotalsState, TotalsStand, IsSoundTotals, counts_from, is_room}
-use Rattle.cap_talks.specs.declared.files.counts.Counts.{Counts}
-use Rattle.cap_talks.proofs.FileLemmas.Counting.{counted-more}
+use Rattle.cap_counts.specs.declared.counts.Counts.{Counts}
+use Rattle.cap_counts.proofs.Counting.{counted-more}
 
 pub one-more : {A : Type 0} (n : ℕ) (x : A) → replicate n x ++ (x ∷ []) ≡ replicate (suc n) x
 one-more zero x = refl

@@ -1,6 +1,6 @@
 -- What the fields of totals say.
 use Rattle.cap_talks.specs.Files.Totals.{TotalsState, IsSoundTotals}
-use Rattle.cap_talks.specs.declared.files.totals.Totals.TheInside.{Inside}
+use Rattle.cap_talks.specs.declared.totals.Totals.TheInside.{Inside}
 
 abbrev pub totals_view : Inside → TotalsState
 totals_view t = record { files = t.files.items; packets = t.packets; bytes = t.bytes; truncated = t.truncated }

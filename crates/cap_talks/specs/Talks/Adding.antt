@@ -3,10 +3,10 @@ use Rattle.std.specs.Prelude.{List, Bool, false, length, Option}
 use Rattle.std.specs.Option.{option_map, option_map_or}
 use Rattle.cap_ip.specs.Transport.{transport_of}
 use Rattle.cap_join.specs.declared.datagrams.Datagram.{Datagram}
-use Rattle.cap_talks.specs.Talks.Rows.{is_refused, talk_limit}
-use Rattle.cap_talks.specs.Talks.{Talk, key_of}
-use Rattle.cap_talks.specs.Talks.Units.{ends_of, timed_frame}
-use Rattle.cap_talks.specs.declared.talks.units.CountedUnit.{CountedUnit}
+use Rattle.cap_rows.specs.Rows.{is_refused, talk_limit}
+use Rattle.cap_rows.specs.Talks.{Talk, key_of}
+use Rattle.cap_rows.specs.Units.{ends_of, timed_frame}
+use Rattle.cap_rows.specs.declared.units.CountedUnit.{CountedUnit}
 use Rattle.cap_talks.specs.Classes.{class_of}
 use Rattle.cap_talks.specs.CountedUnits.{unit_of}
 use Rattle.cap_talks.specs.declared.classes.Class.{Class}

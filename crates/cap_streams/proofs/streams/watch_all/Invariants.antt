@@ -1,5 +1,5 @@
 use Rattle.std.proofs.Common.{◌≡◌, map}
-use Rattle.cap_tasks.specs.Watched.{inner_of}
+use Rattle.cap_outcomes.specs.Watched.{inner_of}
 use Rattle.cap_streams.proofs.streams.watch_all.Given as goal
 
 -- the inputs so far are watched

@@ -2,7 +2,7 @@ use Rattle.std.proofs.Common.{◌≡◌, ◌+◌, ◌++◌, drop, length, Some, 
 use Rattle.std.specs.Prelude.{if◌then◌else◌}
 use Rattle.cap_merge.specs.Parts.{feed_of}
 use Rattle.cap_merge.specs.View.{parts_of}
-use Rattle.cap_talks.specs.Files.Reading.{ended_from}
+use Rattle.cap_counts.specs.Reading.{ended_from}
 use Rattle.cap_talks.proofs.tables.with_endings.Given as goal
 
 -- what is told of the files so far, and of those that follow, is the whole

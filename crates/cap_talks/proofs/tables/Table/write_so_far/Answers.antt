@@ -5,8 +5,8 @@ use Rattle.cap_bytes.proofs.Putting.{Prints-head, Prints-behind}
 use Rattle.cap_bytes.specs.Printing.{Prints}
 use Rattle.cap_merge.specs.Parts.{feed_of}
 use Rattle.cap_merge.specs.View.{parts_of}
-use Rattle.cap_talks.specs.Files.Lines.{files_text}
-use Rattle.cap_talks.specs.Files.Reading.{ended_from, counted_texts}
+use Rattle.cap_counts.specs.Lines.{files_text}
+use Rattle.cap_counts.specs.Reading.{ended_from, counted_texts}
 use Rattle.cap_talks.specs.ReportText.{total_text}
 use Rattle.cap_talks.specs.Stepping.{next_taken}
 use Rattle.cap_talks.specs.Tallies.{tally_text}

@@ -5,9 +5,9 @@ use Rattle.cap_ip.specs.declared.headers.Key.{Key}
 use Rattle.cap_join.specs.History.{flushes}
 use Rattle.cap_join.specs.Joiners.{IsAnswer, open_limit}
 use Rattle.cap_join.specs.Joiners as joiners
-use Rattle.cap_talks.specs.Talks.Rows.{StandsFor}
-use Rattle.cap_talks.specs.Talks.{frames_of, bytes_of}
-use Rattle.cap_talks.proofs.TalkLemmas.SumLaws.{sum_law}
+use Rattle.cap_rows.specs.Rows.{StandsFor}
+use Rattle.cap_rows.specs.Talks.{frames_of, bytes_of}
+use Rattle.cap_rows.proofs.SumLaws.{sum_law}
 use Rattle.cap_talks.specs.Talks.Adding.{is_over}
 use Rattle.cap_talks.specs.Classes.{class_of}
 use Rattle.cap_talks.specs.Looking.{look_of, taken_of}

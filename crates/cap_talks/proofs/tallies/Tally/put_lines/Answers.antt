@@ -4,7 +4,7 @@ use Rattle.cap_bytes.proofs.Putting.{Prints-behind}
 use Rattle.cap_bytes.specs.Printing.{Prints}
 use Rattle.cap_talks.specs.ReportText.{frames_text, joined_text}
 use Rattle.cap_talks.specs.Tallies.{TallyState, tally_text}
-use Rattle.cap_talks.specs.Talks.Lines.{talk_texts, talks_text}
+use Rattle.cap_rows.specs.Lines.{talk_texts, talks_text}
 use Rattle.cap_talks.proofs.Written.{prints-first}
 use Rattle.cap_talks.proofs.tallies.Tally.put_lines.Goals as goal
 

@@ -1,8 +1,8 @@
 use Rattle.std.proofs.Common.{rules, ◌≤◌, ◌++◌, sym, ap, ◌∙◌, subst, arith}
 use Rattle.std.proofs.lemmas.Result.{err_from_is_err_and}
-use Rattle.cap_talks.specs.Talks.Rows.{StandsFor}
-use Rattle.cap_talks.specs.Talks.{frames_of, bytes_of}
-use Rattle.cap_talks.proofs.TalkLemmas.SumLaws.{sum_law}
+use Rattle.cap_rows.specs.Rows.{StandsFor}
+use Rattle.cap_rows.specs.Talks.{frames_of, bytes_of}
+use Rattle.cap_rows.proofs.SumLaws.{sum_law}
 use Rattle.cap_talks.specs.Talks.Adding.{is_over}
 use Rattle.cap_talks.specs.Tallies.{TallyState, Fits, counted_one, with_group}
 use Rattle.cap_talks.specs.TallyView.{tally_view}

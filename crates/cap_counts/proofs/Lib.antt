@@ -1,0 +1,4 @@
+pub mod Times
+pub mod Counting
+pub mod Printing
+pub mod FileByFile

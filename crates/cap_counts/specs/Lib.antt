@@ -1,0 +1,4 @@
+pub mod Counting
+pub mod Lines
+pub mod Reading
+pub mod Telling

@@ -1,0 +1,17 @@
+use Rattle.std.proofs.Common.{arith}
+use Rattle.cap_rows.specs.Rows.{frames_in}
+use Rattle.cap_rows.proofs.RowSums.{on_ok, few-kept, frames_in-more, bytes_in-more}
+use Rattle.cap_rows.proofs.Talking.{rows-more}
+use Rattle.cap_rows.proofs.talks.Talks.add.Goals as goal
+
+pub invariant_of-self : goal.invariant_of-self
+invariant_of-self c = search (few-kept)
+
+pub returns-clause-stands : goal.returns-clause-stands
+returns-clause-stands c = grind (arith, on_ok, rows-more)
+
+pub returns-clause-frames : goal.returns-clause-frames
+returns-clause-frames c = grind (arith, on_ok, frames_in, frames_in-more)
+
+pub returns-clause-bytes : goal.returns-clause-bytes
+returns-clause-bytes c = grind (arith, on_ok, bytes_in-more)

@@ -1,0 +1,49 @@
+-- What is written of a conversation's key to a hasher, and why keys that name the same conversation are one.
+use Rattle.std.proofs.Common.{◌≡◌, ℕ, ◌+◌, ◌*◌, Bool, true, false, ◌&&◌, ◌++◌, refl, sym, ap, true≢false, Option, Some, None}
+use Rattle.std.specs.Prelude.{◌==◌, nat_eq, unwrap_or, IsTrue}
+use Rattle.std.specs.Hash as fed
+use Rattle.std.specs.Option.{option_eq}
+use Rattle.std.proofs.lemmas.Bool.{eqb-true}
+use Rattle.cap_rows.specs.Talks.{same_end, same_talk}
+use Rattle.cap_rows.specs.declared.rows.TalkKey.{TalkKey}
+use Rattle.cap_rows.specs.declared.units.End.{End}
+
+-- an end as one number; no port reads as 0
+abbrev pub end_number : End → ℕ
+end_number end = end.address * 65536 + unwrap_or end.port 0
+
+-- two numbers of 64 bits, the first of the protocol and the lesser end
+abbrev pub talk_hash : TalkKey → fed.HashWrites
+talk_hash key = fed.u64 (end_number key.lesser * 256 + key.protocol) ++ fed.u64 (end_number key.greater)
+
+pub and_left : (x y : Bool) → (x && y) ≡ true → x ≡ true
+and_left true y h = refl
+and_left false y h = h
+
+pub and_right : (x y : Bool) → (x && y) ≡ true → y ≡ true
+and_right true y h = h
+and_right false y h = absurd (true≢false (sym h))
+
+same_port-is : (a b : Option ℕ) → option_eq nat_eq a b ≡ true → a ≡ b
+same_port-is None None h = refl
+same_port-is None (Some b) h = absurd (true≢false (sym h))
+same_port-is (Some a) None h = absurd (true≢false (sym h))
+same_port-is (Some a) (Some b) h = ap Some (eqb-true a b h)
+
+pub same_end-is : (a b : End) → same_end a b ≡ true → a ≡ b
+same_end-is a b h =
+    let address = eqb-true a.address b.address (and_left (a.address == b.address) (option_eq nat_eq a.port b.port) h) in
+    let port = same_port-is a.port b.port (and_right (a.address == b.address) (option_eq nat_eq a.port b.port) h) in
+    λ i. record { address = address i; port = port i }
+
+pub same_talk-is : (a b : TalkKey) → same_talk a b ≡ true → a ≡ b
+same_talk-is a b h =
+    let protocol = eqb-true a.protocol b.protocol (and_left (a.protocol == b.protocol) (same_end a.lesser b.lesser && same_end a.greater b.greater) h) in
+    let ends = and_right (a.protocol == b.protocol) (same_end a.lesser b.lesser && same_end a.greater b.greater) h in
+    let lesser = same_end-is a.lesser b.lesser (and_left (same_end a.lesser b.lesser) (same_end a.greater b.greater) ends) in
+    let greater = same_end-is a.greater b.greater (and_right (same_end a.lesser b.lesser) (same_end a.greater b.greater) ends) in
+    λ i. record { protocol = protocol i; lesser = lesser i; greater = greater i }
+
+-- `Hash`'s law
+pub talk_hash-same : (a b : TalkKey) → IsTrue (same_talk a b) → talk_hash a ≡ talk_hash b
+talk_hash-same a b h = ap talk_hash (same_talk-is a b h)

@@ -1,0 +1,192 @@
+//! The row of a conversation: what is counted of its units.
+ghost use Rattle.std.specs.Prelude.{◌≡◌, ◌+◌, ◌<◌, ◌^◌, []};
+ghost use Rattle.cap_rows.specs.Talks.{key_of, is_forward, earlier_frame, later_frame, frame_time, place_or, row_of};
+ghost use Rattle.cap_rows.specs.Keys.{end_number};
+ghost use Rattle.cap_rows.specs.Rows.{with_unit, frames_of_row, bytes_of_row, frame_of, is_earlier, is_later};
+
+use crate::units::{CountedUnit, End, TimedFrame};
+use cap_time::Stamp;
+use std::cmp::Ordering;
+use std::hash::{Hash, Hasher};
+
+/// What names a conversation: a protocol and two ends, whichever of them is the source.
+#[derive(Clone, Copy, Debug, PartialEq, Eq)]
+pub struct TalkKey {
+    /// The number of the protocol: 6 TCP, 17 UDP.
+    pub protocol: u8,
+    /// The lesser of the two ends.
+    pub lesser: End,
+    /// The other end, which is the same if a datagram goes from an end to itself.
+    pub greater: End,
+}
+
+// An end as one number. No port reads as 0.
+fn end_number(end: &End) -> u64
+    ensures value { result ≡ end_number end.now }
+    ensures bound { result < 2 ^ 48 }
+{
+    let port = match end.port {
+        Some(port) => port,
+        None => 0,
+    };
+    u64::from(end.address) * 65_536 + u64::from(port)
+}
+
+impl Hash for TalkKey {
+    ghost use Rattle.cap_rows.specs.Keys.{talk_hash, talk_hash-same};
+
+    ghost hash_input = { talk_hash };
+
+    ghost respects_eq = { talk_hash-same };
+
+    // Two numbers: a write costs the same whether it has 1 byte or 8.
+    fn hash<H: Hasher>(&self, state: &mut H) {
+        let protocol = self.protocol;
+        state.write_u64(end_number(&self.lesser) * 256 + u64::from(protocol));
+        state.write_u64(end_number(&self.greater));
+    }
+}
+
+impl TalkKey {
+    /// The conversation that a unit belongs to.
+    #[inline(always)]
+    pub fn of(unit: &CountedUnit) -> TalkKey
+        ensures { result ≡ key_of unit.now }
+    {
+        let protocol = unit.protocol;
+        let source = unit.source;
+        let destination = unit.destination;
+        if source <= destination {
+            TalkKey {
+                protocol,
+                lesser: source,
+                greater: destination,
+            }
+        } else {
+            TalkKey {
+                protocol,
+                lesser: destination,
+                greater: source,
+            }
+        }
+    }
+}
+
+/// What is counted of the units of a conversation. The wide fields stand first, so that a row takes no more room than it needs.
+#[derive(Clone, Copy, Debug)]
+pub struct TalkRow {
+    /// The sum of the original lengths, in bytes, of the frames of units from the lesser end, so also of those from an end to
+    /// itself.
+    pub forward_bytes: u128,
+    /// The same of the units from the greater end.
+    pub backward_bytes: u128,
+    /// The least time of their frames; `None` if no frame has a time.
+    pub first: Option<Stamp>,
+    /// The greatest time of their frames.
+    pub last: Option<Stamp>,
+    /// In how many frames the units from the lesser end came.
+    pub forward_frames: u64,
+    /// The same of the units from the greater end.
+    pub backward_frames: u64,
+    /// The place of the frame of the least time, of equal times the lowest; 0 if no frame has a time.
+    pub first_place: u64,
+    /// The place of the frame of the greatest time, of equal times the lowest.
+    pub last_place: u64,
+}
+
+impl TalkRow {
+    // The row of no unit.
+    pub(crate) fn new() -> TalkRow
+        ensures { result ≡ row_of [] }
+    {
+        TalkRow {
+            forward_bytes: 0,
+            backward_bytes: 0,
+            first: None,
+            last: None,
+            forward_frames: 0,
+            backward_frames: 0,
+            first_place: 0,
+            last_place: 0,
+        }
+    }
+
+    // Counts one unit more.
+    #[inline(always)]
+    pub(crate) fn take(&mut self, unit: &CountedUnit)
+        requires frames { frames_of_row self.old + unit.now.frames < 2 ^ 64 }
+        requires bytes { bytes_of_row self.old + unit.now.bytes < 2 ^ 128 }
+        ensures { self.new ≡ with_unit self.old unit.now }
+    {
+        if is_forward(unit) {
+            self.forward_frames += unit.frames;
+            self.forward_bytes += unit.bytes;
+        } else {
+            self.backward_frames += unit.frames;
+            self.backward_bytes += unit.bytes;
+        }
+        take_first(&mut self.first, &mut self.first_place, &unit.first);
+        take_last(&mut self.last, &mut self.last_place, &unit.last);
+    }
+}
+
+// Whether a unit goes from the lesser of its ends, or from an end to itself.
+fn is_forward(unit: &CountedUnit) -> bool
+    ensures { result ≡ is_forward unit.now }
+{
+    unit.source <= unit.destination
+}
+
+// Whether a frame comes before the first one so far: it has the lesser time, of equal times the lower place, or is the only one.
+fn is_earlier(frame: &TimedFrame, first: &Option<Stamp>, place: u64) -> bool
+    ensures { result ≡ is_earlier frame.now (frame_of first.now place) }
+{
+    match first {
+        None => true,
+        Some(first) => match frame.time.cmp(first) {
+            Ordering::Less => true,
+            Ordering::Equal => frame.place < place,
+            Ordering::Greater => false,
+        },
+    }
+}
+
+// Whether a frame comes after the last one so far: it has the greater time, of equal times the lower place, or is the only one.
+fn is_later(frame: &TimedFrame, last: &Option<Stamp>, place: u64) -> bool
+    ensures { result ≡ is_later frame.now (frame_of last.now place) }
+{
+    match last {
+        None => true,
+        Some(last) => match last.cmp(&frame.time) {
+            Ordering::Less => true,
+            Ordering::Equal => frame.place < place,
+            Ordering::Greater => false,
+        },
+    }
+}
+
+// Takes a frame, if there is one, into the least time so far.
+fn take_first(first: &mut Option<Stamp>, place: &mut u64, frame: &Option<TimedFrame>)
+    ensures time { first.new ≡ frame_time (earlier_frame (frame_of first.old place.old) frame.now) }
+    ensures place { place.new ≡ place_or (earlier_frame (frame_of first.old place.old) frame.now) place.old }
+{
+    if let Some(frame) = frame {
+        if is_earlier(frame, first, *place) {
+            *first = Some(frame.time);
+            *place = frame.place;
+        }
+    }
+}
+
+// Takes a frame, if there is one, into the greatest time so far.
+fn take_last(last: &mut Option<Stamp>, place: &mut u64, frame: &Option<TimedFrame>)
+    ensures time { last.new ≡ frame_time (later_frame (frame_of last.old place.old) frame.now) }
+    ensures place { place.new ≡ place_or (later_frame (frame_of last.old place.old) frame.now) place.old }
+{
+    if let Some(frame) = frame {
+        if is_later(frame, last, *place) {
+            *last = Some(frame.time);
+            *place = frame.place;
+        }
+    }
+}

@@ -1,8 +1,0 @@
--- Lemmas of what is told of conversations.
-pub mod FrameOrder
-pub mod FrameLaws
-pub mod Talking
-pub mod RowSums
-pub mod KeyLaws
-pub mod SumLaws
-pub mod Printing

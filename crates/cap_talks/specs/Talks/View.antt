@@ -1,9 +1,0 @@
--- What the fields of a table of conversations say.
-use Rattle.cap_talks.specs.declared.talks.Talks.TheInside.{Inside}
-use Rattle.cap_talks.specs.Talks.Rows.{TalksState, IsSoundTalks}
-
-abbrev pub talks_view : Inside → TalksState
-talks_view talks = record { rows = talks.rows.entries }
-
-abbrev pub IsSoundInside : Inside → Type 0
-IsSoundInside talks = IsSoundTalks (talks_view talks)
