@@ -142,7 +142,7 @@ impl<F: PacketFeed> PacketFeed for Merged<F> {
         }
     }
 
-    #[inline]
+    #[inline(always)]
     fn has_packet(&mut self) -> Result<bool, Fault>
         ensures answer { FindsPacket (feed_of (parts_of self.old)) result
             (feed_of (parts_of self.new)) }
