@@ -113,6 +113,24 @@ fn always_memory_blocks_in_order(rt: HostRuntime) -> Result<(), Fail> {
     Ok(())
 }
 
+// The first bytes that are read bring a packet into the window, which shows it after the blocks before it.
+#[test]
+fn always_memory_a_shown_packet(rt: HostRuntime) -> Result<(), Fail> {
+    let mut reader = reader(rt.alloc(), &OPTIONS_PCAPNG, 4_096, Tail::Refuse)?;
+    assert_eq!(rt; reader.take_packet(), None);
+    for _ in 0..2 {
+        assert!(rt; reader.next_block()?.is_some());
+        assert!(rt; reader.window().shows(8));
+    }
+    assert_eq!(rt; reader.take_packet(), Some(block(6, 96, 48, Order::Little)));
+    assert_eq!(rt; reader.take_packet(), None);
+    assert_eq!(rt;
+        reader.next_block()?,
+        Some(block(5, 144, 24, Order::Little))
+    );
+    Ok(())
+}
+
 // The bodies are lent as they stand in the file.
 #[test]
 fn bodies(rt: HostRuntime) -> Result<(), Fail> {

@@ -186,6 +186,18 @@ fn always_memory_a_window_shows_the_next_bytes_or_the_end(rt: HostRuntime) -> Re
     Ok(())
 }
 
+// Bytes come by four, and a window shows what was read.
+#[test]
+fn always_memory_a_window_shows_what_was_read(rt: HostRuntime) -> Result<(), Fail> {
+    let pieces = Pieces::new(counted(rt.alloc(), 10)?, 4, None);
+    let mut window = Window::new(rt.alloc(), pieces, 3);
+    assert!(rt; !window.shows(1));
+    assert!(rt; need(&mut window, 3)?);
+    assert!(rt; window.shows(4));
+    assert!(rt; !window.shows(5));
+    Ok(())
+}
+
 // Reads 10 bytes by a window: shows 4, drops them, and skips 6.
 fn walk(window: &mut Window<Pieces>) -> Result<bool, Fault> {
     if !need(window, 4)? || !pass_shown(window, 4) {

@@ -124,6 +124,29 @@ fn records_in_order(rt: HostRuntime) -> Result<(), Fail> {
     Ok(())
 }
 
+// The first bytes that are read bring two records into the window, which shows them then.
+#[test]
+fn always_memory_shown_records(rt: HostRuntime) -> Result<(), Fail> {
+    let mut bytes = CARRY_PCAP.to_vec(rt.alloc())?;
+    bytes.extend_from_slice(&[3, 0, 0, 0, 5, 0, 0, 0, 2, 0, 0, 0, 60, 0, 0, 0, 0xfe, 0xff])?;
+    let mut reader = reader(rt.alloc(), &bytes, 4_096, Tail::Refuse)?;
+    assert_eq!(rt; reader.known(), None);
+    let header = reader.header()?;
+    assert_eq!(rt; reader.known(), Some(header));
+    for (offset, units, captured, original) in [(24, 2_500_000, 4, 4), (44, 3_000_005, 2, 60)] {
+        let record = Record {
+            offset,
+            units,
+            captured,
+            original,
+        };
+        assert_eq!(rt; reader.take_shown(header), Some(record));
+    }
+    assert_eq!(rt; reader.take_shown(header), None);
+    assert_eq!(rt; reader.next_record()?, None);
+    Ok(())
+}
+
 // Files whose header is refused, and the rule: cut, of another format, and of another version.
 const REFUSED: [(&[u8], Rule); 4] = [
     (&[], Rule::Cut),

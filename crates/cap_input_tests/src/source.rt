@@ -68,9 +68,11 @@ fn takes<F: PacketFeed>(
     meta: Meta,
     frame: &[u8],
 ) -> Result<(), Fault> {
+    assert!(rt; feed.has_packet()?);
     let head = feed.head()?;
     assert_eq!(rt; head, Head::Packet(meta));
     assert_eq!(rt; feed.head()?, head);
+    assert_eq!(rt; *feed.packet(), meta);
     assert_eq!(rt; feed.frame(), frame);
     feed.pass();
     Ok(())
@@ -114,6 +116,7 @@ fn always_memory_a_pcap_file(rt: HostRuntime) -> Result<(), Fail> {
             carried(&rt, 24, Format::Pcap),
             &[1, 2, 3, 4],
         )?;
+        assert!(rt; !feed.has_packet()?);
         assert_eq!(rt; feed.head()?, Head::End);
         let held = feed.feed_held();
         assert!(rt; held.window > 0);
@@ -404,6 +407,12 @@ fn a_list(rt: HostRuntime) -> Result<(), Fail> {
         takes(&rt, &mut feed, meta, &[])?;
     }
     assert_eq!(rt; feed.head()?, refused(2, Rule::Cut));
+    let refusal = Refusal {
+        file: 7,
+        offset: 2,
+        rule: Rule::Cut,
+    };
+    assert_eq!(rt; feed.has_packet(), Err(Fault::Refused(refusal)));
     Ok(())
 }
 
