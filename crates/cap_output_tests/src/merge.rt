@@ -98,6 +98,9 @@ fn next_of(feed: &mut Merged<Listed>) -> Result<(u32, Option<Stamp>), Fail> {
         return Err(Fail::from("no packet"));
     };
     let clock = feed.clock();
+    if *feed.packet() != meta {
+        return Err(Fail::from("another packet"));
+    }
     if !feed.frame().is_empty() {
         return Err(Fail::from("bytes"));
     }
@@ -128,6 +131,11 @@ fn two_files_in_order(rt: HostRuntime) -> Result<(), Fail> {
             assert_eq!(rt; next_of(&mut feed)?, (packet.0, time(packet.1, packet.2)));
         }
         let end = end_of(refusal);
+        let found = match end {
+            Head::Refused(refusal) => Err(Fault::Refused(refusal)),
+            _ => Ok(false),
+        };
+        assert_eq!(rt; feed.has_packet(), found);
         assert_eq!(rt; feed.head(), Ok(end));
         assert_eq!(rt; feed.head(), Ok(end), "again");
     }
