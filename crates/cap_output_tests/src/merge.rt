@@ -6,7 +6,7 @@ ghost use Rattle.cap_merge.specs.View.{parts_of};
 
 use crate::files::{merged_of, sources_of};
 use crate::vectors::{File, PACKET, RUNS_BACK, RUNS_ON, SECTION};
-use cap_bytes::{Refusal, Rule};
+use cap_bytes::{Fault, Refusal, Rule};
 use cap_merge::Merged;
 use cap_source::{Ending, Format, Head, Listed, PacketFeed};
 use cap_time::{Interface, Resolution, Stamp};
