@@ -3,14 +3,13 @@ ghost use Rattle.std.specs.Prelude.{◌≡◌, ◌<◌, ◌≤◌, List, replica
 ghost use Rattle.std.specs.List.{list_all};
 ghost use Rattle.cap_time.specs.Clock.{later};
 ghost use Rattle.cap_source.specs.Feed.{Feed, IsPacket};
-ghost use Rattle.cap_source.specs.Times.{meta_time};
 ghost use Rattle.cap_merge.specs.Parts.{part, parts, is_bounded, known_of, both_held, known_but, OthersKnown, Matches, Agrees};
 ghost use Rattle.cap_merge.specs.First.{coming_of, fresh_lane, lane_at, has_item, lane_turn, lane_turns, comes_before, sooner_place, first_place, IsFound};
 ghost use Rattle.cap_merge.specs.Merge.{Answers, Asks, AsksAll, IsPacketAt, PassesAt, PassesPart};
 
 use arrayvec::ArrayVec;
 use cap_bytes::{Fault, Refusal};
-use cap_source::{FeedHeld, Meta, PacketFeed};
+use cap_source::{FeedHeld, PacketFeed};
 use cap_time::Stamp;
 
 /// What comes next of a feed, which keeps it.
@@ -47,13 +46,11 @@ pub(crate) fn new_lanes(count: usize) -> ArrayVec<Lane, 32>
     lanes
 }
 
-// Moves the clock to the time of a packet, if that is later.
-#[inline(never)]
-fn reach(lane: &mut Lane, meta: &Meta)
-    ensures lane { lane.new ≡ record { clock = later lane.old.clock (meta_time meta.now); next = lane.old.next } }
-    ensures bounded { is_bounded lane.old.clock ≡ true → is_bounded lane.new.clock ≡ true }
+// Moves the clock to a time, if that is later.
+#[inline(always)]
+fn reach(lane: &mut Lane, time: Option<Stamp>)
+    ensures lane { lane.new ≡ record { clock = later lane.old.clock time; next = lane.old.next } }
 {
-    let time = meta.time();
     if lane.clock < time {
         lane.clock = time;
     }
@@ -83,7 +80,7 @@ fn learn<F: PacketFeed>(lane: &mut Lane, feed: &mut F) -> Result<(), Fault>
     match feed.has_packet() {
         Ok(true) => {
             lane.next = Some(Coming::Packet);
-            reach(lane, feed.packet());
+            reach(lane, feed.packet().time());
             Ok(())
         }
         Ok(false) => {
