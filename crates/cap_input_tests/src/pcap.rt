@@ -133,15 +133,21 @@ fn always_memory_shown_records(rt: HostRuntime) -> Result<(), Fail> {
     assert_eq!(rt; reader.known(), None);
     let header = reader.header()?;
     assert_eq!(rt; reader.known(), Some(header));
-    for (offset, units, captured, original) in [(24, 2_500_000, 4, 4), (44, 3_000_005, 2, 60)] {
-        let record = Record {
-            offset,
-            units,
-            captured,
-            original,
-        };
-        assert_eq!(rt; reader.take_shown(header), Some(record));
-    }
+    let record = Record {
+        offset: 24,
+        units: 2_500_000,
+        captured: 4,
+        original: 4,
+    };
+    assert_eq!(rt; reader.take_shown(header), Some(record));
+    assert_eq!(rt; reader.frame(), [1, 2, 3, 4].as_slice());
+    let record = Record {
+        offset: 44,
+        units: 3_000_005,
+        captured: 2,
+        original: 60,
+    };
+    assert_eq!(rt; reader.take_shown(header), Some(record));
     assert_eq!(rt; reader.take_shown(header), None);
     assert_eq!(rt; reader.next_record()?, None);
     Ok(())
