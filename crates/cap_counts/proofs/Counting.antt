@@ -1,10 +1,11 @@
 -- The packets of a file, counted one by one.
-use Rattle.std.proofs.Common.{◌≡◌, ◌≤◌, ◌<◌, ◌+◌, ◌*◌, ◌^◌, ℕ, cond, nat_lt, List, [], ◌∷◌, ◌++◌, drop, sym, ap, ◌∙◌, arith, Some, None, option_map, IsTrue, Ok, Err, append-nil, append_assoc, length-append}
+use Rattle.std.proofs.Common.{◌≡◌, ◌≤◌, ◌<◌, ◌+◌, ◌*◌, ◌^◌, ℕ, cond, nat_lt, List, [], ◌∷◌, ◌++◌, drop, sym, ap, ◌∙◌, arith, Some, None, option_map, IsTrue, Ok, Err, append-nil, append_assoc, length-append, true, false}
 use Rattle.std.specs.Option.{option_map_or}
 use Rattle.cap_bytes.specs.declared.faults.Fault.{Fault}
 use Rattle.cap_source.proofs.Onward.{Went, Went-none, Went-more}
-use Rattle.cap_source.specs.Feed.{Feed, Item, packet, Keeps, Passes, refusal_of}
+use Rattle.cap_source.specs.Feed.{Feed, Item, packet, Keeps, Passes, SameItems, FindsPacket, FindsItem, IsFeed, refusal_of}
 use Rattle.cap_source.specs.Walk.{GivesPacket, ShowsItem}
+use Rattle.cap_source.specs.declared.feeds.Head.TheVariants as heads
 use Rattle.cap_source.specs.declared.packets.Meta.{Meta}
 use Rattle.cap_counts.specs.Counting.{packets_of, original_bytes, truncated_packets, last_packet, counted, with_packet}
 use Rattle.cap_counts.specs.Reading.{CountsAll}
@@ -93,6 +94,21 @@ counted-taken old mid shown new counts more meta c gives asked shows passed pass
           ap refusal_of (rest t) ∙ sym (refusal-first meta shown.frame mid.items (drop 1 mid.items) (shows (c.told t)).1) ∙ c.refusal t;
       endings = λ t file. ended (asked.told (c.told t)) file ∙ (shows (c.told t)).0.endings file ∙ c.endings t file;
     }
+
+-- What a feed that was asked whether a packet comes next says of it: the packet that it lends, or the end, or a fault.
+pub found-packet : (mid shown : Feed) (meta : Meta) → FindsPacket mid (Ok true) shown → shown.known ≡ Some (heads.Packet meta) → GivesPacket mid (Ok (Some meta)) shown
+found-packet mid shown meta found lent = grind arith
+
+pub found-item : (mid shown : Feed) (meta : Meta) → IsFeed shown → IsTrue shown.told → SameItems mid shown → shown.known ≡ Some (heads.Packet meta)
+    → ShowsItem mid (Ok (Some meta)) shown
+found-item mid shown meta f t same lent = grind arith
+
+pub found-end : (mid shown : Feed) → IsFeed shown → IsTrue shown.told → SameItems mid shown → FindsPacket mid (Ok false) shown → ShowsItem mid (Ok None) shown
+found-end mid shown f t same found = grind arith
+
+pub found-fault : (fault : Fault) (mid shown : Feed) → IsFeed shown → IsTrue shown.told → FindsItem mid (Err fault) shown → FindsPacket mid (Err fault) shown
+    → ShowsItem mid (Err fault) shown
+found-fault fault mid shown f t items found = grind arith
 
 -- the feed ends
 pub counted-end : (old mid shown : Feed) (counts : Counts) → IsCounted old mid counts → IsTrue old.told

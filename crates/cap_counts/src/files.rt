@@ -13,7 +13,7 @@ ghost use Rattle.cap_counts.specs.Telling.{Tells};
 use crate::counts::Counts;
 use crate::lines::{file_line, files_line};
 use cap_bytes::{Fault, Sink, Source, Tail, put_all};
-use cap_source::{Capture, Ending, Head, PacketFeed, next_packet};
+use cap_source::{Capture, Ending, Head, PacketFeed};
 use std::alloc::Global;
 
 /// What is counted of a file, and how it has ended, if that is told.
@@ -34,8 +34,11 @@ fn count_packets<F: PacketFeed>(feed: &mut F) -> Result<Counts, Fault>
     ensures write { is_write result ≡ false }
 {
     let mut counts = Counts::new();
-    while let Some(meta) = next_packet(feed)? {
-        counts.take(meta.time(), &meta);
+    while feed.has_packet()? {
+        let meta = feed.packet();
+        // A length that is read is known to be below 2^32, so the sum of them all stays small.
+        let _length = meta.original;
+        counts.take(meta.time(), meta);
         feed.pass();
     }
     Ok(counts)
