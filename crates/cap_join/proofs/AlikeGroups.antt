@@ -1,5 +1,5 @@
 -- What fragments make of the open groups, if they are alike, one by one, and their clocks are of the same times.
-use Rattle.std.proofs.Common.{arith, ◌≡◌, ℕ, ◌+◌, Bool, false, List, [], ◌∷◌, ◌++◌, length, refl, ◌∙◌, ap, not, true≢false, ◌&&◌, Option, Some, None, Equal}
+use Rattle.std.proofs.Common.{arith, ◌≡◌, ℕ, ◌+◌, Bool, false, List, [], ◌∷◌, ◌++◌, length, refl, ◌∙◌, ap, not, true≢false, ◌&&◌, Option, Some, None}
 use Rattle.std.proofs.lemmas.List.Elements.{length_all_zip, AllZip-push}
 use Rattle.std.specs.Prelude.{nat_lt, nat_le, if◌then◌else◌, filter}
 use Rattle.std.specs.List.{list_all, AllZip}
@@ -8,7 +8,7 @@ use Rattle.std.specs.Ordering.{is_lt}
 use Rattle.std.specs.Cmp.{alike_right}
 use Rattle.cap_time.specs.declared.stamps.Stamp.{Stamp}
 use Rattle.cap_time.specs.Stamp.{stamp_cmp, stamp_plus}
-use Rattle.cap_time.specs.StampLaws.{stamp_cmp-parts}
+use Rattle.cap_time.proofs.StampForms.{stamp_plus-alike}
 use Rattle.cap_ip.specs.declared.headers.Key.{Key}
 use Rattle.cap_join.specs.ByteMap.{completes}
 use Rattle.cap_join.specs.Completed.{if_complete, completed_of}
@@ -20,11 +20,6 @@ use Rattle.cap_join.proofs.OpenGroups.{total}
 
 -- ---- clocks
 
--- two times that are equal are so 30 seconds later
-plus_same : (a b : Stamp) (n : ℕ) → stamp_cmp a b ≡ Equal → stamp_cmp (stamp_plus a n) (stamp_plus b n) ≡ Equal
-unfolding stamp_plus
-plus_same a b n e = grind (arith, stamp_cmp-parts)
-
 pub cmp_same : (a b c d : Option Stamp) → IsSameTime a b → IsSameTime c d → option_cmp stamp_cmp a c ≡ option_cmp stamp_cmp b d
 cmp_same a b c d e f = total.congr a b c e ∙ alike_right total c d b f
 
@@ -35,7 +30,7 @@ old_same : (a b c d : Option Stamp) → IsSameTime a b → IsSameTime c d → is
 old_same None None c d e f = refl
 old_same None (Some b) c d e f = grind (arith, true≢false)
 old_same (Some a) None c d e f = grind (arith, true≢false)
-old_same (Some a) (Some b) c d e f = before_same (Some (stamp_plus a wait)) (Some (stamp_plus b wait)) c d (plus_same a b wait e) f
+old_same (Some a) (Some b) c d e f = before_same (Some (stamp_plus a wait)) (Some (stamp_plus b wait)) c d (stamp_plus-alike a b wait e) f
 
 -- ---- fragments that are alike
 

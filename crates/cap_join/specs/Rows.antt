@@ -50,15 +50,15 @@ pub record OpenLimit : Type 0 where
   pub third : is_some (group_of 2 (opening 2 ∷ opening 1 ∷ opening 0 ∷ []) (key_numbered 2)) ≡ true
   pub flushed : group_of 2 (flushes (key_numbered 1) ∷ opening 1 ∷ opening 0 ∷ []) (key_numbered 1) ≡ None
 
--- a time of that many microseconds after a second
+-- times in microseconds: of 1 second, of 31, and of a microsecond more
 abbrev pub time_1 : Stamp
-time_1 = record { seconds = pos 1; numerator = 0; denominator = 1000000; fraction = lit< tt }
+time_1 = record { units = 1000000; denominator = 1000000; low = 0; high = pos 0; positive = lit< tt }
 
 abbrev pub time_31 : Stamp
-time_31 = record { seconds = pos 31; numerator = 0; denominator = 1000000; fraction = lit< tt }
+time_31 = record { units = 31000000; denominator = 1000000; low = 0; high = pos 0; positive = lit< tt }
 
 abbrev pub time_31_1 : Stamp
-time_31_1 = record { seconds = pos 31; numerator = 1; denominator = 1000000; fraction = lit< tt }
+time_31_1 = record { units = 31000001; denominator = 1000000; low = 0; high = pos 0; positive = lit< tt }
 
 -- After 30 seconds a group isn't too old yet, and a millionth of a second later it is.
 pub record ThirtySeconds : Type 0 where

@@ -6,12 +6,17 @@ use Rattle.std.proofs.lemmas.List.{length-map}
 use Rattle.cap_bytes.specs.declared.faults.Fault.{Fault}
 use Rattle.cap_source.specs.Feed.{Feed}
 use Rattle.cap_time.specs.Stamp.{seconds_of}
+use Rattle.cap_time.specs.Clock.{later}
 use Rattle.cap_time.specs.declared.stamps.Stamp.{Stamp}
 use Rattle.cap_merge.specs.declared.lanes.Lane.{Lane}
 use Rattle.cap_merge.specs.First.{fresh_lane, lane_at, first_place}
 use Rattle.cap_merge.specs.Parts.{Part, parts, turns, is_bounded, AreBounded}
 use Rattle.cap_merge.proofs.Placing.{place_within}
 use Rattle.cap_merge.specs.Merge.{LearnsAll, StopsAt, AsksAll, PassesAt}
+
+-- a clock that moves to a time is within them if both are
+pub later_bounded : (clock time : Option Stamp) → IfSome time (λ t. seconds_of t <ℤ pos (2 ^ 65)) → is_bounded clock ≡ true → is_bounded (later clock time) ≡ true
+later_bounded clock time h k = grind arith
 
 all_learned : (ps qs : List Part) → LearnsAll ps qs → AreBounded ps → AreBounded qs
 all_learned (p ∷ ps) (q ∷ qs) l h = grind (arith, all_learned ps qs l.1)

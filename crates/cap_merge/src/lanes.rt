@@ -71,6 +71,7 @@ fn stop(lane: &mut Lane, fault: Fault) -> Result<(), Fault>
 }
 
 // Asks a feed what comes next, which isn't known.
+#[tactic(auto, using(crate::proofs::Bounds::later_bounded))]
 #[inline(always)]
 fn learn<F: PacketFeed>(lane: &mut Lane, feed: &mut F) -> Result<(), Fault>
     requires { lane.old.next ≡ None }

@@ -12,13 +12,13 @@ use Rattle.cap_rows.specs.declared.units.End.{End}
 
 -- a time of that many seconds in millionths, and half a second in 1,024ths and in tenths
 abbrev pub at_second : ℕ → Stamp
-at_second n = record { seconds = pos n; numerator = 0; denominator = 1000000; fraction = lit< tt }
+at_second n = record { units = 0; denominator = 1000000; low = n; high = pos 0; positive = lit< tt }
 
 abbrev pub half_binary : Stamp
-half_binary = record { seconds = pos 0; numerator = 512; denominator = 1024; fraction = lit< tt }
+half_binary = record { units = 512; denominator = 1024; low = 0; high = pos 0; positive = lit< tt }
 
 abbrev pub half_tenths : Stamp
-half_tenths = record { seconds = pos 0; numerator = 5; denominator = 10; fraction = lit< tt }
+half_tenths = record { units = 5; denominator = 10; low = 0; high = pos 0; positive = lit< tt }
 
 abbrev pub frame_at : ℕ → Stamp → Option TimedFrame
 frame_at place time = Some (record { time = time; place = place })

@@ -14,7 +14,7 @@ use Rattle.cap_counts.specs.Counting.{counted}
 use Rattle.cap_rows.specs.Talks.{rows_of}
 use Rattle.cap_time.specs.Code.{units_of_code}
 use Rattle.cap_time.specs.Stamp.{stamp_cmp, stamp_in, stamp_plus}
-use Rattle.cap_time.specs.Time.{time_cmp, time_at}
+use Rattle.cap_time.specs.Time.{time_cmp, time_at, floor_of, remainder_of}
 use Rattle.cap_talks.specs.Classes.{classes, group_class}
 use Rattle.cap_join.specs.Completed.{completed_of}
 use Rattle.cap_talks.specs.ReportText.{body_text, files_part}
@@ -23,9 +23,9 @@ use Rattle.cap_talks.specs.CountedUnits.{group_unit, unit_at, units_of}
 use Rattle.cap_talks.specs.WorkedReport.{Overlapped, Tagged}
 
 pub overlapped : Overlapped
-unfolding digits number version header_length service total_length identification more_fragments offset time_to_live protocol source destination data_length is_fragment key_of fragment_of fields_of header_data ended is_malformed lacks_data is_overstated is_misfit is_partial read_of ports_of udp_length udp_of tcp_header_length tcp_of transport_of completes data_of piece_of joined_pieces step state_of typed raw network_of counted rows_of units_of_code stamp_cmp stamp_in stamp_plus time_cmp time_at classes group_class completed_of body_text files_part look events_of group_unit unit_at units_of
+unfolding digits number version header_length service total_length identification more_fragments offset time_to_live protocol source destination data_length is_fragment key_of fragment_of fields_of header_data ended is_malformed lacks_data is_overstated is_misfit is_partial read_of ports_of udp_length udp_of tcp_header_length tcp_of transport_of completes data_of piece_of joined_pieces step state_of typed raw network_of counted rows_of units_of_code stamp_cmp stamp_in stamp_plus time_cmp time_at floor_of remainder_of classes group_class completed_of body_text files_part look events_of group_unit unit_at units_of
 overlapped = record { before = refl; after = refl; so_far = refl; done = refl }
 
 pub tagged : Tagged
-unfolding digits number version header_length service total_length identification more_fragments offset time_to_live protocol source destination data_length is_fragment key_of fragment_of fields_of header_data ended is_malformed lacks_data is_overstated is_misfit is_partial read_of ports_of udp_length udp_of tcp_header_length tcp_of transport_of completes data_of piece_of joined_pieces step state_of typed raw network_of counted rows_of units_of_code stamp_cmp stamp_in stamp_plus time_cmp time_at classes group_class completed_of body_text files_part look events_of group_unit unit_at units_of is_tag tag_ended payload carried
+unfolding digits number version header_length service total_length identification more_fragments offset time_to_live protocol source destination data_length is_fragment key_of fragment_of fields_of header_data ended is_malformed lacks_data is_overstated is_misfit is_partial read_of ports_of udp_length udp_of tcp_header_length tcp_of transport_of completes data_of piece_of joined_pieces step state_of typed raw network_of counted rows_of units_of_code stamp_cmp stamp_in stamp_plus time_cmp time_at floor_of remainder_of classes group_class completed_of body_text files_part look events_of group_unit unit_at units_of is_tag tag_ended payload carried
 tagged = record { classes_are = refl; done = refl }

@@ -1,20 +1,23 @@
 -- What contracts see of a `Stamp`: its printed form, its time, and how stamps compare.
-use Rattle.std.specs.Prelude.{ℕ, ◌*◌, ◌/◌, ◌%◌, ℤ, pos, ◌+ℤ◌, Bool, Option, Some, None, ◌==◌, if◌then◌else◌}
-use Rattle.std.proofs.lemmas.Nat.{mod_below}
+use Rattle.std.specs.Prelude.{ℕ, ◌+◌, ◌*◌, ◌/◌, ◌%◌, ◌^◌, ℤ, pos, ◌+ℤ◌, ◌*ℤ◌, Bool, Option, Some, None, ◌==◌, if◌then◌else◌}
 use Rattle.std.specs.Ordering.{eq_by_cmp}
 use Rattle.std.specs.declared.cmp.Ordering.{Ordering}
 use Rattle.cap_time.specs.declared.resolutions.Interface.{Interface}
 use Rattle.cap_time.specs.declared.stamps.Stamp.{Stamp}
 use Rattle.cap_time.specs.Resolution.{units_of}
 use Rattle.cap_time.specs.ResolutionLaws.{units_positive}
-use Rattle.cap_time.specs.Time.{Time, Printed, time_at, time_cmp}
+use Rattle.cap_time.specs.Time.{Time, Printed, time_at, time_cmp, floor_of, remainder_of}
+
+-- the second from which its units count
+abbrev pub offset_of : Stamp → ℤ
+offset_of stamp = pos stamp.low +ℤ stamp.high *ℤ pos (2 ^ 64)
 
 -- the three numbers of the printed form
 abbrev pub seconds_of : Stamp → ℤ
-seconds_of stamp = stamp.seconds
+seconds_of stamp = offset_of stamp +ℤ pos (stamp.units / stamp.denominator)
 
 abbrev pub numerator_of : Stamp → ℕ
-numerator_of stamp = stamp.numerator
+numerator_of stamp = stamp.units % stamp.denominator
 
 abbrev pub denominator_of : Stamp → ℕ
 denominator_of stamp = stamp.denominator
@@ -40,15 +43,16 @@ time_in units interface = time_at units (units_of interface.resolution) interfac
 -- the stamp of a number of an interface's units
 unfoldable pub stamp_in : ℕ → Interface → Stamp
 stamp_in units interface = record {
-  seconds = interface.offset +ℤ pos (units / units_of interface.resolution);
-  numerator = units % units_of interface.resolution;
+  units = units;
   denominator = units_of interface.resolution;
-  fraction = mod_below units (units_of interface.resolution) (units_positive interface.resolution);
+  low = remainder_of interface.offset (2 ^ 64);
+  high = floor_of interface.offset (2 ^ 64);
+  positive = units_positive interface.resolution;
 }
 
 -- the stamp of that many seconds later, in the same form
 unfoldable pub stamp_plus : Stamp → ℕ → Stamp
-stamp_plus stamp seconds = record stamp { seconds = seconds_of stamp +ℤ pos seconds }
+stamp_plus stamp seconds = record stamp { low = (stamp.low + seconds) % 2 ^ 64; high = stamp.high +ℤ pos ((stamp.low + seconds) / 2 ^ 64) }
 
 -- its whole seconds, and how many of d units in a second its fraction is, if that is a whole number
 abbrev pub whole_of : ℕ → Stamp → Option (ℤ × ℕ)

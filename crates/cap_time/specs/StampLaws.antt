@@ -1,33 +1,34 @@
 -- Why stamps are in a total order, and why equal ones hash alike.
-use Rattle.std.proofs.Common.{◌≡◌, ℕ, ◌*◌, ◌/◌, ◌^◌, ◌<◌, ◌++◌, refl, sym, ap, ◌∙◌, subst, arith, ℤ, Ordering, Less, Equal, Greater}
+use Rattle.std.proofs.Common.{◌≡◌, ℕ, ◌*◌, ◌/◌, ◌^◌, ◌<◌, ◌++◌, refl, sym, ap, ◌∙◌, subst, arith, Ordering, Less, Equal, Greater}
 use Rattle.std.specs.Ordering.{int_cmp, nat_cmp, ordering_then, as_partial_cmp, is_lt, is_gt}
 use Rattle.std.specs.Cmp.{IsTotalOrder, IsEquivalence, IsPartialEquivalence, IsPartialOrder, nat_cmp_total, int_cmp_total, on_total, then_total, Equal-is, eq_by_cmp_equiv, partial_equiv_from_equiv, po, ranked, int_ranked}
 use Rattle.std.proofs.Math.Nat.{mul-div-mul_right}
-use Rattle.std.proofs.Math.Bridge.{le_prop}
 use Rattle.std.proofs.lemmas.Bool.{true≢false}
+use Rattle.std.proofs.lemmas.Nat.{mod_below}
 use Rattle.std.specs.Prelude.{IsTrue}
 use Rattle.std.specs.Hash as fed
 use Rattle.cap_time.specs.declared.stamps.Stamp.{Stamp}
-use Rattle.cap_time.specs.Stamp.{seconds_of, numerator_of, denominator_of, printed_of, stamp_cmp, stamp_eq}
+use Rattle.cap_time.specs.Stamp.{seconds_of, numerator_of, denominator_of, stamp_cmp, stamp_eq}
 use Rattle.cap_time.specs.TimeLaws.{units_cmp, units_trans, units_congr, time_cmp-units}
+
+-- a fraction is below a second
+pub numerator_below : (a : Stamp) → numerator_of a < denominator_of a
+numerator_below a = mod_below a.units a.denominator a.positive
 
 -- stamps compare by their seconds, and then by their numerators crosswise
 pub stamp_cmp-parts : (a b : Stamp) → stamp_cmp a b ≡ ordering_then (int_cmp (seconds_of a) (seconds_of b)) (nat_cmp (numerator_of a * denominator_of b) (numerator_of b * denominator_of a))
 unfolding stamp_cmp
-stamp_cmp-parts a b = time_cmp-units a.seconds b.seconds a.numerator a.denominator b.numerator b.denominator a.fraction b.fraction
+stamp_cmp-parts a b = time_cmp-units (seconds_of a) (seconds_of b) (numerator_of a) a.denominator (numerator_of b) b.denominator (numerator_below a) (numerator_below b)
 
 -- the second part of that comparison
 abbrev pub fraction_cmp : Stamp → Stamp → Ordering
-fraction_cmp a b = units_cmp a.numerator a.denominator b.numerator b.denominator
-
-positive : (n d : ℕ) → n < d → 0 < d
-positive n d h = omega arith
+fraction_cmp a b = units_cmp (numerator_of a) a.denominator (numerator_of b) b.denominator
 
 fraction_cmp_total : IsTotalOrder fraction_cmp
 fraction_cmp_total = record {
-  antisymm = λ a b. nat_cmp_total.antisymm (a.numerator * b.denominator) (b.numerator * a.denominator);
-  trans = λ a b c. units_trans a.numerator a.denominator b.numerator b.denominator c.numerator c.denominator (positive a.numerator a.denominator a.fraction);
-  congr = λ a b c. units_congr a.numerator a.denominator b.numerator b.denominator c.numerator c.denominator (positive a.numerator a.denominator a.fraction) (positive b.numerator b.denominator b.fraction);
+  antisymm = λ a b. nat_cmp_total.antisymm (numerator_of a * b.denominator) (numerator_of b * a.denominator);
+  trans = λ a b c. units_trans (numerator_of a) a.denominator (numerator_of b) b.denominator (numerator_of c) c.denominator a.positive;
+  congr = λ a b c. units_congr (numerator_of a) a.denominator (numerator_of b) b.denominator (numerator_of c) c.denominator a.positive b.positive;
 }
 
 -- `Ord`'s law
@@ -69,34 +70,17 @@ both_equal Greater s e = absurd (true≢false (ap is_gt e))
 -- equal times have equal seconds and equal cross products
 pub same_parts : (a b : Stamp) → stamp_cmp a b ≡ Equal → (seconds_of a ≡ seconds_of b) × (numerator_of a * denominator_of b ≡ numerator_of b * denominator_of a)
 same_parts a b e =
-    let both : (int_cmp a.seconds b.seconds ≡ Equal) × (fraction_cmp a b ≡ Equal) = both_equal (int_cmp a.seconds b.seconds) (fraction_cmp a b) (sym (stamp_cmp-parts a b) ∙ e) in
-    (int_ranked a.seconds b.seconds Equal (sym both.0), ranked (a.numerator * b.denominator) (b.numerator * a.denominator) Equal (sym both.1))
+    let both : (int_cmp (seconds_of a) (seconds_of b) ≡ Equal) × (fraction_cmp a b ≡ Equal) = both_equal (int_cmp (seconds_of a) (seconds_of b)) (fraction_cmp a b) (sym (stamp_cmp-parts a b) ∙ e) in
+    (int_ranked (seconds_of a) (seconds_of b) Equal (sym both.0), ranked (numerator_of a * b.denominator) (numerator_of b * a.denominator) Equal (sym both.1))
 
 -- `Hash`'s law
 pub stamp_hash-same : (a b : Stamp) → IsTrue (stamp_eq a b) → stamp_hash a ≡ stamp_hash b
 stamp_hash-same a b h =
     let parts : (seconds_of a ≡ seconds_of b) × (numerator_of a * denominator_of b ≡ numerator_of b * denominator_of a) = same_parts a b ((Equal-is (stamp_cmp a b)).0 h) in
     let places : binary_places (numerator_of a) (denominator_of a) ≡ binary_places (numerator_of b) (denominator_of b) =
-    same_quotient a.numerator a.denominator b.numerator b.denominator (2 ^ 64) (positive a.numerator a.denominator a.fraction) (positive b.numerator b.denominator b.fraction) parts.1 in
+    same_quotient (numerator_of a) a.denominator (numerator_of b) b.denominator (2 ^ 64) a.positive b.positive parts.1 in
     λ i. fed.i128 (parts.0 i) ++ fed.u128 (places i)
 
-abbrev pub stamp_from : (s : ℤ) (n d : ℕ) → n < d → Stamp
-stamp_from s n d below = record { seconds = s; numerator = n; denominator = d; fraction = below }
-
--- a stamp is its three numbers
-pub same_stamp : (s z : ℤ) (n m d e : ℕ) (p : n < d) (q : m < e) → s ≡ z → n ≡ m → d ≡ e → stamp_from s n d p ≡ stamp_from z m e q
-same_stamp s z n m d e p q seconds numerator denominator =
-    let whole : (h : n < d) → stamp_from s n d p ≡ stamp_from z n d h =
-    λ h. subst (λ (y : ℤ). stamp_from s n d p ≡ stamp_from y n d h) seconds (λ i. stamp_from s n d (le_prop p h i)) in
-    let above : (h : m < d) → stamp_from s n d p ≡ stamp_from z m d h =
-    subst (λ (y : ℕ). (h : y < d) → stamp_from s n d p ≡ stamp_from z y d h) numerator whole in
-    subst (λ (y : ℕ). (h : m < y) → stamp_from s n d p ≡ stamp_from z m y h) denominator above q
-
-pub same_printed : (a b : Stamp) → printed_of a ≡ printed_of b → a ≡ b
-same_printed a b e =
-    same_stamp a.seconds b.seconds a.numerator b.numerator a.denominator b.denominator a.fraction b.fraction
-    (λ i. (e i).seconds) (λ i. (e i).numerator) (λ i. (e i).denominator)
-
--- a fraction is below a second
-pub numerator_below : (a : Stamp) → numerator_of a < denominator_of a
-numerator_below a = a.fraction
+-- two stamps count the same units from the same second
+abbrev pub CountAlike : Stamp → Stamp → Type 0
+CountAlike a b = (a.denominator ≡ b.denominator) × (a.low ≡ b.low) × (a.high ≡ b.high)

@@ -70,6 +70,13 @@ rank_scaled x y k p Greater h = mul-lt-mul_of_pos_right h p
 pub nat_cmp-scaled : (x y k : ℕ) → 0 < k → nat_cmp x y ≡ nat_cmp (x * k) (y * k)
 nat_cmp-scaled x y k p = nat_cmp_is (x * k) (y * k) (nat_cmp x y) (rank_scaled x y k p (nat_cmp x y) (ranks x y))
 
+-- units that are counted alike compare as they are, however many they are
+pub time_cmp-alike : (s : ℤ) (n m d : ℕ) → 0 < d → time_cmp (time_at n d s) (time_at m d s) ≡ nat_cmp n m
+unfolding time_cmp time_at cross
+time_cmp-alike s n m d p =
+    sym (nat_cmp-scaled n m d p
+    ∙ int_cmp_is (cross s n d d) (cross s m d d) (units_cmp n d m d) (by_units s n d m d (units_cmp n d m d) (ranks (n * d) (m * d))))
+
 pub units_trans : (n d m e k f : ℕ) → 0 < d → units_cmp n d m e ≡ Less → units_cmp m e k f ≡ Less → units_cmp n d k f ≡ Less
 units_trans n d m e k f p g h =
     let first : n * e < m * d = ranked (n * e) (m * d) Less (sym g) in

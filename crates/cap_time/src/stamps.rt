@@ -1,5 +1,6 @@
 //! Stamps: exact times, which keep the form in which their interface counted them.
 ghost use Rattle.std.specs.Prelude.{◌≡◌, ◌==◌, ◌<◌, ◌*◌, ◌/◌, ◌%◌, ◌≤ℤ◌, ◌<ℤ◌, ◌^◌, pos, neg_ℤ, Some, None, IfSome, IfNone, if◌then◌else◌};
+ghost use Rattle.cap_time.specs.Time.{floor_of, remainder_of};
 
 mod order;
 
@@ -28,20 +29,36 @@ impl Unit {
     }
 }
 
-/// An exact time: whole seconds, and a fraction of a second that isn't reduced, so that it is
-/// printed as its interface counted it. Stamps compare, and hash, by the fraction's value: half a
-/// second is the same time as 5/10 and as 512/1024. Before second 0 the seconds are negative and
-/// the fraction still counts forward: half a second before 0 is -1 and 1/2.
+/// An exact time: a number of units, counted from a whole second as its interface counts them. It is printed as whole seconds
+/// and a fraction of a second that isn't reduced. Stamps compare, and hash, by the time: half a second is the same
+/// as 5/10 and as 512/1024. Before second 0 the seconds are negative and the fraction still counts
+/// forward: half a second before 0 is -1 and 1/2.
+// Each packet has a stamp, but few are printed: so seconds and fraction are divided out where they are asked for.
 #[derive(Clone, Copy, Debug)]
 pub struct Stamp {
-    seconds: i128,
-    numerator: u64,
+    units: u64,
+    // how many of them there are in a second
     denominator: u64,
-    ghost fraction: { numerator < denominator },
+    // the second from which they count, as `high * 2^64 + low`: seconds that are added take it beyond an interface's offset
+    low: u64,
+    high: i32,
+    ghost positive: { 0 < denominator },
+}
+
+// An interface's offset as a stamp keeps it: what it is above a multiple of 2^64, and which multiple that is.
+fn halves(offset: i64) -> (u64, i32)
+    ensures low { result.0 ≡ remainder_of offset (2 ^ 64) }
+    ensures high { result.1 ≡ floor_of offset (2 ^ 64) }
+{
+    if offset < 0 {
+        (offset.cast_unsigned(), -1)
+    } else {
+        (offset as u64, 0)
+    }
 }
 
 // Whole seconds, and the units that are left of them. Two kinds of units are divided by a constant: the processor
-// then multiplies, which takes a tenth of a division's time, and each packet has a stamp.
+// then multiplies, which takes a tenth of a division's time.
 fn split(units: u64, in_second: u64) -> (u64, u64)
     requires { 0 < in_second }
     ensures whole { result.0 ≡ units / in_second }
@@ -91,12 +108,12 @@ impl Stamp {
         ensures least { neg_ℤ (pos (2 ^ 63)) ≤ℤ seconds_of result }
         ensures most { seconds_of result <ℤ pos (2 ^ 65) }
     {
-        let denominator = interface.resolution.units();
-        let (seconds, numerator) = split(units, denominator);
+        let (low, high) = halves(interface.offset);
         Stamp {
-            seconds: i128::from(interface.offset) + i128::from(seconds),
-            numerator,
-            denominator,
+            units,
+            denominator: interface.resolution.units(),
+            low,
+            high,
         }
     }
 
@@ -104,7 +121,8 @@ impl Stamp {
     pub fn seconds(self) -> i128
         ensures { result ≡ seconds_of self }
     {
-        self.seconds
+        let offset = i128::from(self.low) + i128::from(self.high) * 0x1_0000_0000_0000_0000;
+        offset + i128::from(split(self.units, self.denominator).0)
     }
 
     /// How many units, of which a second has `denominator`, the time is above its seconds.
@@ -112,7 +130,7 @@ impl Stamp {
         ensures value { result ≡ numerator_of self }
         ensures below { result < denominator_of self }
     {
-        self.numerator
+        split(self.units, self.denominator).1
     }
 
     /// The units in a second.
@@ -131,10 +149,12 @@ impl Stamp {
         ensures time { time_of result ≡ time_plus (time_of self) seconds }
         ensures printed { printed_of result ≡ printed_plus (printed_of self) seconds }
     {
+        let sum = u128::from(self.low) + u128::from(seconds);
         Stamp {
-            seconds: self.seconds + i128::from(seconds),
-            numerator: self.numerator,
+            units: self.units,
             denominator: self.denominator,
+            low: (sum % 0x1_0000_0000_0000_0000) as u64,
+            high: self.high + (sum / 0x1_0000_0000_0000_0000) as i32,
         }
     }
 
@@ -145,8 +165,8 @@ impl Stamp {
         ensures whole { IfSome result (λ w. IsWhole (in_second unit) (time_of self) w.0 w.1) }
         ensures inexact { IfNone result (IsNeverWhole (in_second unit) (time_of self)) }
     {
-        match whole_units(self.numerator, self.denominator, unit.in_second()) {
-            Some(units) => Some((self.seconds, units)),
+        match whole_units(self.numerator(), self.denominator, unit.in_second()) {
+            Some(units) => Some((self.seconds(), units)),
             None => None,
         }
     }

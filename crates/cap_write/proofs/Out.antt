@@ -1,6 +1,7 @@
 -- A pcap file that was written as pcapng, written as pcap again.
-use Rattle.std.proofs.Common.{◌≡◌, ℕ, pos, ◌+◌, ◌/◌, ◌^◌, nat_lt, not, List, [], ◌∷◌, ◌++◌, length, Bool, Option, Some, None, refl, sym, ap, ◌∙◌, arith, if◌then◌else◌}
+use Rattle.std.proofs.Common.{◌≡◌, ℕ, ℤ, pos, ◌+◌, ◌/◌, ◌^◌, nat_lt, not, List, [], ◌∷◌, ◌++◌, length, Bool, Option, Some, None, refl, sym, ap, ◌∙◌, arith, if◌then◌else◌}
 use Rattle.std.proofs.lemmas.Bool.{eq-eqb}
+use Rattle.std.specs.Prelude.{int_lt}
 use Rattle.cap_bytes.specs.declared.faults.Refusal.{Refusal}
 use Rattle.cap_bytes.specs.declared.faults.Rule.TheVariants.{TimeRange}
 use Rattle.cap_bytes.specs.declared.numbers.Order.{Order}
@@ -8,9 +9,9 @@ use Rattle.cap_pcap.specs.Grammar.{Packet, packet_size}
 use Rattle.cap_pcap.specs.Split as records
 use Rattle.cap_pcap.specs.declared.headers.PcapHeader.{PcapHeader}
 use Rattle.cap_bytes.specs.declared.stops.Stop.{Stop}
+use Rattle.cap_time.proofs.StampForms.{seconds_of-stamp_in}
 use Rattle.cap_source.specs.Items.{pcap_items, interface_of}
 use Rattle.cap_source.specs.declared.packets.Meta.{Meta}
-use Rattle.cap_time.specs.Stamp.{stamp_in}
 use Rattle.cap_time.specs.Unit.{in_second}
 use Rattle.cap_time.specs.declared.stamps.Unit.{Unit as Fraction}
 use Rattle.cap_write.proofs.Packed.{number_one, number_all, keep_all}
@@ -65,8 +66,7 @@ records_bytes-read back h order file offset count (p ∷ ps) =
 
 -- a time is late if its seconds don't fit
 is_late-header : (h : PcapHeader) (units : ℕ) → is_late (interface_of h) (Some units) ≡ not (nat_lt (units / in_second h.unit) (2 ^ 32))
-unfolding stamp_in
-is_late-header h units = grind (arith, pos, units_of-unit, nat_lt)
+is_late-header h units = ap (λ (z : ℤ). not (int_lt z (pos (2 ^ 32)))) (seconds_of-stamp_in units (interface_of h)) ∙ grind (arith, pos, units_of-unit, nat_lt)
 
 refusal_by_late : (b : Bool) (meta : Meta) (rest : Option Refusal)
     → refusal_or (if b then None else Some TimeRange) meta rest ≡ (if not b then Some (refusal_at meta TimeRange) else rest)

@@ -1,5 +1,5 @@
 -- A file of either format, written as pcap and read again.
-use Rattle.std.proofs.Common.{◌≡◌, ◌==◌, ℕ, ℤ, pos, ◌+◌, ◌*◌, ◌/◌, ◌%◌, ◌^◌, ◌≤◌, ◌<◌, List, [], ◌∷◌, ◌++◌, length, Bool, Option, Some, None, Equal, refl, sym, ap, ◌∙◌, subst, arith}
+use Rattle.std.proofs.Common.{◌≡◌, ◌==◌, ℕ, ℤ, pos, negsuc, ◌+◌, ◌*◌, ◌/◌, ◌%◌, ◌^◌, ◌≤◌, ◌<◌, List, [], ◌∷◌, ◌++◌, length, Bool, true, Option, Some, None, Equal, refl, sym, ap, ◌∙◌, subst, arith}
 use Rattle.std.proofs.lemmas.Nat.{div-mul-add, mod-mul-add}
 use Rattle.std.specs.List.{AllByRecursion, AllZip}
 use Rattle.std.specs.Option.{MatchOption, option_map}
@@ -20,7 +20,11 @@ use Rattle.cap_source.specs.Items.{file_items, file_first, first_from, interface
 use Rattle.cap_source.specs.declared.packets.Meta.{Meta}
 use Rattle.cap_time.proofs.WholeUnits.{whole_of_pair, in_second_positive}
 use Rattle.cap_time.specs.Stamp.{stamp_cmp, stamp_in, time_of}
-use Rattle.cap_time.specs.Time.{IsWhole, IsNeverWhole}
+use Rattle.cap_time.specs.Resolution.{units_of}
+use Rattle.cap_time.specs.Time.{Time, time_at, time_cmp, IsWhole, IsNeverWhole}
+use Rattle.cap_time.proofs.PrintedForm.{time_at-stamped}
+use Rattle.cap_time.proofs.StampForms.{time_of-stamp_in}
+use Rattle.std.proofs.lemmas.Int.{ints}
 use Rattle.cap_time.specs.Unit.{in_second}
 use Rattle.cap_time.specs.declared.resolutions.Interface.{Interface}
 use Rattle.cap_time.specs.declared.stamps.Stamp.{Stamp}
@@ -30,7 +34,7 @@ use Rattle.cap_write.proofs.Records.{fault_by}
 use Rattle.cap_write.proofs.RoundTrip.{first-header, items-written}
 use Rattle.cap_write.proofs.Trips.{units_of-unit}
 use Rattle.cap_write.specs.Laws.{AllWritten, record_form, records_form, IsSamePacket, SamePackets, written_first, PcapAgain}
-use Rattle.cap_write.specs.Pcap.{fraction_of, header_of, whole_time, record_fault, time_in, written_time, time_bytes, packet_record, records_bytes, records_refusal, bare_refusal, pcap_bytes, pcap_refusal}
+use Rattle.cap_write.specs.Pcap.{fraction_of, header_of, whole_time, time_fault, record_fault, time_in, written_time, time_bytes, packet_record, records_bytes, records_refusal, bare_refusal, pcap_bytes, pcap_refusal}
 use Rattle.cap_write.specs.Texts.{text_or}
 
 some-none : {A : Type 0} (a : A) → Some a ≡ None → ⊥
@@ -48,8 +52,17 @@ record IsTimed (first : Interface) (meta : Meta) : Type 0 where
   time : whole_time (fraction_of first) meta.interface units ≡ Some (pos seconds, rest)
   few : seconds < 2 ^ 32
 
+-- a time without a fault is whole seconds that fit, and units
+whole_by : (w : Option (ℤ × ℕ)) → time_fault w ≡ None → (s : ℕ) × (n : ℕ) × (w ≡ Some (pos s, n)) × (s < 2 ^ 32)
+whole_by (Some (pos s, n)) none = (s, n, refl, grind arith)
+whole_by (Some (negsuc s, n)) none = grind arith
+whole_by None none = grind arith
+
 timed_by : (first : Interface) (meta : Meta) (units : Option ℕ) (same : Bool) → meta.units ≡ units → (meta.interface.link == first.link) ≡ same
     → fault_by units same (fraction_of first) meta.interface ≡ None → IsTimed first meta
+timed_by first meta (Some units) true is link none =
+    let t = whole_by (whole_time (fraction_of first) meta.interface units) none in
+    record { units = units; is = is; link = grind (arith, link); seconds = t.0; rest = t.1; time = t.2; few = t.3 }
 timed_by first meta units same is link none = grind arith
 
 timed : (first : Interface) (meta : Meta) → record_fault first meta ≡ None → IsTimed first meta
@@ -66,13 +79,19 @@ whole first meta t =
     (whole_of_pair d a (in_second_positive (fraction_of first)))
 
 -- it is the time of that many units
-none_before : (n : ℕ) → 0 + n ≡ n
-none_before n = omega arith
-
 same_time : (unit : Fraction) (h : PcapHeader) → h.unit ≡ unit → (a : Stamp) (s n : ℕ) → IsWhole (in_second unit) (time_of a) (pos s) n
     → stamp_cmp a (stamp_in (s * in_second unit + n) (interface_of h)) ≡ Equal
-unfolding stamp_cmp stamp_in
-same_time unit h is a s n w = grind (arith, units_of-unit, none_before, div-mul-add, mod-mul-add, time_of)
+unfolding stamp_cmp
+same_time unit h is a s n w =
+    let d = in_second unit in
+    let units = s * d + n in
+    let whole : units / d ≡ s = div-mul-add s d n w.below in
+    let resolution : d ≡ units_of (interface_of h).resolution = sym (units_of-unit h.unit ∙ ap in_second is) in
+    let later : time_of (stamp_in units (interface_of h)) ≡ time_at n d (pos s) =
+    time_of-stamp_in units (interface_of h)
+    ∙ sym (time_at-stamped (pos 0) (pos s) units d (units_of (interface_of h).resolution) resolution (omega (arith, ints, whole)))
+    ∙ ap (λ (x : ℕ). time_at x d (pos s)) (mod-mul-add s d n w.below) in
+    ap (λ (t : Time). time_cmp (time_of a) t) later ∙ w.same
 
 -- ---- packets
 

@@ -1,7 +1,8 @@
 //! The order of stamps, which is that of their times, and a hash that agrees with it.
-ghost use Rattle.std.specs.Prelude.{◌≡◌, ◌*◌, refl};
+ghost use Rattle.std.specs.Prelude.{◌≡◌, ◌*◌, refl, IsTrue};
 ghost use Rattle.std.specs.Ordering.{as_partial_cmp, nat_cmp};
-ghost use Rattle.cap_time.specs.Stamp.{numerator_of, denominator_of};
+ghost use Rattle.cap_time.specs.Stamp.{numerator_of, denominator_of, stamp_cmp};
+ghost use Rattle.cap_time.specs.StampLaws.{CountAlike};
 
 use crate::stamps::Stamp;
 use std::cmp::Ordering;
@@ -12,10 +13,32 @@ fn fraction_cmp(a: &Stamp, b: &Stamp) -> Ordering
     ensures { result ≡ nat_cmp (numerator_of a.now * denominator_of b.now) (numerator_of b.now * denominator_of a.now) }
 {
     if a.denominator == b.denominator {
-        a.numerator.cmp(&b.numerator)
+        a.numerator().cmp(&b.numerator())
     } else {
-        let own = u128::from(a.numerator) * u128::from(b.denominator);
-        let others = u128::from(b.numerator) * u128::from(a.denominator);
+        let own = u128::from(a.numerator()) * u128::from(b.denominator);
+        let others = u128::from(b.numerator()) * u128::from(a.denominator);
+        own.cmp(&others)
+    }
+}
+
+// Whether two stamps count the same units from the same second.
+#[inline(always)]
+fn count_alike(a: &Stamp, b: &Stamp) -> bool
+    ensures { IsTrue result → CountAlike a.now b.now }
+{
+    a.denominator == b.denominator && a.low == b.low && a.high == b.high
+}
+
+// Compares stamps in any forms: the seconds decide, and of equal seconds the fractions. It takes copies, so that
+// where stamps count alike they need not be in memory.
+#[inline(never)]
+fn any_cmp(a: Stamp, b: Stamp) -> Ordering
+    ensures { result ≡ stamp_cmp a b }
+{
+    let (own, others) = (a.seconds(), b.seconds());
+    if own == others {
+        fraction_cmp(&a, &b)
+    } else {
         own.cmp(&others)
     }
 }
@@ -64,12 +87,13 @@ impl Ord for Stamp {
 
     ghost matches_eq = { λ a b. refl };
 
-    // The seconds decide, and of equal seconds the fractions.
+    // Units that count alike compare as they are, as the packets of one interface do.
+    #[inline(always)]
     fn cmp(&self, other: &Stamp) -> Ordering {
-        if self.seconds == other.seconds {
-            fraction_cmp(self, other)
+        if count_alike(self, other) {
+            self.units.cmp(&other.units)
         } else {
-            self.seconds.cmp(&other.seconds)
+            any_cmp(*self, *other)
         }
     }
 }
@@ -84,8 +108,8 @@ impl Hash for Stamp {
     // The seconds and the first 64 binary places of the fraction: these are the same whatever the
     // denominator is.
     fn hash<H: Hasher>(&self, state: &mut H) {
-        let places = u128::from(self.numerator) * (1 << 64) / u128::from(self.denominator);
-        self.seconds.hash(state);
+        let places = u128::from(self.numerator()) * (1 << 64) / u128::from(self.denominator);
+        self.seconds().hash(state);
         places.hash(state);
     }
 }
