@@ -1,0 +1,1 @@
+-- `search` finds each goal.
