@@ -1,5 +1,6 @@
 //! A reader of pcapng files.
-ghost use Rattle.std.specs.Prelude.{◌≡◌, ◌↔◌, ◌≤◌, ◌+◌, ◌^◌, true, length, IsTrue, IsSome, IsNone, IfSome, OnSome, Some, Ok};
+ghost use Rattle.std.specs.Prelude.{◌≡◌, ◌==◌, ◌↔◌, ◌≤◌, ◌+◌, ◌^◌, true, false, length, IsTrue, IsSome, IsNone, IfSome, OnSome, MatchOption, Some, Ok};
+ghost use Rattle.cap_bytes.specs.Number.{number};
 ghost use Rattle.cap_bytes.specs.Reader.{opened, Keeps, HasWindow};
 ghost use Rattle.cap_blocks.specs.Reader.{GivesNext, TakesItem, size_of, shown_size};
 ghost use Rattle.cap_blocks.specs.Grammar.{enhanced_kind, is_known};
@@ -10,7 +11,7 @@ ghost use Rattle.cap_bytes.specs.declared.faults.Tail.{Tail};
 use crate::blocks::{Block, ENHANCED_PACKET, is_known};
 use crate::bodies::{body_rule, look_at_body};
 use crate::headers::{FRAME_SIZE, header_of, look_at_header};
-use cap_bytes::{Fault, Order, Refusal, Source, Stop, Tail, Window};
+use cap_bytes::{Fault, Order, Refusal, Source, Stop, Tail, Window, u32_at};
 use std::marker::Model;
 
 // How many bytes of a block stand in front of its body.
@@ -63,6 +64,19 @@ fn look_for_block<R: Source>(
     }
 }
 
+// Whether the kind at the front of some bytes is that of an enhanced packet block, in the order of the section that is
+// being read. Asked before the header is read, so that the compiler puts no table of kinds on the way of a packet.
+#[inline(always)]
+fn is_enhanced(section: Option<Order>, bytes: &[u8]) -> bool
+    requires { 4 ≤ length bytes.now }
+    ensures { MatchOption section (result ≡ false) (λ order. result ≡ (number order 4 bytes.now == enhanced_kind)) }
+{
+    match section {
+        Some(order) => u32_at(order, bytes, 0) == ENHANCED_PACKET,
+        None => false,
+    }
+}
+
 // Passes the first bytes that a window shows, if it shows a whole enhanced packet block after them.
 #[inline(always)]
 fn take_packet<R: Source>(
@@ -82,6 +96,9 @@ fn take_packet<R: Source>(
         return None;
     }
     let (_, bytes) = window.bytes().split_at(given);
+    if !is_enhanced(section, bytes) {
+        return None;
+    }
     let offset = window.offset() + given as u64;
     match header_of(section, offset, bytes) {
         Ok(block) => {

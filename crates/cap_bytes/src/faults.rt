@@ -116,11 +116,11 @@ impl Rule {
 #[derive(Clone, Copy, Debug, PartialEq, Eq, Error)]
 #[error("file {file} offset {offset} rule {} {}", .rule.number(), .rule.name())]
 pub struct Refusal {
-    /// The file's number, from 1.
-    pub file: u32,
     /// Where the record or block begins, in bytes: 0 for the file header, and for
     /// `Rule::NoInterface`.
     pub offset: u64,
+    /// The file's number, from 1.
+    pub file: u32,
     /// The rule that is broken.
     pub rule: Rule,
 }

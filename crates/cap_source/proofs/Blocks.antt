@@ -1,5 +1,5 @@
 -- What a block adds to what was read of a pcapng file.
-use Rattle.std.proofs.Common.{◌≡◌, ◌≤◌, ◌<◌, ◌+◌, ◌%◌, ℕ, Bool, false, List, [], ◌∷◌, length, slice_get, Option, Some, None, is_some, IsSome, IfSome, IsTrue, ◌↔◌, unwrap_or, Result, Ok, Err, refl, sym, ap, ◌∙◌, subst, arith, nat_lt, ◌==◌, cond, length-append}
+use Rattle.std.proofs.Common.{◌≡◌, ◌≤◌, ◌<◌, ◌+◌, ◌%◌, ℕ, Bool, true, false, List, [], ◌∷◌, length, slice_get, Option, Some, None, is_some, IsSome, IfSome, IsTrue, ◌↔◌, unwrap_or, Result, Ok, Err, refl, sym, ap, ◌∙◌, subst, arith, nat_lt, ◌==◌, cond, length-append}
 use Rattle.std.proofs.lemmas.Bool.Decides.{nat_tests}
 use Rattle.cap_bytes.specs.declared.faults.Refusal.{Refusal}
 use Rattle.cap_bytes.specs.declared.faults.Rule.{Rule}
@@ -21,7 +21,7 @@ use Rattle.cap_source.specs.TimeBases.{interface_in}
 use Rattle.cap_source.specs.Contents.{fitting, of_interface, timed_in, simple_in, of_body, content_in}
 use Rattle.cap_source.specs.Feed as feeds
 use Rattle.cap_source.specs.Items.{Progress, behind, frame_in, items_at, items_in, ending_with, ending_in, unless_faulty, first_in, unless_item, is_cut}
-use Rattle.cap_source.specs.FileState.{pcapng_state, size_of, part_of, Learns, FileKeeps, GoesOn, StepsTo, next_at}
+use Rattle.cap_source.specs.FileState.{FileState, pcapng_state, size_of, part_of, Learns, FileKeeps, GoesOn, StepsTo, TakesShown, next_at}
 use Rattle.cap_source.specs.Reached.{counted}
 use Rattle.cap_source.specs.declared.contents.Content.{Content}
 use Rattle.cap_source.specs.declared.contents.Content.TheVariants as contents
@@ -221,6 +221,13 @@ pub block_stepped : (file : ℕ) (old new : State Order) (p q : Progress) (block
     → content ≡ content_in p.interfaces block.kind block.order (unwrap_or new.lent [])
     → StepsTo (pcapng_state old p) next (pcapng_state new q)
 block_stepped file old new p q block content next is_next is_q named g k taken is = grind (arith, block_steps)
+
+-- The same of a packet's block, of which a packet or a refusal comes next.
+pub packet_shown : (old new : FileState) (file : ℕ) (p : Progress) (block : Block) (said : Result Packet Rule) (next : Option Next)
+    → next ≡ next_at file p block (of_body contents.Packet said) → StepsTo old next new → TakesShown old true next new
+packet_shown old new file p block said (Some next) is steps = (next, refl, steps)
+packet_shown old new file p block (Ok packet) None is steps = cc
+packet_shown old new file p block (Err rule) None is steps = cc
 
 pub block_kept : (old new : State Order) (p q : Progress) (block : Block) (content : Result Content Rule) → q ≡ behind p content → GivesBlock old block new → Keeps old new
     → content ≡ content_in p.interfaces block.kind block.order (unwrap_or new.lent [])

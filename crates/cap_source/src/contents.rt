@@ -16,12 +16,12 @@ const SIMPLE_HEAD: u32 = 4;
 /// What a block says of a packet.
 #[derive(Clone, Copy, Debug, PartialEq, Eq)]
 pub struct Packet {
-    /// The number of its interface in the section.
-    pub number: u32,
     /// Its interface.
     pub interface: Interface,
     /// Its time in units of the interface's resolution; `None` if it has none.
     pub units: Option<u64>,
+    /// The number of its interface in the section.
+    pub number: u32,
     /// How many bytes of it were captured.
     pub captured: u32,
     /// How many bytes it had.

@@ -19,10 +19,10 @@ pub enum Head {
 /// How a file ended.
 #[derive(Clone, Copy, Debug, PartialEq, Eq)]
 pub struct Ending {
-    /// The format of the file.
-    pub format: Format,
     /// How many of its blocks were skipped; 0 in a pcap file.
     pub skipped: u64,
+    /// The format of the file.
+    pub format: Format,
     /// Whether it ended in a rest that was cut, and that was dropped.
     pub was_cut: bool,
 }

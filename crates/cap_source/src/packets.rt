@@ -15,12 +15,8 @@ pub enum Format {
 /// What is told of a packet beside its captured bytes.
 #[derive(Clone, Copy, Debug, PartialEq, Eq)]
 pub struct Meta {
-    /// The number of its file, from 1.
-    pub file: u32,
     /// Where its record or block begins, in bytes.
     pub offset: u64,
-    /// The format of its file.
-    pub format: Format,
     /// How many blocks of its file were skipped before it.
     pub skipped: u64,
     /// How many interface blocks of its file stand before its own interface's; 0 in a pcap file.
@@ -33,6 +29,10 @@ pub struct Meta {
     pub captured: u32,
     /// How many bytes it had.
     pub original: u32,
+    /// The number of its file, from 1.
+    pub file: u32,
+    /// The format of its file.
+    pub format: Format,
 }
 
 impl Meta {

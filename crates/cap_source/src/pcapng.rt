@@ -1,5 +1,5 @@
 //! What comes next of a pcapng file.
-ghost use Rattle.std.specs.Prelude.{◌≡◌, ◌≤◌, ◌<◌, ◌+◌, ◌^◌, [], length, false, IsTrue, IfSome, None, Some, is_some, unwrap_or, vec_len, vec_capacity};
+ghost use Rattle.std.specs.Prelude.{◌≡◌, ◌≤◌, ◌<◌, ◌+◌, ◌^◌, [], length, false, IsTrue, IfSome, None, Some, Err, is_some, unwrap_or, vec_len, vec_capacity};
 ghost use Rattle.cap_blocks.specs.Grammar.{is_known, is_total};
 ghost use Rattle.cap_source.specs.Contents.{content_in, of_body};
 ghost use Rattle.cap_source.specs.Items.{ending_with, meta_in, behind};
@@ -86,16 +86,7 @@ fn take_content(
         Ok(content) => {
             go_on(reached, content);
         }
-        Err(rule) => {
-            *known = Some(Next::Refused(
-                Refusal {
-                    file,
-                    offset: block.offset,
-                    rule,
-                },
-                ending_of_blocks(reached, false),
-            ));
-        }
+        Err(rule) => refuse(reached, file, block, rule, known),
     }
 }
 
@@ -118,30 +109,47 @@ pub fn take_shown<R: Source>(
     match reader.take_packet() {
         Some(block) => {
             let said = enhanced_packet(&reached.interfaces, block.order, reader.body());
-            *known = Some(next_of_packet(reached, file, block, said));
+            put_packet(reached, file, block, said, known);
             true
         }
         None => false,
     }
 }
 
-// What comes next after an enhanced packet block that says this.
+// Puts into `known` what comes next after an enhanced packet block that says this.
 #[inline(always)]
-fn next_of_packet(reached: &Reached, file: u32, block: Block, said: Result<Packet, Rule>) -> Next
+fn put_packet(
+    reached: &Reached,
+    file: u32,
+    block: Block,
+    said: Result<Packet, Rule>,
+    known: &mut Option<Next>,
+)
     requires { reached.now.base < 2 ^ 63 }
-    ensures { Some result ≡ next_at file (progress_of reached.now) block (of_body Content.Packet said) }
+    ensures { known.new ≡ next_at file (progress_of reached.now) block (of_body Content.Packet said) }
 {
     match said {
-        Ok(packet) => { Next::Packet(meta_of_packet(file, block, reached, packet), packet.place) }
-        Err(rule) => Next::Refused(
-            Refusal {
-                file,
-                offset: block.offset,
-                rule,
-            },
-            ending_of_blocks(reached, false),
-        ),
+        Ok(packet) => {
+            *known = Some(Next::Packet(meta_of_packet(file, block, reached, packet), packet.place));
+        }
+        Err(rule) => refuse(reached, file, block, rule, known),
     }
+}
+
+// Puts the refusal of a block into `known`. It isn't inlined, so that a packet is written where it is kept without a look at
+// what a refusal keeps there.
+#[inline(never)]
+fn refuse(reached: &Reached, file: u32, block: Block, rule: Rule, known: &mut Option<Next>)
+    ensures { known.new ≡ next_at file (progress_of reached.now) block (Err rule) }
+{
+    *known = Some(Next::Refused(
+        Refusal {
+            file,
+            offset: block.offset,
+            rule,
+        },
+        ending_of_blocks(reached, false),
+    ));
 }
 
 // Takes one block: what comes next, or none if the file goes on after it. There is room for an

@@ -58,12 +58,12 @@ impl Resolution {
 /// What a packet's interface says of it: the kind of its frames and how its time is counted.
 #[derive(Clone, Copy, Debug, PartialEq, Eq)]
 pub struct Interface {
-    /// The link type, a number of the LINKTYPE registry.
-    pub link: u16,
-    /// The most bytes that are captured of a packet, 0 for no limit.
-    pub snaplen: u32,
-    /// The units of the interface's times (`if_tsresol`).
-    pub resolution: Resolution,
     /// The second from which its times count (`if_tsoffset`).
     pub offset: i64,
+    /// The most bytes that are captured of a packet, 0 for no limit.
+    pub snaplen: u32,
+    /// The link type, a number of the LINKTYPE registry.
+    pub link: u16,
+    /// The units of the interface's times (`if_tsresol`).
+    pub resolution: Resolution,
 }

@@ -1,9 +1,9 @@
-use Rattle.std.proofs.Common.{◌∙◌, length, Some, refl}
+use Rattle.std.proofs.Common.{◌∙◌, length}
 use Rattle.cap_bytes.proofs.Parsing.{from_some}
 use Rattle.cap_source.specs.Contents.{of_body}
 use Rattle.cap_source.specs.Reached.{progress_of}
 use Rattle.cap_source.specs.declared.contents.Content.TheVariants as contents
-use Rattle.cap_source.proofs.Blocks.{behind-packet, block_stepped, block_kept, content_lent, enhanced_size}
+use Rattle.cap_source.proofs.Blocks.{behind-packet, block_stepped, block_kept, content_lent, enhanced_size, packet_shown}
 use Rattle.cap_source.proofs.pcapng.take_shown.Goals as goal
 
 pub enhanced_packet-said-requires : goal.enhanced_packet-said-requires
@@ -14,14 +14,12 @@ enhanced_packet-said-requires g c =
 pub returns-in-Some-clause-answer : goal.returns-in-Some-clause-answer
 returns-in-Some-clause-answer g c =
     let e = c.in-Some.ensures in
-    let p = progress_of c.args.reached.now in (
-      c.next_of_packet.result,
-      refl,
-      block_stepped c.file-file.result c.args.reader.now c.take_packet.new.self p p c.in-Some.block (of_body contents.Packet c.enhanced_packet-said.result) (Some c.next_of_packet.result)
-          c.next_of_packet.ensures (behind-packet p c.enhanced_packet-said.result) (c.file-file.ensures ∙ c.window.ensures.window.file) e.answer e.keeps e.items
-          (content_lent _ c.deref.result.now p.interfaces c.in-Some.block.kind c.in-Some.block.order c.take_packet.new.self.lent c.body.result.now
-          c.enhanced_packet-said.ensures c.deref.ensures.value e.kind c.body.ensures.body),
-    )
+    let p = progress_of c.args.reached.now in
+    packet_shown _ _ c.file-file.result p c.in-Some.block c.enhanced_packet-said.result c.put_packet.new.known c.put_packet.ensures
+    (block_stepped c.file-file.result c.args.reader.now c.take_packet.new.self p p c.in-Some.block (of_body contents.Packet c.enhanced_packet-said.result)
+    c.put_packet.new.known c.put_packet.ensures (behind-packet p c.enhanced_packet-said.result) (c.file-file.ensures ∙ c.window.ensures.window.file) e.answer e.keeps e.items
+    (content_lent _ c.deref.result.now p.interfaces c.in-Some.block.kind c.in-Some.block.order c.take_packet.new.self.lent c.body.result.now
+    c.enhanced_packet-said.ensures c.deref.ensures.value e.kind c.body.ensures.body))
 
 pub returns-in-Some-clause-keeps : goal.returns-in-Some-clause-keeps
 returns-in-Some-clause-keeps g c =

@@ -51,3 +51,6 @@ returns-clause-text g c = λ t w.
     let new = c.next_block.new.self in
     let took : TakesItem old (Ok None) new = rw c.in_default.is at (c.in_ok-block.ensures.items (i.told t)) in
     Prints-block_end _ _ _ _ c.loop-block.n old new (i.lines t) w (i.refusal_same t) took
+
+pub loop-block-init : goal.loop-block-init
+loop-block-init g c = search rules

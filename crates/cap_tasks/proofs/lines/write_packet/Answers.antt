@@ -1,1 +1,5 @@
--- `search` finds each goal.
+use Rattle.std.proofs.Common.{rules}
+use Rattle.cap_tasks.proofs.lines.write_packet.Goals as goal
+
+pub returns : goal.returns
+returns c = search rules

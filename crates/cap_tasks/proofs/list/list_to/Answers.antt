@@ -1,1 +1,5 @@
--- `search` finds each goal.
+use Rattle.std.proofs.Common.{rules}
+use Rattle.cap_tasks.proofs.list.list_to.Goals as goal
+
+pub returns-clause-text : goal.returns-clause-text
+returns-clause-text c = search rules

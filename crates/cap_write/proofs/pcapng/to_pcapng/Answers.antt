@@ -1,4 +1,4 @@
-use Rattle.std.proofs.Common.{arith}
+use Rattle.std.proofs.Common.{arith, rules}
 use Rattle.cap_source.proofs.Onward.{Keeps-trans}
 use Rattle.cap_write.proofs.pcapng.to_pcapng.Goals as goal
 
@@ -7,3 +7,6 @@ returns-clause-walks g c = grind arith
 
 pub returns-clause-keeps : goal.returns-clause-keeps
 returns-clause-keeps g c = search (Keeps-trans, c.in_ok-first.ensures.keeps, c.put_pcapng.ensures.keeps)
+
+pub returns-clause-text : goal.returns-clause-text
+returns-clause-text g c = search rules

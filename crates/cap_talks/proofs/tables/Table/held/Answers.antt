@@ -1,4 +1,4 @@
-use Rattle.std.proofs.Common.{ap, arith}
+use Rattle.std.proofs.Common.{ap, arith, rules}
 use Rattle.cap_merge.specs.MergedLaws.{merged-is-feed}
 use Rattle.cap_source.specs.declared.feeds.FeedHeld.{FeedHeld}
 use Rattle.cap_talks.proofs.tables.Table.held.Goals as goal
@@ -14,3 +14,6 @@ returns-clause-interfaces g c =
     let m = c.args.self.now.merged in
     let law = merged-is-feed g.F.PacketFeed.feed g.met.F.PacketFeed.lawful m.lanes.items m.feeds.items m.alike m.numbered m.reached in
     omega (arith, ap (λ (h : FeedHeld). h.interfaces) c.feed_held-feed.ensures.held, law.interfaces)
+
+pub returns-clause-value : goal.returns-clause-value
+returns-clause-value g c = search rules

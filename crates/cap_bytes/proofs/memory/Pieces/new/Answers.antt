@@ -1,1 +1,0 @@
--- `search` finds each goal.
