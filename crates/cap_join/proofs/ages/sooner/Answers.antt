@@ -3,6 +3,3 @@ use Rattle.cap_join.proofs.ages.sooner.Goals as goal
 
 pub returns-then-lt : goal.returns-then-lt
 returns-then-lt c = search rules
-
-pub returns-else-lt : goal.returns-else-lt
-returns-else-lt c = search rules
