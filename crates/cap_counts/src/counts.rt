@@ -6,7 +6,7 @@ ghost use Rattle.cap_counts.specs.Counting.{counted, with_packet, earlier};
 ghost use Rattle.cap_time.specs.Clock.{later};
 
 use cap_source::{Format, Meta};
-use cap_time::Stamp;
+use cap_time::{Stamp, reach};
 
 /// What is counted of the packets of one file, as far as they were taken.
 #[derive(Clone, Copy, Default)]
@@ -74,9 +74,7 @@ fn count(counts: &mut Counts, time: Option<Stamp>, meta: &Meta)
     if is_earlier(&time, &counts.first) {
         counts.first = time;
     }
-    if counts.last < time {
-        counts.last = time;
-    }
+    reach(&mut counts.last, &time);
 }
 
 // Whether a time takes the place of the first one so far: it is the earlier one, or the only one.

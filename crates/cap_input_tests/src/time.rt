@@ -1,5 +1,5 @@
 //! Times, their order and their printed forms, worked out by exact arithmetic outside.
-use cap_time::{Interface, Resolution, Stamp, Unit};
+use cap_time::{Interface, Resolution, Stamp, Unit, reach};
 use std::cmp::Ordering;
 use std::hash::{DefaultHasher, Hash, Hasher};
 use std::test::Fail;
@@ -17,6 +17,11 @@ fn stamp_of(source: Source) -> Option<Stamp> {
         offset,
     };
     Some(Stamp::new(units, &interface))
+}
+
+// What a stamp prints.
+fn form_of(stamp: Stamp) -> (i128, u64, u64) {
+    (stamp.seconds(), stamp.numerator(), stamp.denominator())
 }
 
 fn hash_of(stamp: &Stamp) -> u64 {
@@ -233,6 +238,19 @@ fn exact_order(rt: HostRuntime) -> Result<(), Fail> {
             "row {row}"
         );
         assert!(rt; !is_equal || hash_of(&a) == hash_of(&b), "row {row}");
+        let later = if order == Ordering::Less { b } else { a };
+        let mut clock = None;
+        for time in [Some(a), None, Some(b)] {
+            reach(&mut clock, &time);
+        }
+        let reached = clock.ok_or("clock")?;
+        let mut moved = a;
+        assert_eq!(rt; moved.reach(&b), order, "row {row}");
+        assert_eq!(rt;
+            [form_of(reached), form_of(moved)],
+            [form_of(later), form_of(later)],
+            "row {row}"
+        );
     }
     Ok(())
 }

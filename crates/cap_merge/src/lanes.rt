@@ -1,7 +1,6 @@
 //! What is known of each feed, and which of them comes first.
 ghost use Rattle.std.specs.Prelude.{◌≡◌, ◌<◌, ◌≤◌, List, replicate, length, true, is_some, None, Some, IfSome, map};
 ghost use Rattle.std.specs.List.{list_all};
-ghost use Rattle.cap_time.specs.Clock.{later};
 ghost use Rattle.cap_source.specs.Feed.{Feed, IsPacket};
 ghost use Rattle.cap_merge.specs.Parts.{part, parts, is_bounded, known_of, both_held, known_but, OthersKnown, Matches, Agrees};
 ghost use Rattle.cap_merge.specs.First.{coming_of, fresh_lane, lane_at, has_item, lane_turn, lane_turns, comes_before, sooner_place, first_place, IsFound};
@@ -10,7 +9,7 @@ ghost use Rattle.cap_merge.specs.Merge.{Answers, Asks, AsksAll, IsPacketAt, Pass
 use arrayvec::ArrayVec;
 use cap_bytes::{Fault, Refusal};
 use cap_source::{FeedHeld, PacketFeed};
-use cap_time::Stamp;
+use cap_time::{Stamp, reach};
 
 /// What comes next of a feed, which keeps it.
 #[derive(Clone, Copy)]
@@ -46,16 +45,6 @@ pub(crate) fn new_lanes(count: usize) -> ArrayVec<Lane, 32>
     lanes
 }
 
-// Moves the clock to a time, if that is later.
-#[inline(always)]
-fn reach(lane: &mut Lane, time: Option<Stamp>)
-    ensures lane { lane.new ≡ record { clock = later lane.old.clock time; next = lane.old.next } }
-{
-    if lane.clock < time {
-        lane.clock = time;
-    }
-}
-
 // What comes of a fault of a feed: a refusal is what comes next, another fault is answered.
 #[inline(never)]
 fn stop(lane: &mut Lane, fault: Fault) -> Result<(), Fault>
@@ -81,7 +70,7 @@ fn learn<F: PacketFeed>(lane: &mut Lane, feed: &mut F) -> Result<(), Fault>
     match feed.has_packet() {
         Ok(true) => {
             lane.next = Some(Coming::Packet);
-            reach(lane, feed.packet().time());
+            reach(&mut lane.clock, &feed.packet().time());
             Ok(())
         }
         Ok(false) => {

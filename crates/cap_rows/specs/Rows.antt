@@ -61,14 +61,10 @@ abbrev pub frame_of : Option Stamp → ℕ → Option TimedFrame
 frame_of None place = None
 frame_of (Some time) place = Some (record { time = time; place = place })
 
--- a frame comes before the first one so far, or after the last one, or is the only one
+-- a frame comes before the first one so far, or is the only one
 abbrev pub is_earlier : TimedFrame → Option TimedFrame → Bool
 is_earlier frame None = true
 is_earlier frame (Some first) = is_lt (by_time frame first)
-
-abbrev pub is_later : TimedFrame → Option TimedFrame → Bool
-is_later frame None = true
-is_later frame (Some last) = is_lt (by_time_down frame last)
 
 -- a row with one unit of its conversation more
 abbrev pub with_unit : TalkRow → CountedUnit → TalkRow

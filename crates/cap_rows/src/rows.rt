@@ -2,7 +2,7 @@
 ghost use Rattle.std.specs.Prelude.{◌≡◌, ◌+◌, ◌<◌, ◌^◌, []};
 ghost use Rattle.cap_rows.specs.Talks.{key_of, is_forward, earlier_frame, later_frame, frame_time, place_or, row_of};
 ghost use Rattle.cap_rows.specs.Keys.{end_number};
-ghost use Rattle.cap_rows.specs.Rows.{with_unit, frames_of_row, bytes_of_row, frame_of, is_earlier, is_later};
+ghost use Rattle.cap_rows.specs.Rows.{with_unit, frames_of_row, bytes_of_row, frame_of, is_earlier};
 
 use crate::units::{CountedUnit, End, TimedFrame};
 use cap_time::Stamp;
@@ -138,6 +138,7 @@ fn is_forward(unit: &CountedUnit) -> bool
 }
 
 // Whether a frame comes before the first one so far: it has the lesser time, of equal times the lower place, or is the only one.
+#[inline(always)]
 fn is_earlier(frame: &TimedFrame, first: &Option<Stamp>, place: u64) -> bool
     ensures { result ≡ is_earlier frame.now (frame_of first.now place) }
 {
@@ -151,21 +152,8 @@ fn is_earlier(frame: &TimedFrame, first: &Option<Stamp>, place: u64) -> bool
     }
 }
 
-// Whether a frame comes after the last one so far: it has the greater time, of equal times the lower place, or is the only one.
-fn is_later(frame: &TimedFrame, last: &Option<Stamp>, place: u64) -> bool
-    ensures { result ≡ is_later frame.now (frame_of last.now place) }
-{
-    match last {
-        None => true,
-        Some(last) => match last.cmp(&frame.time) {
-            Ordering::Less => true,
-            Ordering::Equal => frame.place < place,
-            Ordering::Greater => false,
-        },
-    }
-}
-
 // Takes a frame, if there is one, into the least time so far.
+#[inline(always)]
 fn take_first(first: &mut Option<Stamp>, place: &mut u64, frame: &Option<TimedFrame>)
     ensures time { first.new ≡ frame_time (earlier_frame (frame_of first.old place.old) frame.now) }
     ensures place { place.new ≡ place_or (earlier_frame (frame_of first.old place.old) frame.now) place.old }
@@ -179,14 +167,27 @@ fn take_first(first: &mut Option<Stamp>, place: &mut u64, frame: &Option<TimedFr
 }
 
 // Takes a frame, if there is one, into the greatest time so far.
+#[inline(always)]
 fn take_last(last: &mut Option<Stamp>, place: &mut u64, frame: &Option<TimedFrame>)
     ensures time { last.new ≡ frame_time (later_frame (frame_of last.old place.old) frame.now) }
     ensures place { place.new ≡ place_or (later_frame (frame_of last.old place.old) frame.now) place.old }
 {
     if let Some(frame) = frame {
-        if is_later(frame, last, *place) {
-            *last = Some(frame.time);
-            *place = frame.place;
+        match last {
+            None => {
+                *last = Some(frame.time);
+                *place = frame.place;
+            }
+            Some(last) => match last.reach(&frame.time) {
+                Ordering::Less => *place = frame.place,
+                Ordering::Equal => {
+                    if frame.place < *place {
+                        *last = frame.time;
+                        *place = frame.place;
+                    }
+                }
+                Ordering::Greater => {}
+            },
         }
     }
 }

@@ -5,4 +5,4 @@ mod resolutions;
 mod stamps;
 
 pub use crate::resolutions::{Interface, Resolution};
-pub use crate::stamps::{Stamp, Unit};
+pub use crate::stamps::{Stamp, Unit, reach};

@@ -5,6 +5,7 @@ ghost use Rattle.cap_time.specs.Time.{floor_of, remainder_of};
 mod order;
 
 use crate::resolutions::Interface;
+pub use crate::stamps::order::reach;
 
 /// The units in which a pcap file counts the fraction of a second.
 #[derive(Clone, Copy, Debug, PartialEq, Eq)]

@@ -1,6 +1,7 @@
 //! The order of stamps, which is that of their times, and a hash that agrees with it.
-ghost use Rattle.std.specs.Prelude.{◌≡◌, ◌*◌, refl, IsTrue};
-ghost use Rattle.std.specs.Ordering.{as_partial_cmp, nat_cmp};
+ghost use Rattle.std.specs.Prelude.{◌≡◌, ◌*◌, refl, IsTrue, if◌then◌else◌};
+ghost use Rattle.std.specs.Ordering.{as_partial_cmp, nat_cmp, is_lt};
+ghost use Rattle.cap_time.specs.Clock.{later};
 ghost use Rattle.cap_time.specs.Stamp.{numerator_of, denominator_of, stamp_cmp};
 ghost use Rattle.cap_time.specs.StampLaws.{CountAlike};
 
@@ -40,6 +41,42 @@ fn any_cmp(a: Stamp, b: Stamp) -> Ordering
         fraction_cmp(&a, &b)
     } else {
         own.cmp(&others)
+    }
+}
+
+impl Stamp {
+    /// Moves to another time, if that is later, and answers how this one compared with it before.
+    // Of stamps that count alike only the units are written, as they alone differ.
+    #[inline(always)]
+    pub fn reach(&mut self, time: &Stamp) -> Ordering
+        ensures order { result ≡ stamp_cmp self.old time.now }
+        ensures reached { self.new ≡ (if is_lt (stamp_cmp self.old time.now) then time.now else self.old) }
+    {
+        let order = (*self).cmp(time);
+        if order == Ordering::Less {
+            if count_alike(self, time) {
+                self.units = time.units;
+            } else {
+                *self = *time;
+            }
+        }
+        order
+    }
+}
+
+/// Moves a clock to a time, if that is later: a clock is the greatest of some times, and `None` if there is none.
+#[inline(always)]
+pub fn reach(clock: &mut Option<Stamp>, time: &Option<Stamp>)
+    ensures { clock.new ≡ later clock.old time.now }
+{
+    let Some(time) = time else {
+        return;
+    };
+    match clock {
+        None => *clock = Some(*time),
+        Some(clock) => {
+            let _order = clock.reach(time);
+        }
     }
 }
 
