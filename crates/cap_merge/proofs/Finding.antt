@@ -2,8 +2,9 @@
 use Rattle.std.proofs.Common.{◌≡◌, ℕ, zero, suc, ◌<◌, ◌≤◌, Bool, List, length, get_or, cond, [], ◌∷◌, refl, sym, ap, ◌∙◌, subst, arith, Option, Some, None}
 use Rattle.std.specs.Prelude.{IfSome}
 use Rattle.std.proofs.lemmas.List.{length-map}
+use Rattle.cap_merge.specs.declared.lanes.Front.{Front}
 use Rattle.cap_merge.specs.declared.lanes.Lane.{Lane}
-use Rattle.cap_merge.specs.First.{Turn, lane_turn, lane_turns, has_item, sooner_place, first_among, first_place, IsFound}
+use Rattle.cap_merge.specs.First.{Turn, lane_turn, lane_turns, has_item, sooner_place, first_among, first_place, front_at, found_of, passed_of, IsFound}
 
 sooner_within : (ts : List Turn) (o : Option ℕ) (place : ℕ) → IfSome o (λ n. n < place) → IfSome (sooner_place ts o place) (λ n. n < suc place)
 sooner_within ts o place h = grind arith
@@ -43,8 +44,12 @@ unfolding first_among
 among-none ts = refl
 
 -- what was looked for is found
-pub found-here : (ls : List Lane) (o : Option ℕ) → o ≡ first_place (lane_turns ls) → IsFound ls o
-found-here ls o e = grind arith
+pub found-here : (ls : List Lane) (o : Option ℕ) (front : Front) → o ≡ first_place (lane_turns ls) → front ≡ front_at o → IsFound ls (found_of front)
+found-here ls o front e is = grind arith
+
+-- no packet was passed then
+pub none-passed : (o : Option ℕ) (front : Front) → front ≡ front_at o → passed_of front ≡ None
+none-passed o front is = grind arith
 
 -- of one lane
 pub first-alone : (ls : List Lane) (l : Lane) (b : Bool) → length ls ≡ 1 → l ≡ get_or ls 0 l → b ≡ has_item l.next → first_place (lane_turns ls) ≡ cond b (Some 0) None

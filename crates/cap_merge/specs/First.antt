@@ -7,6 +7,8 @@ use Rattle.cap_source.specs.declared.feeds.Head.{Head}
 use Rattle.cap_source.specs.declared.feeds.Head.TheVariants as heads
 use Rattle.cap_merge.specs.declared.lanes.Coming.{Coming}
 use Rattle.cap_merge.specs.declared.lanes.Coming.TheVariants.{Packet, Refused, End}
+use Rattle.cap_merge.specs.declared.lanes.Front.{Front}
+use Rattle.cap_merge.specs.declared.lanes.Front.TheVariants as fronts
 use Rattle.cap_merge.specs.declared.lanes.Lane.{Lane}
 use Rattle.cap_time.specs.Clock.{clock_cmp}
 
@@ -74,6 +76,23 @@ first_among turns (suc count) = sooner_place turns (first_among turns count) cou
 -- the place of the first of all
 abbrev pub first_place : List Turn → Option ℕ
 first_place turns = first_among turns (length turns)
+
+-- what is known of the front, by the place whose item comes first
+abbrev pub front_at : Option ℕ → Front
+front_at None = fronts.Unknown
+front_at (Some place) = fronts.At place
+
+-- the place whose item comes first, if that is known
+abbrev pub found_of : Front → Option ℕ
+found_of fronts.Unknown = None
+found_of (fronts.At place) = Some place
+found_of (fronts.Passed place) = None
+
+-- the place where a packet was passed, if one was
+abbrev pub passed_of : Front → Option ℕ
+passed_of fronts.Unknown = None
+passed_of (fronts.At place) = None
+passed_of (fronts.Passed place) = Some place
 
 -- The place that is known, if there is one, is that of the first.
 abbrev pub IsFound : List Lane → Option ℕ → Type 0

@@ -30,6 +30,54 @@ pub struct Lane {
     pub(crate) next: Option<Coming>,
 }
 
+/// Which feed's item comes first, as far as that is known.
+#[derive(Clone, Copy)]
+pub enum Front {
+    /// It wasn't looked for, or none has an item.
+    Unknown,
+    /// The item of the feed at that place comes first.
+    At(usize),
+    /// A packet of the feed at that place was passed: only there what comes next isn't known.
+    Passed(usize),
+}
+
+impl Front {
+    ghost use Rattle.cap_merge.specs.First.{front_at, found_of, passed_of};
+
+    /// That the item at that place comes first, if there is one.
+    #[inline(always)]
+    pub(crate) fn at(first: Option<usize>) -> Front
+        ensures { result ≡ front_at first }
+    {
+        match first {
+            Some(place) => Front::At(place),
+            None => Front::Unknown,
+        }
+    }
+
+    /// The place whose item comes first, if that is known.
+    #[inline(always)]
+    pub(crate) fn found(self) -> Option<usize>
+        ensures { result ≡ found_of self }
+    {
+        match self {
+            Front::At(place) => Some(place),
+            _ => None,
+        }
+    }
+
+    /// The place where a packet was passed, if one was.
+    #[inline(always)]
+    pub(crate) fn passed(self) -> Option<usize>
+        ensures { result ≡ passed_of self }
+    {
+        match self {
+            Front::Passed(place) => Some(place),
+            _ => None,
+        }
+    }
+}
+
 /// That many lanes of which nothing is known.
 pub(crate) fn new_lanes(count: usize) -> ArrayVec<Lane, 32>
     requires { count ≤ 32 }

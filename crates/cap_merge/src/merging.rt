@@ -9,12 +9,13 @@ ghost use Rattle.cap_source.specs.declared.feeds.Head.{Head};
 ghost use Rattle.cap_source.specs.Feed.{GivesHead, Keeps, KeepsItems, FindsPacket, FindsItem, Passes, IsPacket, HasFile, IsFeed};
 ghost use Rattle.cap_merge.specs.Run.{opened, run};
 ghost use Rattle.cap_merge.specs.Parts.{item_time, is_refusal, parts, IsNumbered, Agrees, HasReached, AreBounded, feed_of, new_parts, clock_of, run_of, OthersKnown, ClocksFrom, MovesClocks, KeepsRun, ShowsRun, BeginsAt, turns};
-ghost use Rattle.cap_merge.specs.First.{coming_of, has_next, first_place, IsFound, IsFound-prop};
+ghost use Rattle.cap_merge.specs.First.{coming_of, has_next, first_place, found_of, passed_of, IsFound, IsFound-prop};
 ghost use Rattle.cap_merge.specs.Merge.{AsksAll, LooksAll};
 ghost use Rattle.cap_merge.specs.PartsProps.{IsNumbered-prop, Agrees-prop, HasReached-prop, AreBounded-prop, OthersKnown-prop};
 
 use crate::lanes::{
-    Coming, Lane, ask_all, clock_at, coming_at, first_lane, found, greater, new_lanes, pass_first,
+    Coming, Front, Lane, ask_all, clock_at, coming_at, first_lane, found, greater, new_lanes,
+    pass_first,
 };
 use arrayvec::ArrayVec;
 use cap_bytes::Fault;
@@ -27,10 +28,7 @@ use cap_time::Stamp;
 pub struct Merged<F: PacketFeed> {
     feeds: Vec<F>,
     lanes: ArrayVec<Lane, 32>,
-    // the place of the lane whose item comes first, once it was looked for
-    first: Option<usize>,
-    // the place where a packet was passed, until the next is asked for: only there what comes next isn't known
-    passed: Option<usize>,
+    front: Front,
     ghost alike: { length lanes.items ≡ length feeds.items },
     ghost some: { 1 ≤ length feeds.items },
     ghost most: { length feeds.items ≤ 32 },
@@ -38,8 +36,8 @@ pub struct Merged<F: PacketFeed> {
     ghost agrees: { Agrees lanes.items (map F.feed feeds.items) } by { Agrees-prop lanes.items (map F.feed feeds.items) },
     ghost reached: { HasReached (parts lanes.items (map F.feed feeds.items)) } by { HasReached-prop (parts lanes.items (map F.feed feeds.items)) },
     ghost bounded: { AreBounded (parts lanes.items (map F.feed feeds.items)) } by { AreBounded-prop (parts lanes.items (map F.feed feeds.items)) },
-    ghost found: { IsFound lanes.items first } by { IsFound-prop lanes.items first },
-    ghost others: { OthersKnown (parts lanes.items (map F.feed feeds.items)) passed } by { OthersKnown-prop (parts lanes.items (map F.feed feeds.items)) passed },
+    ghost found: { IsFound lanes.items (found_of front) } by { IsFound-prop lanes.items (found_of front) },
+    ghost others: { OthersKnown (parts lanes.items (map F.feed feeds.items)) (passed_of front) } by { OthersKnown-prop (parts lanes.items (map F.feed feeds.items)) (passed_of front) },
 }
 
 impl<F: PacketFeed> Merged<F> {
@@ -58,8 +56,7 @@ impl<F: PacketFeed> Merged<F> {
         Merged {
             feeds,
             lanes,
-            first: None,
-            passed: None,
+            front: Front::Unknown,
         }
     }
 
@@ -96,7 +93,7 @@ impl<F: PacketFeed> Merged<F> {
         ensures place { result ≡ first_place (turns (parts_of self.now)) }
         ensures within { IfSome result (λ n. n < length self.now.feeds.items) }
     {
-        found(self.lanes.as_slice(), self.first)
+        found(self.lanes.as_slice(), self.front.found())
     }
 
     // Asks each feed what comes next, unless that is known, and finds whose item comes first.
@@ -105,12 +102,12 @@ impl<F: PacketFeed> Merged<F> {
         ensures asks { AsksAll (parts_of self.old) result (parts_of self.new) }
         ensures next { IfOk result (λ coming. coming_of (feed_of (parts_of self.new)).known ≡ Some coming) }
     {
-        let passed = self.passed;
-        self.first = None;
-        self.passed = None;
+        let passed = self.front.passed();
+        self.front = Front::Unknown;
         ask_all(&mut self.lanes, &mut self.feeds, passed)?;
-        self.first = first_lane(self.lanes.as_slice());
-        Ok(coming_at(self.lanes.as_slice(), self.first))
+        let first = first_lane(self.lanes.as_slice());
+        self.front = Front::at(first);
+        Ok(coming_at(self.lanes.as_slice(), first))
     }
 }
 
@@ -190,8 +187,7 @@ impl<F: PacketFeed> PacketFeed for Merged<F> {
     {
         match self.first_place() {
             Some(place) => {
-                self.first = None;
-                self.passed = Some(place);
+                self.front = Front::Passed(place);
                 pass_first(&mut self.lanes, &mut self.feeds, place);
             }
             None => {}

@@ -1,10 +1,10 @@
-use Rattle.std.proofs.Common.{refl, sym, ◌∙◌, map}
+use Rattle.std.proofs.Common.{refl, sym, ap, ◌∙◌, map}
 use Rattle.std.proofs.lemmas.List.{length-map}
-use Rattle.cap_merge.specs.Parts.{parts, feed_of}
+use Rattle.cap_merge.specs.Parts.{parts, feed_of, others_known}
 use Rattle.cap_merge.specs.Sound.{each-reached}
 use Rattle.cap_merge.proofs.Bounds.{asked-bounded}
 use Rattle.cap_merge.proofs.Calls.{asked-numbered, asked-sound-each, asked-known}
-use Rattle.cap_merge.proofs.Finding.{found-here}
+use Rattle.cap_merge.proofs.Finding.{found-here, none-passed}
 use Rattle.cap_merge.proofs.merging.Merged.look.Goals as goal
 
 pub invariant_of-self : goal.invariant_of-self
@@ -39,8 +39,8 @@ invariant_of-self-2 g c =
       agrees = c.ask_all.ensures.agrees;
       reached = each-reached qs (asked-sound-each g.F.PacketFeed.feed law m.lanes.items c.ask_all.new.lanes.items m.feeds.items c.ask_all.new.feeds.items c.ask_all.result asks m.reached);
       bounded = asked-bounded (parts m.lanes.items (map g.F.PacketFeed.feed m.feeds.items)) qs c.ask_all.result asks m.bounded;
-      found = found-here c.ask_all.new.lanes.items c.first_lane-self.result (rw c.as_slice.ensures.value at c.first_lane-self.ensures.place);
-      others = refl;
+      found = found-here c.ask_all.new.lanes.items c.first_lane-first.result c.at-self.result (rw c.as_slice.ensures.value at c.first_lane-first.ensures.place) c.at-self.ensures;
+      others = ap (others_known qs) (none-passed c.first_lane-first.result c.at-self.result c.at-self.ensures);
     }
 
 pub coming_at-requires-clause-known : goal.coming_at-requires-clause-known
