@@ -11,4 +11,5 @@ pub mod Options
 pub mod Pcaps
 pub mod Resolutions
 pub mod Saying
+pub mod Showing
 pub mod Walking

@@ -1,5 +1,5 @@
 -- What a list of packets that comes one by one is at one moment, and what its calls do.
-use Rattle.std.specs.Prelude.{◌≡◌, ◌==◌, ◌*◌, ◌^◌, ◌≤◌, ◌<◌, ℕ, List, [], ◌∷◌, length, drop, Bool, true, false, IsTrue, Option, Some, None, IfSome, Result, Ok, Err, ⊤}
+use Rattle.std.specs.Prelude.{◌≡◌, ◌==◌, ◌*◌, ◌^◌, ◌≤◌, ◌<◌, ℕ, List, [], ◌∷◌, length, drop, Bool, true, false, IsTrue, Option, Some, None, IfSome, Result, Ok, Err, ⊤, ◌⊎◌}
 use Rattle.std.specs.List.{list_any}
 use Rattle.cap_bytes.specs.declared.faults.Fault.{Fault}
 use Rattle.cap_bytes.specs.declared.faults.Fault.TheVariants.{Refused, Read, Write, Memory}
@@ -133,6 +133,11 @@ FindsItem old (Err (Refused refusal)) new = SameItems old new
 FindsItem old (Err (Read file offset)) new = ⊤
 FindsItem old (Err Write) new = ⊥
 FindsItem old (Err Memory) new = SameItems old new
+
+-- what `shows_packet` answers: whether a packet comes next, and is known. If not, nothing is said of what comes next, but it may be known now.
+abbrev pub ShowsPacket : Feed → Bool → Feed → Type 0
+ShowsPacket old true new = (meta : Meta) × Knows old (heads.Packet meta) new
+ShowsPacket old false new = (new ≡ old) ⊎ ((head : Head) × Knows old head new)
 
 -- The packet that came next is dropped: the packets of its file that are to come begin after its offset.
 pub record Passes (old new : Feed) : Type 0 where

@@ -1,5 +1,5 @@
 -- What a file's reader still gives, of either format, and what is learned of what comes next.
-use Rattle.std.specs.Prelude.{◌≡◌, ◌+◌, ◌-◌, ◌^◌, ◌≤◌, ◌<◌, ℕ, List, [], ◌∷◌, length, take, drop, Bool, true, false, not, IsTrue, Option, Some, None, IfSome, IfNone, Result, Ok, Err, ⊤, is_some}
+use Rattle.std.specs.Prelude.{◌≡◌, ◌+◌, ◌-◌, ◌^◌, ◌≤◌, ◌<◌, ℕ, List, [], ◌∷◌, length, take, drop, Bool, true, false, not, IsTrue, Option, Some, None, IfSome, IfNone, Result, Ok, Err, ⊤, ◌⊎◌, is_some}
 use Rattle.cap_bytes.specs.Reader.{State}
 use Rattle.cap_bytes.specs.Window.{State as WindowState}
 use Rattle.cap_bytes.specs.Window as windows
@@ -17,6 +17,7 @@ use Rattle.cap_blocks.specs.Reader as blocks
 use Rattle.cap_source.specs.Feed.{Feed, Item, packet, refused, Knows, GivesHead, SameItems}
 use Rattle.cap_blocks.specs.declared.blocks.Block.{Block}
 use Rattle.cap_source.specs.declared.contents.Content.{Content}
+use Rattle.cap_source.specs.declared.packets.Meta.{Meta}
 use Rattle.cap_source.specs.declared.contents.Content.TheVariants as contents
 use Rattle.cap_source.specs.Items.{Progress, meta_in, ending_with, items_in, ending_in, first_in, interface_of, pcap_items, pcap_ending, unless_refused, items_from, ending_from, first_from}
 use Rattle.cap_source.specs.Reached.{counted}
@@ -255,6 +256,13 @@ abbrev pub offset_at : Option ℕ → ℕ → ℕ
 offset_at None offset = offset
 offset_at (Some first) offset = first
 
+-- a packet is known to come next
+abbrev pub is_packet : Option Next → Bool
+is_packet None = false
+is_packet (Some (nexts.Packet meta place)) = true
+is_packet (Some (nexts.Refused refusal ending)) = false
+is_packet (Some (nexts.End ending)) = false
+
 -- the file, of which that comes next if it is known, as a feed
 abbrev pub feed_of : FileState → Option Next → Feed
 feed_of state next =
@@ -365,6 +373,11 @@ LearnsNext old known (Err (Refused refusal)) new after = ⊥
 LearnsNext old known (Err (Read file offset)) new after = (known ≡ None) × (after ≡ None) × Fails old file offset new
 LearnsNext old known (Err Write) new after = ⊥
 LearnsNext old known (Err Memory) new after = (known ≡ None) × (after ≡ None) × Waits old new × (old.broken ≡ None)
+
+-- what asking whether a packet is shown answers
+abbrev pub ShowsNext : FileState → Option Next → Bool → FileState → Option Next → Type 0
+ShowsNext old known true new after = (meta : Meta) × (place : ℕ) × (after ≡ Some (nexts.Packet meta place)) × LearnsOr old known (nexts.Packet meta place) new
+ShowsNext old known false new after = ((new ≡ old) × (after ≡ known)) ⊎ ((next : Next) × (after ≡ Some next) × LearnsOr old known next new)
 
 -- what asking for the first interface answers, of the file as a feed
 abbrev pub GivesFirst : Feed → Option Interface → Result (Option Interface) Fault → Feed → Type 0

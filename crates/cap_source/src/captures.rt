@@ -8,7 +8,7 @@ ghost use Rattle.cap_source.specs.Reached.{progress_of};
 ghost use Rattle.cap_source.specs.Readers.{state_of, is_there, reader_room};
 
 use crate::feeds::{Ending, FeedHeld, Head, PacketFeed};
-use crate::learning::learn;
+use crate::learning::{learn, shows};
 use crate::packets::Meta;
 use crate::reached::{Reached, nothing_reached};
 use crate::readers::{Next, Reader, ending_of, failed_of, held_of, noted_of, number_of, part_of};
@@ -104,6 +104,11 @@ impl<R: Source> PacketFeed for Capture<R> {
             Some(Next::End(_)) => Ok(false),
             None => unreachable!(),
         }
+    }
+
+    #[inline(always)]
+    fn shows_packet(&mut self) -> bool {
+        shows(&mut self.reader, &self.reached, &mut self.next)
     }
 
     #[inline(always)]

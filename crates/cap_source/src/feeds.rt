@@ -1,6 +1,6 @@
 //! A list of packets that comes one by one, from wherever it comes.
 ghost use Rattle.std.specs.Prelude.{◌≡◌, IsTrue, Some};
-ghost use Rattle.cap_source.specs.Feed.{Feed, GivesHead, Keeps, KeepsItems, FindsPacket, FindsItem, Passes, IsPacket, HasFile, IsFeed};
+ghost use Rattle.cap_source.specs.Feed.{Feed, GivesHead, Keeps, KeepsItems, SameItems, FindsPacket, ShowsPacket, FindsItem, Passes, IsPacket, HasFile, IsFeed};
 
 use crate::packets::{Format, Meta};
 use cap_bytes::{Fault, Refusal};
@@ -61,6 +61,13 @@ pub trait PacketFeed: Drop {
         ensures keeps { Keeps (feed self.old) (feed self.new) }
         ensures items { IsTrue (feed self.old).told
             → FindsItem (feed self.old) result (feed self.new) };
+
+    /// Whether a packet comes next that is known already, or that is at hand without a read: it is known then. `false` says
+    /// nothing of what comes next. It can't fail, so whoever takes many packets asks it first.
+    fn shows_packet(&mut self) -> bool
+        ensures answer { ShowsPacket (feed self.old) result (feed self.new) }
+        ensures keeps { Keeps (feed self.old) (feed self.new) }
+        ensures items { IsTrue (feed self.old).told → SameItems (feed self.old) (feed self.new) };
 
     /// The packet that comes next, without its bytes.
     fn packet(&self) -> &Meta

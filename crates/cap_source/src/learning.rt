@@ -2,7 +2,7 @@
 ghost use Rattle.std.specs.Prelude.{◌≡◌, ◌≤◌, ◌^◌, false, IsTrue, IfOk, None};
 ghost use Rattle.cap_bytes.specs.Window as windows;
 ghost use Rattle.cap_source.specs.Items.{Progress};
-ghost use Rattle.cap_source.specs.FileState.{IsSound, LearnsNext, Answers, TakesShown, FileKeeps};
+ghost use Rattle.cap_source.specs.FileState.{IsSound, LearnsNext, ShowsNext, Answers, TakesShown, FileKeeps, is_packet};
 ghost use Rattle.cap_source.specs.Reached.{progress_of, counted};
 ghost use Rattle.cap_source.specs.Readers.{state_of, is_there, IsReady, is_stopped, Opens, LooksAtWindow, reader_by, reader_room};
 ghost use Rattle.cap_source.specs.declared.reached.Reached.{Reached};
@@ -117,6 +117,34 @@ pub fn next_of<R: Source>(
         Reader::Pcap(reader) => next_of_pcap(reader, known),
         Reader::Pcapng(reader) => next_of_blocks(reader, reached, known),
         _ => unreachable!(),
+    }
+}
+
+// Whether a packet is known to come next.
+#[inline(always)]
+fn is_packet(known: &Option<Next>) -> bool
+    ensures { result ≡ is_packet known.now }
+{
+    matches!(known, Some(Next::Packet(_, _)))
+}
+
+/// Puts the packet that comes next of a file into `known`, unless that is known, if the window shows it already. Answers whether
+/// a packet is known then.
+#[inline(always)]
+pub fn shows<R: Source>(reader: &mut Reader<R>, reached: &Reached, known: &mut Option<Next>) -> bool
+    requires there { IsTrue (is_there reader.old) }
+    requires sound { IsSound (state_of reader.old (progress_of reached.now)) known.old }
+    requires room { IsTrue (reader_room reader.old reached.now) }
+    ensures there { IsTrue (is_there reader.new) }
+    ensures sound { IsSound (state_of reader.new (progress_of reached.now)) known.new }
+    ensures answer { ShowsNext (state_of reader.old (progress_of reached.now)) known.old result
+        (state_of reader.new (progress_of reached.now)) known.new }
+    ensures keeps { FileKeeps (state_of reader.old (progress_of reached.now)) (state_of reader.new (progress_of reached.now)) }
+    ensures room { IsTrue (reader_room reader.new reached.now) }
+{
+    match known {
+        Some(_) => is_packet(known),
+        None => take_shown(reader, reached, known) && is_packet(known),
     }
 }
 

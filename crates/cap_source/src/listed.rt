@@ -93,6 +93,19 @@ impl PacketFeed for Listed {
         }
     }
 
+    fn shows_packet(&mut self) -> bool {
+        let head = match self.next {
+            Some(head) => head,
+            None => self.head_here(),
+        };
+        self.next = Some(head);
+        match head {
+            Head::Packet(_) => true,
+            Head::Refused(_) => false,
+            Head::End => false,
+        }
+    }
+
     fn packet(&self) -> &Meta {
         match &self.next {
             Some(Head::Packet(meta)) => meta,
