@@ -107,10 +107,11 @@ fn stop(lane: &mut Lane, fault: Fault) -> Result<(), Fault>
     }
 }
 
-// Asks a feed what comes next, which isn't known.
+// Asks a feed what comes next, which isn't known, and may be a packet that isn't at hand, a refusal or the end. It isn't
+// inlined, so that what it answers takes no room where packets are at hand.
 #[tactic(auto, using(crate::proofs::Bounds::later_bounded))]
-#[inline(always)]
-fn learn<F: PacketFeed>(lane: &mut Lane, feed: &mut F) -> Result<(), Fault>
+#[inline(never)]
+fn learn_slowly<F: PacketFeed>(lane: &mut Lane, feed: &mut F) -> Result<(), Fault>
     requires { lane.old.next ≡ None }
     ensures asks { Asks (part lane.old (F.feed feed.old)) result (part lane.new (F.feed feed.new)) }
     ensures agrees { Matches lane.new (F.feed feed.new) }
@@ -127,6 +128,22 @@ fn learn<F: PacketFeed>(lane: &mut Lane, feed: &mut F) -> Result<(), Fault>
         }
         Err(fault) => stop(lane, fault),
     }
+}
+
+// Asks a feed what comes next, which isn't known.
+#[tactic(auto, using(crate::proofs::Bounds::later_bounded))]
+#[inline(always)]
+fn learn<F: PacketFeed>(lane: &mut Lane, feed: &mut F) -> Result<(), Fault>
+    requires { lane.old.next ≡ None }
+    ensures asks { Asks (part lane.old (F.feed feed.old)) result (part lane.new (F.feed feed.new)) }
+    ensures agrees { Matches lane.new (F.feed feed.new) }
+{
+    if feed.shows_packet() {
+        lane.next = Some(Coming::Packet);
+        reach(&mut lane.clock, &feed.packet().time());
+        return Ok(());
+    }
+    learn_slowly(lane, feed)
 }
 
 // Asks a feed what comes next, unless that is known.

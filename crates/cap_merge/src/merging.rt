@@ -160,6 +160,11 @@ impl<F: PacketFeed> PacketFeed for Merged<F> {
         }
     }
 
+    // It asks its feeds what they have at hand, and has nothing at hand itself before it is asked.
+    fn shows_packet(&mut self) -> bool {
+        false
+    }
+
     #[inline(always)]
     fn packet(&self) -> &Meta {
         match self.first_place() {
