@@ -15,7 +15,7 @@ const READ_AHEAD: usize = 65_536;
 const LEAST: usize = 4_096;
 
 /// How reading up to a number of bytes ended.
-#[derive(Clone, Copy, Debug, PartialEq, Eq)]
+#[derive(Clone, Copy)]
 pub enum Filling {
     /// They are there.
     Whole,
@@ -129,7 +129,7 @@ pub fn read_on<R: Source>(
 }
 
 /// How a number of bytes was dropped from a reader by way of a buffer.
-#[derive(Clone, Copy, Debug, PartialEq, Eq)]
+#[derive(Clone, Copy)]
 pub struct Discarded {
     /// How many of them are still to be dropped.
     pub left: u64,

@@ -52,9 +52,10 @@ fn count_file<R: Source>(alloc: Global, source: R, file: u32, tail: Tail) -> Res
 {
     let mut capture = Capture::new(alloc, source, file, tail);
     let counts = count_packets(&mut capture)?;
+    let ending = capture.ending(file);
     Ok(Counted {
         counts,
-        ending: Some(capture.ending(file)),
+        ending: Some(ending),
     })
 }
 
@@ -70,9 +71,7 @@ fn count_files<R: Source>(alloc: Global, sources: Vec<R>, tail: Tail) -> Result<
     let mut file = 1u32;
     for source in sources {
         let each = count_file(alloc, source, file, tail)?;
-        if counted.push(each).is_err() {
-            return Err(Fault::Memory);
-        }
+        counted.push(each)?;
         file += 1;
     }
     Ok(counted)
@@ -103,7 +102,8 @@ pub fn put_files<W: Sink>(writer: &mut W, counted: &[Counted]) -> Result<(), Fau
     ensures fault { IsOkUnless result Fault.Write }
 {
     let line = files_line(counted.len() as u32);
-    put_all(writer, line.as_slice())?;
+    let text = line.as_slice();
+    put_all(writer, text)?;
     put_each(writer, counted)
 }
 

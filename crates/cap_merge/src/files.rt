@@ -24,9 +24,7 @@ fn captures_of<R: Source>(
     let mut file = 1u32;
     for source in sources {
         let capture = Capture::new(alloc, source, file, tail);
-        if captures.push(capture).is_err() {
-            return Err(Fault::Memory);
-        }
+        captures.push(capture)?;
         file += 1;
     }
     Ok(captures)
@@ -46,5 +44,6 @@ pub fn merge_files<R: Source>(
         (map (reader_of R.tells_coming R.can_fail R.coming) sources.items) (parts_of merged)) }
     ensures memory { IsOkUnless result Fault.Memory }
 {
-    Ok(Merged::new(captures_of(alloc, sources, tail)?))
+    let captures = captures_of(alloc, sources, tail)?;
+    Ok(Merged::new(captures))
 }

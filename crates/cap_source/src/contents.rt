@@ -14,7 +14,7 @@ const TIMED_HEAD: u32 = 20;
 const SIMPLE_HEAD: u32 = 4;
 
 /// What a block says of a packet.
-#[derive(Clone, Copy, Debug, PartialEq, Eq)]
+#[derive(Clone, Copy)]
 pub struct Packet {
     /// Its interface.
     pub interface: Interface,
@@ -31,7 +31,7 @@ pub struct Packet {
 }
 
 /// What a block says.
-#[derive(Clone, Copy, Debug, PartialEq, Eq)]
+#[derive(Clone, Copy)]
 pub enum Content {
     /// A section begins.
     Section,

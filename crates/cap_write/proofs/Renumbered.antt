@@ -1,22 +1,23 @@
 -- The packets of a written file, numbered again.
-use Rattle.std.proofs.lemmas.Grind.{common_steps}
-use Rattle.std.proofs.Common.{rules, ◌≡◌, ◌==◌, ◌&&◌, ℕ, zero, suc, ◌+◌, ◌≤◌, ◌<◌, map, min, nat_le, nat_lt, not, List, [], ◌∷◌, ◌++◌, length, Bool, true, false, Some, None, refl, sym, ap, ◌∙◌, arith, length-append, if◌then◌else◌}
+use Rattle.std.proofs.Common.{rules, subst, Option, ◌≡◌, ◌==◌, ◌&&◌, ℕ, zero, suc, ◌+◌, ◌≤◌, ◌<◌, map, min, nat_le, nat_lt, not, List, [], ◌∷◌, ◌++◌, length, Bool, true, false, Some, None, refl, sym, ap, ◌∙◌, arith, length-append, if◌then◌else◌}
 use Rattle.std.proofs.lemmas.Bool.{eq-eqb, ne_eqb, false≢true, lt-ltb, ltb-true, ltb-false}
 use Rattle.std.proofs.lemmas.Bool.Decides.{nat_tests}
 use Rattle.std.proofs.lemmas.List.Folds.{position_or_len_push}
 use Rattle.std.specs.List.{list_any, position_or_len}
 use Rattle.indexmap.specs.IndexSet.{insert_key}
+use Rattle.cap_bytes.specs.declared.faults.Rule.{Rule}
 use Rattle.cap_bytes.specs.declared.faults.Rule.TheVariants.{InterfaceLimit}
 use Rattle.cap_bytes.specs.declared.numbers.Order.{Order}
-use Rattle.cap_source.specs.Feed.{Item, packet}
+use Rattle.cap_source.specs.Feed.{Item, packet, refused}
 use Rattle.cap_source.specs.Items.{file_items}
+use Rattle.cap_source.specs.declared.packets.Meta.{Meta}
 use Rattle.cap_write.proofs.Feeding.{count_after-is}
 use Rattle.cap_write.proofs.Files.{merged-again}
 use Rattle.cap_write.proofs.MergedAgain.{room_left, IsNumbered-given, AllFit-given, all_described-given}
 use Rattle.cap_write.proofs.Places.{position_or_len-none, position_or_len-some}
 use Rattle.cap_write.specs.Laws.{read_items, meta_again, instances, numbers, measured, MergedAgain}
 use Rattle.cap_source.specs.Feed.{refusal_of}
-use Rattle.cap_write.specs.Numbering.{Origin, is_origin, with_origin, write_fault, Numbered, numbered_of, numbered_or, numbered, refusal_or, refusal_in}
+use Rattle.cap_write.specs.Numbering.{Origin, origin_of, is_origin, is_used, number_of, with_origin, write_fault, Numbered, numbered_of, numbered_or, numbered, refusal_or, refusal_in}
 use Rattle.cap_write.specs.Texts.{interface_part, packet_part, count_after, merged_bytes}
 
 -- the origins of that many interfaces of one file
@@ -132,11 +133,34 @@ numbers-measured : (ns : List Numbered) → numbers (map measured ns) ≡ number
 numbers-measured [] = refl
 numbers-measured (n ∷ rest) = ap (λ l. n.number ∷ l) (numbers-measured rest)
 
+-- a packet's number is one that is used, or the next one, and then there is room for it
+number-within : (origins : List Origin) (meta : Meta) (used : Bool) → is_used origins meta ≡ used → number_of origins meta ≤ length origins
+number-within origins meta true is = omega (arith, position_or_len-some (is_origin (origin_of meta)) origins is)
+number-within origins meta false is = omega (arith, position_or_len-none (is_origin (origin_of meta)) origins is)
+
+number-room : (origins : List Origin) (meta : Meta) (used : Bool) → is_used origins meta ≡ used → write_fault origins meta ≡ None
+    → (number_of origins meta == length origins) ≡ true → length origins < 1024
+number-room origins meta true is none next =
+    let below = position_or_len-some (is_origin (origin_of meta)) origins is in
+    absurd (false≢true (sym (ne_eqb (number_of origins meta) (length origins) (λ e. absurd (omega (arith, below, e)))) ∙ next))
+number-room origins meta false is none next = room_left origins meta none is
+
 -- what is numbered is in order
 pub InOrder-numbered : (origins : List Origin) (items : List Item) → InOrder (length origins) (numbered origins items)
 unfolding numbered
-InOrder-numbered origins (packet meta frame ∷ items) = grind (arith, common_steps, InOrder-numbered (with_origin origins meta) items, position_or_len-some, position_or_len-none, false≢true, ne_eqb, room_left, count_after-is)
-InOrder-numbered origins items = cc
+InOrder-numbered origins [] = tt
+InOrder-numbered origins (refused refusal ∷ items) = tt
+InOrder-numbered origins (packet meta frame ∷ items) = by (write_fault origins meta) refl (InOrder-numbered (with_origin origins meta) items)
+  where
+    by : (fault : Option Rule) → write_fault origins meta ≡ fault
+        → InOrder (length (with_origin origins meta)) (numbered (with_origin origins meta) items)
+        → InOrder (length origins) (numbered_or fault (numbered_of origins meta frame) (numbered (with_origin origins meta) items))
+    by (Some rule) is behind = tt
+    by None is behind = (
+      number-within origins meta (is_used origins meta) refl,
+      number-room origins meta (is_used origins meta) refl is,
+      subst (λ count. InOrder count (numbered (with_origin origins meta) items)) (sym (count_after-is origins meta frame)) behind,
+    )
 
 -- What is written of a list is read again as what was numbered of it.
 pub merged_again-law : MergedAgain

@@ -12,7 +12,7 @@ returns-clause-counts g c = λ t.
       ap refusal_of (sym e.items) ∙ a.0,
       λ i. record {
         counts = (a.1 ∙ ap (λ l. counted (packets_of l)) e.items) i;
-        ending = Some ((c.ending.ensures.ending ∙ a.2 c.args.file ∙ e.endings c.args.file) i);
+        ending = Some ((c.ending-ending.ensures.ending ∙ a.2 c.args.file ∙ e.endings c.args.file) i);
       },
     )
 

@@ -1,4 +1,4 @@
-use Rattle.std.proofs.Common.{◌≡◌, ◌++◌, [], ◌∷◌, length, Ok, Err, sym, ap, ◌∙◌, arith, rules, length-append, subst, ℕ}
+use Rattle.std.proofs.Common.{◌≡◌, ◌+◌, ◌<◌, ◌≤◌, ◌^◌, ◌++◌, [], ◌∷◌, length, Ok, Err, sym, ap, ◌∙◌, arith, rules, length-append, subst, ℕ}
 use Rattle.std.proofs.lemmas.Iterator.Adapters.{YieldsList-from_vec}
 use Rattle.std.proofs.lemmas.Iterator.Consumers.{YieldsList-turn}
 use Rattle.std.proofs.lemmas.Result.{err_from_is_err_and}
@@ -10,6 +10,17 @@ use Rattle.cap_counts.specs.Reading.{CountsFile}
 use Rattle.cap_counts.specs.declared.files.Counted.{Counted}
 use Rattle.cap_counts.proofs.FileByFile.{all-at, read-more, read-fault, fails}
 use Rattle.cap_counts.proofs.files.count_files.Goals as goal
+
+in_range : (file n m l : ℕ) → file ≡ 1 + n → n < m → l ≡ m → l ≤ 32 → file + 1 < 2 ^ 32
+in_range file n m l a b d e = omega arith
+
+pub overflow_add-file : goal.overflow_add-file
+overflow_add-file g c =
+    let it = c.into_iter-source-iterator in
+    let given = it.ensures.into_iter_gives in
+    let turn = YieldsList-turn (YieldsList-from_vec {s = it.result} c.args.sources.items given.0 (given.1 ∙ c.args.sources.ok.0))
+    c.loop-source.yielded c.loop-source.source-iterator c.loop-source.yielded_by c.next.result c.next.new.self c.in-Some.source c.in-Some.is c.next.ensures.steps in
+    record { fits = in_range c.loop-source.file _ _ _ c.loop-source.invariant.number turn.0 c.args.sources.ok.0 c.requires.most }
 
 pub loop-source-init : goal.loop-source-init
 loop-source-init g c = grind arith

@@ -1,11 +1,14 @@
-use Rattle.std.proofs.Common.{◌≡◌, ◌+◌, ◌++◌, [], ◌∷◌, length, map, sym, ◌∙◌, subst, arith, rules, map-id, length-append}
+use Rattle.std.proofs.Common.{◌≡◌, ◌+◌, ◌++◌, [], ◌∷◌, ◌<◌, ◌≤◌, ◌^◌, ℕ, length, map, sym, ◌∙◌, subst, arith, rules, map-id, length-append}
 use Rattle.std.proofs.lemmas.List.{map-append, length-map}
 use Rattle.std.proofs.lemmas.Iterator.Adapters.{YieldsList-from_vec}
-use Rattle.std.proofs.lemmas.Iterator.Consumers.{YieldsList-end}
+use Rattle.std.proofs.lemmas.Iterator.Consumers.{YieldsList-end, YieldsList-turn}
 use Rattle.cap_source.specs.Captures.{feed_of}
 use Rattle.cap_merge.proofs.Unread.{AreUnread-more}
 use Rattle.cap_merge.specs.Readers.{IsUnread, AreUnread, reader_of}
 use Rattle.cap_merge.proofs.files.captures_of.Goals as goal
+
+in_range : (file n m l : ℕ) → file ≡ 1 + n → n < m → l ≡ m → l ≤ 32 → file + 1 < 2 ^ 32
+in_range file n m l a b d e = omega arith
 
 pub loop-source-preserved : goal.loop-source-preserved
 loop-source-preserved g c =
@@ -36,3 +39,11 @@ returns-clause-unread g c =
     c.loop-source.yielded c.loop-source.source-iterator c.loop-source.yielded_by c.next.result c.next.new.self c.in-None.is c.next.ensures.steps in
     let all : c.loop-source.yielded ≡ c.args.sources.items = sym (map-id c.loop-source.yielded) ∙ end.0 in
     subst (λ l. AreUnread c.args.tail 1 (map reader l) (map feed_of c.loop-source.captures.items)) all c.loop-source.invariant.unread
+
+pub overflow_add-file : goal.overflow_add-file
+overflow_add-file g c =
+    let it = c.into_iter-source-iterator in
+    let given = it.ensures.into_iter_gives in
+    let turn = YieldsList-turn (YieldsList-from_vec {s = it.result} c.args.sources.items given.0 (given.1 ∙ c.args.sources.ok.0))
+    c.loop-source.yielded c.loop-source.source-iterator c.loop-source.yielded_by c.next.result c.next.new.self c.in-Some.source c.in-Some.is c.next.ensures.steps in
+    record { fits = in_range c.loop-source.file _ _ _ c.loop-source.invariant.number turn.0 c.args.sources.ok.0 c.requires.most }

@@ -14,3 +14,21 @@ returns-then-n-here-clause-answer g c =
 
 pub returns-in-Whole-clause-answer : goal.returns-in-Whole-clause-answer
 returns-in-Whole-clause-answer g c = grind (arith, common_steps, dropped_past)
+
+pub returns-in-Ended-clause-answer : goal.returns-in-Ended-clause-answer
+returns-in-Ended-clause-answer g c = grind (arith, common_steps)
+
+pub returns-in-Whole-clause-keeps : goal.returns-in-Whole-clause-keeps
+returns-in-Whole-clause-keeps g c = grind (arith, common_steps)
+
+pub returns-in-Ended-clause-keeps : goal.returns-in-Ended-clause-keeps
+returns-in-Ended-clause-keeps g c = grind (arith, common_steps)
+
+pub returns-in-Failed-clause-keeps : goal.returns-in-Failed-clause-keeps
+returns-in-Failed-clause-keeps g c = grind (arith, common_steps)
+
+pub returns-then-n-here-clause-keeps : goal.returns-then-n-here-clause-keeps
+returns-then-n-here-clause-keeps g c = grind (arith, common_steps)
+
+pub returns-in-Some-clause-keeps : goal.returns-in-Some-clause-keeps
+returns-in-Some-clause-keeps g c = grind (arith, common_steps)
