@@ -1,13 +1,15 @@
 -- From clap's answer to capt's.
-use Rattle.std.proofs.Common.{◌≡◌, ◌⊎◌, List, [], Option, Some, None, Result, Ok, Err, IfOk, IfSome, IsSome, true, refl, sym, subst, inl, inr, arith}
-use Rattle.clap.specs.Words.{App, Text, Row, IsAmong, app_of, fault_of, is_simple, is_simple_and_free, subcommand_of, with_subcommand}
+use Rattle.std.proofs.Common.{◌≡◌, ◌⊎◌, List, [], Option, Some, None, Result, Ok, Err, IfOk, IfSome, IsSome, true, false, refl, sym, subst, inl, inr, arith}
+use Rattle.clap.specs.Words.{AddsArg, App, Rule, Text, Row, IsAmong, app_of, fault_of, is_simple, is_simple_and_free, new_app, subcommand_of, with_rule, with_subcommand}
 use Rattle.clap.proofs.OnLiterals.{clap_on_literals}
 use Rattle.clap.specs.declared.error.kind.ErrorKind.{ErrorKind}
 use Rattle.clap.specs.declared.error.kind.ErrorKind.TheVariants as kind
 use Rattle.std.specs.declared.alloc.AllocError.{AllocError}
 use Rattle.std.proofs.lemmas.Result.{IfOk-weaker}
+use Rattle.clap.specs.declared.builder.arg.Arg.{Arg}
 use Rattle.clap.specs.declared.builder.command.Command.{Command}
-use Rattle.cap_line.specs.Command.{AddsMade, IsCapt, IsConvert, IsJoin, IsMerge, printing_app}
+use Rattle.clap.specs.declared.builder.command.Command.TheViews.{out-Command}
+use Rattle.cap_line.specs.Command.{AddsMade, IsCapt, IsConvert, IsJoin, IsMerge, IsOrderRule, IsWriting, allow_cut_rule, out_rule, printing_app}
 use Rattle.cap_line.specs.CommandLine.{Parses, IsJobOf, IsRefused, fault_by}
 use Rattle.cap_jobs.specs.Jobs.{IsWhole}
 use Rattle.cap_jobs.specs.declared.jobs.Job.{Job}
@@ -75,6 +77,22 @@ Parses-refused words app kind.Format is errs = refused_line words app kind.Forma
 -- nothing is said of an answer that is an error
 pub IfOk-none : {A E : Type 0} (P : A → Type 0) (r : Result A E) (error : E) → r ≡ Err error → IfOk r P
 IfOk-none P r error is = subst (λ s. IfOk s P) (sym is) tt
+
+-- an argument that isn't global adds none that is
+pub AddsArg-local : (old : Command) (arg : Arg) (new : Command) → AddsArg old arg new → (out-Command old).has_globals ≡ false
+    → arg.global ≡ false → (out-Command new).has_globals ≡ false
+AddsArg-local old arg new added old_local local = rw (added.globals, old_local, local)
+
+-- the subcommands that write have `--allow-cut`, `--order` and `-o`
+pub IsWriting-by : (name : Text) (new mid most all : App) (flag order out : Rule) → new ≡ new_app name
+    → flag ≡ allow_cut_rule → mid ≡ with_rule new flag
+    → IsOrderRule order → most ≡ with_rule mid order
+    → out ≡ out_rule → all ≡ with_rule most out → IsWriting name all
+IsWriting-by name new mid most all flag order out new_is flag_is mid_is (orders, orders_are, order_is) most_is out_is all_is = record {
+  orders = orders;
+  orders_are = orders_are;
+  app_is = cc;
+}
 
 -- a command with a subcommand that was made, both known
 AddsMade-is : (made : Result Command AllocError) (old new before sub : App) → old ≡ before → IfOk made (λ c. app_of c ≡ sub)
