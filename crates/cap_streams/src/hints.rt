@@ -2,7 +2,7 @@
 ghost use Rattle.std.specs.Prelude.{IsSome, IsTrue};
 ghost use Rattle.cap_streams.specs.Hints.{is_of_file, is_of_input, is_of_names};
 
-use crate::regular::{FileId, id_of, is_input, regular_at, regular_file};
+use crate::regular::{id_of, is_input, regular_at, regular_file};
 use cap_bytes::{Fault, Rule};
 use cap_jobs::{Job, LineFault};
 use cap_outcomes::Outcome;
@@ -49,17 +49,12 @@ fn line(alloc: Global, name: &str, why: &impl Display) -> Option<String> {
     format!(in alloc; "  {name}: {why}\n").ok()
 }
 
-// Whether a file is the one of that name, of which `-` is standard input.
-fn is_named<R: Files<File = File>>(files: &R, file: Option<FileId>, name: &str) -> bool {
-    let path = if name == "-" { "/dev/stdin" } else { name };
-    is_input(file, &[id_of(regular_at(files, path))])
-}
-
-// Whether a file that is open is one of those that a job reads.
+// Whether a file that is open is one of those that a job reads, of which `-` is standard input.
 fn is_read<R: Files<File = File>>(files: &R, file: &File, job: &Job<'_>) -> bool {
     let id = id_of(regular_file(file));
     for name in job.files.iter() {
-        if is_named(files, id, name) {
+        let path = if *name == "-" { "/dev/stdin" } else { name };
+        if is_input(id, &[id_of(regular_at(files, path))]) {
             return true;
         }
     }
