@@ -1,13 +1,15 @@
 -- From clap's answer to capt's.
 use Rattle.std.proofs.Common.{◌≡◌, ◌⊎◌, List, [], Option, Some, None, Result, Ok, Err, IfOk, IfSome, IsSome, true, false, refl, sym, subst, inl, inr, arith}
-use Rattle.clap.specs.Words.{App, Text, Row, IsAmong, app_of, fault_of, is_simple, is_simple_and_free, subcommand_of}
+use Rattle.clap.specs.Words.{AddsArg, App, Rule, Text, Row, IsAmong, app_of, fault_of, is_simple, is_simple_and_free, new_app, subcommand_of, with_rule, with_subcommand}
 use Rattle.clap.proofs.OnLiterals.{clap_on_literals}
 use Rattle.clap.specs.declared.error.kind.ErrorKind.{ErrorKind}
 use Rattle.clap.specs.declared.error.kind.ErrorKind.TheVariants as kind
-use Rattle.clap.specs.Words.{AddsSubcommand}
+use Rattle.std.specs.declared.alloc.AllocError.{AllocError}
+use Rattle.std.proofs.lemmas.Result.{IfOk-weaker}
+use Rattle.clap.specs.declared.builder.arg.Arg.{Arg}
 use Rattle.clap.specs.declared.builder.command.Command.{Command}
 use Rattle.clap.specs.declared.builder.command.Command.TheViews.{out-Command}
-use Rattle.cap_line.specs.Command.{IsCapt, IsConvert, IsJoin, IsMerge, printing_app}
+use Rattle.cap_line.specs.Command.{AddsMade, IsCapt, IsConvert, IsJoin, IsMerge, IsOrderRule, IsWriting, allow_cut_rule, out_rule, printing_app}
 use Rattle.cap_line.specs.CommandLine.{Parses, IsJobOf, IsRefused, fault_by}
 use Rattle.cap_jobs.specs.Jobs.{IsWhole}
 use Rattle.cap_jobs.specs.declared.jobs.Job.{Job}
@@ -76,13 +78,45 @@ Parses-refused words app kind.Format is errs = refused_line words app kind.Forma
 pub IfOk-none : {A E : Type 0} (P : A → Type 0) (r : Result A E) (error : E) → r ≡ Err error → IfOk r P
 IfOk-none P r error is = subst (λ s. IfOk s P) (sym is) tt
 
+-- an argument that isn't global adds none that is
+pub AddsArg-local : (old : Command) (arg : Arg) (new : Command) → AddsArg old arg new → (out-Command old).has_globals ≡ false
+    → arg.global ≡ false → (out-Command new).has_globals ≡ false
+AddsArg-local old arg new added old_local local = rw (added.globals, old_local, local)
+
+-- the subcommands that write have `--allow-cut`, `--order` and `-o`
+pub IsWriting-by : (name : Text) (new mid most all : App) (flag order out : Rule) → new ≡ new_app name
+    → flag ≡ allow_cut_rule → mid ≡ with_rule new flag
+    → IsOrderRule order → most ≡ with_rule mid order
+    → out ≡ out_rule → all ≡ with_rule most out → IsWriting name all
+IsWriting-by name new mid most all flag order out new_is flag_is mid_is (orders, orders_are, order_is) most_is out_is all_is = record {
+  orders = orders;
+  orders_are = orders_are;
+  app_is = cc;
+}
+
+-- a command with a subcommand that was made, both known
+AddsMade-is : (made : Result Command AllocError) (old new before sub : App) → old ≡ before → IfOk made (λ c. app_of c ≡ sub)
+    → AddsMade old made new → new ≡ with_subcommand before sub.top
+AddsMade-is (Ok c) old new before sub old_is sub_is added = grind arith
+AddsMade-is (Err e) old new before sub old_is sub_is added = absurd added
+
+-- a command with two subcommands that were made, all known
+pub Adds-both : (first second all : Result Command AllocError) (old mid before a b : App) → old ≡ before
+    → IfOk first (λ c. app_of c ≡ a) → AddsMade old first mid
+    → IfOk second (λ c. app_of c ≡ b) → IfOk all (λ c. AddsMade mid second (app_of c))
+    → IfOk all (λ c. app_of c ≡ with_subcommand (with_subcommand before a.top) b.top)
+Adds-both first second all old mid before a b is first_is first_added second_is =
+    IfOk-weaker all _ _
+    (λ c added. AddsMade-is second mid (app_of c) (with_subcommand before a.top) b (AddsMade-is first old mid before a is first_is first_added) second_is added)
+
 -- capt is what prints, with `convert`, `merge` and `join` added
-pub IsCapt-added : (printing convert mid merge most join all : Command) → app_of printing ≡ printing_app
-    → IsConvert (app_of convert) → (out-Command convert).has_globals ≡ false → AddsSubcommand printing convert mid
-    → IsMerge (app_of merge) → (out-Command merge).has_globals ≡ false → AddsSubcommand mid merge most
-    → IsJoin (app_of join) → (out-Command join).has_globals ≡ false → AddsSubcommand most join all
-    → IsCapt (app_of all)
-IsCapt-added printing convert mid merge most join all is is_convert convert_local convert_added is_merge merge_local merge_added is_join join_local join_added = grind arith
+pub IsCapt-added : (convert merge join : Result Command AllocError) (printing mid most all : App) → printing ≡ printing_app
+    → IfOk convert (λ c. IsConvert (app_of c)) → AddsMade printing convert mid
+    → IfOk merge (λ c. IsMerge (app_of c)) → AddsMade mid merge most
+    → IfOk join (λ c. IsJoin (app_of c)) → AddsMade most join all
+    → IsCapt all
+IsCapt-added (Ok convert) (Ok merge) (Ok join) printing mid most all is is_convert convert_added is_merge merge_added is_join join_added = grind arith
+IsCapt-added convert merge join printing mid most all is is_convert convert_added is_merge merge_added is_join join_added = grind arith
 
 -- clap has said why it gives no matches
 pub IsRefused-said : {A : Type 0} (words : List Text) (app : App) (k : ErrorKind) (said : Option A) → IsCapt app → Errs words app k

@@ -1,8 +1,10 @@
 -- capt's command line: what a parse reads of it.
-use Rattle.std.specs.Prelude.{◌≡◌, true, List, [], ◌∷◌, map, codes, Some}
+use Rattle.std.specs.Prelude.{◌≡◌, true, List, [], ◌∷◌, map, codes, Some, Result, IsOkAnd}
 use Rattle.std.specs.Borrow.{Bor}
 use Rattle.clap.specs.Lexer.{usize_max}
-use Rattle.clap.specs.Words.{App, Rule, Text, new_app, new_rule, with_rule, with_subcommand}
+use Rattle.clap.specs.Words.{App, Rule, Text, app_of, new_app, new_rule, with_rule, with_subcommand}
+use Rattle.std.specs.declared.alloc.AllocError.{AllocError}
+use Rattle.clap.specs.declared.builder.command.Command.{Command}
 use Rattle.clap.specs.Simple.{on_top}
 use Rattle.clap.specs.declared.builder.action.ArgAction.TheVariants.{SetTrue}
 use Rattle.clap.specs.declared.builder.value_parser.ValueParser.TheVariants as parser
@@ -110,6 +112,10 @@ pub record IsJoin (app : App) : Type 0 where
   pub orders : Names
   pub orders_are : AreNames orders (codes "big" ∷ codes "little" ∷ [])
   pub app_is : app ≡ join_app orders
+
+-- `new` is `old` with the subcommand that was made
+abbrev pub AddsMade : App → Result Command AllocError → App → Type 0
+AddsMade old made new = IsOkAnd made (λ sub. new ≡ with_subcommand old (app_of sub).top)
 
 -- `capt` without its subcommands: one is required, and `help` is none; it has a version
 abbrev pub capt_alone : App

@@ -2,7 +2,7 @@
 ghost use Rattle.std.specs.Prelude.{◌≡◌, codes, false, IfOk};
 ghost use Rattle.clap.specs.Words.{app_of, rule_of};
 ghost use Rattle.clap.specs.declared.builder.command.Command.TheViews.{out-Command as fields_of};
-ghost use Rattle.cap_line.specs.Command.{IsCapt, IsConvert, IsJoin, IsMerge, IsOrderRule, IsToRule, IsWriting, allow_cut_rule, blocks_app, capt_alone, capture_app, captures_app, file_rule, files_rule, info_app, list_app, listing_app, out_rule, printing_app, report_app};
+ghost use Rattle.cap_line.specs.Command.{AddsMade, IsCapt, IsConvert, IsJoin, IsMerge, IsOrderRule, IsToRule, IsWriting, allow_cut_rule, blocks_app, capt_alone, capture_app, captures_app, file_rule, files_rule, info_app, list_app, listing_app, out_rule, printing_app, report_app};
 
 use crate::texts;
 use cap_jobs::USAGE;
@@ -35,12 +35,19 @@ fn file<'a>(alloc: Global) -> Arg<'a>
         .help(texts::FILE_HELP)
 }
 
-// A subcommand with `[--allow-cut] FILE`, without its texts
-fn capture_command<'a>(alloc: Global, name: &'a str) -> Result<Command<'a>, AllocError>
+// A subcommand with `[--allow-cut] FILE`
+fn capture_command<'a>(
+    alloc: Global,
+    name: &'a str,
+    about: &'a str,
+    help: &'a str,
+) -> Result<Command<'a>, AllocError>
     ensures app { IfOk result (λ c. app_of c ≡ capture_app name.entry.now) }
     ensures local { IfOk result (λ c. (fields_of c).has_globals ≡ false) }
 {
     Command::new(alloc, name)
+        .about(about)
+        .after_help(help)
         .arg(allow_cut(alloc))?
         .arg(file(alloc))
 }
@@ -50,11 +57,7 @@ fn list<'a>(alloc: Global) -> Result<Command<'a>, AllocError>
     ensures app { IfOk result (λ c. app_of c ≡ list_app) }
     ensures local { IfOk result (λ c. (fields_of c).has_globals ≡ false) }
 {
-    Ok(
-        capture_command(alloc, "list")?
-            .about(texts::LIST_ABOUT)
-            .after_help(texts::LIST_HELP),
-    )
+    capture_command(alloc, "list", texts::LIST_ABOUT, texts::LIST_HELP)
 }
 
 // `blocks`
@@ -62,11 +65,7 @@ fn blocks<'a>(alloc: Global) -> Result<Command<'a>, AllocError>
     ensures app { IfOk result (λ c. app_of c ≡ blocks_app) }
     ensures local { IfOk result (λ c. (fields_of c).has_globals ≡ false) }
 {
-    Ok(
-        capture_command(alloc, "blocks")?
-            .about(texts::BLOCKS_ABOUT)
-            .after_help(texts::BLOCKS_HELP),
-    )
+    capture_command(alloc, "blocks", texts::BLOCKS_ABOUT, texts::BLOCKS_HELP)
 }
 
 // `--order`
@@ -117,12 +116,19 @@ fn files<'a>(alloc: Global) -> Arg<'a>
         .help(texts::FILES_HELP)
 }
 
-// A subcommand with `[--allow-cut] FILE..`, without its texts
-fn captures_command<'a>(alloc: Global, name: &'a str) -> Result<Command<'a>, AllocError>
+// A subcommand with `[--allow-cut] FILE..`
+fn captures_command<'a>(
+    alloc: Global,
+    name: &'a str,
+    about: &'a str,
+    help: &'a str,
+) -> Result<Command<'a>, AllocError>
     ensures app { IfOk result (λ c. app_of c ≡ captures_app name.entry.now) }
     ensures local { IfOk result (λ c. (fields_of c).has_globals ≡ false) }
 {
     Command::new(alloc, name)
+        .about(about)
+        .after_help(help)
         .arg(allow_cut(alloc))?
         .arg(files(alloc))
 }
@@ -132,11 +138,7 @@ fn info<'a>(alloc: Global) -> Result<Command<'a>, AllocError>
     ensures app { IfOk result (λ c. app_of c ≡ info_app) }
     ensures local { IfOk result (λ c. (fields_of c).has_globals ≡ false) }
 {
-    Ok(
-        captures_command(alloc, "info")?
-            .about(texts::INFO_ABOUT)
-            .after_help(texts::INFO_HELP),
-    )
+    captures_command(alloc, "info", texts::INFO_ABOUT, texts::INFO_HELP)
 }
 
 // `report`
@@ -144,19 +146,22 @@ fn report<'a>(alloc: Global) -> Result<Command<'a>, AllocError>
     ensures app { IfOk result (λ c. app_of c ≡ report_app) }
     ensures local { IfOk result (λ c. (fields_of c).has_globals ≡ false) }
 {
-    Ok(
-        captures_command(alloc, "report")?
-            .about(texts::REPORT_ABOUT)
-            .after_help(texts::REPORT_HELP),
-    )
+    captures_command(alloc, "report", texts::REPORT_ABOUT, texts::REPORT_HELP)
 }
 
-// A subcommand with `[--allow-cut] [--order ORDER] -o OUT`, without its files and its texts
-fn writing_command<'a>(alloc: Global, name: &'a str) -> Result<Command<'a>, AllocError>
+// A subcommand with `[--allow-cut] [--order ORDER] -o OUT`, without its files
+fn writing_command<'a>(
+    alloc: Global,
+    name: &'a str,
+    about: &'a str,
+    help: &'a str,
+) -> Result<Command<'a>, AllocError>
     ensures app { IfOk result (λ c. IsWriting name.entry.now (app_of c)) }
     ensures local { IfOk result (λ c. (fields_of c).has_globals ≡ false) }
 {
     Command::new(alloc, name)
+        .about(about)
+        .after_help(help)
         .arg(allow_cut(alloc))?
         .arg(order(alloc))?
         .arg(out(alloc))
@@ -167,13 +172,9 @@ fn convert<'a>(alloc: Global) -> Result<Command<'a>, AllocError>
     ensures app { IfOk result (λ c. IsConvert (app_of c)) }
     ensures local { IfOk result (λ c. (fields_of c).has_globals ≡ false) }
 {
-    Ok(
-        writing_command(alloc, "convert")?
-            .arg(to(alloc))?
-            .arg(file(alloc))?
-            .about(texts::CONVERT_ABOUT)
-            .after_help(texts::CONVERT_HELP),
-    )
+    writing_command(alloc, "convert", texts::CONVERT_ABOUT, texts::CONVERT_HELP)?
+        .arg(to(alloc))?
+        .arg(file(alloc))
 }
 
 // `merge`
@@ -181,12 +182,7 @@ fn merge<'a>(alloc: Global) -> Result<Command<'a>, AllocError>
     ensures app { IfOk result (λ c. IsMerge (app_of c)) }
     ensures local { IfOk result (λ c. (fields_of c).has_globals ≡ false) }
 {
-    Ok(
-        writing_command(alloc, "merge")?
-            .arg(files(alloc))?
-            .about(texts::MERGE_ABOUT)
-            .after_help(texts::MERGE_HELP),
-    )
+    writing_command(alloc, "merge", texts::MERGE_ABOUT, texts::MERGE_HELP)?.arg(files(alloc))
 }
 
 // `join`
@@ -194,12 +190,7 @@ fn join<'a>(alloc: Global) -> Result<Command<'a>, AllocError>
     ensures app { IfOk result (λ c. IsJoin (app_of c)) }
     ensures local { IfOk result (λ c. (fields_of c).has_globals ≡ false) }
 {
-    Ok(
-        writing_command(alloc, "join")?
-            .arg(files(alloc))?
-            .about(texts::JOIN_ABOUT)
-            .after_help(texts::JOIN_HELP),
-    )
+    writing_command(alloc, "join", texts::JOIN_ABOUT, texts::JOIN_HELP)?.arg(files(alloc))
 }
 
 // `capt` without its subcommands
@@ -214,14 +205,26 @@ fn capt_itself<'a>(alloc: Global) -> Command<'a>
         .disable_help_subcommand(true)
 }
 
+// The command with that subcommand, if it was made. No argument of either holds for the commands below it.
+fn with_subcommand<'a>(
+    command: Command<'a>,
+    subcommand: Result<Command<'a>, AllocError>,
+) -> Result<Command<'a>, AllocError>
+    requires local { (fields_of command).has_globals ≡ false }
+    requires made_local { IfOk subcommand (λ s. (fields_of s).has_globals ≡ false) }
+    ensures app { IfOk result (λ c. AddsMade (app_of command.entry) subcommand.entry (app_of c)) }
+    ensures local { IfOk result (λ c. (fields_of c).has_globals ≡ false) }
+{
+    command.subcommand(subcommand?)
+}
+
 // `capt` with the subcommands that print one capture
 fn listing<'a>(alloc: Global) -> Result<Command<'a>, AllocError>
     ensures app { IfOk result (λ c. app_of c ≡ listing_app) }
     ensures local { IfOk result (λ c. (fields_of c).has_globals ≡ false) }
 {
-    capt_itself(alloc)
-        .subcommand(list(alloc)?)?
-        .subcommand(blocks(alloc)?)
+    let capt = with_subcommand(capt_itself(alloc), list(alloc))?;
+    with_subcommand(capt, blocks(alloc))
 }
 
 // `capt` with the subcommands that print
@@ -229,17 +232,17 @@ fn printing<'a>(alloc: Global) -> Result<Command<'a>, AllocError>
     ensures app { IfOk result (λ c. app_of c ≡ printing_app) }
     ensures local { IfOk result (λ c. (fields_of c).has_globals ≡ false) }
 {
-    listing(alloc)?
-        .subcommand(info(alloc)?)?
-        .subcommand(report(alloc)?)
+    let capt = listing(alloc)?;
+    let capt = with_subcommand(capt, info(alloc))?;
+    with_subcommand(capt, report(alloc))
 }
 
 /// The command line of `capt`.
 pub fn capt<'a>(alloc: Global) -> Result<Command<'a>, AllocError>
     ensures { IfOk result (λ c. IsCapt (app_of c)) }
 {
-    printing(alloc)?
-        .subcommand(convert(alloc)?)?
-        .subcommand(merge(alloc)?)?
-        .subcommand(join(alloc)?)
+    let capt = printing(alloc)?;
+    let capt = with_subcommand(capt, convert(alloc))?;
+    let capt = with_subcommand(capt, merge(alloc))?;
+    with_subcommand(capt, join(alloc))
 }

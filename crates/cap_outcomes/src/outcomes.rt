@@ -1,7 +1,7 @@
 //! How a run ends: its status, and what is told of it.
-ghost use Rattle.std.specs.Prelude.{◌≡◌, ◌++◌, is_err, IsTrue, IsFalse, IsOk, IsErr, IsOkUnless};
+ghost use Rattle.std.specs.Prelude.{◌≡◌, ◌≤◌, ◌++◌, length, is_err, IsTrue, IsFalse, IsOk, IsErr, IsOkUnless};
 ghost use Rattle.cap_bytes.specs.Device.{Puts, WriterKeeps, writer_of};
-ghost use Rattle.cap_outcomes.specs.Outcomes.{ends_by, status_after, outcome_text, refusal_text, read_text, open_text, told_text, is_help, HelpEnds};
+ghost use Rattle.cap_outcomes.specs.Outcomes.{ends_by, status_after, fault_text, line_text, outcome_text, refusal_text, read_text, open_text, told_text, is_help, HelpEnds};
 ghost use Rattle.cap_bytes.specs.Printing.{PrintsFront};
 
 use cap_bytes::{Fault, Refusal, Sink, put_all};
@@ -87,6 +87,41 @@ fn open_line(file: u32) -> Line
     line
 }
 
+// A line of that text alone.
+fn short_line(text: &[u8]) -> Line
+    requires { length text.now ≤ 512 }
+    ensures { result.items ≡ text.now }
+{
+    let mut line = Line::new();
+    put_text(&mut line, text);
+    line
+}
+
+// What is told of a fault of a run.
+fn fault_line(fault: Fault) -> Line
+    ensures { result.items ≡ fault_text fault }
+{
+    match fault {
+        Fault::Refused(refusal) => refusal_line(&refusal),
+        Fault::Read { file, offset } => read_line(file, offset),
+        Fault::Write => short_line(b"fault: write\n"),
+        Fault::Memory => short_line(b"fault: memory\n"),
+    }
+}
+
+// What is told of a command line that wasn't run.
+fn line_fault_text(fault: LineFault) -> &'static [u8]
+    ensures { result.now ≡ line_text fault }
+{
+    match fault {
+        LineFault::Help | LineFault::Line => USAGE.as_bytes(),
+        LineFault::Files => b"fault: files\n",
+        LineFault::Input => b"fault: input\n",
+        LineFault::Output => b"fault: output\n",
+        LineFault::Memory => b"fault: memory\n",
+    }
+}
+
 /// Writes what is told of an outcome: nothing of a run that is done, the usage for help and for a
 /// line that isn't of capt, and one line for each other. Answers `Fault::Write`, and no other
 /// fault, if the writer failed: a prefix of the text is written then.
@@ -98,22 +133,8 @@ pub fn outcome_line<W: Sink>(outcome: &Outcome, writer: &mut W) -> Result<(), Fa
 {
     match outcome {
         Outcome::Done => Ok(()),
-        Outcome::Line(LineFault::Help) | Outcome::Line(LineFault::Line) => {
-            put_all(writer, USAGE.as_bytes())
-        }
-        Outcome::Line(LineFault::Files) => put_all(writer, b"fault: files\n"),
-        Outcome::Line(LineFault::Input) => put_all(writer, b"fault: input\n"),
-        Outcome::Line(LineFault::Output) => put_all(writer, b"fault: output\n"),
-        Outcome::Line(LineFault::Memory) | Outcome::Fault(Fault::Memory) => {
-            put_all(writer, b"fault: memory\n")
-        }
-        Outcome::Fault(Fault::Refused(refusal)) => {
-            put_all(writer, refusal_line(refusal).as_slice())
-        }
-        Outcome::Fault(Fault::Read { file, offset }) => {
-            put_all(writer, read_line(*file, *offset).as_slice())
-        }
-        Outcome::Fault(Fault::Write) => put_all(writer, b"fault: write\n"),
+        Outcome::Line(fault) => put_all(writer, line_fault_text(*fault)),
+        Outcome::Fault(fault) => put_all(writer, fault_line(*fault).as_slice()),
         Outcome::Open(file) => put_all(writer, open_line(*file).as_slice()),
         Outcome::Create => put_all(writer, b"fault: create output\n"),
     }

@@ -1,6 +1,6 @@
 //! What is told at a terminal beside the line of a fault: the file's name, and why.
 ghost use Rattle.std.specs.Prelude.{IsSome, IsTrue};
-ghost use Rattle.cap_streams.specs.Hints.{is_of_file, is_of_names};
+ghost use Rattle.cap_streams.specs.Hints.{is_of_file, is_of_input, is_of_names};
 
 use crate::regular::{id_of, is_input, regular_at, regular_file};
 use cap_bytes::{Fault, Rule};
@@ -61,13 +61,38 @@ fn is_read<R: Files<File = File>>(files: &R, file: &File, job: &Job<'_>) -> bool
     false
 }
 
-// Why the output of a job can't be created: the system says so, or it is one of the files that are read.
-fn create_line<R: Files<File = File>>(
+// What is wrong with a file that is read, if a fault is of one.
+fn input_line(alloc: Global, job: &Job<'_>, fault: Fault) -> Option<String>
+    ensures { IsSome result → IsTrue (is_of_input fault) }
+{
+    match fault {
+        Fault::Refused(refusal) => {
+            let name = name_of(job, refusal.file)?;
+            line(alloc, name, &meaning(refusal.rule))
+        }
+        Fault::Read { file, .. } => {
+            let name = name_of(job, file)?;
+            line(alloc, name, &"it can't be read")
+        }
+        Fault::Write | Fault::Memory => None,
+    }
+}
+
+// Why a file that is read can't be opened.
+fn open_line<R: Files<File = File>>(
     files: &R,
     alloc: Global,
     job: &Job<'_>,
-    name: &str,
+    file: u32,
 ) -> Option<String> {
+    let name = name_of(job, file)?;
+    let error = File::open(files, name).err()?;
+    line(alloc, name, &error)
+}
+
+// Why the output of a job can't be created: the system says so, or it is one of the files that are read.
+fn create_line<R: Files<File = File>>(files: &R, alloc: Global, job: &Job<'_>) -> Option<String> {
+    let name = job.out?;
     let opened = OpenOptions::new()
         .write(true)
         .create(true)
@@ -111,18 +136,9 @@ pub fn hint<R: Files<File = File>>(
     }
     let job = job?;
     match outcome {
-        Outcome::Fault(Fault::Refused(refusal)) => {
-            line(alloc, name_of(job, refusal.file)?, &meaning(refusal.rule))
-        }
-        Outcome::Fault(Fault::Read { file, .. }) => {
-            line(alloc, name_of(job, *file)?, &"it can't be read")
-        }
-        Outcome::Open(file) => {
-            let name = name_of(job, *file)?;
-            let error = File::open(files, name).err()?;
-            line(alloc, name, &error)
-        }
-        Outcome::Create => create_line(files, alloc, job, job.out?),
+        Outcome::Fault(fault) => input_line(alloc, job, *fault),
+        Outcome::Open(file) => open_line(files, alloc, job, *file),
+        Outcome::Create => create_line(files, alloc, job),
         _ => None,
     }
 }

@@ -1,12 +1,12 @@
 //! The files and the standard streams of a run.
-ghost use Rattle.std.specs.Prelude.{◌≡◌, ◌≢◌, ◌≤◌, codes, length, map, vec_len, IfOk, IfErr, IsErr, IsFalse, IsTrue, option_map, Some, None};
+ghost use Rattle.std.specs.Prelude.{◌≡◌, ◌≢◌, ◌≤◌, ◌+◌, ◌++◌, ◌∷◌, [], codes, length, map, vec_len, IfOk, IfErr, IsErr, IsFalse, IsTrue, option_map, Some, None};
 ghost use Rattle.cap_outcomes.specs.Watched.{inner_of};
 ghost use Rattle.cap_streams.specs.Streams.{IsOutFile, IsStandardOut, StopsOpening, StopsCreating, is_dash, is_standard, standards_of};
 
 use crate::regular::{FileId, Regular, id_of, is_input, regular_at, regular_file, regular_of};
 use cap_bytes::{Fault, Tracked};
 use cap_outcomes::{Outcome, Progress, Watched};
-use std::alloc::Global;
+use std::alloc::{AllocError, Global};
 use std::fs::{File, OpenOptions};
 use std::io;
 use std::io::{ErrorKind, IsTerminal, Read, Stdin, Stdout, Write};
@@ -62,6 +62,19 @@ pub enum Output {
     Standard(Stdout),
 }
 
+// Empties a file that is open, if it is a regular one. One of the inputs is refused, and stays as it is.
+fn empty(file: &File, inputs: &[Option<FileId>]) -> io::Result<()> {
+    let metadata = file.metadata()?;
+    let id = id_of(regular_of(&metadata));
+    if is_input(id, inputs) {
+        return Err(io::Error::from(ErrorKind::AlreadyExists));
+    }
+    match id {
+        Some(_) => file.set_len(0),
+        None => Ok(()),
+    }
+}
+
 // Opens a file to be written and empties it, unless it is one of the inputs: then it stays as it is.
 fn create_file<R: Files<File = File>>(
     files: &R,
@@ -72,13 +85,7 @@ fn create_file<R: Files<File = File>>(
         .write(true)
         .create(true)
         .open(files, name)?;
-    let id = id_of(regular_of(&file.metadata()?));
-    if is_input(id, inputs) {
-        return Err(io::Error::from(ErrorKind::AlreadyExists));
-    }
-    if id.is_some() {
-        file.set_len(0)?;
-    }
+    empty(&file, inputs)?;
     Ok(file)
 }
 
@@ -170,6 +177,19 @@ fn add_size(size: Option<u64>, regular: Option<Regular>) -> Option<u64> {
     size?.checked_add(regular?.size)
 }
 
+impl Inputs {
+    // Adds an input, of which that is known.
+    fn add(&mut self, input: Input, regular: Option<Regular>) -> Result<(), AllocError>
+        ensures all { IfOk result (λ _. standards_of self.new.sources.items ≡ standards_of self.old.sources.items ++ is_standard input ∷ []) }
+        ensures len { IfOk result (λ _. vec_len self.new.sources ≡ vec_len self.old.sources + 1) }
+    {
+        self.ids.push(id_of(regular))?;
+        self.sources.push(Tracked::new(input))?;
+        self.size = add_size(self.size, regular);
+        Ok(())
+    }
+}
+
 /// Opens every file of a run, in order, and reads none: an input is standard input exactly if its name
 /// is `-`. Answers `Outcome::Open` with the number, from 1, of the first that can't be opened, which is
 /// never one named `-`, or `Fault::Memory` if a growth is refused.
@@ -184,20 +204,21 @@ pub fn open_all<R: Files<File = File>>(
     ensures len { IfOk result (λ inputs. vec_len inputs.sources ≡ length names.now) }
     ensures stops { IfErr result (StopsOpening (map (λ n. n.now) names.now)) }
 {
-    let mut sources = Vec::new(alloc);
-    let mut ids = Vec::new(alloc);
-    let mut size = Some(0);
+    let mut inputs = Inputs {
+        sources: Vec::new(alloc),
+        ids: Vec::new(alloc),
+        size: Some(0),
+    };
     for (place, name) in names.iter().enumerate() {
         let Ok(input) = Input::open(files, standard, name) else {
             return Err(Outcome::Open(place as u32 + 1));
         };
         let regular = input.regular(files);
-        size = add_size(size, regular);
-        if ids.push(id_of(regular)).is_err() || sources.push(Tracked::new(input)).is_err() {
+        if inputs.add(input, regular).is_err() {
             return Err(Outcome::Fault(Fault::Memory));
         }
     }
-    Ok(Inputs { sources, ids, size })
+    Ok(inputs)
 }
 
 /// The inputs of a run, watched, in the same order. Answers `Fault::Memory`, and no other outcome, if a growth is
