@@ -69,6 +69,7 @@ fn takes<F: PacketFeed>(
     frame: &[u8],
 ) -> Result<(), Fault> {
     assert!(rt; feed.has_packet()?);
+    assert!(rt; feed.shows_packet());
     let head = feed.head()?;
     assert_eq!(rt; head, Head::Packet(meta));
     assert_eq!(rt; feed.head()?, head);
@@ -413,6 +414,27 @@ fn a_list(rt: HostRuntime) -> Result<(), Fail> {
         rule: Rule::Cut,
     };
     assert_eq!(rt; feed.has_packet(), Err(Fault::Refused(refusal)));
+    assert!(rt; !feed.shows_packet());
+    Ok(())
+}
+
+// A file of two records, of which a read shows both.
+#[test]
+fn packets_at_hand(rt: HostRuntime) -> Result<(), Fail> {
+    let mut bytes = Vec::from_array(rt.alloc(), CARRY_PCAP)?;
+    bytes.extend_from_slice(&CARRY_PCAP[24..])?;
+    let mut feed = capture(rt.alloc(), &bytes, 4_096, Tail::Refuse)?;
+    assert!(rt; !feed.shows_packet());
+    assert!(rt; feed.has_packet()?);
+    assert!(rt; feed.shows_packet());
+    feed.pass();
+    assert!(rt; feed.shows_packet());
+    assert_eq!(rt; *feed.packet(), carried(&rt, 44, Format::Pcap));
+    assert_eq!(rt; feed.frame(), [1, 2, 3, 4].as_slice());
+    feed.pass();
+    assert!(rt; !feed.shows_packet());
+    assert!(rt; !feed.has_packet()?);
+    assert!(rt; !feed.shows_packet());
     Ok(())
 }
 
