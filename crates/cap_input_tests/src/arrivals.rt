@@ -1,5 +1,6 @@
 //! Packets as they come: the worked fragments, packets that are none, and a whole datagram between fragments.
 
+use crate::checks::{holds, same};
 use crate::runs::{DATA, FRAGMENTS, Run};
 use cap_join::Arrived;
 
@@ -12,40 +13,40 @@ const WHOLE: [u8; 22] = [
 fn the_worked_fragments_join(rt: HostRuntime) {
     let mut run = Run::new(rt.alloc());
     for fragment in &FRAGMENTS[..3] {
-        assert!(rt; matches!(run.take(&rt, fragment, true), Arrived::Kept));
+        holds!(rt; matches!(run.take(&rt, fragment, true), Arrived::Kept));
     }
-    assert_eq!(rt; run.joiner.open_count(), 1);
+    same!(rt; run.joiner.open_count(), 1);
     let Arrived::Joined(datagram) = run.take(&rt, &FRAGMENTS[3], true) else {
         panic!(rt; "not joined");
     };
-    assert!(rt; datagram.payload.as_slice() == DATA.as_slice());
-    assert_eq!(rt; datagram.frames, 4);
-    assert_eq!(rt; datagram.bytes, 112);
-    assert_eq!(rt; run.joiner.open_count(), 0);
+    holds!(rt; datagram.payload.as_slice() == DATA.as_slice());
+    same!(rt; datagram.frames, 4);
+    same!(rt; datagram.bytes, 112);
+    same!(rt; run.joiner.open_count(), 0);
 }
 
 #[test]
 fn a_whole_datagram_drops_its_group(rt: HostRuntime) {
     let mut run = Run::new(rt.alloc());
     for fragment in &FRAGMENTS[..3] {
-        assert!(rt; matches!(run.take(&rt, fragment, true), Arrived::Kept));
+        holds!(rt; matches!(run.take(&rt, fragment, true), Arrived::Kept));
     }
     let Arrived::Whole(header, data) = run.take(&rt, &WHOLE, false) else {
         panic!(rt; "not whole");
     };
-    assert_eq!(rt; header.data_length(), 4);
-    assert!(rt; data == [0x68, 0x69].as_slice());
-    assert_eq!(rt; run.joiner.open_count(), 0);
-    assert!(rt; matches!(run.take(&rt, &FRAGMENTS[3], true), Arrived::Kept));
+    same!(rt; header.data_length(), 4);
+    holds!(rt; data == [0x68, 0x69].as_slice());
+    same!(rt; run.joiner.open_count(), 0);
+    holds!(rt; matches!(run.take(&rt, &FRAGMENTS[3], true), Arrived::Kept));
 }
 
 #[test]
 fn bad_and_cut_packets_change_nothing(rt: HostRuntime) {
     let mut run = Run::new(rt.alloc());
-    assert!(rt; matches!(run.take(&rt, &FRAGMENTS[0], true), Arrived::Kept));
-    assert!(rt; matches!(run.take(&rt, &[0x60], true), Arrived::Bad));
-    assert!(rt; matches!(run.take(&rt, &[0x45], false), Arrived::Cut));
-    assert!(rt; matches!(run.take(&rt, &FRAGMENTS[1][..27], false), Arrived::Cut));
-    assert!(rt; matches!(run.take(&rt, &WHOLE, true), Arrived::Bad));
-    assert_eq!(rt; run.joiner.open_count(), 1);
+    holds!(rt; matches!(run.take(&rt, &FRAGMENTS[0], true), Arrived::Kept));
+    holds!(rt; matches!(run.take(&rt, &[0x60], true), Arrived::Bad));
+    holds!(rt; matches!(run.take(&rt, &[0x45], false), Arrived::Cut));
+    holds!(rt; matches!(run.take(&rt, &FRAGMENTS[1][..27], false), Arrived::Cut));
+    holds!(rt; matches!(run.take(&rt, &WHOLE, true), Arrived::Bad));
+    same!(rt; run.joiner.open_count(), 1);
 }

@@ -2,6 +2,7 @@
 //! hand from draft-ietf-opsawg-pcapng.
 ghost use Rattle.std.specs.Prelude.{◌≤◌};
 
+use crate::checks::{holds, same};
 use crate::vectors::{CARRY_PCAPNG, OPTIONS_PCAPNG, refused};
 use cap_blocks::{
     Block, BlockReader, Options, PacketFields, is_known, is_section, put_interface, put_packet,
@@ -11,6 +12,7 @@ use cap_bytes::{Device, Fault, Order, Pieces, Room, Rule, Sink, Source, Tail, Wi
 use cap_time::{Interface, Resolution};
 use std::alloc::{AllocError, Global};
 use std::cmp::min;
+use std::process::Abort;
 use std::test::Fail;
 
 // A little-endian section and a big-endian one, each of 28, 20 and 36 bytes.
@@ -77,6 +79,20 @@ fn fault_of<R: Source>(reader: &mut BlockReader<R>) -> Option<Fault> {
     None
 }
 
+// Next come these blocks, and then the end, also if it is asked for again.
+fn gives_blocks<R: Source>(
+    rt: &impl Abort,
+    reader: &mut BlockReader<R>,
+    blocks: &[Block],
+) -> Result<(), Fault> {
+    for block in blocks {
+        same!(rt; reader.next_block()?, Some(*block));
+    }
+    same!(rt; reader.next_block()?, None);
+    same!(rt; reader.next_block()?, None);
+    Ok(())
+}
+
 #[test]
 fn always_memory_blocks_in_order(rt: HostRuntime) -> Result<(), Fail> {
     let (little, big) = (Order::Little, Order::Big);
@@ -101,13 +117,9 @@ fn always_memory_blocks_in_order(rt: HostRuntime) -> Result<(), Fail> {
     ] {
         for piece in [1, 4_096] {
             let mut reader = reader(rt.alloc(), file, piece, Tail::Accept)?;
-            for block in blocks {
-                assert_eq!(rt; reader.next_block()?, Some(*block));
-            }
-            assert_eq!(rt; reader.next_block()?, None);
-            assert_eq!(rt; reader.next_block()?, None);
-            assert_eq!(rt; reader.was_cut(), was_cut);
-            assert!(rt; !reader.window().failed());
+            gives_blocks(&rt, &mut reader, blocks)?;
+            same!(rt; reader.was_cut(), was_cut);
+            holds!(rt; !reader.window().failed());
         }
     }
     Ok(())
@@ -117,14 +129,14 @@ fn always_memory_blocks_in_order(rt: HostRuntime) -> Result<(), Fail> {
 #[test]
 fn always_memory_a_shown_packet(rt: HostRuntime) -> Result<(), Fail> {
     let mut reader = reader(rt.alloc(), &OPTIONS_PCAPNG, 4_096, Tail::Refuse)?;
-    assert_eq!(rt; reader.take_packet(), None);
+    same!(rt; reader.take_packet(), None);
     for _ in 0..2 {
-        assert!(rt; reader.next_block()?.is_some());
-        assert!(rt; reader.window().shows(8));
+        holds!(rt; reader.next_block()?.is_some());
+        holds!(rt; reader.window().shows(8));
     }
-    assert_eq!(rt; reader.take_packet(), Some(block(6, 96, 48, Order::Little)));
-    assert_eq!(rt; reader.take_packet(), None);
-    assert_eq!(rt;
+    same!(rt; reader.take_packet(), Some(block(6, 96, 48, Order::Little)));
+    same!(rt; reader.take_packet(), None);
+    same!(rt;
         reader.next_block()?,
         Some(block(5, 144, 24, Order::Little))
     );
@@ -135,7 +147,7 @@ fn always_memory_a_shown_packet(rt: HostRuntime) -> Result<(), Fail> {
 #[test]
 fn bodies(rt: HostRuntime) -> Result<(), Fail> {
     let mut rest = CARRY_PCAPNG.as_slice();
-    assert!(rt; is_section(rest));
+    holds!(rt; is_section(rest));
     let mut reader = reader(rt.alloc(), &CARRY_PCAPNG, 1, Tail::Refuse)?;
     for size in [16, 20, 24] {
         let Some(block) = reader.next_block()? else {
@@ -144,10 +156,10 @@ fn bodies(rt: HostRuntime) -> Result<(), Fail> {
         if !is_known(block.kind) || rest.len() < size + 12 {
             break;
         }
-        assert_eq!(rt; reader.body(), rest.split_at(8).1.split_at(size).0);
+        same!(rt; reader.body(), rest.split_at(8).1.split_at(size).0);
         rest = rest.split_at(size + 12).1;
     }
-    assert!(rt; rest.is_empty());
+    holds!(rt; rest.is_empty());
     Ok(())
 }
 
@@ -229,9 +241,9 @@ fn refused_blocks(rt: HostRuntime) -> Result<(), Fail> {
             bytes.extend_from_slice(behind)?;
             let mut reader = reader(rt.alloc(), &bytes, piece, Tail::Refuse)?;
             let fault = Some(refused(offset, rule));
-            assert_eq!(rt; fault_of(&mut reader), fault, "{n}");
-            assert_eq!(rt; fault_of(&mut reader), fault, "{n}");
-            assert!(rt; !reader.was_cut());
+            same!(rt; fault_of(&mut reader), fault, n);
+            same!(rt; fault_of(&mut reader), fault, n);
+            holds!(rt; !reader.was_cut());
         }
     }
     Ok(())
@@ -255,7 +267,7 @@ fn written_blocks(rt: HostRuntime) -> Result<(), Fail> {
         original: 4,
     };
     put_packet(&mut writer, Order::Little, fields, &[1, 2, 3, 4])?;
-    assert_eq!(rt; writer.bytes(), CARRY_PCAPNG.as_slice());
+    same!(rt; writer.bytes(), CARRY_PCAPNG.as_slice());
     let resolution = Resolution::from_code(0x8a).expect(&rt, "a 1,024th of a second");
     let interface = Interface {
         link: 101,
@@ -265,7 +277,7 @@ fn written_blocks(rt: HostRuntime) -> Result<(), Fail> {
     };
     let mut writer = Room::new(Vec::with_capacity(rt.alloc(), 44)?);
     put_interface(&mut writer, Order::Big, &interface)?;
-    assert_eq!(rt; writer.bytes(), OFFSET_INTERFACE.as_slice());
+    same!(rt; writer.bytes(), OFFSET_INTERFACE.as_slice());
     let mut writer = Room::new(Vec::with_capacity(rt.alloc(), 40)?);
     let fields = PacketFields {
         interface: 1,
@@ -273,7 +285,7 @@ fn written_blocks(rt: HostRuntime) -> Result<(), Fail> {
         original: 9,
     };
     put_packet(&mut writer, Order::Big, fields, &[1, 2, 3, 4, 5])?;
-    assert_eq!(rt; writer.bytes(), PADDED_PACKET.as_slice());
+    same!(rt; writer.bytes(), PADDED_PACKET.as_slice());
     Ok(())
 }
 
@@ -282,14 +294,14 @@ fn options_in_order(rt: HostRuntime) {
     let (_, behind) = OPTIONS_PCAPNG.split_at(60);
     let (bytes, _) = behind.split_at(32);
     let mut options = Options::new(Order::Little, bytes);
-    assert_eq!(rt; options.next(), Some(Ok((2, b"eth0".as_slice()))));
-    assert_eq!(rt; options.next(), Some(Ok((9, [6].as_slice()))));
-    assert_eq!(rt; options.next(), Some(Ok((12, b"Linux".as_slice()))));
-    assert_eq!(rt; options.next(), None);
-    assert_eq!(rt; options.next(), None);
+    same!(rt; options.next(), Some(Ok((2, b"eth0".as_slice()))));
+    same!(rt; options.next(), Some(Ok((9, [6].as_slice()))));
+    same!(rt; options.next(), Some(Ok((12, b"Linux".as_slice()))));
+    same!(rt; options.next(), None);
+    same!(rt; options.next(), None);
     let past = [0, 9, 0, 1, 6, 0, 0, 0, 0, 2, 0, 5, 1, 2, 3, 4];
     let mut options = Options::new(Order::Big, &past);
-    assert_eq!(rt; options.next(), Some(Ok((9, [6].as_slice()))));
-    assert_eq!(rt; options.next(), Some(Err(Rule::OptionEnd)));
-    assert_eq!(rt; options.next(), None);
+    same!(rt; options.next(), Some(Ok((9, [6].as_slice()))));
+    same!(rt; options.next(), Some(Err(Rule::OptionEnd)));
+    same!(rt; options.next(), None);
 }

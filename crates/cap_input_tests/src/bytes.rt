@@ -2,6 +2,7 @@
 //! memory at every place.
 ghost use Rattle.std.specs.Prelude.{◌≤◌};
 
+use crate::checks::{holds, same};
 use cap_bytes::{
     Broken, Device, Fault, Order, Pieces, Refusal, Room, Rule, Sink, Source, Tracked, Window,
     put_all, put_u16, put_u32, put_u64, u16_at, u32_at, u64_at,
@@ -39,8 +40,8 @@ const RULES: [(Rule, u8, &str); 21] = [
 #[test]
 fn rules_have_their_numbers_and_names(rt: HostRuntime) {
     for (rule, number, name) in RULES {
-        assert_eq!(rt; rule.number(), number);
-        assert_eq!(rt; rule.name(), name);
+        same!(rt; rule.number(), number);
+        same!(rt; rule.name(), name);
     }
 }
 
@@ -56,33 +57,33 @@ fn faults_print_one_line(rt: HostRuntime) -> Result<(), Fail> {
         offset: 24,
     };
     let refused = format!(in rt.alloc(); "{}", Fault::Refused(refusal))?;
-    assert_eq!(rt;
+    same!(rt;
         refused.as_str(),
         "refused: file 2 offset 24 rule 6 block-trailer"
     );
     let read = format!(in rt.alloc(); "{read}")?;
-    assert_eq!(rt; read.as_str(), "fault: read file 1 offset 24");
+    same!(rt; read.as_str(), "fault: read file 1 offset 24");
     let write = format!(in rt.alloc(); "{}", Fault::Write)?;
-    assert_eq!(rt; write.as_str(), "fault: write");
+    same!(rt; write.as_str(), "fault: write");
     let memory = format!(in rt.alloc(); "{}", Fault::Memory)?;
-    assert_eq!(rt; memory.as_str(), "fault: memory");
+    same!(rt; memory.as_str(), "fault: memory");
     Ok(())
 }
 
 #[test]
 fn numbers_in_both_orders(rt: HostRuntime) {
     let bytes = [9, 1, 2, 3, 4, 5, 6, 7, 8];
-    assert_eq!(rt; u16_at(Order::Big, &bytes, 1), 0x0102);
-    assert_eq!(rt; u16_at(Order::Little, &bytes, 1), 0x0201);
-    assert_eq!(rt; u32_at(Order::Big, &bytes, 1), 0x0102_0304);
-    assert_eq!(rt; u32_at(Order::Little, &bytes, 1), 0x0403_0201);
-    assert_eq!(rt; u64_at(Order::Big, &bytes, 1), 0x0102_0304_0506_0708);
-    assert_eq!(rt; u64_at(Order::Little, &bytes, 1), 0x0807_0605_0403_0201);
+    same!(rt; u16_at(Order::Big, &bytes, 1), 0x0102);
+    same!(rt; u16_at(Order::Little, &bytes, 1), 0x0201);
+    same!(rt; u32_at(Order::Big, &bytes, 1), 0x0102_0304);
+    same!(rt; u32_at(Order::Little, &bytes, 1), 0x0403_0201);
+    same!(rt; u64_at(Order::Big, &bytes, 1), 0x0102_0304_0506_0708);
+    same!(rt; u64_at(Order::Little, &bytes, 1), 0x0807_0605_0403_0201);
     let mut big = [0xff; 16];
     put_u16(Order::Big, &mut big, 1, 0x0102);
     put_u32(Order::Big, &mut big, 3, 0x0304_0506);
     put_u64(Order::Big, &mut big, 7, 0x0708_090a_0b0c_0d0e);
-    assert_eq!(rt;
+    same!(rt;
         big,
         [0xff, 1, 2, 3, 4, 5, 6, 7, 8, 9, 10, 11, 12, 13, 14, 0xff]
     );
@@ -90,7 +91,7 @@ fn numbers_in_both_orders(rt: HostRuntime) {
     put_u16(Order::Little, &mut little, 1, 0x0201);
     put_u32(Order::Little, &mut little, 3, 0x0605_0403);
     put_u64(Order::Little, &mut little, 7, 0x0e0d_0c0b_0a09_0807);
-    assert_eq!(rt; little, big);
+    same!(rt; little, big);
 }
 
 // The bytes 0, 1, 2, .. of a file that is `length` long; the byte at a place is the place modulo 251.
@@ -170,18 +171,18 @@ fn always_memory_a_window_shows_the_next_bytes_or_the_end(rt: HostRuntime) -> Re
         let pieces = Pieces::new(counted(rt.alloc(), 70_000)?, piece, None);
         let mut window = Window::new(rt.alloc(), pieces, 7);
         for (asked, wanted, offset, shown) in STEPS {
-            assert_eq!(rt; answer(&mut window, asked)?, wanted, "{asked:?}");
-            assert_eq!(rt; window.offset(), offset, "{asked:?}");
-            assert!(rt; window.held() <= 524_288);
+            same!(rt; answer(&mut window, asked)?, wanted, asked);
+            same!(rt; window.offset(), offset, asked);
+            holds!(rt; window.held() <= 524_288);
             if let Some(place) = shown {
                 let byte = window.bytes().get(place).copied();
                 let expected = (offset.saturating_add(place as u64) % 251) as u8;
-                assert_eq!(rt; byte, Some(expected), "{asked:?}");
+                same!(rt; byte, Some(expected), asked);
             }
         }
-        assert!(rt; window.bytes().is_empty());
-        assert_eq!(rt; window.file(), 7);
-        assert!(rt; !window.failed());
+        holds!(rt; window.bytes().is_empty());
+        same!(rt; window.file(), 7);
+        holds!(rt; !window.failed());
     }
     Ok(())
 }
@@ -191,10 +192,10 @@ fn always_memory_a_window_shows_the_next_bytes_or_the_end(rt: HostRuntime) -> Re
 fn always_memory_a_window_shows_what_was_read(rt: HostRuntime) -> Result<(), Fail> {
     let pieces = Pieces::new(counted(rt.alloc(), 10)?, 4, None);
     let mut window = Window::new(rt.alloc(), pieces, 3);
-    assert!(rt; !window.shows(1));
-    assert!(rt; need(&mut window, 3)?);
-    assert!(rt; window.shows(4));
-    assert!(rt; !window.shows(5));
+    holds!(rt; !window.shows(1));
+    holds!(rt; need(&mut window, 3)?);
+    holds!(rt; window.shows(4));
+    holds!(rt; !window.shows(5));
     Ok(())
 }
 
@@ -214,13 +215,13 @@ fn a_window_that_failed_answers_so_again(rt: HostRuntime) -> Result<(), Fail> {
         // A look at the first 4 bytes stands at 0; a skip stands where it has come to.
         let offset = if failing <= 4 { 0 } else { failing - 1 };
         let fault = Fault::Read { file: 3, offset };
-        assert_eq!(rt; walk(&mut window), Err(fault));
-        assert!(rt; window.failed());
-        assert_eq!(rt; window.need(0), Err(fault));
-        assert_eq!(rt; skip(&mut window, 1), Err(fault));
+        same!(rt; walk(&mut window), Err(fault));
+        holds!(rt; window.failed());
+        same!(rt; window.need(0), Err(fault));
+        same!(rt; skip(&mut window, 1), Err(fault));
     }
     let pieces = Pieces::new(counted(rt.alloc(), 10)?, 1, Some(11));
-    assert_eq!(rt; walk(&mut Window::new(rt.alloc(), pieces, 3)), Ok(true));
+    same!(rt; walk(&mut Window::new(rt.alloc(), pieces, 3)), Ok(true));
     Ok(())
 }
 
@@ -229,14 +230,14 @@ fn a_writer_that_fails_has_taken_a_prefix(rt: HostRuntime) -> Result<(), Fail> {
     let text = b"0123456789";
     for room in 0..10 {
         let mut writer = Room::new(Vec::with_capacity(rt.alloc(), room)?);
-        assert_eq!(rt; put_all(&mut writer, text), Err(Fault::Write));
-        assert!(rt; writer.failed());
-        assert_eq!(rt; writer.bytes().len(), room);
-        assert!(rt; text.starts_with(writer.bytes()));
+        same!(rt; put_all(&mut writer, text), Err(Fault::Write));
+        holds!(rt; writer.failed());
+        same!(rt; writer.bytes().len(), room);
+        holds!(rt; text.starts_with(writer.bytes()));
     }
     let mut writer = Room::new(Vec::with_capacity(rt.alloc(), 10)?);
-    assert_eq!(rt; put_all(&mut writer, text), Ok(()));
-    assert_eq!(rt; writer.bytes(), text.as_slice());
+    same!(rt; put_all(&mut writer, text), Ok(()));
+    same!(rt; writer.bytes(), text.as_slice());
     Ok(())
 }
 
@@ -264,21 +265,21 @@ impl Write for Full {
 fn a_writer_that_takes_nothing_has_failed(rt: HostRuntime) {
     for left in 0..10 {
         let mut writer = Tracked::new(Full { left });
-        assert_eq!(rt; put_all(&mut writer, b"0123456789"), Err(Fault::Write));
-        assert!(rt; writer.failed());
+        same!(rt; put_all(&mut writer, b"0123456789"), Err(Fault::Write));
+        holds!(rt; writer.failed());
     }
     let mut writer = Tracked::new(Full { left: 10 });
-    assert_eq!(rt; put_all(&mut writer, b"0123456789"), Ok(()));
-    assert!(rt; !writer.failed());
+    same!(rt; put_all(&mut writer, b"0123456789"), Ok(()));
+    holds!(rt; !writer.failed());
 }
 
 #[test]
 fn a_standard_reader_is_read_to_its_end(rt: HostRuntime) -> Result<(), Fail> {
     let bytes = b"0123456789";
     let mut window = Window::new(rt.alloc(), Tracked::new(bytes.as_slice()), 1);
-    assert!(rt; need(&mut window, 10)?);
-    assert_eq!(rt; window.bytes(), bytes.as_slice());
-    assert!(rt; !need(&mut window, 11)?);
+    holds!(rt; need(&mut window, 10)?);
+    same!(rt; window.bytes(), bytes.as_slice());
+    holds!(rt; !need(&mut window, 11)?);
     Ok(())
 }
 
@@ -288,11 +289,11 @@ fn a_window_reads_no_further(rt: HostRuntime) -> Result<(), Fail> {
     for n in 1..=9 {
         let pieces = Pieces::new(counted(rt.alloc(), 10)?, 1, Some(n as u64 + 1));
         let mut window = Window::new(rt.alloc(), pieces, 3);
-        assert_eq!(rt; need(&mut window, n), Ok(true));
-        assert_eq!(rt; window.bytes().len(), n);
-        assert_eq!(rt; need(&mut window, n), Ok(true));
+        same!(rt; need(&mut window, n), Ok(true));
+        same!(rt; window.bytes().len(), n);
+        same!(rt; need(&mut window, n), Ok(true));
         let fault = Fault::Read { file: 3, offset: 0 };
-        assert_eq!(rt; need(&mut window, n + 1), Err(fault));
+        same!(rt; need(&mut window, n + 1), Err(fault));
     }
     Ok(())
 }
@@ -344,11 +345,11 @@ fn an_error_is_told_at_once(rt: HostRuntime) {
         };
         let mut device = Tracked::new(inner);
         let mut buffer = [0; 4];
-        assert_eq!(rt; device.take(&mut buffer), Err(Broken));
-        assert!(rt; device.failed());
-        assert_eq!(rt; device.give(b"0123"), Err(Broken));
+        same!(rt; device.take(&mut buffer), Err(Broken));
+        holds!(rt; device.failed());
+        same!(rt; device.give(b"0123"), Err(Broken));
         let inner = device.into_inner();
-        assert_eq!(rt; inner.reads, 1);
-        assert_eq!(rt; inner.writes, 1);
+        same!(rt; inner.reads, 1);
+        same!(rt; inner.writes, 1);
     }
 }

@@ -1,6 +1,7 @@
 //! Headers field by field, the seven steps at their edges, ports and checksums.
 mod vectors;
 
+use crate::checks::{holds, same};
 use crate::ip::vectors::{
     CHECKSUMS, FIRST_FRAGMENT, FIRST_FRAGMENT_AGAIN, JOINED_HEADER, LAST_FRAGMENT, MIDDLE_FRAGMENT,
     PADDED_ANSWER, PADDED_OVERLONG, PADDED_PACKET, TCP_PACKET, WHOLE_PACKET,
@@ -66,12 +67,12 @@ fn header_fields(rt: HostRuntime) {
         protocol: 0x84,
         identification: 0x1234,
     };
-    assert_eq!(rt; header.key(), key);
-    assert_eq!(rt; header.service(), 0xb1);
-    assert_eq!(rt; header.time_to_live(), 0x3f);
-    assert_eq!(rt; header.data_length(), 8);
-    assert_eq!(rt; header.fragment(), None);
-    assert!(rt; held == [0xa0, 0xa1, 0xa2, 0xa3, 0xa4, 0xa5, 0xa6, 0xa7].as_slice());
+    same!(rt; header.key(), key);
+    same!(rt; header.service(), 0xb1);
+    same!(rt; header.time_to_live(), 0x3f);
+    same!(rt; header.data_length(), 8);
+    same!(rt; header.fragment(), None);
+    holds!(rt; held == [0xa0, 0xa1, 0xa2, 0xa3, 0xa4, 0xa5, 0xa6, 0xa7].as_slice());
 }
 
 #[test]
@@ -82,11 +83,11 @@ fn padding_is_no_data(rt: HostRuntime) {
         (PADDED_OVERLONG, 3, Transport::Bad),
     ] {
         let (header, held) = header_of(&rt, &packet);
-        assert_eq!(rt; header.key().identification, identification);
-        assert_eq!(rt; header.data_length(), 10);
-        assert_eq!(rt; header.fragment(), None);
-        assert_eq!(rt; held.len(), 10);
-        assert_eq!(rt; transport(header.key().protocol, held, 10), ports);
+        same!(rt; header.key().identification, identification);
+        same!(rt; header.data_length(), 10);
+        same!(rt; header.fragment(), None);
+        same!(rt; held.len(), 10);
+        same!(rt; transport(header.key().protocol, held, 10), ports);
     }
 }
 
@@ -104,10 +105,10 @@ fn fragments(rt: HostRuntime) {
             length: 8,
             more,
         };
-        assert_eq!(rt; header.fragment(), Some(piece));
-        assert_eq!(rt; header.key().identification, 7);
+        same!(rt; header.fragment(), Some(piece));
+        same!(rt; header.key().identification, 7);
         let (_, behind) = packet.split_at(20);
-        assert!(rt; held == behind);
+        holds!(rt; held == behind);
     }
 }
 
@@ -161,12 +162,12 @@ fn steps_at_their_edges(rt: HostRuntime) {
         ),
     ] {
         let packet = altered(front, total, flags);
-        assert_eq!(rt; class_of(&packet, captured_whole), class, "{name}");
+        same!(rt; class_of(&packet, captured_whole), class, name);
     }
     let nineteen = front(&WHOLE_PACKET, 19);
-    assert_eq!(rt; class_of(nineteen, true), Class::Bad);
-    assert_eq!(rt; class_of(nineteen, false), Class::Cut);
-    assert_eq!(rt; class_of(&[0x60], true), Class::Bad);
+    same!(rt; class_of(nineteen, true), Class::Bad);
+    same!(rt; class_of(nineteen, false), Class::Cut);
+    same!(rt; class_of(&[0x60], true), Class::Bad);
 }
 
 // A frame of 1,514 bytes captured to 54 and to 53: 40 and 39 bytes of its packet.
@@ -175,11 +176,11 @@ fn short_capture(rt: HostRuntime) {
     for (captured, ports) in [(40, Transport::Ports(1000, 2000)), (39, Transport::Cut)] {
         match Header::read(front(&TCP_PACKET, captured), false) {
             HeaderOr::Header(header, held) => {
-                assert_eq!(rt; header.data_length(), 1480);
-                assert_eq!(rt; held.len() + 20, captured);
-                assert_eq!(rt; transport(header.key().protocol, held, 1480), ports);
+                same!(rt; header.data_length(), 1480);
+                same!(rt; held.len() + 20, captured);
+                same!(rt; transport(header.key().protocol, held, 1480), ports);
             }
-            _ => assert!(rt; false),
+            _ => holds!(rt; false),
         }
     }
 }
@@ -197,13 +198,13 @@ fn udp_and_other_ports(rt: HostRuntime) {
         (10, 7, 7, Transport::Bad),
     ] {
         let bytes = [0x03, 0xe8, 0x07, 0xd0, 0x00, size, 0x00, 0x00, 0x68, 0x69];
-        assert_eq!(rt;
+        same!(rt;
             transport(17, front(&bytes, captured), length),
             answer,
-            "{size} {captured} {length}"
+            (size, captured, length)
         );
     }
-    assert_eq!(rt; transport(1, &[], 0), Transport::NoPorts);
+    same!(rt; transport(1, &[], 0), Transport::NoPorts);
 }
 
 #[test]
@@ -220,10 +221,10 @@ fn tcp_ports(rt: HostRuntime) {
         let bytes = [
             0x03, 0xe8, 0x07, 0xd0, 0, 0, 0, 1, 0, 0, 0, 0, words, 0x10, 0, 0, 0, 0, 0, 0,
         ];
-        assert_eq!(rt;
+        same!(rt;
             transport(6, front(&bytes, captured), length),
             answer,
-            "{words} {captured} {length}"
+            (words, captured, length)
         );
     }
 }
@@ -232,25 +233,25 @@ fn tcp_ports(rt: HostRuntime) {
 fn checksums(rt: HostRuntime) {
     checksum_law();
     for (header, checksum) in CHECKSUMS {
-        assert_eq!(rt; header_checksum(&header), checksum);
+        same!(rt; header_checksum(&header), checksum);
     }
 }
 
 #[test]
 fn written_headers(rt: HostRuntime) {
     let (fragment, _) = header_of(&rt, &FIRST_FRAGMENT);
-    assert_eq!(rt; fragment.to_bytes(24), JOINED_HEADER);
+    same!(rt; fragment.to_bytes(24), JOINED_HEADER);
     let (whole, _) = header_of(&rt, &WHOLE_PACKET);
     let longest = whole.to_bytes(65_515);
-    assert_eq!(rt; header_checksum(&longest), 0);
+    same!(rt; header_checksum(&longest), 0);
     match Header::read(&longest, false) {
         HeaderOr::Header(header, _) => {
-            assert_eq!(rt; header.key(), whole.key());
-            assert_eq!(rt; header.service(), whole.service());
-            assert_eq!(rt; header.time_to_live(), whole.time_to_live());
-            assert_eq!(rt; header.data_length(), 65_515);
-            assert_eq!(rt; header.fragment(), None);
+            same!(rt; header.key(), whole.key());
+            same!(rt; header.service(), whole.service());
+            same!(rt; header.time_to_live(), whole.time_to_live());
+            same!(rt; header.data_length(), 65_515);
+            same!(rt; header.fragment(), None);
         }
-        _ => assert!(rt; false),
+        _ => holds!(rt; false),
     }
 }

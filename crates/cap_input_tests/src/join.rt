@@ -1,9 +1,11 @@
 //! Fragments of one datagram and of many, made by hand from the fields of their headers.
+ghost use Rattle.std.specs.Prelude.{◌≤◌};
 
+use crate::checks::{holds, same};
 use crate::runs::{DATA, FRAGMENTS, Run};
 use cap_ip::Key;
 use cap_join::{Datagram, JoinFault, Put, places_law, worked_rows};
-use std::alloc::Global;
+use std::alloc::{AllocError, Global};
 use std::process::Abort;
 use std::test::Fail;
 
@@ -79,25 +81,25 @@ fn overlap_map(rt: HostRuntime) -> Result<(), Fail> {
         false,
         &[0xd0, 0xd1, 0xd2, 0xd3, 0xd4, 0xd5, 0xd6, 0xd7],
     )?;
-    assert!(rt; is_kept(run.put(&rt, None, &middle)));
-    assert_eq!(rt; run.joiner.held_bytes(), 16);
-    assert!(rt; is_kept(run.put(&rt, None, &short)));
-    assert_eq!(rt; run.joiner.held_bytes(), 24);
-    assert!(rt; is_kept(run.put(&rt, None, &last)));
-    assert_eq!(rt; run.joiner.held_bytes(), 32);
-    assert_eq!(rt; run.joiner.open_count(), 1);
+    holds!(rt; is_kept(run.put(&rt, None, &middle)));
+    same!(rt; run.joiner.held_bytes(), 16);
+    holds!(rt; is_kept(run.put(&rt, None, &short)));
+    same!(rt; run.joiner.held_bytes(), 24);
+    holds!(rt; is_kept(run.put(&rt, None, &last)));
+    same!(rt; run.joiner.held_bytes(), 32);
+    same!(rt; run.joiner.open_count(), 1);
     let datagram = joined(&rt, run.put(&rt, None, &front));
     let expected = [
         0x03, 0xe8, 0x07, 0xd0, 0, 0x20, 0, 0, 0xa0, 0xa1, 0xa2, 0xa3, 0xa4, 0xa5, 0xa6, 0xa7,
         0xc0, 0xc1, 0xc2, 0, 0, 0, 0, 0, 0xd0, 0xd1, 0xd2, 0xd3, 0xd4, 0xd5, 0xd6, 0xd7,
     ];
-    assert!(rt; datagram.payload.as_slice() == expected.as_slice());
-    assert_eq!(rt; datagram.frames, 4);
-    assert_eq!(rt; datagram.bytes, 28 + 23 + 28 + 28);
-    assert!(rt; datagram.first.is_none());
-    assert!(rt; datagram.last.is_none());
-    assert_eq!(rt; run.joiner.open_count(), 0);
-    assert_eq!(rt; run.joiner.held_bytes(), 0);
+    holds!(rt; datagram.payload.as_slice() == expected.as_slice());
+    same!(rt; datagram.frames, 4);
+    same!(rt; datagram.bytes, 28 + 23 + 28 + 28);
+    holds!(rt; datagram.first.is_none());
+    holds!(rt; datagram.last.is_none());
+    same!(rt; run.joiner.open_count(), 0);
+    same!(rt; run.joiner.held_bytes(), 0);
     Ok(())
 }
 
@@ -105,16 +107,16 @@ fn overlap_map(rt: HostRuntime) -> Result<(), Fail> {
 fn overlapped_fragments(rt: HostRuntime) -> Result<(), Fail> {
     let mut run = Run::new(rt.alloc());
     let [last, front, again, middle] = FRAGMENTS;
-    assert!(rt; is_kept(run.put(&rt, Some(SECOND), &last)));
-    assert!(rt; is_kept(run.put(&rt, Some(2 * SECOND), &front)));
-    assert!(rt; is_kept(run.put(&rt, Some(3 * SECOND), &again)));
+    holds!(rt; is_kept(run.put(&rt, Some(SECOND), &last)));
+    holds!(rt; is_kept(run.put(&rt, Some(2 * SECOND), &front)));
+    holds!(rt; is_kept(run.put(&rt, Some(3 * SECOND), &again)));
     let datagram = joined(&rt, run.put(&rt, Some(4 * SECOND), &middle));
-    assert!(rt; datagram.payload.as_slice() == DATA.as_slice());
-    assert_eq!(rt; datagram.header.key(), key(7));
-    assert_eq!(rt; datagram.frames, 4);
-    assert_eq!(rt; datagram.bytes, 112);
-    assert_eq!(rt; datagram.first.map(|frame| frame.place), Some(0));
-    assert_eq!(rt; datagram.last.map(|frame| frame.place), Some(3));
+    holds!(rt; datagram.payload.as_slice() == DATA.as_slice());
+    same!(rt; datagram.header.key(), key(7));
+    same!(rt; datagram.frames, 4);
+    same!(rt; datagram.bytes, 112);
+    same!(rt; datagram.first.map(|frame| frame.place), Some(0));
+    same!(rt; datagram.last.map(|frame| frame.place), Some(3));
     Ok(())
 }
 
@@ -138,18 +140,18 @@ fn always_memory_thirty_seconds(rt: HostRuntime) -> Result<(), Fail> {
     let (last, front) = two_fragments(rt.alloc())?;
     for (first, second, is_joined) in THIRTY_SECONDS {
         let mut run = Run::new(rt.alloc());
-        assert!(rt; is_kept(run.put(&rt, first, &last)));
+        holds!(rt; is_kept(run.put(&rt, first, &last)));
         match run.put(&rt, Some(second), &front)? {
             Put::Joined(datagram) => {
-                assert_eq!(rt; datagram.frames, 2);
-                assert_eq!(rt; datagram.payload.len(), 16);
-                assert!(rt; is_joined, "{second}");
+                same!(rt; datagram.frames, 2);
+                same!(rt; datagram.payload.len(), 16);
+                holds!(rt; is_joined, second);
             }
             Put::Kept => {
-                assert_eq!(rt; run.joiner.open_count(), 1);
-                assert_eq!(rt; run.joiner.held_bytes(), 8);
-                assert_eq!(rt; run.joiner.given_up(), 0);
-                assert!(rt; !is_joined, "{second}");
+                same!(rt; run.joiner.open_count(), 1);
+                same!(rt; run.joiner.held_bytes(), 8);
+                same!(rt; run.joiner.given_up(), 0);
+                holds!(rt; !is_joined, second);
             }
         }
     }
@@ -160,12 +162,12 @@ fn always_memory_thirty_seconds(rt: HostRuntime) -> Result<(), Fail> {
 fn a_whole_datagram_flushes(rt: HostRuntime) -> Result<(), Fail> {
     let (last, front) = two_fragments(rt.alloc())?;
     let mut run = Run::new(rt.alloc());
-    assert!(rt; is_kept(run.put(&rt, Some(SECOND), &last)));
+    holds!(rt; is_kept(run.put(&rt, Some(SECOND), &last)));
     run.joiner.flush(key(9));
-    assert_eq!(rt; run.joiner.open_count(), 0);
-    assert!(rt; is_kept(run.put(&rt, Some(3 * SECOND), &front)));
+    same!(rt; run.joiner.open_count(), 0);
+    holds!(rt; is_kept(run.put(&rt, Some(3 * SECOND), &front)));
     run.joiner.flush(key(8));
-    assert_eq!(rt; run.joiner.open_count(), 1);
+    same!(rt; run.joiner.open_count(), 1);
     Ok(())
 }
 
@@ -180,7 +182,7 @@ fn many_groups(rt: &impl Abort, alloc: Global, count: u16) -> Result<Run, Fail> 
             true,
             &[0x03, 0xe8, 0x07, 0xd0, 0, 0x10, 0, 0],
         )?;
-        assert!(rt; is_kept(run.put(rt, Some(SECOND), &front)));
+        holds!(rt; is_kept(run.put(rt, Some(SECOND), &front)));
     }
     Ok(run)
 }
@@ -195,32 +197,42 @@ fn open_limit(rt: HostRuntime) -> Result<(), Fail> {
         &[0x03, 0xe8, 0x07, 0xd0, 0, 0x10, 0, 0],
     )?;
     let mut run = many_groups(&rt, rt.alloc(), 1024)?;
-    assert_eq!(rt; run.joiner.open_count(), 1024);
-    assert_eq!(rt; run.joiner.given_up(), 0);
-    assert!(rt; is_kept(run.put(&rt, Some(31 * SECOND), &next)));
-    assert_eq!(rt; run.joiner.given_up(), 1);
-    assert_eq!(rt; run.joiner.open_count(), 1024);
+    same!(rt; run.joiner.open_count(), 1024);
+    same!(rt; run.joiner.given_up(), 0);
+    holds!(rt; is_kept(run.put(&rt, Some(31 * SECOND), &next)));
+    same!(rt; run.joiner.given_up(), 1);
+    same!(rt; run.joiner.open_count(), 1024);
 
     let mut late = many_groups(&rt, rt.alloc(), 1024)?;
-    assert!(rt; is_kept(late.put(&rt, Some(31 * SECOND + 1), &next)));
-    assert_eq!(rt; late.joiner.given_up(), 0);
-    assert_eq!(rt; late.joiner.open_count(), 1);
+    holds!(rt; is_kept(late.put(&rt, Some(31 * SECOND + 1), &next)));
+    same!(rt; late.joiner.given_up(), 0);
+    same!(rt; late.joiner.open_count(), 1);
+    Ok(())
+}
+
+// Puts every other one of 8,188 blocks, from the first or the second on, none of which completes the datagram.
+fn put_half(
+    rt: &impl Abort,
+    alloc: Global,
+    run: &mut Run,
+    first: u16,
+    data: &[u8],
+) -> Result<(), Fail>
+    requires { first ≤ 1 }
+{
+    for pair in 0..4_094 {
+        let piece = packet(alloc, 5, 2 * pair + first, true, data)?;
+        holds!(rt; is_kept(run.put(rt, None, &piece)));
+    }
+    same!(rt; run.joiner.held_bytes(), 65_504);
     Ok(())
 }
 
 #[test]
 fn every_other_block(rt: HostRuntime) -> Result<(), Fail> {
     let mut run = Run::new(rt.alloc());
-    for pair in 0..4_094 {
-        let odd = packet(rt.alloc(), 5, 2 * pair + 1, true, &[1, 1, 1, 1, 1, 1, 1, 1])?;
-        assert!(rt; is_kept(run.put(&rt, None, &odd)));
-    }
-    assert_eq!(rt; run.joiner.held_bytes(), 65_504);
-    for pair in 0..4_094 {
-        let even = packet(rt.alloc(), 5, 2 * pair, true, &[2, 2, 2, 2, 2, 2, 2, 2])?;
-        assert!(rt; is_kept(run.put(&rt, None, &even)));
-    }
-    assert_eq!(rt; run.joiner.held_bytes(), 65_504);
+    put_half(&rt, rt.alloc(), &mut run, 1, &[1, 1, 1, 1, 1, 1, 1, 1])?;
+    put_half(&rt, rt.alloc(), &mut run, 0, &[2, 2, 2, 2, 2, 2, 2, 2])?;
     let last = packet(
         rt.alloc(),
         5,
@@ -229,11 +241,11 @@ fn every_other_block(rt: HostRuntime) -> Result<(), Fail> {
         &[3, 3, 3, 3, 3, 3, 3, 3, 3, 3, 3],
     )?;
     let datagram = joined(&rt, run.put(&rt, None, &last));
-    assert_eq!(rt; datagram.payload.len(), 65_515);
-    assert_eq!(rt; datagram.frames, 8_189);
-    assert_eq!(rt; datagram.payload[0], 2);
-    assert_eq!(rt; datagram.payload[8], 1);
-    assert_eq!(rt; datagram.payload[65_504], 3);
+    same!(rt; datagram.payload.len(), 65_515);
+    same!(rt; datagram.frames, 8_189);
+    same!(rt; datagram.payload[0], 2);
+    same!(rt; datagram.payload[8], 1);
+    same!(rt; datagram.payload[65_504], 3);
     Ok(())
 }
 
@@ -246,6 +258,17 @@ fn block_data(block: u16) -> [u8; 8] {
     [high, low, 1, 2, 3, 4, 5, 6]
 }
 
+// A joined datagram has the data of all blocks.
+fn has_all_blocks(rt: &impl Abort, alloc: Global, datagram: &Datagram) -> Result<(), AllocError> {
+    let mut expected = Vec::new(alloc);
+    for block in 0..=LAST_BLOCK {
+        expected.extend_from_slice(&block_data(block))?;
+    }
+    holds!(rt; datagram.payload.as_slice() == expected.as_slice());
+    same!(rt; datagram.frames, 8_189);
+    Ok(())
+}
+
 // Puts the 8,189 blocks of a datagram in an order: the last of them completes it, and it has the data of all.
 fn joins_in(rt: &impl Abort, alloc: Global, order: &[u16]) -> Result<(), Fail> {
     let mut run = Run::new(alloc);
@@ -253,21 +276,16 @@ fn joins_in(rt: &impl Abort, alloc: Global, order: &[u16]) -> Result<(), Fail> {
     for &block in order {
         let piece = packet(alloc, 5, block, block != LAST_BLOCK, &block_data(block))?;
         match run.put(rt, Some(SECOND), &piece)? {
-            Put::Kept => assert_eq!(rt; run.joiner.open_count(), 1),
+            Put::Kept => same!(rt; run.joiner.open_count(), 1),
             Put::Joined(datagram) => {
-                let mut expected = Vec::new(alloc);
-                for block in 0..=LAST_BLOCK {
-                    expected.extend_from_slice(&block_data(block))?;
-                }
-                assert!(rt; datagram.payload.as_slice() == expected.as_slice());
-                assert_eq!(rt; datagram.frames, 8_189);
-                assert_eq!(rt; run.joiner.open_count(), 0);
+                has_all_blocks(rt, alloc, &datagram)?;
+                same!(rt; run.joiner.open_count(), 0);
                 done = true;
-                assert_eq!(rt; run.place, 8_189);
+                same!(rt; run.place, 8_189);
             }
         }
     }
-    assert!(rt; done);
+    holds!(rt; done);
     Ok(())
 }
 
@@ -305,27 +323,36 @@ fn blocks_in_any_order(rt: HostRuntime) -> Result<(), Fail> {
     Ok(())
 }
 
+// The clock of a fragment that begins a datagram, its identification, and how many groups are open after it.
+type Front = (Option<u64>, u16, usize);
+
+// A clock that falls: the second group is too old for the last fragment, and the first isn't.
+const FALLING: [Front; 4] = [
+    (Some(40 * SECOND), 1, 1),
+    (Some(SECOND), 2, 2),
+    (Some(31 * SECOND), 3, 3),
+    (Some(32 * SECOND), 4, 3),
+];
+
+// A group without a clock before groups that grow old one by one.
+const UNTIMED_FIRST: [Front; 5] = [
+    (None, 1, 1),
+    (Some(SECOND), 2, 2),
+    (Some(2 * SECOND), 3, 3),
+    (Some(31 * SECOND + 1), 4, 3),
+    (Some(32 * SECOND + 1), 4, 2),
+];
+
 #[test]
 fn old_groups_in_any_order_of_clocks(rt: HostRuntime) -> Result<(), Fail> {
-    let front = |identification: u16| packet(rt.alloc(), identification, 0, true, &block_data(0));
-    // a clock that falls: the second group is too old, and the first isn't
-    let mut run = Run::new(rt.alloc());
-    assert!(rt; is_kept(run.put(&rt, Some(40 * SECOND), &front(1)?)));
-    assert!(rt; is_kept(run.put(&rt, Some(SECOND), &front(2)?)));
-    assert!(rt; is_kept(run.put(&rt, Some(31 * SECOND), &front(3)?)));
-    assert_eq!(rt; run.joiner.open_count(), 3);
-    assert!(rt; is_kept(run.put(&rt, Some(32 * SECOND), &front(4)?)));
-    assert_eq!(rt; run.joiner.open_count(), 3);
-
-    // a group without a clock before groups that grow old one by one
-    let mut late = Run::new(rt.alloc());
-    assert!(rt; is_kept(late.put(&rt, None, &front(1)?)));
-    assert!(rt; is_kept(late.put(&rt, Some(SECOND), &front(2)?)));
-    assert!(rt; is_kept(late.put(&rt, Some(2 * SECOND), &front(3)?)));
-    assert!(rt; is_kept(late.put(&rt, Some(31 * SECOND + 1), &front(4)?)));
-    assert_eq!(rt; late.joiner.open_count(), 3);
-    assert!(rt; is_kept(late.put(&rt, Some(32 * SECOND + 1), &front(4)?)));
-    assert_eq!(rt; late.joiner.open_count(), 2);
+    for fronts in [FALLING.as_slice(), UNTIMED_FIRST.as_slice()] {
+        let mut run = Run::new(rt.alloc());
+        for (clock, identification, open) in fronts {
+            let front = packet(rt.alloc(), *identification, 0, true, &block_data(0))?;
+            holds!(rt; is_kept(run.put(&rt, *clock, &front)), *identification);
+            same!(rt; run.joiner.open_count(), *open, *identification);
+        }
+    }
     Ok(())
 }
 
@@ -335,8 +362,8 @@ fn put_again(rt: &impl Abort, run: &mut Run, clock: u64, packet: &[u8]) -> Resul
     let held = run.joiner.held_bytes();
     match run.put(rt, Some(clock), packet) {
         Err(JoinFault::Memory) => {
-            assert_eq!(rt; run.joiner.open_count(), open);
-            assert_eq!(rt; run.joiner.held_bytes(), held);
+            same!(rt; run.joiner.open_count(), open);
+            same!(rt; run.joiner.held_bytes(), held);
             run.put(rt, Some(clock), packet)
         }
         answer => answer,
@@ -354,11 +381,11 @@ fn a_refused_growth_leaves_the_joiner(rt: HostRuntime) -> Result<(), Fail> {
         0x07, 0xd0, 0, 0x10, 0, 0,
     ];
     let mut run = Run::new(rt.alloc());
-    assert!(rt; is_kept(put_again(&rt, &mut run, SECOND, last.as_slice())));
-    assert_eq!(rt; run.joiner.open_count(), 1);
+    holds!(rt; is_kept(put_again(&rt, &mut run, SECOND, last.as_slice())));
+    same!(rt; run.joiner.open_count(), 1);
     let datagram = joined(&rt, put_again(&rt, &mut run, 31 * SECOND, front.as_slice()));
-    assert_eq!(rt; datagram.frames, 2);
-    assert_eq!(rt; datagram.payload.len(), 16);
+    same!(rt; datagram.frames, 2);
+    same!(rt; datagram.payload.len(), 16);
     Ok(())
 }
 

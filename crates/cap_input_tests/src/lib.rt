@@ -9,6 +9,8 @@ mod blocks;
 #[cfg(test)]
 mod bytes;
 #[cfg(test)]
+mod checks;
+#[cfg(test)]
 mod ip;
 #[cfg(test)]
 mod join;

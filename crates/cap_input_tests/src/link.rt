@@ -1,6 +1,7 @@
 //! Frames of each link type and what they carry.
 mod vectors;
 
+use crate::checks::{holds, same};
 use crate::link::vectors::{
     CAPTURED_FRAME, COOKED_2_FRAME, COOKED_2_TAGGED_FRAME, COOKED_FRAME, FRAGMENT, IPV6_FRAME,
     LENGTH_FRAME, PACKET, TAG_FRAME, TAGGED_FRAME,
@@ -44,17 +45,17 @@ const REFUSED: [(u16, &[u8], usize, u32, Network); 13] = [
 fn carries_ipv4_or_none(rt: HostRuntime) {
     for (link, frame, original, before, length) in CARRIED {
         let packet = frame.get(before..);
-        assert_eq!(rt; packet.map(|bytes| bytes.len()), Some(length));
-        assert!(rt;
+        same!(rt; packet.map(|bytes| bytes.len()), Some(length));
+        holds!(rt;
             packet.map(Network::Ipv4) == Some(network(link, frame, original)),
-            "link {link}"
+            link
         );
     }
     for (link, frame, captured, original, class) in REFUSED {
         let seen = frame
             .get(..captured)
             .map(|bytes| network(link, bytes, original));
-        assert!(rt; seen == Some(class), "link {link}");
+        holds!(rt; seen == Some(class), link);
     }
 }
 
@@ -68,6 +69,6 @@ fn follows_any_number_of_tags(rt: HostRuntime) -> Result<(), Fail> {
     }
     frame.extend_from_slice(&[0x08, 0x00])?;
     frame.extend_from_slice(&FRAGMENT)?;
-    assert!(rt; network(1, frame.as_slice(), 4138) == Network::Ipv4(&FRAGMENT));
+    holds!(rt; network(1, frame.as_slice(), 4138) == Network::Ipv4(&FRAGMENT));
     Ok(())
 }

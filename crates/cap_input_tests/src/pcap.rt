@@ -2,6 +2,7 @@
 //! hand from draft-ietf-opsawg-pcap.
 ghost use Rattle.std.specs.Prelude.{◌≤◌};
 
+use crate::checks::{holds, same};
 use crate::vectors::{CARRY_PCAP, refused};
 use cap_bytes::{Device, Fault, Order, Pieces, Room, Rule, Source, Tail, Window};
 use cap_pcap::{PcapHeader, PcapReader, Record, RecordTime, put_header, put_record};
@@ -82,12 +83,12 @@ fn always_memory_six_spellings(rt: HostRuntime) -> Result<(), Fail> {
         };
         for piece in [1, 4_096] {
             let mut reader = reader(rt.alloc(), &bytes, piece, Tail::Refuse)?;
-            assert_eq!(rt; reader.header()?, wanted);
-            assert_eq!(rt; reader.next_record()?, Some(record));
-            assert_eq!(rt; reader.header()?, wanted);
-            assert_eq!(rt; reader.next_record()?, None);
-            assert_eq!(rt; reader.next_record()?, None);
-            assert!(rt; !reader.was_cut());
+            same!(rt; reader.header()?, wanted);
+            same!(rt; reader.next_record()?, Some(record));
+            same!(rt; reader.header()?, wanted);
+            same!(rt; reader.next_record()?, None);
+            same!(rt; reader.next_record()?, None);
+            holds!(rt; !reader.was_cut());
         }
     }
     Ok(())
@@ -108,18 +109,18 @@ fn records_in_order(rt: HostRuntime) -> Result<(), Fail> {
             captured: 4,
             original: 4,
         };
-        assert_eq!(rt; reader.next_record()?, Some(record));
-        assert_eq!(rt; reader.frame(), [1, 2, 3, 4].as_slice());
+        same!(rt; reader.next_record()?, Some(record));
+        same!(rt; reader.frame(), [1, 2, 3, 4].as_slice());
         let record = Record {
             offset: 44,
             units: 3_000_005,
             captured: 2,
             original: 60,
         };
-        assert_eq!(rt; reader.next_record()?, Some(record));
-        assert_eq!(rt; reader.frame(), [0xfe, 0xff].as_slice());
-        assert_eq!(rt; reader.next_record()?, None);
-        assert!(rt; reader.was_cut());
+        same!(rt; reader.next_record()?, Some(record));
+        same!(rt; reader.frame(), [0xfe, 0xff].as_slice());
+        same!(rt; reader.next_record()?, None);
+        holds!(rt; reader.was_cut());
     }
     Ok(())
 }
@@ -130,26 +131,26 @@ fn always_memory_shown_records(rt: HostRuntime) -> Result<(), Fail> {
     let mut bytes = CARRY_PCAP.to_vec(rt.alloc())?;
     bytes.extend_from_slice(&[3, 0, 0, 0, 5, 0, 0, 0, 2, 0, 0, 0, 60, 0, 0, 0, 0xfe, 0xff])?;
     let mut reader = reader(rt.alloc(), &bytes, 4_096, Tail::Refuse)?;
-    assert_eq!(rt; reader.known(), None);
+    same!(rt; reader.known(), None);
     let header = reader.header()?;
-    assert_eq!(rt; reader.known(), Some(header));
+    same!(rt; reader.known(), Some(header));
     let record = Record {
         offset: 24,
         units: 2_500_000,
         captured: 4,
         original: 4,
     };
-    assert_eq!(rt; reader.take_shown(header), Some(record));
-    assert_eq!(rt; reader.frame(), [1, 2, 3, 4].as_slice());
+    same!(rt; reader.take_shown(header), Some(record));
+    same!(rt; reader.frame(), [1, 2, 3, 4].as_slice());
     let record = Record {
         offset: 44,
         units: 3_000_005,
         captured: 2,
         original: 60,
     };
-    assert_eq!(rt; reader.take_shown(header), Some(record));
-    assert_eq!(rt; reader.take_shown(header), None);
-    assert_eq!(rt; reader.next_record()?, None);
+    same!(rt; reader.take_shown(header), Some(record));
+    same!(rt; reader.take_shown(header), None);
+    same!(rt; reader.next_record()?, None);
     Ok(())
 }
 
@@ -170,9 +171,9 @@ const REFUSED: [(&[u8], Rule); 4] = [
 fn refused_files(rt: HostRuntime) -> Result<(), Fail> {
     for (bytes, rule) in REFUSED {
         let mut reader = reader(rt.alloc(), bytes, 1, Tail::Accept)?;
-        assert_eq!(rt; reader.header(), Err(refused(0, rule)));
-        assert_eq!(rt; reader.header(), Err(refused(0, rule)));
-        assert!(rt; !reader.was_cut());
+        same!(rt; reader.header(), Err(refused(0, rule)));
+        same!(rt; reader.header(), Err(refused(0, rule)));
+        holds!(rt; !reader.was_cut());
     }
     Ok(())
 }
@@ -199,7 +200,7 @@ fn written_files(rt: HostRuntime) -> Result<(), Fail> {
             fraction,
         };
         put_record(&mut room, order, time, 4, &[1, 2, 3, 4])?;
-        assert_eq!(rt; room.bytes(), bytes.as_slice());
+        same!(rt; room.bytes(), bytes.as_slice());
     }
     Ok(())
 }

@@ -2,6 +2,7 @@
 ghost use Rattle.std.specs.Prelude.{◌≤◌, ◌<ℤ◌, ◌^◌, pos, IfSome};
 ghost use Rattle.cap_time.specs.Stamp.{seconds_of};
 
+use crate::checks::holds;
 use cap_ip::{Header, HeaderOr};
 use cap_join::{Arrived, JoinFault, Joiner, Put, Stamped};
 use cap_time::{Interface, Resolution, Stamp};
@@ -89,8 +90,8 @@ impl Run {
         let Some(_) = header.fragment() else {
             panic!(rt; "no fragment");
         };
-        assert!(rt; self.place < 1_000_000);
-        assert!(rt; packet.len() < 100_000);
+        holds!(rt; self.place < 1_000_000);
+        holds!(rt; packet.len() < 100_000);
         let time = time_at(rt, clock);
         let stamped = Stamped {
             time,
@@ -109,7 +110,7 @@ impl Run {
         bytes: &'a [u8],
         whole: bool,
     ) -> Arrived<'a> {
-        assert!(rt; self.place < 1_000);
+        holds!(rt; self.place < 1_000);
         let stamped = Stamped {
             time: None,
             place: self.place,

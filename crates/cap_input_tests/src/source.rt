@@ -2,6 +2,7 @@
 //! draft-ietf-opsawg-pcap and draft-ietf-opsawg-pcapng.
 ghost use Rattle.std.specs.Prelude.{◌≡◌, ◌≤◌, [], ◌∷◌, Some};
 
+use crate::checks::{holds, same};
 use crate::vectors::{CARRY_PCAP, INTERFACE, OPTIONS_PCAPNG, PACKET, SECTION, last_of};
 use cap_bytes::{Fault, Pieces, Refusal, Rule, Tail};
 use cap_source::{Capture, Ending, Format, Head, Listed, Meta, PacketFeed, next_packet};
@@ -68,13 +69,13 @@ fn takes<F: PacketFeed>(
     meta: Meta,
     frame: &[u8],
 ) -> Result<(), Fault> {
-    assert!(rt; feed.has_packet()?);
-    assert!(rt; feed.shows_packet());
+    holds!(rt; feed.has_packet()?);
+    holds!(rt; feed.shows_packet());
     let head = feed.head()?;
-    assert_eq!(rt; head, Head::Packet(meta));
-    assert_eq!(rt; feed.head()?, head);
-    assert_eq!(rt; *feed.packet(), meta);
-    assert_eq!(rt; feed.frame(), frame);
+    same!(rt; head, Head::Packet(meta));
+    same!(rt; feed.head()?, head);
+    same!(rt; *feed.packet(), meta);
+    same!(rt; feed.frame(), frame);
     feed.pass();
     Ok(())
 }
@@ -96,12 +97,17 @@ fn refused(offset: u64, rule: Rule) -> Head {
     })
 }
 
+// What comes next is that, asked twice.
+fn answers_twice<F: PacketFeed>(rt: &impl Abort, feed: &mut F, head: Head) -> Result<(), Fault> {
+    same!(rt; feed.head()?, head);
+    same!(rt; feed.head()?, head);
+    Ok(())
+}
+
 // The file's first item is that, by one byte a read and by many.
 fn begins(rt: &impl Abort, alloc: Global, bytes: &[u8], head: Head) -> Result<(), Fault> {
     for piece in [1, 4_096] {
-        let mut feed = capture(alloc, bytes, piece, Tail::Refuse)?;
-        assert_eq!(rt; feed.head()?, head);
-        assert_eq!(rt; feed.head()?, head);
+        answers_twice(rt, &mut capture(alloc, bytes, piece, Tail::Refuse)?, head)?;
     }
     Ok(())
 }
@@ -110,18 +116,18 @@ fn begins(rt: &impl Abort, alloc: Global, bytes: &[u8], head: Head) -> Result<()
 fn always_memory_a_pcap_file(rt: HostRuntime) -> Result<(), Fail> {
     for piece in [1, 4_096] {
         let mut feed = capture(rt.alloc(), &CARRY_PCAP, piece, Tail::Refuse)?;
-        assert_eq!(rt; feed.first()?, Some(interface(&rt, 1, 262_144, 6, 0)));
+        same!(rt; feed.first()?, Some(interface(&rt, 1, 262_144, 6, 0)));
         takes(
             &rt,
             &mut feed,
             carried(&rt, 24, Format::Pcap),
             &[1, 2, 3, 4],
         )?;
-        assert!(rt; !feed.has_packet()?);
-        assert_eq!(rt; feed.head()?, Head::End);
+        holds!(rt; !feed.has_packet()?);
+        same!(rt; feed.head()?, Head::End);
         let held = feed.feed_held();
-        assert!(rt; held.window > 0);
-        assert_eq!(rt; held.interfaces, 0);
+        holds!(rt; held.window > 0);
+        same!(rt; held.interfaces, 0);
     }
     Ok(())
 }
@@ -131,9 +137,9 @@ fn always_memory_a_pcap_file(rt: HostRuntime) -> Result<(), Fail> {
 fn the_time_of_a_packet(rt: HostRuntime) {
     let halves = interface(&rt, 1, 0, 129, 0);
     let mut meta = carried(&rt, 24, Format::Pcap);
-    assert_eq!(rt; meta.time(), Some(Stamp::new(5, &halves)));
+    same!(rt; meta.time(), Some(Stamp::new(5, &halves)));
     meta.units = None;
-    assert_eq!(rt; meta.time(), None);
+    same!(rt; meta.time(), None);
 }
 
 // A little-endian section with a packet on interface 0, and a big-endian one.
@@ -161,9 +167,9 @@ fn two_sections(rt: HostRuntime) -> Result<(), Fail> {
             ..carried(&rt, 132, Format::Pcapng)
         };
         takes(&rt, &mut feed, second, &[1, 2, 3, 4])?;
-        assert_eq!(rt; feed.first()?, Some(interface(&rt, 1, 262_144, 6, 0)));
-        assert_eq!(rt; feed.head()?, Head::End);
-        assert_eq!(rt; feed.feed_held().interfaces, 1);
+        same!(rt; feed.first()?, Some(interface(&rt, 1, 262_144, 6, 0)));
+        same!(rt; feed.head()?, Head::End);
+        same!(rt; feed.feed_held().interfaces, 1);
     }
     Ok(())
 }
@@ -190,20 +196,18 @@ fn clocks(rt: HostRuntime) -> Result<(), Fail> {
         1, 0, 0, 0, 40, 0, 0, 0, 1, 0, 0, 0, 0, 0, 4, 0, 9, 0, 1, 0, 0x8a, 0, 0, 0, //
         9, 0, 1, 0, 0x14, 0, 0, 0, 0, 0, 9, 9, 40, 0, 0, 0,
     ];
-    let bytes = in_section(rt.alloc(), &[&negative, &PACKET])?;
-    let mut feed = capture(rt.alloc(), &bytes, 1, Tail::Refuse)?;
-    let meta = Meta {
-        interface: interface(&rt, 1, 262_144, 6, -1),
-        ..carried(&rt, 60, Format::Pcapng)
-    };
-    takes(&rt, &mut feed, meta, &[1, 2, 3, 4])?;
-    let bytes = in_section(rt.alloc(), &[&twice, &PACKET])?;
-    let mut feed = capture(rt.alloc(), &bytes, 1, Tail::Refuse)?;
-    let meta = Meta {
-        interface: interface(&rt, 1, 262_144, 0x8a, 0),
-        ..carried(&rt, 68, Format::Pcapng)
-    };
-    takes(&rt, &mut feed, meta, &[1, 2, 3, 4])?;
+    for (block, packet_at, code, offset) in [
+        (negative.as_slice(), 60, 6, -1),
+        (twice.as_slice(), 68, 0x8a, 0),
+    ] {
+        let bytes = in_section(rt.alloc(), &[block, &PACKET])?;
+        let mut feed = capture(rt.alloc(), &bytes, 1, Tail::Refuse)?;
+        let meta = Meta {
+            interface: interface(&rt, 1, 262_144, code, offset),
+            ..carried(&rt, packet_at, Format::Pcapng)
+        };
+        takes(&rt, &mut feed, meta, &[1, 2, 3, 4])?;
+    }
     Ok(())
 }
 
@@ -222,7 +226,7 @@ fn simple_packet(rt: HostRuntime) -> Result<(), Fail> {
         ..carried(&rt, 48, Format::Pcapng)
     };
     takes(&rt, &mut feed, meta, &[1, 2, 3, 4])?;
-    assert_eq!(rt; feed.head()?, Head::End);
+    same!(rt; feed.head()?, Head::End);
     Ok(())
 }
 
@@ -230,19 +234,19 @@ fn simple_packet(rt: HostRuntime) -> Result<(), Fail> {
 fn options_file(rt: HostRuntime) -> Result<(), Fail> {
     let pieces = Pieces::new(OPTIONS_PCAPNG.to_vec(rt.alloc())?, 1, None);
     let mut feed = Capture::new(rt.alloc(), pieces, 7, Tail::Refuse);
-    assert_eq!(rt;
+    same!(rt;
         feed.head()?,
         Head::Packet(carried(&rt, 96, Format::Pcapng))
     );
-    assert_eq!(rt; feed.frame(), [1, 2, 3, 4].as_slice());
+    same!(rt; feed.frame(), [1, 2, 3, 4].as_slice());
     feed.pass();
-    assert_eq!(rt; feed.head()?, Head::End);
+    same!(rt; feed.head()?, Head::End);
     let ending = Ending {
         format: Format::Pcapng,
         skipped: 1,
         was_cut: false,
     };
-    assert_eq!(rt; ended(&feed), ending);
+    same!(rt; ended(&feed), ending);
     Ok(())
 }
 
@@ -329,19 +333,25 @@ fn refused_files(rt: HostRuntime) -> Result<(), Fail> {
 
 // A rest that is cut is dropped if that is asked for.
 #[test]
-fn cut_rest(rt: HostRuntime) -> Result<(), Fail> {
+fn a_cut_rest_is_dropped(rt: HostRuntime) -> Result<(), Fail> {
     let pieces = Pieces::new(CARRY_PCAP.split_at(43).0.to_vec(rt.alloc())?, 1, None);
     let mut feed = Capture::new(rt.alloc(), pieces, 7, Tail::Accept);
-    assert_eq!(rt; feed.head()?, Head::End);
+    same!(rt; feed.head()?, Head::End);
     let ending = Ending {
         format: Format::Pcap,
         skipped: 0,
         was_cut: true,
     };
-    assert_eq!(rt; ended(&feed), ending);
+    same!(rt; ended(&feed), ending);
+    Ok(())
+}
+
+// And refused else, after the file's interface.
+#[test]
+fn a_cut_rest_is_refused(rt: HostRuntime) -> Result<(), Fail> {
     let mut feed = capture(rt.alloc(), CARRY_PCAP.split_at(43).0, 1, Tail::Refuse)?;
-    assert_eq!(rt; feed.first()?, Some(interface(&rt, 1, 262_144, 6, 0)));
-    assert_eq!(rt; feed.head()?, refused(24, Rule::Cut));
+    same!(rt; feed.first()?, Some(interface(&rt, 1, 262_144, 6, 0)));
+    same!(rt; feed.head()?, refused(24, Rule::Cut));
     Ok(())
 }
 
@@ -361,9 +371,9 @@ fn failing_reads(rt: HostRuntime) -> Result<(), Fail> {
         }
         let offset = last_of(&[0, 44, 96, 144, 168], call - 1) as u64;
         let fault = Err(Fault::Read { file: 7, offset });
-        assert_eq!(rt; feed.head(), fault, "{call}");
-        assert_eq!(rt; feed.head(), fault, "{call}");
-        assert!(rt; feed.feed_held().failed);
+        same!(rt; feed.head(), fault, call);
+        same!(rt; feed.head(), fault, call);
+        holds!(rt; feed.feed_held().failed);
     }
     Ok(())
 }
@@ -386,8 +396,8 @@ fn a_refused_growth(rt: HostRuntime) -> Result<(), Fail> {
     let pieces = Pieces::new(bytes, 4_096, None);
     let mut feed = Capture::new(rt.alloc(), pieces, 7, Tail::Refuse);
     let head = asked(&mut feed)?;
-    assert_eq!(rt; head, Head::Packet(carried(&rt, 96, Format::Pcapng)));
-    assert_eq!(rt; feed.first()?, Some(interface(&rt, 1, 262_144, 6, 0)));
+    same!(rt; head, Head::Packet(carried(&rt, 96, Format::Pcapng)));
+    same!(rt; feed.first()?, Some(interface(&rt, 1, 262_144, 6, 0)));
     Ok(())
 }
 
@@ -407,14 +417,14 @@ fn a_list(rt: HostRuntime) -> Result<(), Fail> {
         };
         takes(&rt, &mut feed, meta, &[])?;
     }
-    assert_eq!(rt; feed.head()?, refused(2, Rule::Cut));
+    same!(rt; feed.head()?, refused(2, Rule::Cut));
     let refusal = Refusal {
         file: 7,
         offset: 2,
         rule: Rule::Cut,
     };
-    assert_eq!(rt; feed.has_packet(), Err(Fault::Refused(refusal)));
-    assert!(rt; !feed.shows_packet());
+    same!(rt; feed.has_packet(), Err(Fault::Refused(refusal)));
+    holds!(rt; !feed.shows_packet());
     Ok(())
 }
 
@@ -424,27 +434,27 @@ fn packets_at_hand(rt: HostRuntime) -> Result<(), Fail> {
     let mut bytes = Vec::from_array(rt.alloc(), CARRY_PCAP)?;
     bytes.extend_from_slice(&CARRY_PCAP[24..])?;
     let mut feed = capture(rt.alloc(), &bytes, 4_096, Tail::Refuse)?;
-    assert!(rt; !feed.shows_packet());
-    assert!(rt; feed.has_packet()?);
-    assert!(rt; feed.shows_packet());
+    holds!(rt; !feed.shows_packet());
+    holds!(rt; feed.has_packet()?);
+    holds!(rt; feed.shows_packet());
     feed.pass();
-    assert!(rt; feed.shows_packet());
-    assert_eq!(rt; *feed.packet(), carried(&rt, 44, Format::Pcap));
-    assert_eq!(rt; feed.frame(), [1, 2, 3, 4].as_slice());
+    holds!(rt; feed.shows_packet());
+    same!(rt; *feed.packet(), carried(&rt, 44, Format::Pcap));
+    same!(rt; feed.frame(), [1, 2, 3, 4].as_slice());
     feed.pass();
-    assert!(rt; !feed.shows_packet());
-    assert!(rt; !feed.has_packet()?);
-    assert!(rt; !feed.shows_packet());
+    holds!(rt; !feed.shows_packet());
+    holds!(rt; !feed.has_packet()?);
+    holds!(rt; !feed.shows_packet());
     Ok(())
 }
 
 #[test]
 fn a_walk(rt: HostRuntime) -> Result<(), Fail> {
     let mut capture = capture(rt.alloc(), &CARRY_PCAP, 1, Tail::Refuse)?;
-    assert_eq!(rt; capture.file(), 7);
+    same!(rt; capture.file(), 7);
     let meta = next_packet(&mut capture)?.expect(&rt, "the one packet");
-    assert_eq!(rt; (meta.file, meta.offset, meta.captured), (7, 24, 4));
+    same!(rt; (meta.file, meta.offset, meta.captured), (7, 24, 4));
     capture.pass();
-    assert_eq!(rt; next_packet(&mut capture)?, None);
+    same!(rt; next_packet(&mut capture)?, None);
     Ok(())
 }

@@ -1,4 +1,5 @@
 //! Times, their order and their printed forms, worked out by exact arithmetic outside.
+use crate::checks::{holds, same};
 use cap_time::{Interface, Resolution, Stamp, Unit, reach};
 use std::cmp::Ordering;
 use std::hash::{DefaultHasher, Hash, Hasher};
@@ -43,11 +44,11 @@ fn codes_of_resolutions(rt: HostRuntime) -> Result<(), Fail> {
     ];
     for (code, units) in accepted {
         let resolution = Resolution::from_code(code).ok_or("an allowed code")?;
-        assert_eq!(rt; resolution.code(), code);
-        assert_eq!(rt; resolution.units(), units, "at {code}");
+        same!(rt; resolution.code(), code);
+        same!(rt; resolution.units(), units, code);
     }
     for code in [0x14, 0x7f, 0xc0, 0xff] {
-        assert_eq!(rt; Resolution::from_code(code), None, "at {code}");
+        same!(rt; Resolution::from_code(code), None, code);
     }
     Ok(())
 }
@@ -172,9 +173,9 @@ fn printed_forms(rt: HostRuntime) -> Result<(), Fail> {
     ];
     for (name, units, code, offset, seconds, numerator, denominator) in rows {
         let stamp = stamp_of((units, code, offset)).ok_or(name)?;
-        assert_eq!(rt; stamp.seconds(), seconds, "{name}");
-        assert_eq!(rt; stamp.numerator(), numerator, "{name}");
-        assert_eq!(rt; stamp.denominator(), denominator, "{name}");
+        same!(rt; stamp.seconds(), seconds, name);
+        same!(rt; stamp.numerator(), numerator, name);
+        same!(rt; stamp.denominator(), denominator, name);
     }
     Ok(())
 }
@@ -232,12 +233,12 @@ fn exact_order(rt: HostRuntime) -> Result<(), Fail> {
         let a = stamp_of(left).ok_or("left")?;
         let b = stamp_of(right).ok_or("right")?;
         let is_equal = order == Ordering::Equal;
-        assert_eq!(rt;
+        same!(rt;
             (a.cmp(&b), a.partial_cmp(&b), a == b),
             (order, Some(order), is_equal),
-            "row {row}"
+            row
         );
-        assert!(rt; !is_equal || hash_of(&a) == hash_of(&b), "row {row}");
+        holds!(rt; !is_equal || hash_of(&a) == hash_of(&b), row);
         let later = if order == Ordering::Less { b } else { a };
         let mut clock = None;
         for time in [Some(a), None, Some(b)] {
@@ -245,11 +246,11 @@ fn exact_order(rt: HostRuntime) -> Result<(), Fail> {
         }
         let reached = clock.ok_or("clock")?;
         let mut moved = a;
-        assert_eq!(rt; moved.reach(&b), order, "row {row}");
-        assert_eq!(rt;
+        same!(rt; moved.reach(&b), order, row);
+        same!(rt;
             [form_of(reached), form_of(moved)],
             [form_of(later), form_of(later)],
-            "row {row}"
+            row
         );
     }
     Ok(())
@@ -291,14 +292,14 @@ fn whole_units(rt: HostRuntime) -> Result<(), Fail> {
     ];
     for (row, (source, micro, nano)) in rows.into_iter().enumerate() {
         let stamp = stamp_of(source).ok_or("source")?;
-        assert_eq!(rt;
+        same!(rt;
             (stamp.whole_in(Unit::Micro), stamp.whole_in(Unit::Nano)),
             (micro, nano),
-            "row {row}"
+            row
         );
     }
-    assert_eq!(rt; Unit::Micro.in_second(), 1_000_000);
-    assert_eq!(rt; Unit::Nano.in_second(), 1_000_000_000);
+    same!(rt; Unit::Micro.in_second(), 1_000_000);
+    same!(rt; Unit::Nano.in_second(), 1_000_000_000);
     Ok(())
 }
 
@@ -312,7 +313,7 @@ fn seconds_later(rt: HostRuntime) -> Result<(), Fail> {
         offset: -20,
     };
     let later = Stamp::new(500_000, &interface).plus_seconds(30);
-    assert_eq!(rt;
+    same!(rt;
         (later.seconds(), later.numerator(), later.denominator()),
         (10, 500_000, 1_000_000)
     );

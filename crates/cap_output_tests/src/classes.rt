@@ -1,5 +1,6 @@
 //! The class of each packet: worked frames of each link type, fragments, and groups that are given up.
 
+use crate::checks::holds;
 use crate::conversations::CONVERSATIONS;
 use crate::files::{bytes_of, told};
 use crate::vectors::{
@@ -221,7 +222,7 @@ const GROUPS: [(u16, File, &str); 5] = [
 fn each_packet_has_its_class_and_conversation(rt: HostRuntime) -> Result<(), Fail> {
     for (file, wanted) in CLASSES.iter().chain(CONVERSATIONS.iter()) {
         let report = told(rt.alloc(), bytes_of(rt.alloc(), *file)?)?;
-        assert!(rt; report.bytes().ends_with(wanted.as_bytes()), "{wanted}");
+        holds!(rt; report.bytes().ends_with(wanted.as_bytes()), wanted);
     }
     Ok(())
 }
@@ -244,7 +245,7 @@ fn opening(alloc: Global, count: u16, last: File) -> Result<Vec<u8>, Fail> {
 fn the_oldest_group_is_given_up(rt: HostRuntime) -> Result<(), Fail> {
     for (count, last, wanted) in GROUPS {
         let report = told(rt.alloc(), opening(rt.alloc(), count, last)?)?;
-        assert!(rt; report.bytes().ends_with(wanted.as_bytes()), "{wanted}");
+        holds!(rt; report.bytes().ends_with(wanted.as_bytes()), wanted);
     }
     Ok(())
 }

@@ -1,4 +1,5 @@
 //! Command lines with their jobs and faults.
+use crate::checks::same;
 use cap_bytes::Order;
 use cap_jobs::{LineFault, Task, USAGE};
 use cap_line::{message, parse};
@@ -217,10 +218,10 @@ static LINES: [(&[&str], Answer); 38] = [
 #[test]
 fn always_line_always_memory_lines_give_their_jobs_and_faults(rt: HostRuntime) {
     for (words, want) in LINES {
-        assert_eq!(rt; answer(rt.alloc(), words), want, "{words:?}");
+        same!(rt; answer(rt.alloc(), words), want, words);
     }
     for (words, want) in WRITING {
-        assert_eq!(rt; writing(rt.alloc(), words), want, "{words:?}");
+        same!(rt; writing(rt.alloc(), words), want, words);
     }
 }
 
@@ -243,6 +244,6 @@ static SAID: [(&[&str], Option<&str>); 5] = [
 fn clap_says_why_words_are_refused(rt: HostRuntime) {
     for (words, wanted) in SAID {
         let said = message(rt.alloc(), words);
-        assert_eq!(rt; said.as_deref(), wanted, "{words:?}");
+        same!(rt; said.as_deref(), wanted, words);
     }
 }

@@ -1,6 +1,7 @@
 //! The lines of files: worked files of both formats.
 ghost use Rattle.std.specs.Prelude.{◌≤◌};
 
+use crate::checks::same;
 use crate::files::sources_of;
 use crate::vectors::{
     CARRY_PCAP, CUT_PCAP, EMPTY, File, HEADER_ONLY, OPTIONS_PCAPNG, RUNS_BACK, SIMPLE_PACKET,
@@ -73,8 +74,8 @@ fn always_memory_files_are_told(rt: HostRuntime) -> Result<(), Fail> {
     for (files, tail, wanted) in TOLD {
         for piece in [1, 4096] {
             let (answer, writer) = tell(rt.alloc(), files, tail, piece)?;
-            assert_eq!(rt; answer, Ok(()));
-            assert_eq!(rt; writer.bytes(), wanted.as_bytes());
+            same!(rt; answer, Ok(()));
+            same!(rt; writer.bytes(), wanted.as_bytes());
         }
     }
     Ok(())
@@ -85,8 +86,8 @@ fn the_first_refusal_is_told_and_nothing_written(rt: HostRuntime) -> Result<(), 
     for (files, (file, offset, rule)) in REFUSED {
         let (answer, writer) = tell(rt.alloc(), files, Tail::Refuse, 4096)?;
         let refusal = Refusal { file, offset, rule };
-        assert_eq!(rt; answer, Err(Fault::Refused(refusal)));
-        assert_eq!(rt; writer.bytes().len(), 0);
+        same!(rt; answer, Err(Fault::Refused(refusal)));
+        same!(rt; writer.bytes().len(), 0);
     }
     Ok(())
 }

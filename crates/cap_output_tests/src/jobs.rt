@@ -1,4 +1,5 @@
 //! Jobs: the names of their parts, what a task takes, the files that are named.
+use crate::checks::same;
 use cap_bytes::Order;
 use cap_jobs::{LineFault, Task, check_files, format_of, is_whole, order_of, task_of};
 use cap_source::Format;
@@ -49,16 +50,16 @@ const WHOLE: [(Task, usize, Option<Format>, Option<&str>, bool); 12] = [
 #[test]
 fn names_are_of_tasks_orders_and_formats(rt: HostRuntime) {
     for (name, task) in TASKS {
-        assert_eq!(rt; task_of(name), task, "{name:?}");
+        same!(rt; task_of(name), task, name);
     }
     for (name, order) in ORDERS {
-        assert_eq!(rt; order_of(name), order, "{name:?}");
+        same!(rt; order_of(name), order, name);
     }
     for (name, format) in FORMATS {
-        assert_eq!(rt; format_of(name), format, "{name:?}");
+        same!(rt; format_of(name), format, name);
     }
     for (task, files, to, out, whole) in WHOLE {
-        assert_eq!(rt; is_whole(task, files, to, out), whole, "{task:?}");
+        same!(rt; is_whole(task, files, to, out), whole, task);
     }
 }
 
@@ -79,6 +80,6 @@ static NAMED: [(&[&str], Option<&str>, Result<(), LineFault>); 10] = [
 #[test]
 fn files_that_are_named_are_tested_in_order(rt: HostRuntime) {
     for (files, out, answer) in NAMED {
-        assert_eq!(rt; check_files(files, out), answer, "{files:?}");
+        same!(rt; check_files(files, out), answer, files);
     }
 }

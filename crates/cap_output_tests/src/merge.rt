@@ -4,6 +4,7 @@ ghost use Rattle.cap_source.specs.Feed.{HasFile};
 ghost use Rattle.cap_merge.specs.Parts.{feed_of};
 ghost use Rattle.cap_merge.specs.View.{parts_of};
 
+use crate::checks::{holds, same};
 use crate::files::{merged_of, sources_of};
 use crate::vectors::{File, PACKET, RUNS_BACK, RUNS_ON, SECTION};
 use cap_bytes::{Fault, Refusal, Rule};
@@ -11,6 +12,7 @@ use cap_merge::Merged;
 use cap_source::{Ending, Format, Head, Listed, PacketFeed};
 use cap_time::{Interface, Resolution, Stamp};
 use std::alloc::Global;
+use std::process::Abort;
 use std::test::Fail;
 
 // A file of that number of packets without bytes, whose clock counts as the code says, with a cut after them if it
@@ -108,6 +110,14 @@ fn next_of(feed: &mut Merged<Listed>) -> Result<(u32, Option<Stamp>), Fail> {
     Ok((meta.file, clock))
 }
 
+// Next come these packets.
+fn gives(rt: &impl Abort, feed: &mut Merged<Listed>, came: &[Came]) -> Result<(), Fail> {
+    for (file, units, code) in came {
+        same!(rt; next_of(feed)?, (*file, time(*units, *code)));
+    }
+    Ok(())
+}
+
 // A refusal of a cut file at a place, or the end.
 fn end_of(refusal: Option<(u32, u64)>) -> Head {
     match refusal {
@@ -126,18 +136,16 @@ fn two_files_in_order(rt: HostRuntime) -> Result<(), Fail> {
         let first = make_listed(rt.alloc(), 1, one, times, broken)?;
         let second = make_listed(rt.alloc(), 2, two, others, is_broken)?;
         let mut feed = merge_of(rt.alloc(), first, second)?;
-        assert_eq!(rt; feed.files(), 2);
-        for packet in came {
-            assert_eq!(rt; next_of(&mut feed)?, (packet.0, time(packet.1, packet.2)));
-        }
+        same!(rt; feed.files(), 2);
+        gives(&rt, &mut feed, came)?;
         let end = end_of(refusal);
         let found = match end {
             Head::Refused(refusal) => Err(Fault::Refused(refusal)),
             _ => Ok(false),
         };
-        assert_eq!(rt; feed.has_packet(), found);
-        assert_eq!(rt; feed.head(), Ok(end));
-        assert_eq!(rt; feed.head(), Ok(end), "again");
+        same!(rt; feed.has_packet(), found);
+        same!(rt; feed.head(), Ok(end));
+        same!(rt; feed.head(), Ok(end), "again");
     }
     Ok(())
 }
@@ -148,13 +156,13 @@ fn endings(rt: HostRuntime) -> Result<(), Fail> {
     let second = make_listed(rt.alloc(), 2, 0, &[], false)?;
     let mut feed = merge_of(rt.alloc(), first, second)?;
     let head = feed.head()?;
-    assert_eq!(rt; head, Head::End);
+    same!(rt; head, Head::End);
     let ending = Ending {
         format: Format::Pcap,
         skipped: 0,
         was_cut: false,
     };
-    assert_eq!(rt; feed.ending(2), ending);
+    same!(rt; feed.ending(2), ending);
     Ok(())
 }
 
@@ -171,10 +179,10 @@ fn what_is_held(rt: HostRuntime) -> Result<(), Fail> {
     let files = [ONE_INTERFACE, RUNS_BACK, TWO_INTERFACES, RUNS_ON];
     let mut feed = merged_of(rt.alloc(), sources_of(rt.alloc(), &files, 1)?)?;
     let held = feed.feed_held();
-    assert_eq!(rt; (held.window, held.interfaces, held.failed), (0, 0, false));
+    same!(rt; (held.window, held.interfaces, held.failed), (0, 0, false));
     feed.head()?;
     let held = feed.feed_held();
-    assert_eq!(rt; (held.interfaces, held.failed), (2, false));
-    assert!(rt; held.window > 0 && held.window <= 524_288);
+    same!(rt; (held.interfaces, held.failed), (2, false));
+    holds!(rt; held.window > 0 && held.window <= 524_288);
     Ok(())
 }

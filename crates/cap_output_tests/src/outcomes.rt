@@ -1,5 +1,6 @@
 //! Outcomes and what is told of them.
 
+use crate::checks::same;
 use cap_bytes::{Fault, Refusal, Room, Rule};
 use cap_jobs::{LineFault, USAGE};
 use cap_outcomes::{Outcome, end_of, outcome_line, status_of, tell};
@@ -44,12 +45,12 @@ const TOLD: [(Outcome, &str, u8); 11] = [
 fn always_memory_outcomes_print_one_line(rt: HostRuntime) -> Result<(), Fail> {
     for (outcome, text, status) in TOLD {
         let mut writer = Room::new(Vec::with_capacity(rt.alloc(), 64)?);
-        assert_eq!(rt; outcome_line(&outcome, &mut writer), Ok(()));
-        assert_eq!(rt; writer.bytes(), text.as_bytes());
-        assert_eq!(rt; status_of(&outcome), status);
+        same!(rt; outcome_line(&outcome, &mut writer), Ok(()));
+        same!(rt; writer.bytes(), text.as_bytes());
+        same!(rt; status_of(&outcome), status);
     }
-    assert_eq!(rt; status_of(&Outcome::Line(LineFault::Help)), 0);
-    assert_eq!(rt; status_of(&Outcome::Line(LineFault::Line)), 2);
+    same!(rt; status_of(&Outcome::Line(LineFault::Help)), 0);
+    same!(rt; status_of(&Outcome::Line(LineFault::Line)), 2);
     Ok(())
 }
 
@@ -68,14 +69,14 @@ fn help_and_usage_go_to_two_writers(rt: HostRuntime) -> Result<(), Fail> {
     for (outcome, room, ending, printed, told) in cases {
         let mut output = Room::new(Vec::with_capacity(rt.alloc(), room)?);
         let mut faults = Room::new(Vec::with_capacity(rt.alloc(), 64)?);
-        assert_eq!(rt; tell(outcome, said, &mut output, &mut faults), ending);
-        assert_eq!(rt; output.bytes(), printed);
-        assert_eq!(rt; faults.bytes(), told);
+        same!(rt; tell(outcome, said, &mut output, &mut faults), ending);
+        same!(rt; output.bytes(), printed);
+        same!(rt; faults.bytes(), told);
     }
     for outcome in [help, usage] {
         let mut writer = Room::new(Vec::with_capacity(rt.alloc(), USAGE.len())?);
-        assert_eq!(rt; outcome_line(&outcome, &mut writer), Ok(()));
-        assert_eq!(rt; writer.bytes(), USAGE.as_bytes());
+        same!(rt; outcome_line(&outcome, &mut writer), Ok(()));
+        same!(rt; writer.bytes(), USAGE.as_bytes());
     }
     Ok(())
 }
@@ -118,7 +119,7 @@ fn a_flush_that_fails_comes_before_a_refusal(rt: HostRuntime) -> Result<(), Fail
         };
         let mut writer = BufWriter::new(rt.alloc(), disk)?;
         writer.write_all(b"a line\n")?;
-        assert_eq!(rt; end_of(answer, writer.flush()), ending);
+        same!(rt; end_of(answer, writer.flush()), ending);
     }
     Ok(())
 }

@@ -1,5 +1,6 @@
 //! The line that shows how far a run is, and devices that are watched.
 
+use crate::checks::{holds, same};
 use cap_bytes::{Device, Pieces, Room, Sink, Source};
 use cap_outcomes::{Progress, Watched, progress_line};
 
@@ -39,7 +40,7 @@ fn a_line_tells_bytes_rate_and_time_left(rt: HostRuntime) {
         ),
     ];
     for (read, total, millis, wanted) in cases {
-        assert_eq!(rt;
+        same!(rt;
             progress_line(read, total, millis).as_slice(),
             wanted.as_bytes()
         );
@@ -51,20 +52,20 @@ fn a_watched_device_does_what_its_inner_one_does(rt: HostRuntime) {
     let progress = Progress::new(&rt, None, true, Some(4));
     let mut bytes = Vec::new(rt.alloc());
     let filled = bytes.extend_from_slice(b"capt");
-    assert!(rt; filled.is_ok());
+    holds!(rt; filled.is_ok());
     let mut source = Watched::new(Pieces::new(bytes, 3, Some(2)), &progress);
     let mut buffer = [0; 8];
-    assert_eq!(rt; source.take(&mut buffer), Ok(3));
-    assert_eq!(rt; &buffer[..3], b"cap".as_slice());
-    assert!(rt; source.take(&mut buffer).is_err());
-    assert!(rt; source.failed());
+    same!(rt; source.take(&mut buffer), Ok(3));
+    same!(rt; &buffer[..3], b"cap".as_slice());
+    holds!(rt; source.take(&mut buffer).is_err());
+    holds!(rt; source.failed());
     let held = Vec::with_capacity(rt.alloc(), 3);
-    assert!(rt; held.is_ok());
+    holds!(rt; held.is_ok());
     if let Ok(held) = held {
         let mut sink = Watched::new(Room::new(held), &progress);
-        assert_eq!(rt; sink.give(b"ca"), Ok(2));
-        assert_eq!(rt; sink.give(b"pt"), Ok(1));
-        assert!(rt; sink.give(b"t").is_err());
-        assert_eq!(rt; sink.into_inner().bytes(), b"cap".as_slice());
+        same!(rt; sink.give(b"ca"), Ok(2));
+        same!(rt; sink.give(b"pt"), Ok(1));
+        holds!(rt; sink.give(b"t").is_err());
+        same!(rt; sink.into_inner().bytes(), b"cap".as_slice());
     }
 }

@@ -1,5 +1,6 @@
 //! Reports of worked captures.
 
+use crate::checks::same;
 use crate::files::{report_of, sources_of};
 use crate::vectors::{
     CUT_PCAP, EARLY, EMPTY, FRAGMENT_FRAMES, File, HEADER_ONLY, LATE, SECTION, TAGGED_FRAMES,
@@ -133,8 +134,8 @@ fn always_memory_worked_files_are_reported(rt: HostRuntime) -> Result<(), Fail> 
         for piece in [1, 4096] {
             let sources = sources_of(rt.alloc(), files, piece)?;
             let (writer, answer) = report_of(rt.alloc(), sources, tail)?;
-            assert_eq!(rt; answer, Ok(()));
-            assert_eq!(rt; writer.bytes(), wanted.as_bytes());
+            same!(rt; answer, Ok(()));
+            same!(rt; writer.bytes(), wanted.as_bytes());
         }
     }
     Ok(())
@@ -149,8 +150,8 @@ fn the_refusal_of_the_lowest_place_is_told_and_nothing_written(
             let sources = sources_of(rt.alloc(), files, piece)?;
             let (writer, answer) = report_of(rt.alloc(), sources, tail)?;
             let refusal = Refusal { file, offset, rule };
-            assert_eq!(rt; answer, Err(Fault::Refused(refusal)));
-            assert_eq!(rt; writer.bytes().len(), 0);
+            same!(rt; answer, Err(Fault::Refused(refusal)));
+            same!(rt; writer.bytes().len(), 0);
         }
     }
     Ok(())

@@ -1,6 +1,7 @@
 //! The table step by step.
 ghost use Rattle.std.specs.Prelude.{◌≤◌};
 
+use crate::checks::same;
 use crate::report::{
     BINARY, BINARY_REPORT, FRAGMENT_REPORT, TAGGED_REPORT, TENTHS, UNTIMED_THEN_TIMED,
 };
@@ -9,7 +10,7 @@ use crate::vectors::{
 };
 use cap_bytes::{Fault, Pieces, Room, Tail};
 use cap_merge::merge_files;
-use cap_source::Capture;
+use cap_source::{Capture, PacketFeed};
 use cap_talks::{Step, Table};
 use std::alloc::{AllocError, Global};
 use std::process::Abort;
@@ -110,7 +111,7 @@ fn room_of(alloc: Global) -> Result<Vec<u8>, AllocError> {
 }
 
 // What a table writes, if at most two growths are refused.
-fn text_of(alloc: Global, table: &Table<Capture<Pieces>>) -> Result<Room, Fail> {
+fn text_of<F: PacketFeed>(alloc: Global, table: &Table<F>) -> Result<Room, Fail> {
     let mut writer = Room::new(room_of(alloc)?);
     table.write_so_far(&mut writer)?;
     Ok(writer)
@@ -120,17 +121,17 @@ fn text_of(alloc: Global, table: &Table<Capture<Pieces>>) -> Result<Room, Fail> 
 type Lengths = (u64, u64, u64, u64);
 
 // Holds a table to what it writes, and to the interfaces, groups, bytes of a group and conversations that it holds.
-fn check(
+fn check<F: PacketFeed>(
     rt: &impl Abort,
     alloc: Global,
-    table: &Table<Capture<Pieces>>,
+    table: &Table<F>,
     wanted: &str,
     held: Lengths,
 ) -> Result<(), Fail> {
-    assert_eq!(rt; text_of(alloc, table)?.bytes(), wanted.as_bytes());
+    same!(rt; text_of(alloc, table)?.bytes(), wanted.as_bytes());
     let now = table.held();
-    assert_eq!(rt; (now.interfaces, now.groups), (held.0, held.1));
-    assert_eq!(rt; (now.group_bytes, now.talks), (held.2, held.3));
+    same!(rt; (now.interfaces, now.groups), (held.0, held.1));
+    same!(rt; (now.group_bytes, now.talks), (held.2, held.3));
     Ok(())
 }
 
@@ -143,17 +144,32 @@ const STEPS: [(u32, Step, &str, Lengths); 5] = [
     (1, Step::Done, FRAGMENT_REPORT, (0, 0, 0, 1)),
 ];
 
+// Takes a step that often, each of which answers the same.
+fn take_steps<F: PacketFeed>(rt: &impl Abort, table: &mut Table<F>, count: u32, step: Step) {
+    for _ in 0..count {
+        same!(rt; table.step(), Ok(step));
+    }
+}
+
+// Takes the steps of a table of FRAGMENT_FRAMES.
+fn goes_by_steps<F: PacketFeed>(
+    rt: &impl Abort,
+    alloc: Global,
+    table: &mut Table<F>,
+) -> Result<(), Fail> {
+    same!(rt; table.held().window, 0);
+    for (count, step, text, held) in STEPS {
+        take_steps(rt, table, count, step);
+        check(rt, alloc, table, text, held)?;
+    }
+    Ok(())
+}
+
 #[test]
 fn always_memory_step_by_step(rt: HostRuntime) -> Result<(), Fail> {
     for piece in [1, 4096] {
         let mut table = table_of(&rt, rt.alloc(), &[FRAGMENT_FRAMES], piece);
-        assert_eq!(rt; table.held().window, 0);
-        for (count, step, text, held) in STEPS {
-            for _ in 0..count {
-                assert_eq!(rt; table.step(), Ok(step));
-            }
-            check(&rt, rt.alloc(), &table, text, held)?;
-        }
+        goes_by_steps(&rt, rt.alloc(), &mut table)?;
     }
     Ok(())
 }
@@ -161,10 +177,10 @@ fn always_memory_step_by_step(rt: HostRuntime) -> Result<(), Fail> {
 #[test]
 fn interfaces_are_held(rt: HostRuntime) -> Result<(), Fail> {
     let mut table = table_of(&rt, rt.alloc(), &[UNTIMED_THEN_TIMED], 4096);
-    assert_eq!(rt; table.held().interfaces, 0);
-    assert_eq!(rt; table.step(), Ok(Step::Took));
-    assert_eq!(rt; table.held().interfaces, 1);
-    assert_eq!(rt; table.held().talks, 1);
+    same!(rt; table.held().interfaces, 0);
+    same!(rt; table.step(), Ok(Step::Took));
+    same!(rt; table.held().interfaces, 1);
+    same!(rt; table.held().talks, 1);
     Ok(())
 }
 
@@ -172,32 +188,46 @@ fn interfaces_are_held(rt: HostRuntime) -> Result<(), Fail> {
 fn a_table_is_dropped_after_any_number_of_steps(rt: HostRuntime) -> Result<(), Fail> {
     for steps in 0..5 {
         let mut table = table_of(&rt, rt.alloc(), &[FRAGMENT_FRAMES], 1);
-        for _ in 0..steps {
-            assert_eq!(rt; table.step(), Ok(Step::Took));
-        }
+        take_steps(&rt, &mut table, steps, Step::Took);
     }
     Ok(())
 }
 
 // A step, taken again after a growth was refused, which leaves the table as it was.
-fn step_again(
+fn step_again<F: PacketFeed>(
     rt: &impl Abort,
     alloc: Global,
-    table: &mut Table<Capture<Pieces>>,
+    table: &mut Table<F>,
 ) -> Result<Step, Fail> {
     let before = text_of(alloc, table)?;
     let held = table.held();
     for _ in 0..3 {
         match table.step() {
             Err(Fault::Memory) => {
-                assert_eq!(rt; text_of(alloc, table)?.bytes(), before.bytes());
+                same!(rt; text_of(alloc, table)?.bytes(), before.bytes());
                 let now = table.held();
-                assert_eq!(rt; (now.groups, now.talks), (held.groups, held.talks));
+                same!(rt; (now.groups, now.talks), (held.groups, held.talks));
             }
             answer => return Ok(answer?),
         }
     }
     Err(Fail::from("a third growth is refused"))
+}
+
+// Eight such steps end at `Done`, and the report is that.
+fn reports_again<F: PacketFeed>(
+    rt: &impl Abort,
+    alloc: Global,
+    table: &mut Table<F>,
+    wanted: &str,
+) -> Result<(), Fail> {
+    let mut step = Step::Took;
+    for _ in 0..8 {
+        step = step_again(rt, alloc, table)?;
+    }
+    same!(rt; step, Step::Done);
+    same!(rt; text_of(alloc, table)?.bytes(), wanted.as_bytes());
+    Ok(())
 }
 
 // Each report as with memory, whichever growth is refused, or two together (checks/faults.py).
@@ -212,12 +242,7 @@ fn a_refused_growth_leaves_the_table(rt: HostRuntime) -> Result<(), Fail> {
     ];
     for (files, wanted) in rows {
         let mut table = table_of(&rt, rt.alloc(), files, 4096);
-        let mut step = Step::Took;
-        for _ in 0..8 {
-            step = step_again(&rt, rt.alloc(), &mut table)?;
-        }
-        assert_eq!(rt; step, Step::Done);
-        assert_eq!(rt; text_of(rt.alloc(), &table)?.bytes(), wanted.as_bytes());
+        reports_again(&rt, rt.alloc(), &mut table, wanted)?;
     }
     Ok(())
 }

@@ -1,5 +1,6 @@
 //! Two files of which a reader fails, at each read.
 
+use crate::checks::{holds, same};
 use crate::files::{bytes_of, merged_of};
 use crate::vectors::{File, OPTIONS_PCAPNG, RUNS_BACK};
 use cap_bytes::{Fault, Pieces};
@@ -67,9 +68,9 @@ fn each_read_of_two_files(rt: HostRuntime) -> Result<(), Fail> {
         for read in first..=last {
             let mut merged = merged_with(rt.alloc(), file, read)?;
             let fault = Fault::Read { file, offset };
-            assert_eq!(rt; walk(&mut merged), (packets, Some(fault)), "{file} {read}");
-            assert_eq!(rt; merged.head(), Err(fault), "{file} {read}");
-            assert!(rt; merged.feed_held().failed);
+            same!(rt; walk(&mut merged), (packets, Some(fault)), (file, read));
+            same!(rt; merged.head(), Err(fault), (file, read));
+            holds!(rt; merged.feed_held().failed);
         }
     }
     Ok(())

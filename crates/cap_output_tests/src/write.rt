@@ -1,6 +1,7 @@
 //! Whole files, converted, merged and joined. The files and what is written are worked out by hand from
 //! draft-ietf-opsawg-pcap and draft-ietf-opsawg-pcapng.
 
+use crate::checks::same;
 use crate::files::{bytes_of, merged_of, sources_of};
 use crate::vectors::{
     CARRY_PCAP, CARRY_PCAPNG, EARLY, ETHERNET, FRAGMENT_FRAMES, File, HEADER_ONLY, INTERFACE, LATE,
@@ -58,9 +59,9 @@ const WRITTEN: [(Call, File, File); 6] = [
 fn always_memory_a_packet_goes_both_ways(rt: HostRuntime) -> Result<(), Fail> {
     for (call, input, output) in WRITTEN {
         let (answer, writer) = written(rt.alloc(), call, input)?;
-        assert_eq!(rt; answer, Ok(()));
+        same!(rt; answer, Ok(()));
         let output = bytes_of(rt.alloc(), output)?;
-        assert_eq!(rt; writer.bytes(), output.as_slice());
+        same!(rt; writer.bytes(), output.as_slice());
     }
     Ok(())
 }
@@ -121,9 +122,9 @@ fn always_memory_files_are_merged(rt: HostRuntime) -> Result<(), Fail> {
     ];
     for (input, output, wanted) in files {
         let (answer, writer) = merged(rt.alloc(), input)?;
-        assert_eq!(rt; answer, wanted);
+        same!(rt; answer, wanted);
         let output = bytes_of(rt.alloc(), output)?;
-        assert_eq!(rt; writer.bytes(), output.as_slice());
+        same!(rt; writer.bytes(), output.as_slice());
     }
     Ok(())
 }
@@ -192,9 +193,9 @@ fn always_memory_datagrams_are_joined(rt: HostRuntime) -> Result<(), Fail> {
     ];
     for (input, output, wanted) in files {
         let (answer, writer) = joined_file(rt.alloc(), input)?;
-        assert_eq!(rt; answer, wanted);
+        same!(rt; answer, wanted);
         let output = bytes_of(rt.alloc(), output)?;
-        assert_eq!(rt; writer.bytes(), output.as_slice());
+        same!(rt; writer.bytes(), output.as_slice());
     }
     Ok(())
 }

@@ -1,6 +1,7 @@
 //! Lines of blocks: values from draft-ietf-opsawg-pcapng and from worked files.
 ghost use Rattle.std.specs.Prelude.{◌≤◌};
 
+use crate::checks::same;
 use crate::commands::refused;
 use cap_bytes::{Fault, Pieces, Room, Rule, Tail};
 use cap_tasks::blocks_to;
@@ -94,8 +95,8 @@ fn always_memory_blocks_are_printed(rt: HostRuntime) -> Result<(), Fail> {
         for piece in [1, 4096] {
             let (writer, answer) = print(rt.alloc(), file, piece)?;
             let wanted = ending.map_err(|(offset, rule)| refused(1, offset, rule));
-            assert_eq!(rt; answer, wanted, "{file}");
-            assert_eq!(rt; writer.bytes(), lines.as_bytes(), "{file}");
+            same!(rt; answer, wanted, file);
+            same!(rt; writer.bytes(), lines.as_bytes(), file);
         }
     }
     Ok(())

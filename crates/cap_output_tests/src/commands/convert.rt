@@ -1,6 +1,7 @@
 //! Files written in either format: values from the formats and from worked captures.
 ghost use Rattle.std.specs.Prelude.{◌≤◌};
 
+use crate::checks::same;
 use crate::commands::refused;
 use cap_bytes::{Fault, Order, Pieces, Room, Rule, Tail};
 use cap_source::Format;
@@ -158,9 +159,9 @@ fn always_memory_captures_are_written_in_either_format(rt: HostRuntime) -> Resul
         for piece in [1, 4096] {
             let (writer, answer) = convert(rt.alloc(), capture, piece, order, format)?;
             let ending = ending.map_err(|(offset, rule)| refused(1, offset, rule));
-            assert_eq!(rt; answer, ending, "{capture}");
+            same!(rt; answer, ending, capture);
             let wanted = hex::decode(rt.alloc(), wanted)?;
-            assert_eq!(rt; writer.bytes(), wanted.as_slice(), "{capture}");
+            same!(rt; writer.bytes(), wanted.as_slice(), capture);
         }
     }
     Ok(())

@@ -1,4 +1,5 @@
 //! Jobs of command lines, over worked captures of the formats.
+use crate::checks::same;
 use cap_bytes::{Fault, Pieces, Refusal, Room, Rule};
 use cap_line::parse;
 use cap_tasks::job_to;
@@ -118,15 +119,15 @@ fn each_job_is_done(rt: HostRuntime) -> Result<(), Fail> {
     for (words, capture, text) in PRINTED {
         let mut writer = Room::new(Vec::with_capacity(rt.alloc(), 1024)?);
         let answer = does(rt.alloc(), words, &[capture], &mut writer)?;
-        assert_eq!(rt; answer, Ok(()), "{words:?}");
-        assert_eq!(rt; writer.bytes(), text.as_bytes(), "{words:?}");
+        same!(rt; answer, Ok(()), words);
+        same!(rt; writer.bytes(), text.as_bytes(), words);
     }
     for (words, captures, text) in WRITTEN {
         let mut writer = Room::new(Vec::with_capacity(rt.alloc(), 1024)?);
         let answer = does(rt.alloc(), words, captures, &mut writer)?;
-        assert_eq!(rt; answer, Ok(()), "{words:?}");
+        same!(rt; answer, Ok(()), words);
         let wanted = hex::decode(rt.alloc(), text)?;
-        assert_eq!(rt; writer.bytes(), wanted.as_slice(), "{words:?}");
+        same!(rt; writer.bytes(), wanted.as_slice(), words);
     }
     let mut writer = Room::new(Vec::with_capacity(rt.alloc(), 1024)?);
     let refused = does(rt.alloc(), &["capt", "list", "a"], &[CUT_PCAP], &mut writer)?;
@@ -135,6 +136,6 @@ fn each_job_is_done(rt: HostRuntime) -> Result<(), Fail> {
         offset: 24,
         rule: Rule::Cut,
     };
-    assert_eq!(rt; refused, Err(Fault::Refused(refusal)));
+    same!(rt; refused, Err(Fault::Refused(refusal)));
     Ok(())
 }

@@ -1,6 +1,7 @@
 //! Joined files: values from the formats and from worked captures.
 ghost use Rattle.std.specs.Prelude.{◌≤◌};
 
+use crate::checks::same;
 use crate::commands::{decoded, roomy};
 use cap_bytes::{Fault, Order, Pieces, Room, Tail};
 use cap_tasks::join_to;
@@ -42,8 +43,8 @@ fn always_memory_fragments_are_joined(rt: HostRuntime) -> Result<(), Fail> {
     let wanted = hex::decode(rt.alloc(), JOINED)?;
     for piece in [1, 4096] {
         let (writer, answer) = join(rt.alloc(), FRAGMENTS, piece)?;
-        assert_eq!(rt; answer, Ok(()));
-        assert_eq!(rt; writer.bytes(), wanted.as_slice());
+        same!(rt; answer, Ok(()));
+        same!(rt; writer.bytes(), wanted.as_slice());
     }
     Ok(())
 }
@@ -66,11 +67,11 @@ fn a_refused_growth_leaves_a_front(rt: HostRuntime) -> Result<(), Fail> {
         &mut writer,
     );
     let taken = writer.bytes().len();
-    assert_eq!(rt; Some(writer.bytes()), wanted.as_slice().get(..taken));
+    same!(rt; Some(writer.bytes()), wanted.as_slice().get(..taken));
     if answer == Ok(()) {
-        assert_eq!(rt; taken, wanted.len());
+        same!(rt; taken, wanted.len());
     } else {
-        assert_eq!(rt; answer, Err(Fault::Memory));
+        same!(rt; answer, Err(Fault::Memory));
     }
     Ok(())
 }

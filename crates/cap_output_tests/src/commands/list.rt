@@ -1,6 +1,7 @@
 //! Lines of packets, refusals and faults: values from the formats and from worked captures.
 ghost use Rattle.std.specs.Prelude.{◌≤◌};
 
+use crate::checks::{holds, same};
 use crate::commands::refused;
 use cap_bytes::{Fault, Pieces, Room, Rule, Tail};
 use cap_tasks::{Outcome, list_to, outcome_line, status_of};
@@ -229,8 +230,8 @@ fn always_memory_a_packet_is_listed_in_every_spelling(rt: HostRuntime) -> Result
         for piece in [1, 4096] {
             let bytes = hex::decode(rt.alloc(), *capture)?;
             let (writer, answer) = list(rt.alloc(), bytes, piece, Tail::Refuse)?;
-            assert_eq!(rt; answer, Ok(()));
-            assert_eq!(rt; writer.bytes(), line.as_bytes());
+            same!(rt; answer, Ok(()));
+            same!(rt; writer.bytes(), line.as_bytes());
         }
     }
     Ok(())
@@ -242,8 +243,8 @@ fn a_faulty_capture_is_refused(rt: HostRuntime) -> Result<(), Fail> {
         for piece in [1, 4096] {
             let bytes = hex::decode(rt.alloc(), capture)?;
             let (writer, answer) = list(rt.alloc(), bytes, piece, tail)?;
-            assert_eq!(rt; answer, Err(refused(1, offset, rule)), "{capture}");
-            assert!(rt; writer.bytes().is_empty());
+            same!(rt; answer, Err(refused(1, offset, rule)), capture);
+            holds!(rt; writer.bytes().is_empty());
         }
     }
     Ok(())
@@ -259,8 +260,8 @@ fn the_longest_packet_is_listed(rt: HostRuntime) -> Result<(), Fail> {
         )?;
         bytes.resize(24 + 16 + 262_144, 0)?;
         let (writer, answer) = list(rt.alloc(), bytes, piece, Tail::Refuse)?;
-        assert_eq!(rt; answer, Ok(()));
-        assert_eq!(rt; writer.bytes(), LONGEST_LINE.as_bytes());
+        same!(rt; answer, Ok(()));
+        same!(rt; writer.bytes(), LONGEST_LINE.as_bytes());
     }
     Ok(())
 }
@@ -270,12 +271,12 @@ fn an_empty_file_is_told(rt: HostRuntime) -> Result<(), Fail> {
     for tail in [Tail::Refuse, Tail::Accept] {
         let (mut writer, answer) = list(rt.alloc(), Vec::new(rt.alloc()), 1, tail)?;
         let outcome = answer.map_or_else(Outcome::Fault, |_| Outcome::Done);
-        assert_eq!(rt; outcome_line(&outcome, &mut writer), Ok(()));
-        assert_eq!(rt;
+        same!(rt; outcome_line(&outcome, &mut writer), Ok(()));
+        same!(rt;
             writer.bytes(),
             b"refused: file 1 offset 0 rule 3 cut\n".as_slice()
         );
-        assert_eq!(rt; status_of(&outcome), 1);
+        same!(rt; status_of(&outcome), 1);
     }
     Ok(())
 }

@@ -1,6 +1,7 @@
 //! Merged files: values from the formats and from worked captures.
 ghost use Rattle.std.specs.Prelude.{◌≤◌};
 
+use crate::checks::same;
 use crate::commands::{decoded, refused, roomy};
 use cap_bytes::{Fault, Order, Pieces, Room, Rule, Tail};
 use cap_tasks::merge_to;
@@ -98,9 +99,9 @@ fn always_memory_files_are_merged_by_time(rt: HostRuntime) -> Result<(), Fail> {
         for piece in [1, 4096] {
             let (writer, answer) = merge(rt.alloc(), files, piece)?;
             let ending = ending.map_err(|(file, offset, rule)| refused(file, offset, rule));
-            assert_eq!(rt; answer, ending);
+            same!(rt; answer, ending);
             let wanted = hex::decode(rt.alloc(), wanted)?;
-            assert_eq!(rt; writer.bytes(), wanted.as_slice());
+            same!(rt; writer.bytes(), wanted.as_slice());
         }
     }
     Ok(())
@@ -123,7 +124,7 @@ fn a_read_that_fails_is_told_with_its_file(rt: HostRuntime) -> Result<(), Fail> 
         Order::Little,
         &mut writer,
     );
-    assert_eq!(rt;
+    same!(rt;
         answer,
         Err(Fault::Read {
             file: 1,
@@ -131,7 +132,7 @@ fn a_read_that_fails_is_told_with_its_file(rt: HostRuntime) -> Result<(), Fail> 
         })
     );
     let wanted = hex::decode(rt.alloc(), BY_CLOCK)?;
-    assert_eq!(rt; Some(writer.bytes()), wanted.as_slice().get(..164));
+    same!(rt; Some(writer.bytes()), wanted.as_slice().get(..164));
     Ok(())
 }
 
@@ -154,11 +155,11 @@ fn a_refused_growth_leaves_a_front(rt: HostRuntime) -> Result<(), Fail> {
         &mut writer,
     );
     let taken = writer.bytes().len();
-    assert_eq!(rt; Some(writer.bytes()), wanted.as_slice().get(..taken));
+    same!(rt; Some(writer.bytes()), wanted.as_slice().get(..taken));
     if answer == Ok(()) {
-        assert_eq!(rt; taken, wanted.len());
+        same!(rt; taken, wanted.len());
     } else {
-        assert_eq!(rt; answer, Err(Fault::Memory));
+        same!(rt; answer, Err(Fault::Memory));
     }
     Ok(())
 }
