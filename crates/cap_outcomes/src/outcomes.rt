@@ -1,12 +1,13 @@
 //! How a run ends: its status, and what is told of it.
 ghost use Rattle.std.specs.Prelude.{◌≡◌, ◌≤◌, ◌++◌, length, is_err, IsTrue, IsFalse, IsOk, IsErr, IsOkUnless};
 ghost use Rattle.cap_bytes.specs.Device.{Puts, WriterKeeps, writer_of};
+ghost use Rattle.cap_print.specs.Lines.{text_in};
 ghost use Rattle.cap_outcomes.specs.Outcomes.{ends_by, status_after, fault_text, line_text, outcome_text, refusal_text, read_text, open_text, told_text, is_help, HelpEnds};
 ghost use Rattle.cap_bytes.specs.Printing.{PrintsFront};
 
 use cap_bytes::{Fault, Refusal, Sink, put_all};
 use cap_jobs::{LineFault, USAGE};
-use cap_print::{Line, put_field, put_text};
+use cap_print::Line;
 use std::io;
 
 /// How a run ended.
@@ -54,52 +55,52 @@ pub fn status_of(outcome: &Outcome) -> u8
 
 // `refused: file 2 offset 24 rule 6 block-trailer`
 fn refusal_line(refusal: &Refusal) -> Line
-    ensures { result.items ≡ refusal_text refusal.now }
+    ensures { text_in result ≡ refusal_text refusal.now }
 {
     let mut line = Line::new();
-    put_field(&mut line, b"refused: file ", refusal.file);
-    put_field(&mut line, b" offset ", refusal.offset);
-    put_field(&mut line, b" rule ", refusal.rule.number());
-    put_text(&mut line, b" ");
-    put_text(&mut line, refusal.rule.name().as_bytes());
-    put_text(&mut line, b"\n");
+    line.put_text(b"\n");
+    line.put_text(refusal.rule.name().as_bytes());
+    line.put_text(b" ");
+    line.put_field(b" rule ", u64::from(refusal.rule.number()));
+    line.put_field(b" offset ", refusal.offset);
+    line.put_field(b"refused: file ", u64::from(refusal.file));
     line
 }
 
 // `fault: read file 1 offset 24`
 fn read_line(file: u32, offset: u64) -> Line
-    ensures { result.items ≡ read_text file offset }
+    ensures { text_in result ≡ read_text file offset }
 {
     let mut line = Line::new();
-    put_field(&mut line, b"fault: read file ", file);
-    put_field(&mut line, b" offset ", offset);
-    put_text(&mut line, b"\n");
+    line.put_text(b"\n");
+    line.put_field(b" offset ", offset);
+    line.put_field(b"fault: read file ", u64::from(file));
     line
 }
 
 // `fault: open file 1`
 fn open_line(file: u32) -> Line
-    ensures { result.items ≡ open_text file }
+    ensures { text_in result ≡ open_text file }
 {
     let mut line = Line::new();
-    put_field(&mut line, b"fault: open file ", file);
-    put_text(&mut line, b"\n");
+    line.put_text(b"\n");
+    line.put_field(b"fault: open file ", u64::from(file));
     line
 }
 
 // A line of that text alone.
 fn short_line(text: &[u8]) -> Line
     requires { length text.now ≤ 512 }
-    ensures { result.items ≡ text.now }
+    ensures { text_in result ≡ text.now }
 {
     let mut line = Line::new();
-    put_text(&mut line, text);
+    line.put_text(text);
     line
 }
 
 // What is told of a fault of a run.
 fn fault_line(fault: Fault) -> Line
-    ensures { result.items ≡ fault_text fault }
+    ensures { text_in result ≡ fault_text fault }
 {
     match fault {
         Fault::Refused(refusal) => refusal_line(&refusal),

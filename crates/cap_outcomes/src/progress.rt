@@ -1,9 +1,9 @@
 //! How far a run is, shown at a terminal while the run takes long.
 ghost use Rattle.std.specs.Prelude.{◌≡◌, ◌+◌, ◌<◌, ◌≤◌, ◌^◌, ◌++◌, length};
-ghost use Rattle.arrayvec.specs.ArrayVec.{array_vec_len};
+ghost use Rattle.cap_print.specs.Lines.{room_in, text_in};
 ghost use Rattle.cap_outcomes.specs.Progress.{amount_text, left_text, of_text, progress_text, time_text};
 
-use cap_print::{Line, put_field, put_text};
+use cap_print::Line;
 use std::cell::Cell;
 use std::io::{Stderr, Write};
 use std::time::{Clock, Duration, Instant};
@@ -17,54 +17,54 @@ const PAUSE: u64 = 200;
 // To the beginning of the line, and what stands there is wiped.
 const WIPE: &[u8] = b"\r\x1b[K";
 
-// Appends a number of bytes in millions or thousands of millions, to a tenth.
+// Puts a label and a number of bytes, in millions or thousands of millions, to a tenth.
 fn put_amount(line: &mut Line, label: &[u8], bytes: u128)
-    requires { array_vec_len line.old + length label.now + 84 ≤ 512 }
-    ensures items { line.new.items ≡ line.old.items ++ label.now ++ amount_text bytes }
-    ensures len { array_vec_len line.new ≤ array_vec_len line.old + length label.now + 84 }
+    requires { length label.now + 84 ≤ room_in line.old }
+    ensures text { text_in line.new ≡ label.now ++ amount_text bytes ++ text_in line.old }
+    ensures room { room_in line.old ≤ room_in line.new + length label.now + 84 }
 {
     if bytes < 1_000_000_000 {
-        put_field(line, label, bytes / 1_000_000);
-        put_field(line, b".", bytes / 100_000 % 10);
-        put_text(line, b" MB");
+        line.put_text(b" MB");
+        line.put_integer(b".", bytes / 100_000 % 10);
+        line.put_integer(label, bytes / 1_000_000);
     } else {
-        put_field(line, label, bytes / 1_000_000_000);
-        put_field(line, b".", bytes / 100_000_000 % 10);
-        put_text(line, b" GB");
+        line.put_text(b" GB");
+        line.put_integer(b".", bytes / 100_000_000 % 10);
+        line.put_integer(label, bytes / 1_000_000_000);
     }
 }
 
-// Appends how many bytes there are, if that is known.
+// Puts how many bytes there are, if that is known.
 fn put_total(line: &mut Line, total: Option<u64>)
-    requires { array_vec_len line.old + 88 ≤ 512 }
-    ensures items { line.new.items ≡ line.old.items ++ of_text total }
-    ensures len { array_vec_len line.new ≤ array_vec_len line.old + 88 }
+    requires { 88 ≤ room_in line.old }
+    ensures text { text_in line.new ≡ of_text total ++ text_in line.old }
+    ensures room { room_in line.old ≤ room_in line.new + 88 }
 {
     if let Some(total) = total {
         put_amount(line, b" of ", u128::from(total));
     }
 }
 
-// Appends a time of that many seconds.
+// Puts a label and a time of that many seconds.
 fn put_seconds(line: &mut Line, label: &[u8], seconds: u128)
-    requires { array_vec_len line.old + length label.now + 44 ≤ 512 }
-    ensures items { line.new.items ≡ line.old.items ++ label.now ++ time_text seconds }
-    ensures len { array_vec_len line.new ≤ array_vec_len line.old + length label.now + 44 }
+    requires { length label.now + 44 ≤ room_in line.old }
+    ensures text { text_in line.new ≡ label.now ++ time_text seconds ++ text_in line.old }
+    ensures room { room_in line.old ≤ room_in line.new + length label.now + 44 }
 {
     if seconds < 60 {
-        put_field(line, label, seconds);
-        put_text(line, b" s");
+        line.put_text(b" s");
+        line.put_integer(label, seconds);
     } else {
-        put_field(line, label, seconds / 60);
-        put_text(line, b" min");
+        line.put_text(b" min");
+        line.put_integer(label, seconds / 60);
     }
 }
 
-// Appends how long the rest will take, if that can be told.
+// Puts how long the rest will take, if that can be told.
 fn put_left(line: &mut Line, read: u64, total: Option<u64>, millis: u64)
-    requires { array_vec_len line.old + 51 ≤ 512 }
-    ensures items { line.new.items ≡ line.old.items ++ left_text read total millis }
-    ensures len { array_vec_len line.new ≤ array_vec_len line.old + 51 }
+    requires { 51 ≤ room_in line.old }
+    ensures text { text_in line.new ≡ left_text read total millis ++ text_in line.old }
+    ensures room { room_in line.old ≤ room_in line.new + 51 }
 {
     let Some(total) = total else {
         return;
@@ -72,27 +72,24 @@ fn put_left(line: &mut Line, read: u64, total: Option<u64>, millis: u64)
     if read == 0 || total <= read {
         return;
     }
+    line.put_text(b" left");
     let rest = u128::from(total - read) * u128::from(millis);
     put_seconds(line, b", ", rest / (u128::from(read) * 1000));
-    put_text(line, b" left");
 }
 
 /// How far a run is that has read that many bytes, of that many, in that many thousandths of a second:
 /// `  120.4 MB of 4.8 GB, 412.0 MB a second, 11 s left`.
 pub fn progress_line(read: u64, total: Option<u64>, millis: u64) -> Line
     requires { 0 < millis }
-    ensures { result.items ≡ progress_text read total millis }
+    ensures { text_in result ≡ progress_text read total millis }
 {
     let mut line = Line::new();
-    put_amount(&mut line, b"  ", u128::from(read));
-    put_total(&mut line, total);
-    put_amount(
-        &mut line,
-        b", ",
-        u128::from(read) * 1000 / u128::from(millis),
-    );
-    put_text(&mut line, b" a second");
     put_left(&mut line, read, total, millis);
+    line.put_text(b" a second");
+    let a_second = u128::from(read) * 1000 / u128::from(millis);
+    put_amount(&mut line, b", ", a_second);
+    put_total(&mut line, total);
+    put_amount(&mut line, b"  ", u128::from(read));
     line
 }
 

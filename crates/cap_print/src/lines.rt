@@ -1,57 +1,171 @@
-//! A line, and what is appended to it.
-ghost use Rattle.std.specs.Prelude.{◌≡◌, ◌+◌, ◌≤◌, ◌++◌, length, option_map};
-ghost use Rattle.arrayvec.specs.ArrayVec.{array_vec_len};
-ghost use Rattle.cap_print.specs.Lines.{time_text};
+//! A line, and what is put before it.
+ghost use Rattle.std.specs.Prelude.{◌≡◌, ◌+◌, ◌*◌, ◌≤◌, ◌++◌, [], codes, decimal, drop, length, option_map};
+ghost use Rattle.std.specs.Fmt.{signed_decimal};
 ghost use Rattle.cap_time.specs.Stamp.{printed_of};
+ghost use Rattle.hex.specs.Hex.{encode_lower};
 
-use arrayvec::ArrayVec;
 use cap_time::Stamp;
-use itoa::{Buffer, Integer};
+use itoa::{Buffer, Integer, write_digits};
 
 /// The most bytes of a line.
 pub const LINE: usize = 512;
 
-/// A line that is being written.
-pub type Line = ArrayVec<u8, LINE>;
-
-/// Appends a text.
+// Writes a text so that it ends at `end`, and answers where it starts.
 #[inline(always)]
-pub fn put_text(line: &mut Line, text: &[u8])
-    requires { array_vec_len line.old + length text.now ≤ 512 }
-    ensures items { line.new.items ≡ line.old.items ++ text.now }
-    ensures len { array_vec_len line.new ≡ array_vec_len line.old + length text.now }
+fn write_text(text: &[u8], room: &mut [u8], end: usize) -> usize
+    requires { (length text.now ≤ end) × (end ≤ length room.old) }
+    ensures start { result + length text.now ≡ end }
+    ensures written { drop result room.new ≡ text.now ++ drop end room.old }
 {
-    let _ = line.try_extend_from_slice(text);
+    let start = end - text.len();
+    let (before, _) = room.split_at_mut(end);
+    let (_, place) = before.split_at_mut(start);
+    place.copy_from_slice(text);
+    start
 }
 
-/// Appends a label and a whole number, in decimal.
+// Writes some bytes in lower case hex so that they end at `end`, and answers where they start.
 #[inline(always)]
-pub fn put_field<I: Integer>(line: &mut Line, label: &[u8], number: I)
-    requires { array_vec_len line.old + length label.now + 40 ≤ 512 }
-    ensures items { line.new.items ≡ line.old.items ++ label.now ++ I.text number }
-    ensures len { array_vec_len line.new ≤ array_vec_len line.old + length label.now + 40 }
+fn write_hex(bytes: &[u8], room: &mut [u8], end: usize) -> usize
+    requires { (2 * length bytes.now ≤ end) × (end ≤ length room.old) }
+    ensures start { result + 2 * length bytes.now ≡ end }
+    ensures written { drop result room.new ≡ encode_lower bytes.now ++ drop end room.old }
 {
-    let mut buffer = Buffer::new();
-    put_text(line, label);
-    put_text(line, buffer.format(number).as_bytes());
+    let start = end - 2 * bytes.len();
+    let (before, _) = room.split_at_mut(end);
+    let (_, place) = before.split_at_mut(start);
+    let _ = hex::encode_to_slice(bytes, place);
+    start
 }
 
-/// Appends a label and a time as `SEC+NUM/DEN`, or `-` if there is none.
-#[inline(always)]
-pub fn put_time(line: &mut Line, label: &[u8], time: Option<Stamp>)
-    requires { array_vec_len line.old + length label.now + 122 ≤ 512 }
-    ensures items { line.new.items ≡ line.old.items ++ label.now ++ time_text (option_map printed_of time) }
-    ensures len { array_vec_len line.new ≤ array_vec_len line.old + length label.now + 122 }
-{
-    match time {
-        None => {
-            put_text(line, label);
-            put_text(line, b"-");
+/// A line that is being written, from its last byte to its first, as the digits of a number are: what is put stands before
+/// all that was put already. So nothing that was put is moved or copied. Each function wants room for the most that it may put.
+#[derive(Drop)]
+pub struct Line {
+    bytes: [u8; LINE],
+    // where what was put begins
+    start: usize,
+    ghost within: { start ≤ 512 },
+}
+
+impl Line {
+    ghost use Rattle.cap_print.specs.Lines.{room_in, text_in, time_text};
+
+    /// An empty line.
+    pub fn new() -> Line
+        ensures text { text_in result ≡ [] }
+        ensures room { room_in result ≡ 512 }
+    {
+        Line {
+            bytes: [0; LINE],
+            start: LINE,
         }
-        Some(stamp) => {
-            put_field(line, label, stamp.seconds());
-            put_field(line, b"+", stamp.numerator());
-            put_field(line, b"/", stamp.denominator());
+    }
+
+    /// Leaves nothing in it.
+    #[inline(always)]
+    pub fn clear(&mut self)
+        ensures text { text_in self.new ≡ [] }
+        ensures room { room_in self.new ≡ 512 }
+    {
+        self.start = LINE;
+    }
+
+    /// What was put.
+    #[inline(always)]
+    pub fn as_slice(&self) -> &[u8]
+        ensures value { result.now ≡ text_in self.now }
+    {
+        self.bytes.split_at(self.start).1
+    }
+
+    /// Puts a text.
+    #[inline(always)]
+    pub fn put_text(&mut self, text: &[u8])
+        requires { length text.now ≤ room_in self.old }
+        ensures text { text_in self.new ≡ text.now ++ text_in self.old }
+        ensures room { room_in self.new + length text.now ≡ room_in self.old }
+    {
+        self.start = write_text(text, &mut self.bytes, self.start);
+    }
+
+    /// Puts a label and a whole number, in decimal.
+    #[inline(always)]
+    pub fn put_field(&mut self, label: &[u8], number: u64)
+        requires { length label.now + 20 ≤ room_in self.old }
+        ensures text { text_in self.new ≡ label.now ++ decimal number ++ text_in self.old }
+        ensures room { room_in self.old ≤ room_in self.new + length label.now + 20 }
+    {
+        self.start = write_digits(number, &mut self.bytes, self.start);
+        self.put_text(label);
+    }
+
+    /// Puts a label and a whole number of any integer type, in decimal.
+    pub fn put_integer<I: Integer>(&mut self, label: &[u8], number: I)
+        requires { length label.now + I.MAX_STR_LEN ≤ room_in self.old }
+        ensures text { text_in self.new ≡ label.now ++ I.text number ++ text_in self.old }
+        ensures room { room_in self.old ≤ room_in self.new + length label.now + I.MAX_STR_LEN }
+    {
+        let mut buffer = Buffer::new();
+        self.put_text(buffer.format(number).as_bytes());
+        self.put_text(label);
+    }
+
+    /// Puts a label and some bytes, in lower case hex.
+    #[inline(always)]
+    pub fn put_hex(&mut self, label: &[u8], bytes: &[u8])
+        requires { length label.now + 2 * length bytes.now ≤ room_in self.old }
+        ensures text { text_in self.new ≡ label.now ++ encode_lower bytes.now ++ text_in self.old }
+        ensures room { room_in self.new + length label.now + 2 * length bytes.now ≡ room_in self.old }
+    {
+        self.start = write_hex(bytes, &mut self.bytes, self.start);
+        self.put_text(label);
+    }
+
+    // Puts a label and the seconds of a time: few are below 0, or need more than 64 bits.
+    #[inline(always)]
+    fn put_seconds(&mut self, label: &[u8], seconds: i128)
+        requires { length label.now + 40 ≤ room_in self.old }
+        ensures text { text_in self.new ≡ label.now ++ signed_decimal seconds ++ text_in self.old }
+        ensures room { room_in self.old ≤ room_in self.new + length label.now + 40 }
+    {
+        match u64::try_from(seconds) {
+            Ok(seconds) => self.put_field(label, seconds),
+            Err(_) => self.put_integer(label, seconds),
+        }
+    }
+
+    // Puts how many units a second has: most have a million, or a thousand million.
+    #[inline(always)]
+    fn put_denominator(&mut self, denominator: u64)
+        requires { 21 ≤ room_in self.old }
+        ensures text { text_in self.new ≡ codes "/" ++ decimal denominator ++ text_in self.old }
+        ensures room { room_in self.old ≤ room_in self.new + 21 }
+    {
+        match denominator {
+            1_000_000 => self.put_text(b"/1000000"),
+            1_000_000_000 => self.put_text(b"/1000000000"),
+            _ => self.put_field(b"/", denominator),
+        }
+    }
+
+    /// Puts a label and a time as `SEC+NUM/DEN`, or `-` if there is none.
+    #[inline(always)]
+    pub fn put_time(&mut self, label: &[u8], time: Option<Stamp>)
+        requires { length label.now + 82 ≤ room_in self.old }
+        ensures text { text_in self.new ≡ label.now ++ time_text (option_map printed_of time) ++ text_in self.old }
+        ensures room { room_in self.old ≤ room_in self.new + length label.now + 82 }
+    {
+        match time {
+            None => {
+                self.put_text(b"-");
+                self.put_text(label);
+            }
+            Some(stamp) => {
+                self.put_denominator(stamp.denominator());
+                self.put_field(b"+", stamp.numerator());
+                self.put_seconds(label, stamp.seconds());
+            }
         }
     }
 }

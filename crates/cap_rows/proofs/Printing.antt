@@ -1,6 +1,6 @@
 -- The lines of conversations, written one by one.
 use Rattle.std.proofs.lemmas.Grind.{common_steps}
-use Rattle.std.proofs.Common.{◌≡◌, ◌<◌, ◌≤◌, ◌+◌, ℕ, suc, List, [], ◌∷◌, ◌++◌, length, take, drop, IsTrue, refl, sym, ap, ◌∙◌, subst, arith, length-append, take_at, drop_at}
+use Rattle.std.proofs.Common.{◌≡◌, ◌<◌, ◌≤◌, ◌+◌, ℕ, suc, List, [], ◌∷◌, ◌++◌, length, take, drop, codes, IsTrue, refl, sym, ap, ◌∙◌, subst, arith, append_assoc, length-append, take_at, drop_at}
 use Rattle.cap_bytes.proofs.Putting.{Putting, Putting-more, Putting-front}
 use Rattle.cap_bytes.specs.Device.{Writer}
 use Rattle.cap_bytes.specs.Printing.{PrintsFront}
@@ -42,3 +42,11 @@ pub line-front : (from mid : Writer) (held : List ℕ) (all : List Talk) (place 
     → Putting from mid (talk_texts all) (talk_texts (drop place all)) → IsTrue from.told → held ≡ mid.held ++ take n line
     → PrintsFront (talk_texts all) from.held held
 line-front from mid held all place line n within text p t wrote = search (Putting-front, split_at_line, subst (Putting from mid (talk_texts all)) (split_at_line all place line within text) p)
+
+-- a conversation's line, which is written from its last part to its first
+pub line_parts : (protocol lesser greater forward backward first last : List ℕ)
+    → codes "talk " ++ (protocol ++ (codes " " ++ (lesser ++ (codes " " ++ (greater ++ (codes " forward " ++ (forward
+    ++ (codes " backward " ++ (backward ++ (codes " first " ++ (first ++ (codes " last " ++ (last ++ codes "\n")))))))))))))
+    ≡ codes "talk " ++ protocol ++ codes " " ++ lesser ++ codes " " ++ greater ++ codes " forward " ++ forward ++ codes " backward " ++ backward
+    ++ codes " first " ++ first ++ codes " last " ++ last ++ codes "\n"
+line_parts protocol lesser greater forward backward first last = simp append_assoc

@@ -2,138 +2,112 @@
 ghost use Rattle.std.specs.Prelude.{◌≡◌, ◌+◌, ◌≤◌, ◌<◌, ◌++◌, codes, decimal, length, IsTrue, IsOkUnless, None};
 ghost use Rattle.cap_bytes.specs.Device.{WriterKeeps, writer_of};
 ghost use Rattle.cap_bytes.specs.Printing.{Prints, is_write};
-ghost use Rattle.arrayvec.specs.ArrayVec.{array_vec_len};
+ghost use Rattle.cap_print.specs.Lines.{room_in, text_in};
 ghost use Rattle.cap_rows.specs.Lines.{protocol_text, address_text, end_text, traffic_text, talk_text, talk_texts, talks_text, line_at};
 
 use crate::rows::{TalkKey, TalkRow};
 use crate::talks::Talks;
 use crate::units::End;
 use cap_bytes::{Fault, Sink, put_all};
-use cap_print::{Line, put_field, put_text, put_time};
-use cap_time::Stamp;
-use itoa::Buffer;
+use cap_print::Line;
 
 // The protocol numbers that have a name (IANA).
 const TCP: u8 = 6;
 
 const UDP: u8 = 17;
 
-// Appends a byte's number, which has at most three digits.
-fn put_byte(line: &mut Line, label: &[u8], number: u8)
-    requires { array_vec_len line.old + length label.now + 3 ≤ 512 }
-    ensures items { line.new.items ≡ line.old.items ++ label.now ++ decimal number }
-    ensures len { array_vec_len line.new ≤ array_vec_len line.old + length label.now + 3 }
-{
-    let mut buffer = Buffer::new();
-    put_text(line, label);
-    put_text(line, buffer.format(number).as_bytes());
-}
-
-// Appends a port's number, which has at most five digits.
-fn put_port(line: &mut Line, label: &[u8], number: u16)
-    requires { array_vec_len line.old + length label.now + 5 ≤ 512 }
-    ensures items { line.new.items ≡ line.old.items ++ label.now ++ decimal number }
-    ensures len { array_vec_len line.new ≤ array_vec_len line.old + length label.now + 5 }
-{
-    let mut buffer = Buffer::new();
-    put_text(line, label);
-    put_text(line, buffer.format(number).as_bytes());
-}
-
-// Appends a protocol, by name or by number.
+// Puts a protocol, by name or by number.
 fn put_protocol(line: &mut Line, protocol: u8)
-    requires { array_vec_len line.old + 4 ≤ 512 }
-    ensures items { line.new.items ≡ line.old.items ++ protocol_text protocol }
-    ensures len { array_vec_len line.new ≤ array_vec_len line.old + 4 }
+    requires { 4 ≤ room_in line.old }
+    ensures text { text_in line.new ≡ protocol_text protocol ++ text_in line.old }
+    ensures room { room_in line.old ≤ room_in line.new + 4 }
 {
-    if protocol == UDP {
-        put_text(line, b"udp");
-    } else if protocol == TCP {
-        put_text(line, b"tcp");
-    } else {
-        put_byte(line, b"p", protocol);
+    match protocol {
+        UDP => line.put_text(b"udp"),
+        TCP => line.put_text(b"tcp"),
+        _ => line.put_integer(b"p", protocol),
     }
 }
 
-// Appends an address, as its four bytes.
+// Puts an address, as its four bytes.
 fn put_address(line: &mut Line, address: u32)
-    requires { array_vec_len line.old + 15 ≤ 512 }
-    ensures items { line.new.items ≡ line.old.items ++ address_text address }
-    ensures len { array_vec_len line.new ≤ array_vec_len line.old + 15 }
+    requires { 15 ≤ room_in line.old }
+    ensures text { text_in line.new ≡ address_text address ++ text_in line.old }
+    ensures room { room_in line.old ≤ room_in line.new + 15 }
 {
-    put_byte(line, b"", (address / 0x100_0000) as u8);
-    put_byte(line, b".", (address / 0x1_0000 % 256) as u8);
-    put_byte(line, b".", (address / 0x100 % 256) as u8);
-    put_byte(line, b".", (address % 256) as u8);
+    line.put_integer(b".", (address % 256) as u8);
+    line.put_integer(b".", (address / 0x100 % 256) as u8);
+    line.put_integer(b".", (address / 0x1_0000 % 256) as u8);
+    line.put_integer(b"", (address / 0x100_0000) as u8);
 }
 
-// Appends an end: its address, and its port if it has one.
+// Puts an end: its address, and its port if it has one.
 fn put_end(line: &mut Line, end: End)
-    requires { array_vec_len line.old + 21 ≤ 512 }
-    ensures items { line.new.items ≡ line.old.items ++ end_text end }
-    ensures len { array_vec_len line.new ≤ array_vec_len line.old + 21 }
+    requires { 21 ≤ room_in line.old }
+    ensures text { text_in line.new ≡ end_text end ++ text_in line.old }
+    ensures room { room_in line.old ≤ room_in line.new + 21 }
 {
-    put_address(line, end.address);
     if let Some(port) = end.port {
-        put_port(line, b":", port);
+        line.put_integer(b":", port);
     }
+    put_address(line, end.address);
 }
 
-// Appends a label, and what went one way.
+// Puts a label, and what went one way.
 fn put_traffic(line: &mut Line, label: &[u8], frames: u64, bytes: u128)
-    requires { array_vec_len line.old + length label.now + 81 ≤ 512 }
-    ensures items { line.new.items ≡ line.old.items ++ label.now ++ traffic_text frames bytes }
-    ensures len { array_vec_len line.new ≤ array_vec_len line.old + length label.now + 81 }
+    requires { length label.now + 61 ≤ room_in line.old }
+    ensures text { text_in line.new ≡ label.now ++ traffic_text frames bytes ++ text_in line.old }
+    ensures room { room_in line.old ≤ room_in line.new + length label.now + 61 }
 {
-    put_field(line, label, frames);
-    put_field(line, b" ", bytes);
+    line.put_integer(b" ", bytes);
+    line.put_field(label, frames);
 }
 
 /// The line of a conversation: `talk PROTO A B forward P BYTES backward P BYTES first T last T`. The protocol
 /// is `udp`, `tcp`, or `p` and its number; an end is `a.b.c.d:port`, or `a.b.c.d` if it has no port; A is
 /// the lesser end.
 pub fn talk_line(key: &TalkKey, row: &TalkRow) -> Line
-    ensures { result.items ≡ talk_text key.now row.now }
+    ensures { text_in result ≡ talk_text key.now row.now }
 {
     let mut line = Line::new();
-    put_text(&mut line, b"talk ");
-    put_protocol(&mut line, key.protocol);
-    put_text(&mut line, b" ");
-    put_end(&mut line, key.lesser);
-    put_text(&mut line, b" ");
-    put_end(&mut line, key.greater);
-    put_traffic(
-        &mut line,
-        b" forward ",
-        row.forward_frames,
-        row.forward_bytes,
-    );
+    line.put_text(b"\n");
+    line.put_time(b" last ", row.last);
+    line.put_time(b" first ", row.first);
     put_traffic(
         &mut line,
         b" backward ",
         row.backward_frames,
         row.backward_bytes,
     );
-    put_time(&mut line, b" first ", row.first);
-    put_time(&mut line, b" last ", row.last);
-    put_text(&mut line, b"\n");
+    put_traffic(
+        &mut line,
+        b" forward ",
+        row.forward_frames,
+        row.forward_bytes,
+    );
+    put_end(&mut line, key.greater);
+    line.put_text(b" ");
+    put_end(&mut line, key.lesser);
+    line.put_text(b" ");
+    put_protocol(&mut line, key.protocol);
+    line.put_text(b"talk ");
     line
 }
 
 /// The line that says how many conversations there are: `talks C`.
 pub fn talks_line(count: usize) -> Line
-    ensures { result.items ≡ talks_text count }
+    ensures { text_in result ≡ talks_text count }
 {
     let mut line = Line::new();
-    put_field(&mut line, b"talks ", count);
-    put_text(&mut line, b"\n");
+    line.put_text(b"\n");
+    line.put_field(b"talks ", count as u64);
     line
 }
 
 // The line of the conversation at a place.
 fn line_at(talks: &Talks, place: usize) -> Line
     requires { place < length talks.now.rows }
-    ensures { result.items ≡ line_at talks.now.rows place }
+    ensures { text_in result ≡ line_at talks.now.rows place }
 {
     match talks.get(place) {
         None => unreachable!(),

@@ -1,5 +1,5 @@
 -- The lines of a file's blocks, written one by one.
-use Rattle.std.proofs.Common.{◌≡◌, ℕ, ◌+◌, ◌^◌, ◌≤◌, List, ◌∷◌, ◌++◌, length, take, drop, Bool, IsTrue, Option, None, Ok, Err, refl, sym, ap, ◌∙◌, subst, arith, take_at, drop_at, length-append}
+use Rattle.std.proofs.Common.{◌≡◌, ℕ, ◌+◌, ◌^◌, ◌≤◌, List, ◌∷◌, ◌++◌, length, take, drop, Bool, IsTrue, Option, None, Ok, Err, refl, sym, ap, ◌∙◌, subst, arith, take_at, drop_at, append-nil, length-append}
 use Rattle.cap_bytes.proofs.Putting.{Putting, Putting-more}
 use Rattle.cap_bytes.specs.Device.{Writer}
 use Rattle.cap_bytes.specs.declared.faults.Fault.{Fault}
@@ -27,6 +27,21 @@ pub record Printing (old new : State Order) (failed_old failed_new : Bool) (from
   pub writer_cannot : IsTrue to.can_fail → IsTrue from.can_fail
   pub lines : IsTrue old.told → Putting from to (block_lines 1 (items_of old)) (block_lines n (items_of new))
   pub refusal_same : IsTrue old.told → refusal_of (items_of new) ≡ refusal_of (items_of old)
+
+-- no line is written yet
+pub Printing-none : (reader : State Order) (failed : Bool) (writer : Writer) → Printing reader reader failed failed writer writer 1
+Printing-none reader failed writer = record {
+  number = omega arith;
+  limit = omega arith;
+  failed = refl;
+  file = refl;
+  can_fail = λ t. t;
+  told = λ t. t;
+  writer_told = λ t. t;
+  writer_cannot = λ t. t;
+  lines = λ t. record { at = 0; within = omega arith; left = refl; written = λ w. sym (append-nil writer.held); told = λ w. w; cannot = λ f. f };
+  refusal_same = λ t. refl;
+}
 
 -- the lines of a block and of those after it
 pub block_lines-given : (n : ℕ) (block : Block) (body : List ℕ) (items rest : List (Item Block)) → items ≡ given block body ∷ rest

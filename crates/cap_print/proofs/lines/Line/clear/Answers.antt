@@ -1,0 +1,6 @@
+use Rattle.std.proofs.Common.{rules}
+use Rattle.std.proofs.lemmas.List.{drop_all}
+use Rattle.cap_print.proofs.lines.Line.clear.Goals as goal
+
+pub returns-clause-text : goal.returns-clause-text
+returns-clause-text c = search (rules, drop_all)

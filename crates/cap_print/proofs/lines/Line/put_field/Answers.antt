@@ -1,0 +1,13 @@
+-- A number of 64 bits has at most twenty digits.
+use Rattle.std.proofs.Common.{rules}
+use Rattle.std.proofs.lemmas.Fmt.{length-decimal-le}
+use Rattle.cap_print.proofs.lines.Line.put_field.Goals as goal
+
+pub write_digits-self-requires : goal.write_digits-self-requires
+write_digits-self-requires c = search (rules, length-decimal-le 20)
+
+pub put_text-requires : goal.put_text-requires
+put_text-requires c = search (rules, length-decimal-le 20)
+
+pub returns-clause-room : goal.returns-clause-room
+returns-clause-room c = search (rules, length-decimal-le 20)
