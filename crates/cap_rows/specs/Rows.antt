@@ -3,7 +3,7 @@ use Rattle.std.specs.Prelude.{◌≡◌, ℕ, List, [], ◌∷◌, Bool, true, f
 use Rattle.std.specs.Map.{lookup, values_of}
 use Rattle.std.specs.Ordering.{is_lt}
 use Rattle.indexmap.specs.IndexMap.{insert_entry}
-use Rattle.cap_rows.specs.Talks.{Talk, row_of, is_forward, key_of, by_time, by_time_down, earlier_frame, later_frame, frame_time, place_or, same_talk, rows_of}
+use Rattle.cap_rows.specs.Talks.{Talk, row_of, is_forward, key_of, by_time, earlier_frame, later_frame, frame_time, place_or, same_talk, rows_of}
 use Rattle.cap_rows.specs.declared.rows.TalkKey.{TalkKey}
 use Rattle.cap_rows.specs.declared.rows.TalkRow.{TalkRow}
 use Rattle.cap_rows.specs.declared.talks.TalksFault.{TalksFault}
