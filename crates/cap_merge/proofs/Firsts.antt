@@ -43,6 +43,10 @@ packet_head (Some (heads.Packet meta)) p = (meta, refl)
 packet_head (Some (heads.Refused refusal)) p = absurd p
 packet_head (Some heads.End) p = absurd p
 
+-- a packet is an item
+pub packet-next : (h : Option Head) → IsPacket h → has_next h ≡ true
+packet-next h p = grind arith
+
 -- The packet that comes next of all is that of the first part.
 pub packet-of-first : (ps : List Part) (first : Part) → Split ps first → IsPacket (feed_of ps).known
     → (is_known ps ≡ true) × ((meta : Meta) × (first.lane.head ≡ Some (heads.Packet meta)))

@@ -41,14 +41,14 @@ known_all ps qs l = grind arith
 same_by : (p q : Part) (h : Option Head) → is_some h ≡ true → LearnsBy h p q → q ≡ p
 same_by p q h e l = grind arith
 
-same_all : (ps qs : List Part) → is_known ps ≡ true → LearnsAll ps qs → qs ≡ ps
+pub same_all : (ps qs : List Part) → is_known ps ≡ true → LearnsAll ps qs → qs ≡ ps
 same_all (p ∷ ps) (q ∷ qs) k l =
     let both = and-both (is_some p.lane.head) (is_known ps) k in
     λ i. same_by p q p.lane.head both.0 l.0 i ∷ same_all ps qs both.1 l.1 i
 same_all ps qs k l = grind arith
 
 -- one that isn't known leaves all unknown
-unknown_stops : (fault : Fault) (ps qs : List Part) → StopsAt fault ps qs → (is_known ps ≡ false) × (is_known qs ≡ false)
+pub unknown_stops : (fault : Fault) (ps qs : List Part) → StopsAt fault ps qs → (is_known ps ≡ false) × (is_known qs ≡ false)
 unknown_stops fault (p ∷ ps) (q ∷ qs) (inl s) =
     (ap (λ h. is_some h && is_known ps) s.0.unknown, ap (λ w. is_some w.head && is_known qs) s.0.lane ∙ ap (λ h. is_some h && is_known qs) s.0.unknown)
 unknown_stops fault (p ∷ ps) (q ∷ qs) (inr s) =

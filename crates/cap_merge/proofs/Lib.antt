@@ -10,6 +10,7 @@ pub mod Others
 pub mod Calls
 pub mod Firsts
 pub mod Looking
+pub mod Peeking
 pub mod RunLaws
 pub mod Rounds
 pub mod FromClock

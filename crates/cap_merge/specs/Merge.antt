@@ -1,5 +1,5 @@
 -- What asking the feeds of a merge does to them.
-use Rattle.std.specs.Prelude.{◌≡◌, true, ⊤, ℕ, zero, suc, IsTrue, List, [], ◌∷◌, Option, Some, None, ◌⊎◌, Result, Ok, Err, is_ok}
+use Rattle.std.specs.Prelude.{◌≡◌, Bool, true, false, ⊤, ℕ, zero, suc, IsTrue, List, [], ◌∷◌, Option, Some, None, ◌⊎◌, Result, Ok, Err, is_ok}
 use Rattle.cap_bytes.specs.declared.faults.Fault.{Fault}
 use Rattle.cap_bytes.specs.declared.faults.Fault.TheVariants.{Refused, Read, Write, Memory}
 use Rattle.cap_source.specs.declared.feeds.Head.{Head}
@@ -7,7 +7,8 @@ use Rattle.cap_source.specs.Feed.{Keeps, SameItems, Knows, GivesHead, KeepsItems
 use Rattle.cap_merge.specs.declared.lanes.Coming.TheVariants as comings
 use Rattle.cap_merge.specs.declared.lanes.Lane.{Lane}
 use Rattle.cap_time.specs.Clock.{later}
-use Rattle.cap_merge.specs.Parts.{Part, LaneState, head_time, is_bounded, passed_lane}
+use Rattle.cap_merge.specs.First.{coming_of}
+use Rattle.cap_merge.specs.Parts.{Part, LaneState, head_time, is_bounded, passed_lane, feed_of}
 
 -- What a lane does with a fault of its feed: a refusal is what comes next, another fault is answered.
 abbrev pub Answers : {T : Type 0} → Lane → Fault → Result T Fault → Lane → Type 0
@@ -71,6 +72,45 @@ LooksAll ps (Err (Refused refusal)) qs = LearnsAll ps qs
 LooksAll ps (Err (Read file offset)) qs = StopsAt (Read file offset) ps qs
 LooksAll ps (Err Write) qs = ⊥
 LooksAll ps (Err Memory) qs = StopsAt Memory ps qs
+
+-- A feed has no packet at hand: it is as it was, or knows what comes next, which isn't noted.
+pub record Peeked (p q : Part) : Type 0 where
+  pub unknown : p.lane.head ≡ None
+  pub lane : q.lane ≡ p.lane
+  pub feed : (q.feed ≡ p.feed) ⊎ ((head : Head) × Knows p.feed head q.feed)
+  pub keeps : Keeps p.feed q.feed
+  pub items : IsTrue p.feed.told → SameItems p.feed q.feed
+
+-- What asking one feed does whether it has a packet at hand: if so the packet is known, and if not nothing more is noted.
+abbrev pub Shows : Part → Bool → Part → Type 0
+Shows p true q = LearnsBy p.lane.head p q
+Shows p false q = (q ≡ p) ⊎ Peeked p q
+
+-- A feed at a place has no packet at hand; the others stay as they are.
+abbrev pub PeeksAt : List Part → ℕ → List Part → Type 0
+PeeksAt [] place qs = ⊥
+PeeksAt (p ∷ ps) place [] = ⊥
+PeeksAt (p ∷ ps) zero (q ∷ qs) = ((q ≡ p) ⊎ Peeked p q) × (qs ≡ ps)
+PeeksAt (p ∷ ps) (suc place) (q ∷ qs) = (q ≡ p) × PeeksAt ps place qs
+
+-- what asking the feed at a place does, if what comes next of the others is known
+abbrev pub ShowsAt : List Part → ℕ → Bool → List Part → Type 0
+ShowsAt ps place true qs = LearnsAll ps qs
+ShowsAt ps place false qs = PeeksAt ps place qs
+
+-- What comes next is what such a call answers, unless a device failed or a growth was refused.
+abbrev pub TellsNext : Option Head → Result Bool Fault → Type 0
+TellsNext head (Ok true) = coming_of head ≡ Some comings.Packet
+TellsNext head (Ok false) = coming_of head ≡ Some comings.End
+TellsNext head (Err (Refused refusal)) = coming_of head ≡ Some (comings.Refused refusal)
+TellsNext head (Err (Read file offset)) = ⊤
+TellsNext head (Err Write) = ⊤
+TellsNext head (Err Memory) = ⊤
+
+-- Whether the packet that comes first is at hand: if so all feeds were asked, and if not, asking all of them does what it would have done before.
+abbrev pub ShowsFirst : List Part → Bool → List Part → Type 0
+ShowsFirst ps true qs = LearnsAll ps qs × TellsNext (feed_of qs).known (Ok true)
+ShowsFirst ps false qs = (result : Result Bool Fault) (rs : List Part) → LooksAll qs result rs → LooksAll ps result rs
 
 -- The packet of a part is passed: its feed drops it, and nothing more is known.
 pub record PassesPart (p q : Part) : Type 0 where

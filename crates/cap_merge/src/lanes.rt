@@ -4,7 +4,7 @@ ghost use Rattle.std.specs.List.{list_all};
 ghost use Rattle.cap_source.specs.Feed.{Feed, IsPacket};
 ghost use Rattle.cap_merge.specs.Parts.{part, parts, is_bounded, known_of, both_held, known_but, OthersKnown, Matches, Agrees};
 ghost use Rattle.cap_merge.specs.First.{coming_of, fresh_lane, lane_at, has_item, lane_turn, lane_turns, comes_before, sooner_place, first_place, IsFound};
-ghost use Rattle.cap_merge.specs.Merge.{Answers, Asks, AsksAll, IsPacketAt, PassesAt, PassesPart};
+ghost use Rattle.cap_merge.specs.Merge.{Answers, Asks, AsksAll, Shows, ShowsAt, IsPacketAt, PassesAt, PassesPart};
 
 use arrayvec::ArrayVec;
 use cap_bytes::{Fault, Refusal};
@@ -107,11 +107,10 @@ fn stop(lane: &mut Lane, fault: Fault) -> Result<(), Fault>
     }
 }
 
-// Asks a feed what comes next, which isn't known, and may be a packet that isn't at hand, a refusal or the end. It isn't
-// inlined, so that what it answers takes no room where packets are at hand.
+// Asks a feed what comes next, which isn't known.
 #[tactic(auto, using(crate::proofs::Bounds::later_bounded))]
 #[inline(never)]
-fn learn_slowly<F: PacketFeed>(lane: &mut Lane, feed: &mut F) -> Result<(), Fault>
+fn learn<F: PacketFeed>(lane: &mut Lane, feed: &mut F) -> Result<(), Fault>
     requires { lane.old.next ≡ None }
     ensures asks { Asks (part lane.old (F.feed feed.old)) result (part lane.new (F.feed feed.new)) }
     ensures agrees { Matches lane.new (F.feed feed.new) }
@@ -128,22 +127,6 @@ fn learn_slowly<F: PacketFeed>(lane: &mut Lane, feed: &mut F) -> Result<(), Faul
         }
         Err(fault) => stop(lane, fault),
     }
-}
-
-// Asks a feed what comes next, which isn't known.
-#[tactic(auto, using(crate::proofs::Bounds::later_bounded))]
-#[inline(always)]
-fn learn<F: PacketFeed>(lane: &mut Lane, feed: &mut F) -> Result<(), Fault>
-    requires { lane.old.next ≡ None }
-    ensures asks { Asks (part lane.old (F.feed feed.old)) result (part lane.new (F.feed feed.new)) }
-    ensures agrees { Matches lane.new (F.feed feed.new) }
-{
-    if feed.shows_packet() {
-        lane.next = Some(Coming::Packet);
-        reach(&mut lane.clock, &feed.packet().time());
-        return Ok(());
-    }
-    learn_slowly(lane, feed)
 }
 
 // Asks a feed what comes next, unless that is known.
@@ -184,6 +167,59 @@ fn ask_at<F: PacketFeed>(lanes: &mut [Lane], feeds: &mut [F], place: usize) -> R
     ensures agrees { Agrees lanes.new (map F.feed feeds.new) }
 {
     ask(&mut lanes[place], &mut feeds[place])
+}
+
+// Asks a feed whether it has a packet at hand, unless it is known what comes next. If so the packet is known then.
+#[tactic(auto, using(crate::proofs::Bounds::later_bounded))]
+#[inline(always)]
+fn show<F: PacketFeed>(lane: &mut Lane, feed: &mut F) -> bool
+    requires { Matches lane.old (F.feed feed.old) }
+    ensures shows { Shows (part lane.old (F.feed feed.old)) result (part lane.new (F.feed feed.new)) }
+    ensures agrees { Matches lane.new (F.feed feed.new) }
+{
+    if lane.next.is_some() {
+        return false;
+    }
+    if feed.shows_packet() {
+        lane.next = Some(Coming::Packet);
+        reach(&mut lane.clock, &feed.packet().time());
+        true
+    } else {
+        false
+    }
+}
+
+// Asks the feed at a place whether it has a packet at hand, unless it is known what comes next. That of each other feed is known.
+#[inline(always)]
+fn show_at<F: PacketFeed>(lanes: &mut [Lane], feeds: &mut [F], place: usize) -> bool
+    requires alike { length lanes.old ≡ length feeds.old }
+    requires agrees { Agrees lanes.old (map F.feed feeds.old) }
+    requires place { place < length lanes.old }
+    requires others { known_but (parts lanes.old (map F.feed feeds.old)) place ≡ true }
+    ensures shows { ShowsAt (parts lanes.old (map F.feed feeds.old)) place result (parts lanes.new (map F.feed feeds.new)) }
+    ensures agrees { Agrees lanes.new (map F.feed feeds.new) }
+{
+    show(&mut lanes[place], &mut feeds[place])
+}
+
+/// Asks the feed at a place, of which a packet was passed, whether it has the next one at hand.
+#[inline(always)]
+pub(crate) fn show_next<F: PacketFeed>(
+    lanes: &mut ArrayVec<Lane, 32>,
+    feeds: &mut Vec<F>,
+    place: usize,
+) -> bool
+    requires alike { length lanes.old.items ≡ length feeds.old.items }
+    requires agrees { Agrees lanes.old.items (map F.feed feeds.old.items) }
+    requires place { place < length lanes.old.items }
+    requires others { known_but (parts lanes.old.items (map F.feed feeds.old.items)) place ≡ true }
+    ensures shows { ShowsAt (parts lanes.old.items (map F.feed feeds.old.items)) place result
+        (parts lanes.new.items (map F.feed feeds.new.items)) }
+    ensures agrees { Agrees lanes.new.items (map F.feed feeds.new.items) }
+    ensures lanes { length lanes.new.items ≡ length lanes.old.items }
+    ensures feeds { length feeds.new.items ≡ length feeds.old.items }
+{
+    show_at(lanes.as_mut_slice(), feeds.as_mut_slice(), place)
 }
 
 // Asks each feed that isn't known in turn, which is that of the passed packet alone, if there is one.
@@ -325,6 +361,29 @@ pub(crate) fn coming_at(lanes: &[Lane], first: Option<usize>) -> Coming
             None => Coming::End,
         },
         None => Coming::End,
+    }
+}
+
+// Whether a packet is known to come next.
+#[inline(always)]
+fn is_packet(next: &Option<Coming>) -> bool
+    ensures { result ≡ true → next.now ≡ Some Coming.Packet }
+{
+    matches!(next, Some(Coming::Packet))
+}
+
+/// Whether a packet comes next of all, if what comes next of each is known and the lane at that place has the item that comes first.
+#[inline(always)]
+pub(crate) fn is_packet_at(lanes: &[Lane], first: Option<usize>) -> bool
+    requires known { list_all (λ l. is_some l.next) lanes.now ≡ true }
+    requires place { first ≡ first_place (lane_turns lanes.now) }
+    requires within { IfSome first (λ n. n < length lanes.now) }
+    ensures { (feeds : List Feed) → length feeds ≡ length lanes.now → Agrees lanes.now feeds → result ≡ true
+        → coming_of (known_of (parts lanes.now feeds)) ≡ Some Coming.Packet }
+{
+    match first {
+        Some(first) => is_packet(&lanes[first].next),
+        None => false,
     }
 }
 

@@ -10,12 +10,12 @@ ghost use Rattle.cap_source.specs.Feed.{GivesHead, Keeps, KeepsItems, FindsPacke
 ghost use Rattle.cap_merge.specs.Run.{opened, run};
 ghost use Rattle.cap_merge.specs.Parts.{item_time, is_refusal, parts, IsNumbered, Agrees, HasReached, AreBounded, feed_of, new_parts, clock_of, run_of, OthersKnown, ClocksFrom, MovesClocks, KeepsRun, ShowsRun, BeginsAt, turns};
 ghost use Rattle.cap_merge.specs.First.{coming_of, has_next, first_place, found_of, passed_of, IsFound, IsFound-prop};
-ghost use Rattle.cap_merge.specs.Merge.{AsksAll, LooksAll};
+ghost use Rattle.cap_merge.specs.Merge.{AsksAll, LooksAll, TellsNext, ShowsFirst};
 ghost use Rattle.cap_merge.specs.PartsProps.{IsNumbered-prop, Agrees-prop, HasReached-prop, AreBounded-prop, OthersKnown-prop};
 
 use crate::lanes::{
-    Coming, Front, Lane, ask_all, clock_at, coming_at, first_lane, found, greater, new_lanes,
-    pass_first,
+    Coming, Front, Lane, ask_all, clock_at, coming_at, first_lane, found, greater, is_packet_at,
+    new_lanes, pass_first, show_next,
 };
 use arrayvec::ArrayVec;
 use cap_bytes::Fault;
@@ -38,6 +38,17 @@ pub struct Merged<F: PacketFeed> {
     ghost bounded: { AreBounded (parts lanes.items (map F.feed feeds.items)) } by { AreBounded-prop (parts lanes.items (map F.feed feeds.items)) },
     ghost found: { IsFound lanes.items (found_of front) } by { IsFound-prop lanes.items (found_of front) },
     ghost others: { OthersKnown (parts lanes.items (map F.feed feeds.items)) (passed_of front) } by { OthersKnown-prop (parts lanes.items (map F.feed feeds.items)) (passed_of front) },
+}
+
+/// The packet that comes next of a merge.
+#[derive(Clone, Copy)]
+pub struct NextPacket<'a> {
+    /// Its clock.
+    pub clock: Option<Stamp>,
+    /// What is told of it.
+    pub meta: &'a Meta,
+    /// Its captured bytes.
+    pub frame: &'a [u8],
 }
 
 impl<F: PacketFeed> Merged<F> {
@@ -87,6 +98,27 @@ impl<F: PacketFeed> Merged<F> {
         }
     }
 
+    /// The packet that comes next: what `clock`, `packet` and `frame` answer, each of which looks anew for the file that it is of.
+    #[inline(always)]
+    pub fn next_packet(&self) -> NextPacket<'_>
+        requires { IsPacket (feed_of (parts_of self.now)).known }
+        ensures clock { result.clock ≡ clock_of (parts_of self.now) }
+        ensures bounded { IfSome result.clock (λ clock. seconds_of clock <ℤ pos (2 ^ 65)) }
+        ensures run { IsTrue (feed_of (parts_of self.now)).told
+            → BeginsAt result.clock (run_of (parts_of self.now)) }
+        ensures packet { (feed_of (parts_of self.now)).known ≡ Some (Head.Packet result.meta.now) }
+        ensures frame { result.frame.now ≡ (feed_of (parts_of self.now)).frame }
+    {
+        match self.first_place() {
+            Some(place) => NextPacket {
+                clock: clock_at(self.lanes.as_slice(), place),
+                meta: self.feeds[place].packet(),
+                frame: self.feeds[place].frame(),
+            },
+            None => unreachable!(),
+        }
+    }
+
     // The place of the feed whose item comes first.
     #[inline(always)]
     fn first_place(&self) -> Option<usize>
@@ -108,6 +140,37 @@ impl<F: PacketFeed> Merged<F> {
         let first = first_lane(self.lanes.as_slice());
         self.front = Front::at(first);
         Ok(coming_at(self.lanes.as_slice(), first))
+    }
+
+    // Whether the packet that comes first of all is at hand, after one was passed: it is known then.
+    #[inline(always)]
+    fn shows_first(&mut self) -> bool
+        ensures { ShowsFirst (parts_of self.old) result (parts_of self.new) }
+    {
+        let Some(place) = self.front.passed() else {
+            return false;
+        };
+        if !show_next(&mut self.lanes, &mut self.feeds, place) {
+            self.front = Front::Unknown;
+            return false;
+        }
+        let first = first_lane(self.lanes.as_slice());
+        self.front = Front::at(first);
+        is_packet_at(self.lanes.as_slice(), first)
+    }
+
+    // What `has_packet` answers of a packet that isn't at hand. It isn't inlined, so that what it answers takes no room where
+    // packets are at hand.
+    #[inline(never)]
+    fn find(&mut self) -> Result<bool, Fault>
+        ensures asks { LooksAll (parts_of self.old) result (parts_of self.new) }
+        ensures next { TellsNext (feed_of (parts_of self.new)).known result }
+    {
+        match self.look()? {
+            Coming::Packet => Ok(true),
+            Coming::Refused(refusal) => Err(Fault::Refused(refusal)),
+            Coming::End => Ok(false),
+        }
     }
 }
 
@@ -153,11 +216,10 @@ impl<F: PacketFeed> PacketFeed for Merged<F> {
             → ShowsRun (parts_of self.old) result (parts_of self.new) }
         ensures clocks { MovesClocks (parts_of self.old) (parts_of self.new) }
     {
-        match self.look()? {
-            Coming::Packet => Ok(true),
-            Coming::Refused(refusal) => Err(Fault::Refused(refusal)),
-            Coming::End => Ok(false),
+        if self.shows_first() {
+            return Ok(true);
         }
+        self.find()
     }
 
     // It asks its feeds what they have at hand, and has nothing at hand itself before it is asked.

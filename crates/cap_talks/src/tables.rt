@@ -109,12 +109,11 @@ impl<F: PacketFeed> Table<F> {
             self.done = true;
             return Ok(Step::Done);
         }
-        let meta = self.merged.packet();
-        let clock = self.merged.clock();
-        let frame = self.merged.frame();
+        let next = self.merged.next_packet();
+        let (meta, frame) = (next.meta, next.frame);
         let time = meta.time();
         let packet = RunPacket {
-            clock,
+            clock: next.clock,
             time,
             meta,
             frame,
