@@ -6,14 +6,19 @@ use std::fmt::Debug;
 use std::process::Abort;
 
 /// That what was found is what is wanted.
-pub fn ask_same<T: Copy + PartialEq + Debug>(rt: &impl Abort, what: &str, found: T, wanted: T)
+pub(crate) fn ask_same<T: Copy + PartialEq + Debug>(
+    rt: &impl Abort,
+    what: &str,
+    found: T,
+    wanted: T,
+)
     ensures { IsTrue (T.eq found wanted) }
 {
     assert_eq!(rt; found, wanted, "{what}");
 }
 
 /// That what was found in that row of a table is what is wanted.
-pub fn ask_same_at<T: Copy + PartialEq + Debug>(
+pub(crate) fn ask_same_at<T: Copy + PartialEq + Debug>(
     rt: &impl Abort,
     what: &str,
     row: impl Copy + Debug,
@@ -26,20 +31,20 @@ pub fn ask_same_at<T: Copy + PartialEq + Debug>(
 }
 
 /// That it is true.
-pub fn ask(rt: &impl Abort, what: &str, found: bool)
+pub(crate) fn ask(rt: &impl Abort, what: &str, found: bool)
     ensures { IsTrue found }
 {
     assert!(rt; found, "{what}");
 }
 
 /// That it is true in that row of a table.
-pub fn ask_at(rt: &impl Abort, what: &str, row: impl Copy + Debug, found: bool)
+pub(crate) fn ask_at(rt: &impl Abort, what: &str, row: impl Copy + Debug, found: bool)
     ensures { IsTrue found }
 {
     assert!(rt; found, "{what} at {row:?}");
 }
 
-/// `same!(rt; found, wanted)`, or with a row of a table behind them: that both are equal.
+/// `same!(rt; found, wanted)`, or with a row of a table as a third: that both are equal.
 macro_rules! same {
     ($rt:expr; $found:expr, $wanted:expr $(,)?) => {
         $crate::checks::ask_same(&$rt, stringify!($found), $found, $wanted)
@@ -49,7 +54,7 @@ macro_rules! same {
     };
 }
 
-/// `holds!(rt; found)`, or with a row of a table behind it: that it is true.
+/// `holds!(rt; found)`, or with a row of a table as a second: that it is true.
 macro_rules! holds {
     ($rt:expr; $found:expr $(,)?) => {
         $crate::checks::ask(&$rt, stringify!($found), $found)
