@@ -4,7 +4,8 @@
 #
 # Makes its inputs (deterministic, in a folder of its own that is removed again; sizes at 100 percent):
 #   mixed.pcap   1,470,000 packets of 64 to 1,514 bytes in 1,000 conversations, 1.2 GB
-#   small.pcap   5,000,000 packets of 64 bytes in 1,000 conversations, 0.4 GB
+#   small.pcap   5,000,000 packets of 64 bytes in 1,000 conversations, in random order, 0.4 GB
+#   turns.pcap   as many, one of each conversation in turn, which a processor learns to foresee
 #   many.pcap    2,000,000 packets of 64 bytes in 1,000,000 conversations, 0.16 GB
 #   part1 to 8   1,200,000 packets of 64 to 1,514 bytes, whose times come in turn, 1 GB together
 # and mixed.pcapng and small.pcapng, which capt makes of the first two. Holds the conversations that capt prints to those
@@ -39,7 +40,7 @@ cc -O2 -o "$work/copy" "$work/copy.c"
 
 cd "$work"
 PYTHONPATH="$top/bench" PYTHONDONTWRITEBYTECODE=1 python3 - "$program" "$percent" "$runs" <<'PY'
-import os, platform, shutil, struct, subprocess, sys
+import os, platform, random, shutil, struct, subprocess, sys
 from measure import measure
 
 program, percent, runs = sys.argv[1], int(sys.argv[2]), int(sys.argv[3])
@@ -73,10 +74,13 @@ def make(name, packets, frame_at, first=0, step=1):
             out.write(b"".join(part))
 
 mixed = [frame(i * 37 % 1000, i % 3 == 0, SIZES[i % 8]) for i in range(8000)]
-small = [frame(i, i % 3 == 0, 64) for i in range(1000)]
+small = [frame(i, back, 64) for i in range(1000) for back in (False, True)]
+turns = [frame(i, i % 3 == 0, 64) for i in range(1000)]
+choice = random.Random(1)
 talks = max(1, 10_000 * percent)
 make("mixed.pcap", 14_700 * percent, lambda i: mixed[i % 8000])
-make("small.pcap", 50_000 * percent, lambda i: small[i % 1000])
+make("small.pcap", 50_000 * percent, lambda i: small[choice.randrange(2000)])
+make("turns.pcap", 50_000 * percent, lambda i: turns[i % 1000])
 make("many.pcap", 2 * talks, lambda i: frame(i * 617 % talks, i >= talks, 64))
 parts = [f"part{n}.pcap" for n in range(1, 9)]
 for n, part in enumerate(parts):
@@ -89,7 +93,7 @@ def lines(words, start):
     text = subprocess.run(words, check=True, capture_output=True).stdout
     return text[text.index(start):]
 
-for name in ("mixed", "small", "many"):
+for name in ("mixed", "small", "turns", "many"):
     assert lines([program, "report", f"{name}.pcap"], b"talks ") == lines(["./count", f"{name}.pcap"], b"talks "), name
 for name in ("mixed.pcap", "small.pcap", "mixed.pcapng", "small.pcapng"):
     assert lines([program, "info", name], b"file 1").replace(b" skipped 0", b"") == lines(["./info", name], b"file 1"), name
@@ -119,7 +123,7 @@ with open("/proc/cpuinfo") as info:
     model = next((line.split(":")[1].strip() for line in info if line.startswith("model name")), platform.machine())
 print(f"{model}, {os.cpu_count()} processors, load {os.getloadavg()[0]:.1f}; {percent} percent of the sizes, best of {runs} runs")
 peaks = {}
-for name in ("mixed", "small", "many"):
+for name in ("mixed", "small", "turns", "many"):
     file = f"{name}.pcap"
     peaks[name] = row(f"report {file}", [program, "report", file],
         {"cat": ["cat", file], "count.c": ["./count", file], "tshark": ["tshark", "-q", "-z", "conv,udp", "-z", "conv,tcp", "-r", file]})

@@ -96,14 +96,19 @@ const MERGED: [(Side, Side, &[Came], Option<(u32, u64)>); 6] = [
 
 // The file and the clock of the packet that comes, which has no bytes and is passed.
 fn next_of(feed: &mut Merged<Listed>) -> Result<(u32, Option<Stamp>), Fail> {
-    let Head::Packet(meta) = feed.head()? else {
+    if !feed.has_packet()? {
         return Err(Fail::from("no packet"));
-    };
-    let clock = feed.clock();
-    if *feed.packet() != meta {
+    }
+    let meta = *feed.packet();
+    if feed.head()? != Head::Packet(meta) {
         return Err(Fail::from("another packet"));
     }
-    if !feed.frame().is_empty() {
+    let clock = feed.clock();
+    let next = feed.next_packet();
+    if next.clock != clock || *next.meta != meta {
+        return Err(Fail::from("another packet or clock"));
+    }
+    if !feed.frame().is_empty() || !next.frame.is_empty() {
         return Err(Fail::from("bytes"));
     }
     feed.pass();
