@@ -1,8 +1,8 @@
 //! The row of a conversation: what is counted of its units.
-ghost use Rattle.std.specs.Prelude.{◌≡◌, ◌+◌, ◌<◌, ◌^◌, []};
+ghost use Rattle.std.specs.Prelude.{◌≡◌, ◌+◌, ◌<◌, ◌^◌, [], true, IsSome};
 ghost use Rattle.cap_rows.specs.Talks.{key_of, is_forward, earlier_frame, later_frame, frame_time, place_or, row_of};
 ghost use Rattle.cap_rows.specs.Keys.{end_number};
-ghost use Rattle.cap_rows.specs.Rows.{with_unit, frames_of_row, bytes_of_row, frame_of, is_earlier};
+ghost use Rattle.cap_rows.specs.Rows.{with_unit, with_frames, frames_of_row, bytes_of_row, frame_of, is_earlier, is_after, is_in_order, are_in_order};
 
 use crate::units::{CountedUnit, End, TimedFrame};
 use cap_time::Stamp;
@@ -116,6 +116,8 @@ impl TalkRow {
     pub(crate) fn take(&mut self, unit: &CountedUnit)
         requires frames { frames_of_row self.old + unit.now.frames < 2 ^ 64 }
         requires bytes { bytes_of_row self.old + unit.now.bytes < 2 ^ 128 }
+        requires row { is_in_order self.old ≡ true }
+        requires unit { are_in_order unit.now.first unit.now.last ≡ true }
         ensures { self.new ≡ with_unit self.old unit.now }
     {
         if is_forward(unit) {
@@ -125,8 +127,7 @@ impl TalkRow {
             self.backward_frames += unit.frames;
             self.backward_bytes += unit.bytes;
         }
-        take_first(&mut self.first, &mut self.first_place, &unit.first);
-        take_last(&mut self.last, &mut self.last_place, &unit.last);
+        take_frames(self, unit);
     }
 }
 
@@ -150,6 +151,47 @@ fn is_earlier(frame: &TimedFrame, first: &Option<Stamp>, place: u64) -> bool
             Ordering::Greater => false,
         },
     }
+}
+
+// Takes the first and the last frame of a unit into the least and the greatest time so far. Most units come after all frames before
+// them: the first of those isn't looked at then.
+#[inline(always)]
+fn take_frames(row: &mut TalkRow, unit: &CountedUnit)
+    requires row { is_in_order row.old ≡ true }
+    requires unit { are_in_order unit.now.first unit.now.last ≡ true }
+    ensures { row.new ≡ with_frames row.old unit.now }
+{
+    if is_after(&unit.first, &row.last) {
+        set_last(&mut row.last, &mut row.last_place, &unit.last);
+    } else {
+        take_first(&mut row.first, &mut row.first_place, &unit.first);
+        take_last(&mut row.last, &mut row.last_place, &unit.last);
+    }
+}
+
+// Whether a frame is later than the last one so far: both are there.
+#[inline(always)]
+fn is_after(frame: &Option<TimedFrame>, last: &Option<Stamp>) -> bool
+    ensures { result ≡ is_after frame.now last.now }
+{
+    match (frame, last) {
+        (Some(frame), Some(last)) => last.cmp(&frame.time) == Ordering::Less,
+        _ => false,
+    }
+}
+
+// Takes a frame as that of the greatest time so far.
+#[inline(always)]
+fn set_last(last: &mut Option<Stamp>, place: &mut u64, frame: &Option<TimedFrame>)
+    requires { IsSome frame.now }
+    ensures time { last.new ≡ frame_time frame.now }
+    ensures place { place.new ≡ place_or frame.now place.old }
+{
+    let Some(frame) = frame else {
+        unreachable!();
+    };
+    *last = Some(frame.time);
+    *place = frame.place;
 }
 
 // Takes a frame, if there is one, into the least time so far.
