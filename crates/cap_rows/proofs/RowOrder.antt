@@ -1,5 +1,5 @@
 -- The first frame of a row isn't later than its last one.
-use Rattle.std.proofs.Common.{◌≡◌, refl, ℕ, zero, suc, true, false, List, [], ◌∷◌, Option, Result, arith, IsSome}
+use Rattle.std.proofs.Common.{◌≡◌, refl, ℕ, zero, suc, true, false, List, [], ◌∷◌, Option, Result, arith}
 use Rattle.std.specs.Prelude.{OnOk, OnErr}
 use Rattle.std.specs.Ordering.{is_lt}
 use Rattle.indexmap.specs.IndexMap.{insert_entry}
@@ -15,30 +15,18 @@ use Rattle.cap_rows.specs.declared.talks.TalksFault.{TalksFault}
 use Rattle.cap_rows.specs.declared.units.CountedUnit.{CountedUnit}
 use Rattle.cap_rows.specs.declared.units.TimedFrame.{TimedFrame}
 
--- a unit that comes after the last frame so far has a last frame
-pub has-last : (first last : Option TimedFrame) (time : Option Stamp) → is_after first time ≡ true → are_in_order first last ≡ true → IsSome last
-has-last first last time after order = grind arith
-
 -- of times in order, the outer two
 before : (a b c : Stamp) → is_lt (stamp_cmp b a) ≡ false → is_lt (stamp_cmp b c) ≡ true → is_lt (stamp_cmp a c) ≡ true
 before a b c le lt = grind (arith, not_trans, stamp_cmp_total)
 
-after : (a b c : Stamp) → is_lt (stamp_cmp a b) ≡ true → is_lt (stamp_cmp c b) ≡ false → is_lt (stamp_cmp a c) ≡ true
-after a b c lt le = grind (arith, not_trans, stamp_cmp_total)
+-- a frame that comes after the last one so far leaves the first one
+first-kept : (row : TalkRow) (frame : Option TimedFrame) → is_in_order row ≡ true → is_after frame row.last ≡ true
+    → earlier_frame (frame_of row.first row.first_place) frame ≡ frame_of row.first row.first_place
+first-kept row frame order late = grind (arith, before, stamp_cmp_total.antisymm)
 
--- of a unit that comes after the last frame so far, the first frame isn't earlier than the first one so far, and the last is the last
-first-kept : (row : TalkRow) (first : Option TimedFrame) → is_in_order row ≡ true → is_after first row.last ≡ true
-    → earlier_frame (frame_of row.first row.first_place) first ≡ frame_of row.first row.first_place
-first-kept row first order late = grind (arith, before, stamp_cmp_total.antisymm)
-
-last-taken : (row : TalkRow) (first last : Option TimedFrame) → are_in_order first last ≡ true → is_after first row.last ≡ true
-    → later_frame (frame_of row.last row.last_place) last ≡ last
-last-taken row first last order late = grind (arith, after, stamp_cmp_total.antisymm)
-
-pub frames-after : (row : TalkRow) (unit : CountedUnit) (time : Option Stamp) (place : ℕ) → is_in_order row ≡ true → are_in_order unit.first unit.last ≡ true
-    → is_after unit.first row.last ≡ true → time ≡ frame_time unit.last → place ≡ place_or unit.last row.last_place
-    → record row { last = time; last_place = place } ≡ with_frames row unit
-frames-after row unit time place own others late last last_place = grind (arith, first-kept, last-taken)
+pub frames-after : (row : TalkRow) (frame : Option TimedFrame) (time : Option Stamp) (place : ℕ) → is_in_order row ≡ true → is_after frame row.last ≡ true
+    → time ≡ frame_time frame → place ≡ place_or frame row.last_place → record row { last = time; last_place = place } ≡ with_frames row frame frame
+frames-after row frame time place order late last last_place = grind (arith, first-kept, stamp_cmp_total.antisymm)
 
 -- a row stays in order
 frames-kept : (e l f g : Option TimedFrame) → are_in_order e l ≡ true → are_in_order f g ≡ true → are_in_order (earlier_frame e f) (later_frame l g) ≡ true

@@ -38,7 +38,12 @@ are_in_order None (Some last) = false
 are_in_order (Some first) None = false
 are_in_order (Some first) (Some last) = not (is_lt (stamp_cmp last.time first.time))
 
--- so are the first and the last frame of a row, and those of each of some rows
+-- What is known of a unit's frames: they are in order, and if it came in one frame this is the first and the last one.
+pub record IsUnitInOrder (unit : CountedUnit) : Type 0 where
+  pub order : are_in_order unit.first unit.last ≡ true
+  pub one : unit.frames ≡ 1 → unit.first ≡ unit.last
+
+-- the first and the last frame of a row are in order, and those of each of some rows
 abbrev pub is_in_order : TalkRow → Bool
 is_in_order row = are_in_order (frame_of row.first row.first_place) (frame_of row.last row.last_place)
 
@@ -89,20 +94,20 @@ is_after None last = false
 is_after (Some frame) None = false
 is_after (Some frame) (Some last) = is_lt (stamp_cmp last frame.time)
 
--- a row with the frames of one unit more
-abbrev pub with_frames : TalkRow → CountedUnit → TalkRow
-with_frames row unit =
+-- a row with the first and the last frame of one unit more
+abbrev pub with_frames : TalkRow → Option TimedFrame → Option TimedFrame → TalkRow
+with_frames row first last =
     record row {
-      first = frame_time (earlier_frame (frame_of row.first row.first_place) unit.first);
-      last = frame_time (later_frame (frame_of row.last row.last_place) unit.last);
-      first_place = place_or (earlier_frame (frame_of row.first row.first_place) unit.first) row.first_place;
-      last_place = place_or (later_frame (frame_of row.last row.last_place) unit.last) row.last_place;
+      first = frame_time (earlier_frame (frame_of row.first row.first_place) first);
+      last = frame_time (later_frame (frame_of row.last row.last_place) last);
+      first_place = place_or (earlier_frame (frame_of row.first row.first_place) first) row.first_place;
+      last_place = place_or (later_frame (frame_of row.last row.last_place) last) row.last_place;
     }
 
 -- a row with one unit of its conversation more
 abbrev pub with_unit : TalkRow → CountedUnit → TalkRow
 with_unit row unit =
-    record (with_frames row unit) {
+    record (with_frames row unit.first unit.last) {
       forward_bytes = if is_forward unit then row.forward_bytes + unit.bytes else row.forward_bytes;
       backward_bytes = if is_forward unit then row.backward_bytes else row.backward_bytes + unit.bytes;
       forward_frames = if is_forward unit then row.forward_frames + unit.frames else row.forward_frames;

@@ -1,8 +1,8 @@
 //! The row of a conversation: what is counted of its units.
-ghost use Rattle.std.specs.Prelude.{◌≡◌, ◌+◌, ◌<◌, ◌^◌, [], true, IsSome};
+ghost use Rattle.std.specs.Prelude.{◌≡◌, ◌+◌, ◌<◌, ◌^◌, [], true, if◌then◌else◌};
 ghost use Rattle.cap_rows.specs.Talks.{key_of, is_forward, earlier_frame, later_frame, frame_time, place_or, row_of};
 ghost use Rattle.cap_rows.specs.Keys.{end_number};
-ghost use Rattle.cap_rows.specs.Rows.{with_unit, with_frames, frames_of_row, bytes_of_row, frame_of, is_earlier, is_after, is_in_order, are_in_order};
+ghost use Rattle.cap_rows.specs.Rows.{with_unit, with_frames, frames_of_row, bytes_of_row, frame_of, is_earlier, is_after, is_in_order};
 
 use crate::units::{CountedUnit, End, TimedFrame};
 use cap_time::Stamp;
@@ -116,8 +116,8 @@ impl TalkRow {
     pub(crate) fn take(&mut self, unit: &CountedUnit)
         requires frames { frames_of_row self.old + unit.now.frames < 2 ^ 64 }
         requires bytes { bytes_of_row self.old + unit.now.bytes < 2 ^ 128 }
-        requires row { is_in_order self.old ≡ true }
-        requires unit { are_in_order unit.now.first unit.now.last ≡ true }
+        requires order { is_in_order self.old ≡ true }
+        requires one { unit.now.frames ≡ 1 → unit.now.first ≡ unit.now.last }
         ensures { self.new ≡ with_unit self.old unit.now }
     {
         if is_forward(unit) {
@@ -153,45 +153,47 @@ fn is_earlier(frame: &TimedFrame, first: &Option<Stamp>, place: u64) -> bool
     }
 }
 
-// Takes the first and the last frame of a unit into the least and the greatest time so far. Most units come after all frames before
-// them: the first of those isn't looked at then.
+// Takes the first and the last frame of a unit into the least and the greatest time so far. Most units came in one frame, which is
+// later than all before it: it isn't compared with the first of those.
 #[inline(always)]
 fn take_frames(row: &mut TalkRow, unit: &CountedUnit)
-    requires row { is_in_order row.old ≡ true }
-    requires unit { are_in_order unit.now.first unit.now.last ≡ true }
-    ensures { row.new ≡ with_frames row.old unit.now }
+    requires order { is_in_order row.old ≡ true }
+    requires one { unit.now.frames ≡ 1 → unit.now.first ≡ unit.now.last }
+    ensures { row.new ≡ with_frames row.old unit.now.first unit.now.last }
 {
-    if is_after(&unit.first, &row.last) {
-        set_last(&mut row.last, &mut row.last_place, &unit.last);
-    } else {
-        take_first(&mut row.first, &mut row.first_place, &unit.first);
-        take_last(&mut row.last, &mut row.last_place, &unit.last);
+    if unit.frames == 1 && goes_on(&mut row.last, &mut row.last_place, &unit.last) {
+        return;
     }
+    take_both(row, unit.first, unit.last);
 }
 
-// Whether a frame is later than the last one so far: both are there.
-#[inline(always)]
-fn is_after(frame: &Option<TimedFrame>, last: &Option<Stamp>) -> bool
-    ensures { result ≡ is_after frame.now last.now }
+// Takes a first and a last frame, whatever times they have. It takes copies, and isn't inlined, so that where a frame is later than all
+// before it, nothing of it need be in memory.
+#[inline(never)]
+fn take_both(row: &mut TalkRow, first: Option<TimedFrame>, last: Option<TimedFrame>)
+    ensures { row.new ≡ with_frames row.old first last }
 {
-    match (frame, last) {
-        (Some(frame), Some(last)) => last.cmp(&frame.time) == Ordering::Less,
+    take_first(&mut row.first, &mut row.first_place, &first);
+    take_last(&mut row.last, &mut row.last_place, &last);
+}
+
+// Moves the greatest time so far to that of a frame, if that is later than one that is there. Answers whether it is.
+#[inline(always)]
+fn goes_on(last: &mut Option<Stamp>, place: &mut u64, frame: &Option<TimedFrame>) -> bool
+    ensures later { result ≡ is_after frame.now last.old }
+    ensures time { last.new ≡ (if result then frame_time frame.now else last.old) }
+    ensures place { place.new ≡ (if result then place_or frame.now place.old else place.old) }
+{
+    match (last, frame) {
+        (Some(last), Some(frame)) => match last.reach(&frame.time) {
+            Ordering::Less => {
+                *place = frame.place;
+                true
+            }
+            _ => false,
+        },
         _ => false,
     }
-}
-
-// Takes a frame as that of the greatest time so far.
-#[inline(always)]
-fn set_last(last: &mut Option<Stamp>, place: &mut u64, frame: &Option<TimedFrame>)
-    requires { IsSome frame.now }
-    ensures time { last.new ≡ frame_time frame.now }
-    ensures place { place.new ≡ place_or frame.now place.old }
-{
-    let Some(frame) = frame else {
-        unreachable!();
-    };
-    *last = Some(frame.time);
-    *place = frame.place;
 }
 
 // Takes a frame, if there is one, into the least time so far.

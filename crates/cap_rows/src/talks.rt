@@ -4,7 +4,7 @@ ghost use Rattle.std.specs.Map.{lookup};
 ghost use Rattle.indexmap.specs.IndexMap.{insert_entry};
 ghost use Rattle.indexmap.specs.Layout.{set_value_at};
 ghost use Rattle.cap_rows.specs.Talks.{key_of, row_of, same_talk};
-ghost use Rattle.cap_rows.specs.Rows.{StandsFor, is_refused, is_limit, talk_limit, frames_in, bytes_in, frames_of_row, bytes_of_row, row_in, with_unit, with_talk, is_in_order, are_in_order, are_all_in_order};
+ghost use Rattle.cap_rows.specs.Rows.{StandsFor, is_refused, is_limit, talk_limit, frames_in, bytes_in, frames_of_row, bytes_of_row, row_in, with_unit, with_talk, IsUnitInOrder, is_in_order, are_all_in_order};
 ghost use Rattle.cap_rows.specs.declared.units.CountedUnit.{CountedUnit};
 
 use crate::rows::{TalkKey, TalkRow};
@@ -59,7 +59,7 @@ impl Talks {
 
     /// Counts one unit more, after those that the table stands for: units come in the order of the frames
     /// that completed them. All frames of its rows and the unit's are fewer than 2^64, and their bytes fewer
-    /// than 2^128. The unit's first frame isn't later than its last one.
+    /// than 2^128. The unit's first frame isn't later than its last one, and is the same if it came in one.
     ///
     /// `Limit` comes exactly if the unit's conversation is a new one and there are 1,048,576 already, `Memory`
     /// if a growth was refused. Both leave the table as it was.
@@ -67,7 +67,7 @@ impl Talks {
     pub fn add(&mut self, unit: &CountedUnit) -> Result<(), TalksFault>
         requires frames { frames_in self.old.rows + unit.now.frames < 2 ^ 64 }
         requires bytes { bytes_in self.old.rows + unit.now.bytes < 2 ^ 128 }
-        requires order { are_in_order unit.now.first unit.now.last ≡ true }
+        requires unit { IsUnitInOrder unit.now }
         ensures stands { OnOk result ((units : List CountedUnit) → StandsFor self.old units → StandsFor self.new (units ++ unit.now ∷ [])) }
         ensures frames { OnOk result (frames_in self.new.rows ≡ frames_in self.old.rows + unit.now.frames) }
         ensures bytes { OnOk result (bytes_in self.new.rows ≡ bytes_in self.old.rows + unit.now.bytes) }
@@ -103,8 +103,8 @@ fn add_at(rows: &mut IndexMap<TalkKey, TalkRow>, place: usize, unit: &CountedUni
     requires place { place < length rows.old.entries }
     requires frames { frames_of_row (row_in rows.old.entries place) + unit.now.frames < 2 ^ 64 }
     requires bytes { bytes_of_row (row_in rows.old.entries place) + unit.now.bytes < 2 ^ 128 }
-    requires row { is_in_order (row_in rows.old.entries place) ≡ true }
-    requires order { are_in_order unit.now.first unit.now.last ≡ true }
+    requires order { is_in_order (row_in rows.old.entries place) ≡ true }
+    requires one { unit.now.frames ≡ 1 → unit.now.first ≡ unit.now.last }
     ensures { rows.new.entries ≡ set_value_at rows.old.entries place (with_unit (row_in rows.old.entries place) unit.now) }
 {
     let Some(row) = rows.get_index_mut(place) else {
@@ -122,7 +122,7 @@ fn add_row(
 ) -> Result<(), TalksFault>
     requires frames { unit.frames < 2 ^ 64 }
     requires bytes { unit.bytes < 2 ^ 128 }
-    requires order { are_in_order unit.first unit.last ≡ true }
+    requires one { unit.frames ≡ 1 → unit.first ≡ unit.last }
     ensures entries { OnOk result (rows.new.entries ≡ insert_entry same_talk rows.old.entries key (with_unit (row_of []) unit)) }
     ensures limit { is_limit result ≡ not (nat_lt (length rows.old.entries) talk_limit) }
     ensures err { OnErr result (rows.new.entries ≡ rows.old.entries) }
@@ -143,8 +143,8 @@ fn add_row(
 fn add_unit(rows: &mut IndexMap<TalkKey, TalkRow>, unit: &CountedUnit) -> Result<(), TalksFault>
     requires frames { frames_in rows.old.entries + unit.now.frames < 2 ^ 64 }
     requires bytes { bytes_in rows.old.entries + unit.now.bytes < 2 ^ 128 }
-    requires rows { are_all_in_order rows.old.entries ≡ true }
-    requires order { are_in_order unit.now.first unit.now.last ≡ true }
+    requires order { are_all_in_order rows.old.entries ≡ true }
+    requires one { unit.now.frames ≡ 1 → unit.now.first ≡ unit.now.last }
     ensures entries { OnOk result (rows.new.entries ≡ with_talk rows.old.entries unit.now) }
     ensures limit { is_limit result ≡ is_refused talk_limit rows.old.entries (key_of unit.now) }
     ensures err { OnErr result (rows.new.entries ≡ rows.old.entries) }

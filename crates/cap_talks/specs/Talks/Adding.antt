@@ -1,9 +1,9 @@
 -- The unit of a joined datagram, and whether a unit's conversation is one too many.
-use Rattle.std.specs.Prelude.{List, Bool, true, false, length, Option}
+use Rattle.std.specs.Prelude.{List, Bool, false, length, Option}
 use Rattle.std.specs.Option.{option_map, option_map_or}
 use Rattle.cap_ip.specs.Transport.{transport_of}
 use Rattle.cap_join.specs.declared.datagrams.Datagram.{Datagram}
-use Rattle.cap_rows.specs.Rows.{is_refused, talk_limit, are_in_order}
+use Rattle.cap_rows.specs.Rows.{is_refused, talk_limit}
 use Rattle.cap_rows.specs.Talks.{Talk, key_of}
 use Rattle.cap_rows.specs.Units.{ends_of, timed_frame}
 use Rattle.cap_rows.specs.declared.units.CountedUnit.{CountedUnit}
@@ -23,7 +23,3 @@ datagram_class d = class_of (transport_of d.header.key.protocol d.payload.items 
 -- its conversation is one too many
 abbrev pub is_over : List Talk → Option CountedUnit → Bool
 is_over rows unit = option_map_or (λ u. is_refused talk_limit rows (key_of u)) unit false
-
--- its first frame isn't later than its last one, if there is a unit
-abbrev pub is_in_order : Option CountedUnit → Bool
-is_in_order unit = option_map_or (λ u. are_in_order u.first u.last) unit true

@@ -16,8 +16,8 @@ add_at-requires-clause-bytes c =
     let same = ap bytes_of_row (ap or_empty c.in-Some.ensures.value) in
     omega (arith, same, within, c.requires.bytes)
 
-pub add_at-requires-clause-row : goal.add_at-requires-clause-row
-add_at-requires-clause-row c = search (row_in-order)
+pub add_at-requires-clause-order : goal.add_at-requires-clause-order
+add_at-requires-clause-order c = search (row_in-order)
 
 pub returns-in-Some-clause-entries : goal.returns-in-Some-clause-entries
 returns-in-Some-clause-entries c = search (there-more, c.in-Some.ensures.index, c.in-Some.ensures.value, c.of-key.ensures, c.add_at.ensures)

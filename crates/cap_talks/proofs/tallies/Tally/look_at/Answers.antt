@@ -60,8 +60,8 @@ add_unit-requires-clause-bytes c =
     let one = numbers-whole c.in-Datagram.header c.in-Datagram.captured.now c.stamped_of-stamped.result original in
     omega (arith, one.0, one.1, ap (λ u. bytes_of (listed u)) c.whole_unit.ensures, s.bytes, frames-taken t s.taken s.next (λ us. (sum_law us).frames) s.stands, s.few)
 
-pub add_unit-requires-clause-order : goal.add_unit-requires-clause-order
-add_unit-requires-clause-order c = rw c.whole_unit.ensures (whole-order c.in-Datagram.header c.in-Datagram.captured.now c.stamped_of-stamped.result)
+pub add_unit-requires-clause-unit : goal.add_unit-requires-clause-unit
+add_unit-requires-clause-unit c = rw c.whole_unit.ensures (whole-order c.in-Datagram.header c.in-Datagram.captured.now c.stamped_of-stamped.result)
 
 pub returns-in_err-add_unit-in-Datagram-clause-limit : goal.returns-in_err-add_unit-in-Datagram-clause-limit
 returns-in_err-add_unit-in-Datagram-clause-limit c =

@@ -46,8 +46,8 @@ add_unit-requires-clause-bytes c =
       s.few,
     )
 
-pub add_unit-requires-clause-order : goal.add_unit-requires-clause-order
-add_unit-requires-clause-order c =
+pub add_unit-requires-clause-unit : goal.add_unit-requires-clause-unit
+add_unit-requires-clause-unit c =
     let s = c.self.invariant in
     rw c.joined_unit.ensures (waiting-order (tally_view c.self.inside) c.in-Some.datagram s.taken s.next c.in-Some.is s.stands)
 
