@@ -6,3 +6,4 @@ pub mod KeyLaws
 pub mod SumLaws
 pub mod Printing
 pub mod RowOrder
+pub mod Packing

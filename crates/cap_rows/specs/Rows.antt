@@ -50,10 +50,6 @@ is_in_order row = are_in_order (frame_of row.first row.first_place) (frame_of ro
 abbrev pub are_all_in_order : List Talk → Bool
 are_all_in_order talks = list_all (λ talk. is_in_order talk.1) talks
 
-pub record IsSoundTalks (talks : TalksState) : Type 0 where
-  pub few : length talks.rows ≤ talk_limit
-  pub order : are_all_in_order talks.rows ≡ true
-
 -- a unit of a conversation can't be counted: that is a new one, and as many stand as may
 abbrev pub is_refused : ℕ → List Talk → TalkKey → Bool
 is_refused limit rows key = not (is_some (lookup (same_talk key) rows)) && not (nat_lt (length rows) limit)
@@ -127,5 +123,5 @@ abbrev pub with_talk : List Talk → CountedUnit → List Talk
 with_talk rows unit = insert_entry same_talk rows (key_of unit) (with_unit (row_at (key_of unit) rows) unit)
 
 -- the row at a place, that of no unit past the last
-abbrev pub row_in : List Talk → ℕ → TalkRow
+abbrev pub row_in : {K : Type 0} → List (K × TalkRow) → ℕ → TalkRow
 row_in rows place = or_empty (slice_get (values_of rows) place)

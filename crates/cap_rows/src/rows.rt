@@ -1,13 +1,11 @@
 //! The row of a conversation: what is counted of its units.
 ghost use Rattle.std.specs.Prelude.{◌≡◌, ◌+◌, ◌<◌, ◌^◌, [], true, if◌then◌else◌};
-ghost use Rattle.cap_rows.specs.Talks.{key_of, is_forward, earlier_frame, later_frame, frame_time, place_or, row_of};
-ghost use Rattle.cap_rows.specs.Keys.{end_number};
+ghost use Rattle.cap_rows.specs.Talks.{is_forward, earlier_frame, later_frame, frame_time, place_or, row_of};
 ghost use Rattle.cap_rows.specs.Rows.{with_unit, with_frames, frames_of_row, bytes_of_row, frame_of, is_earlier, is_after, is_in_order};
 
 use crate::units::{CountedUnit, End, TimedFrame};
 use cap_time::Stamp;
 use std::cmp::Ordering;
-use std::hash::{Hash, Hasher};
 
 /// What names a conversation: a protocol and two ends, whichever of them is the source.
 #[derive(Clone, Copy, Debug, PartialEq, Eq)]
@@ -18,58 +16,6 @@ pub struct TalkKey {
     pub lesser: End,
     /// The other end, which is the same if a datagram goes from an end to itself.
     pub greater: End,
-}
-
-// An end as one number. No port reads as 0.
-fn end_number(end: &End) -> u64
-    ensures value { result ≡ end_number end.now }
-    ensures bound { result < 2 ^ 48 }
-{
-    let port = match end.port {
-        Some(port) => port,
-        None => 0,
-    };
-    u64::from(end.address) * 65_536 + u64::from(port)
-}
-
-impl Hash for TalkKey {
-    ghost use Rattle.cap_rows.specs.Keys.{talk_hash, talk_hash-same};
-
-    ghost hash_input = { talk_hash };
-
-    ghost respects_eq = { talk_hash-same };
-
-    // Two numbers: a write costs the same whether it has 1 byte or 8.
-    fn hash<H: Hasher>(&self, state: &mut H) {
-        let protocol = self.protocol;
-        state.write_u64(end_number(&self.lesser) * 256 + u64::from(protocol));
-        state.write_u64(end_number(&self.greater));
-    }
-}
-
-impl TalkKey {
-    /// The conversation that a unit belongs to.
-    #[inline(always)]
-    pub fn of(unit: &CountedUnit) -> TalkKey
-        ensures { result ≡ key_of unit.now }
-    {
-        let protocol = unit.protocol;
-        let source = unit.source;
-        let destination = unit.destination;
-        if source <= destination {
-            TalkKey {
-                protocol,
-                lesser: source,
-                greater: destination,
-            }
-        } else {
-            TalkKey {
-                protocol,
-                lesser: destination,
-                greater: source,
-            }
-        }
-    }
 }
 
 /// What is counted of the units of a conversation. The wide fields stand first, so that a row takes no more room than it needs.
