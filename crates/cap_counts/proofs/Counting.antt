@@ -7,10 +7,10 @@ use Rattle.cap_source.specs.Feed.{Feed, Item, packet, Keeps, Passes, SameItems, 
 use Rattle.cap_source.specs.Walk.{GivesPacket, ShowsItem}
 use Rattle.cap_source.specs.declared.feeds.Head.TheVariants as heads
 use Rattle.cap_source.specs.declared.packets.Meta.{Meta}
-use Rattle.cap_counts.specs.Counting.{packets_of, original_bytes, truncated_packets, last_packet, counted, with_packet}
+use Rattle.cap_counts.specs.Counting.{packets_of, are_in_order, original_bytes, truncated_packets, last_packet, counted, with_packet}
 use Rattle.cap_counts.specs.Reading.{CountsAll}
 use Rattle.cap_counts.specs.declared.counts.Counts.{Counts}
-use Rattle.cap_counts.proofs.Times.{least-more, greatest-more}
+use Rattle.cap_counts.proofs.Times.{least-more, greatest-more, times-in_order}
 
 bytes-more : (metas : List Meta) (meta : Meta) → original_bytes (metas ++ meta ∷ []) ≡ original_bytes metas + meta.original
 bytes-more [] meta = omega arith
@@ -37,6 +37,11 @@ counted-more metas meta = λ i. record {
   first = least-more metas meta i;
   last = greatest-more metas meta i;
 }
+
+-- the first time of some packets isn't after the last one
+pub counted-in_order : (metas : List Meta) → are_in_order (counted metas).first (counted metas).last ≡ true
+unfolding counted
+counted-in_order metas = times-in_order metas
 
 -- The packets that were given by a feed, which was `old`, are counted.
 pub record IsCounted (old new : Feed) (counts : Counts) : Type 0 where

@@ -1,5 +1,5 @@
 -- What is counted of the packets of one file.
-use Rattle.std.specs.Prelude.{ℕ, ◌+◌, nat_lt, List, [], ◌∷◌, length, Option, Some, None, if◌then◌else◌, option_map}
+use Rattle.std.specs.Prelude.{ℕ, Bool, true, false, not, ◌+◌, nat_lt, List, [], ◌∷◌, length, Option, Some, None, if◌then◌else◌, option_map}
 use Rattle.std.specs.Option.{option_map_or}
 use Rattle.std.specs.Ordering.{is_lt}
 use Rattle.cap_time.specs.Clock.{later}
@@ -30,6 +30,13 @@ least_time (meta ∷ metas) = earlier (meta_time meta) (least_time metas)
 abbrev pub greatest_time : List Meta → Option Stamp
 greatest_time [] = None
 greatest_time (meta ∷ metas) = later (meta_time meta) (greatest_time metas)
+
+-- two times are there, the second not before the first, or neither is
+abbrev pub are_in_order : Option Stamp → Option Stamp → Bool
+are_in_order None None = true
+are_in_order None (Some last) = false
+are_in_order (Some first) None = false
+are_in_order (Some first) (Some last) = not (is_lt (stamp_cmp last first))
 
 -- the sum of their original lengths
 abbrev pub original_bytes : List Meta → ℕ

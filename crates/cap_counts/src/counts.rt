@@ -1,12 +1,13 @@
 //! Running counts of the packets of one file.
-ghost use Rattle.std.specs.Prelude.{◌≡◌, ◌≤◌, ◌<◌, ◌*◌, ◌^◌, ◌++◌, List, [], ◌∷◌, if◌then◌else◌};
+ghost use Rattle.std.specs.Prelude.{◌≡◌, ◌≤◌, ◌<◌, ◌*◌, ◌^◌, ◌++◌, List, [], ◌∷◌, true};
 ghost use Rattle.cap_source.specs.declared.packets.Meta.{Meta};
 ghost use Rattle.cap_source.specs.Times.{meta_time};
-ghost use Rattle.cap_counts.specs.Counting.{counted, with_packet, earlier};
+ghost use Rattle.cap_counts.specs.Counting.{counted, with_packet, earlier, are_in_order};
 ghost use Rattle.cap_time.specs.Clock.{later};
 
 use cap_source::{Format, Meta};
-use cap_time::{Stamp, reach};
+use cap_time::Stamp;
+use std::cmp::Ordering;
 
 /// What is counted of the packets of one file, as far as they were taken.
 #[derive(Clone, Copy, Default)]
@@ -50,6 +51,7 @@ impl Counts {
         requires packets { self.old.packets < 2 ^ 45 }
         requires bytes { self.old.bytes ≤ 2 ^ 45 * 2 ^ 32 }
         requires truncated { self.old.truncated < 2 ^ 45 }
+        requires order { are_in_order self.old.first self.old.last ≡ true }
         ensures counts { (metas : List Meta) → self.old ≡ counted metas → self.new ≡ counted (metas ++ meta.now ∷ []) }
         ensures one_more { self.new ≡ with_packet self.old meta.now }
     {
@@ -64,6 +66,7 @@ fn count(counts: &mut Counts, time: Option<Stamp>, meta: &Meta)
     requires packets { counts.old.packets < 2 ^ 45 }
     requires bytes { counts.old.bytes ≤ 2 ^ 45 * 2 ^ 32 }
     requires truncated { counts.old.truncated < 2 ^ 45 }
+    requires order { are_in_order counts.old.first counts.old.last ≡ true }
     ensures { counts.new ≡ with_packet counts.old meta.now }
 {
     counts.format = Some(meta.format);
@@ -71,19 +74,34 @@ fn count(counts: &mut Counts, time: Option<Stamp>, meta: &Meta)
     counts.bytes += u128::from(meta.original);
     counts.truncated += u64::from(meta.captured < meta.original);
     counts.skipped = meta.skipped;
-    if is_earlier(&time, &counts.first) {
-        counts.first = time;
-    }
-    reach(&mut counts.last, &time);
+    take_time(&mut counts.first, &mut counts.last, &time);
 }
 
-// Whether a time takes the place of the first one so far: it is the earlier one, or the only one.
-fn is_earlier(time: &Option<Stamp>, first: &Option<Stamp>) -> bool
-    ensures { earlier first.now time.now ≡ (if result then time.now else first.now) }
+// Takes a time, if there is one, into the least and the greatest one so far. Most packets are later than all before them: they aren't
+// compared with the least.
+#[inline(always)]
+fn take_time(first: &mut Option<Stamp>, last: &mut Option<Stamp>, time: &Option<Stamp>)
+    requires order { are_in_order first.old last.old ≡ true }
+    ensures first { first.new ≡ earlier first.old time.now }
+    ensures last { last.new ≡ later last.old time.now }
 {
-    match (first, time) {
-        (None, _) => true,
-        (Some(_), None) => false,
-        (Some(first), Some(time)) => time < first,
+    let Some(time) = time else {
+        return;
+    };
+    match last {
+        None => {
+            *first = Some(*time);
+            *last = Some(*time);
+        }
+        Some(last) => match last.reach(time) {
+            Ordering::Less => {}
+            _ => {
+                if let Some(first) = first {
+                    if *time < *first {
+                        *first = *time;
+                    }
+                }
+            }
+        },
     }
 }

@@ -5,3 +5,5 @@ pub mod RowSums
 pub mod KeyLaws
 pub mod SumLaws
 pub mod Printing
+pub mod RowOrder
+pub mod Packing

@@ -4,8 +4,6 @@ use Rattle.std.specs.Prelude.{OnOk, OnErr}
 use Rattle.std.specs.Map.{lookup, keys_of, values_of}
 use Rattle.std.proofs.lemmas.Bool.{ltb-true}
 use Rattle.indexmap.specs.IndexMap.{insert_entry}
-use Rattle.indexmap.specs.Layout.{set_value_at}
-use Rattle.indexmap.proofs.MapLemmas.{insert_entry-first, Found-position}
 use Rattle.cap_rows.specs.Talks.{Talk, key_of, row_of, same_talk}
 use Rattle.cap_rows.specs.Rows.{is_limit, is_refused, sum_in, frames_of_row, frames_in, bytes_of_row, bytes_in, with_unit, or_empty, row_at, row_in, with_talk}
 use Rattle.cap_rows.specs.declared.rows.TalkKey.{TalkKey}
@@ -68,17 +66,3 @@ length-more key w (talk ∷ rows) = by (same_talk key talk.0) (length-more key w
 pub few-kept : (limit : ℕ) (result : Result (Unit {0}) TalksFault) (old new : List Talk) (unit : CountedUnit) → OnOk result (new ≡ with_talk old unit)
     → is_limit result ≡ is_refused limit old (key_of unit) → OnErr result (new ≡ old) → length old ≤ limit → length new ≤ limit
 few-kept limit result old new unit more refused kept few = grind (arith, length-more, ltb-true)
-
--- a unit is added to its conversation's row where it stands
-pub there-more : (key : TalkKey) (rows : List Talk) (place : ℕ) (unit : CountedUnit) (new : List Talk) → Some place ≡ position (same_talk key) (keys_of rows)
-    → slice_get (values_of rows) place ≡ lookup (same_talk key) rows → key ≡ key_of unit → new ≡ set_value_at rows place (with_unit (row_in rows place) unit)
-    → new ≡ with_talk rows unit
-there-more key rows place unit new at row same is =
-    let row_is = ap or_empty row in
-    let there = sym (insert_entry-first same_talk key (with_unit (row_in rows place) unit) rows place (Found-position (same_talk key) rows place (sym at)).first) in
-    is ∙ there ∙ (λ i. insert_entry same_talk rows key (with_unit (row_is i) unit)) ∙ ap (λ k. insert_entry same_talk rows k (with_unit (row_at k rows) unit)) same
-
--- or to an empty row, if it is the first of a conversation
-pub new-more : (key : TalkKey) (rows : List Talk) (unit : CountedUnit) (new : List Talk) → false ≡ is_some (lookup (same_talk key) rows)
-    → key ≡ key_of unit → new ≡ insert_entry same_talk rows key (with_unit (row_of []) unit) → new ≡ with_talk rows unit
-new-more key rows unit new none same is = grind arith

@@ -1,20 +1,11 @@
--- What is written of a conversation's key to a hasher, and why keys that name the same conversation are one.
-use Rattle.std.proofs.Common.{◌≡◌, ℕ, ◌+◌, ◌*◌, Bool, true, false, ◌&&◌, ◌++◌, refl, sym, ap, true≢false, Option, Some, None}
-use Rattle.std.specs.Prelude.{◌==◌, nat_eq, unwrap_or, IsTrue}
-use Rattle.std.specs.Hash as fed
+-- Keys that name the same conversation are one.
+use Rattle.std.proofs.Common.{◌≡◌, ℕ, Bool, true, false, ◌&&◌, refl, sym, ap, true≢false, Option, Some, None}
+use Rattle.std.specs.Prelude.{◌==◌, nat_eq}
 use Rattle.std.specs.Option.{option_eq}
 use Rattle.std.proofs.lemmas.Bool.{eqb-true}
 use Rattle.cap_rows.specs.Talks.{same_end, same_talk}
 use Rattle.cap_rows.specs.declared.rows.TalkKey.{TalkKey}
 use Rattle.cap_rows.specs.declared.units.End.{End}
-
--- an end as one number; no port reads as 0
-abbrev pub end_number : End → ℕ
-end_number end = end.address * 65536 + unwrap_or end.port 0
-
--- two numbers of 64 bits, the first of the protocol and the lesser end
-abbrev pub talk_hash : TalkKey → fed.HashWrites
-talk_hash key = fed.u64 (end_number key.lesser * 256 + key.protocol) ++ fed.u64 (end_number key.greater)
 
 pub and_left : (x y : Bool) → (x && y) ≡ true → x ≡ true
 and_left true y h = refl
@@ -43,7 +34,3 @@ same_talk-is a b h =
     let lesser = same_end-is a.lesser b.lesser (and_left (same_end a.lesser b.lesser) (same_end a.greater b.greater) ends) in
     let greater = same_end-is a.greater b.greater (and_right (same_end a.lesser b.lesser) (same_end a.greater b.greater) ends) in
     λ i. record { protocol = protocol i; lesser = lesser i; greater = greater i }
-
--- `Hash`'s law
-pub talk_hash-same : (a b : TalkKey) → IsTrue (same_talk a b) → talk_hash a ≡ talk_hash b
-talk_hash-same a b h = ap talk_hash (same_talk-is a b h)

@@ -1,6 +1,7 @@
 pub mod Talks
 pub mod Units
 pub mod Keys
+pub mod Packed
 pub mod Rows
 pub mod View
 pub mod Lines

@@ -1,5 +1,6 @@
 -- A row, and a table of rows, with one unit more.
 use Rattle.std.specs.Prelude.{◌≡◌, ℕ, List, [], ◌∷◌, Bool, true, false, ◌+◌, ◌≤◌, ◌&&◌, not, length, nat_lt, is_some, if◌then◌else◌, slice_get, Option, Some, None, Result, Ok, Err}
+use Rattle.std.specs.List.{list_all}
 use Rattle.std.specs.Map.{lookup, values_of}
 use Rattle.std.specs.Ordering.{is_lt}
 use Rattle.indexmap.specs.IndexMap.{insert_entry}
@@ -10,6 +11,7 @@ use Rattle.cap_rows.specs.declared.talks.TalksFault.{TalksFault}
 use Rattle.cap_rows.specs.declared.talks.TalksFault.TheVariants.{Limit, Memory}
 use Rattle.cap_rows.specs.declared.units.CountedUnit.{CountedUnit}
 use Rattle.cap_rows.specs.declared.units.TimedFrame.{TimedFrame}
+use Rattle.cap_time.specs.Stamp.{stamp_cmp}
 use Rattle.cap_time.specs.declared.stamps.Stamp.{Stamp}
 
 -- The rows of the conversations, by the place of the first unit of each.
@@ -24,8 +26,29 @@ pub record StandsFor (talks : TalksState) (units : List CountedUnit) : Type 0 wh
 abbrev pub talk_limit : ℕ
 talk_limit = 1048576
 
-pub record IsSoundTalks (talks : TalksState) : Type 0 where
-  pub few : length talks.rows ≤ talk_limit
+-- the frame of a row's least or greatest time
+abbrev pub frame_of : Option Stamp → ℕ → Option TimedFrame
+frame_of None place = None
+frame_of (Some time) place = Some (record { time = time; place = place })
+
+-- two frames are there, the second not earlier than the first, or neither is
+abbrev pub are_in_order : Option TimedFrame → Option TimedFrame → Bool
+are_in_order None None = true
+are_in_order None (Some last) = false
+are_in_order (Some first) None = false
+are_in_order (Some first) (Some last) = not (is_lt (stamp_cmp last.time first.time))
+
+-- What is known of a unit's frames: they are in order, and if it came in one frame this is the first and the last one.
+pub record IsUnitInOrder (unit : CountedUnit) : Type 0 where
+  pub order : are_in_order unit.first unit.last ≡ true
+  pub one : unit.frames ≡ 1 → unit.first ≡ unit.last
+
+-- the first and the last frame of a row are in order, and those of each of some rows
+abbrev pub is_in_order : TalkRow → Bool
+is_in_order row = are_in_order (frame_of row.first row.first_place) (frame_of row.last row.last_place)
+
+abbrev pub are_all_in_order : List Talk → Bool
+are_all_in_order talks = list_all (λ talk. is_in_order talk.1) talks
 
 -- a unit of a conversation can't be counted: that is a new one, and as many stand as may
 abbrev pub is_refused : ℕ → List Talk → TalkKey → Bool
@@ -56,28 +79,35 @@ frames_in talks = sum_in frames_of_row talks
 abbrev pub bytes_in : List Talk → ℕ
 bytes_in talks = sum_in bytes_of_row talks
 
--- the frame of a row's least or greatest time
-abbrev pub frame_of : Option Stamp → ℕ → Option TimedFrame
-frame_of None place = None
-frame_of (Some time) place = Some (record { time = time; place = place })
-
 -- a frame comes before the first one so far, or is the only one
 abbrev pub is_earlier : TimedFrame → Option TimedFrame → Bool
 is_earlier frame None = true
 is_earlier frame (Some first) = is_lt (by_time frame first)
 
+-- a frame is later than the last one so far: both are there
+abbrev pub is_after : Option TimedFrame → Option Stamp → Bool
+is_after None last = false
+is_after (Some frame) None = false
+is_after (Some frame) (Some last) = is_lt (stamp_cmp last frame.time)
+
+-- a row with the first and the last frame of one unit more
+abbrev pub with_frames : TalkRow → Option TimedFrame → Option TimedFrame → TalkRow
+with_frames row first last =
+    record row {
+      first = frame_time (earlier_frame (frame_of row.first row.first_place) first);
+      last = frame_time (later_frame (frame_of row.last row.last_place) last);
+      first_place = place_or (earlier_frame (frame_of row.first row.first_place) first) row.first_place;
+      last_place = place_or (later_frame (frame_of row.last row.last_place) last) row.last_place;
+    }
+
 -- a row with one unit of its conversation more
 abbrev pub with_unit : TalkRow → CountedUnit → TalkRow
 with_unit row unit =
-    record {
+    record (with_frames row unit.first unit.last) {
       forward_bytes = if is_forward unit then row.forward_bytes + unit.bytes else row.forward_bytes;
       backward_bytes = if is_forward unit then row.backward_bytes else row.backward_bytes + unit.bytes;
-      first = frame_time (earlier_frame (frame_of row.first row.first_place) unit.first);
-      last = frame_time (later_frame (frame_of row.last row.last_place) unit.last);
       forward_frames = if is_forward unit then row.forward_frames + unit.frames else row.forward_frames;
       backward_frames = if is_forward unit then row.backward_frames else row.backward_frames + unit.frames;
-      first_place = place_or (earlier_frame (frame_of row.first row.first_place) unit.first) row.first_place;
-      last_place = place_or (later_frame (frame_of row.last row.last_place) unit.last) row.last_place;
     }
 
 abbrev pub or_empty : Option TalkRow → TalkRow
@@ -93,5 +123,5 @@ abbrev pub with_talk : List Talk → CountedUnit → List Talk
 with_talk rows unit = insert_entry same_talk rows (key_of unit) (with_unit (row_at (key_of unit) rows) unit)
 
 -- the row at a place, that of no unit past the last
-abbrev pub row_in : List Talk → ℕ → TalkRow
+abbrev pub row_in : {K : Type 0} → List (K × TalkRow) → ℕ → TalkRow
 row_in rows place = or_empty (slice_get (values_of rows) place)

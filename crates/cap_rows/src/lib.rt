@@ -1,6 +1,7 @@
 //! The conversations of counted units: the ends of a unit, the row of each conversation, and their lines.
 #![tactic(auto)]
 
+mod keys;
 mod laws;
 mod lines;
 mod rows;

@@ -1,13 +1,11 @@
 //! The row of a conversation: what is counted of its units.
-ghost use Rattle.std.specs.Prelude.{◌≡◌, ◌+◌, ◌<◌, ◌^◌, []};
-ghost use Rattle.cap_rows.specs.Talks.{key_of, is_forward, earlier_frame, later_frame, frame_time, place_or, row_of};
-ghost use Rattle.cap_rows.specs.Keys.{end_number};
-ghost use Rattle.cap_rows.specs.Rows.{with_unit, frames_of_row, bytes_of_row, frame_of, is_earlier};
+ghost use Rattle.std.specs.Prelude.{◌≡◌, ◌+◌, ◌<◌, ◌^◌, [], true, if◌then◌else◌};
+ghost use Rattle.cap_rows.specs.Talks.{is_forward, earlier_frame, later_frame, frame_time, place_or, row_of};
+ghost use Rattle.cap_rows.specs.Rows.{with_unit, with_frames, frames_of_row, bytes_of_row, frame_of, is_earlier, is_after, is_in_order};
 
 use crate::units::{CountedUnit, End, TimedFrame};
 use cap_time::Stamp;
 use std::cmp::Ordering;
-use std::hash::{Hash, Hasher};
 
 /// What names a conversation: a protocol and two ends, whichever of them is the source.
 #[derive(Clone, Copy, Debug, PartialEq, Eq)]
@@ -18,58 +16,6 @@ pub struct TalkKey {
     pub lesser: End,
     /// The other end, which is the same if a datagram goes from an end to itself.
     pub greater: End,
-}
-
-// An end as one number. No port reads as 0.
-fn end_number(end: &End) -> u64
-    ensures value { result ≡ end_number end.now }
-    ensures bound { result < 2 ^ 48 }
-{
-    let port = match end.port {
-        Some(port) => port,
-        None => 0,
-    };
-    u64::from(end.address) * 65_536 + u64::from(port)
-}
-
-impl Hash for TalkKey {
-    ghost use Rattle.cap_rows.specs.Keys.{talk_hash, talk_hash-same};
-
-    ghost hash_input = { talk_hash };
-
-    ghost respects_eq = { talk_hash-same };
-
-    // Two numbers: a write costs the same whether it has 1 byte or 8.
-    fn hash<H: Hasher>(&self, state: &mut H) {
-        let protocol = self.protocol;
-        state.write_u64(end_number(&self.lesser) * 256 + u64::from(protocol));
-        state.write_u64(end_number(&self.greater));
-    }
-}
-
-impl TalkKey {
-    /// The conversation that a unit belongs to.
-    #[inline(always)]
-    pub fn of(unit: &CountedUnit) -> TalkKey
-        ensures { result ≡ key_of unit.now }
-    {
-        let protocol = unit.protocol;
-        let source = unit.source;
-        let destination = unit.destination;
-        if source <= destination {
-            TalkKey {
-                protocol,
-                lesser: source,
-                greater: destination,
-            }
-        } else {
-            TalkKey {
-                protocol,
-                lesser: destination,
-                greater: source,
-            }
-        }
-    }
 }
 
 /// What is counted of the units of a conversation. The wide fields stand first, so that a row takes no more room than it needs.
@@ -116,6 +62,8 @@ impl TalkRow {
     pub(crate) fn take(&mut self, unit: &CountedUnit)
         requires frames { frames_of_row self.old + unit.now.frames < 2 ^ 64 }
         requires bytes { bytes_of_row self.old + unit.now.bytes < 2 ^ 128 }
+        requires order { is_in_order self.old ≡ true }
+        requires one { unit.now.frames ≡ 1 → unit.now.first ≡ unit.now.last }
         ensures { self.new ≡ with_unit self.old unit.now }
     {
         if is_forward(unit) {
@@ -125,8 +73,7 @@ impl TalkRow {
             self.backward_frames += unit.frames;
             self.backward_bytes += unit.bytes;
         }
-        take_first(&mut self.first, &mut self.first_place, &unit.first);
-        take_last(&mut self.last, &mut self.last_place, &unit.last);
+        take_frames(self, unit);
     }
 }
 
@@ -149,6 +96,49 @@ fn is_earlier(frame: &TimedFrame, first: &Option<Stamp>, place: u64) -> bool
             Ordering::Equal => frame.place < place,
             Ordering::Greater => false,
         },
+    }
+}
+
+// Takes the first and the last frame of a unit into the least and the greatest time so far. Most units came in one frame, which is
+// later than all before it: it isn't compared with the first of those.
+#[inline(always)]
+fn take_frames(row: &mut TalkRow, unit: &CountedUnit)
+    requires order { is_in_order row.old ≡ true }
+    requires one { unit.now.frames ≡ 1 → unit.now.first ≡ unit.now.last }
+    ensures { row.new ≡ with_frames row.old unit.now.first unit.now.last }
+{
+    if unit.frames == 1 && goes_on(&mut row.last, &mut row.last_place, &unit.last) {
+        return;
+    }
+    take_both(row, unit.first, unit.last);
+}
+
+// Takes a first and a last frame, whatever times they have. It takes copies, and isn't inlined, so that where a frame is later than all
+// before it, nothing of it need be in memory.
+#[inline(never)]
+fn take_both(row: &mut TalkRow, first: Option<TimedFrame>, last: Option<TimedFrame>)
+    ensures { row.new ≡ with_frames row.old first last }
+{
+    take_first(&mut row.first, &mut row.first_place, &first);
+    take_last(&mut row.last, &mut row.last_place, &last);
+}
+
+// Moves the greatest time so far to that of a frame, if that is later than one that is there. Answers whether it is.
+#[inline(always)]
+fn goes_on(last: &mut Option<Stamp>, place: &mut u64, frame: &Option<TimedFrame>) -> bool
+    ensures later { result ≡ is_after frame.now last.old }
+    ensures time { last.new ≡ (if result then frame_time frame.now else last.old) }
+    ensures place { place.new ≡ (if result then place_or frame.now place.old else place.old) }
+{
+    match (last, frame) {
+        (Some(last), Some(frame)) => match last.reach(&frame.time) {
+            Ordering::Less => {
+                *place = frame.place;
+                true
+            }
+            _ => false,
+        },
+        _ => false,
     }
 }
 

@@ -1,12 +1,14 @@
 //! The table of conversations.
-ghost use Rattle.std.specs.Prelude.{◌≡◌, ◌+◌, ◌≤◌, ◌<◌, ◌^◌, ◌++◌, List, [], ◌∷◌, length, slice_get, nat_lt, not, OnOk, OnErr, IfOk};
+ghost use Rattle.std.specs.Prelude.{◌≡◌, ◌+◌, ◌≤◌, ◌<◌, ◌^◌, ◌++◌, List, [], ◌∷◌, length, slice_get, true, nat_lt, not, OnOk, OnErr, IfOk};
 ghost use Rattle.std.specs.Map.{lookup};
 ghost use Rattle.indexmap.specs.IndexMap.{insert_entry};
 ghost use Rattle.indexmap.specs.Layout.{set_value_at};
+ghost use Rattle.cap_rows.specs.Packed.{packed, IsNarrow, unpacked_talks, are_packed};
 ghost use Rattle.cap_rows.specs.Talks.{key_of, row_of, same_talk};
-ghost use Rattle.cap_rows.specs.Rows.{StandsFor, is_refused, is_limit, talk_limit, frames_in, bytes_in, frames_of_row, bytes_of_row, row_in, with_unit, with_talk};
+ghost use Rattle.cap_rows.specs.Rows.{StandsFor, is_refused, is_limit, talk_limit, frames_in, bytes_in, frames_of_row, bytes_of_row, row_in, with_unit, with_talk, IsUnitInOrder, is_in_order, are_all_in_order};
 ghost use Rattle.cap_rows.specs.declared.units.CountedUnit.{CountedUnit};
 
+use crate::keys::PackedKey;
 use crate::rows::{TalkKey, TalkRow};
 use crate::units::CountedUnit;
 use indexmap::IndexMap;
@@ -31,7 +33,7 @@ pub enum TalksFault {
 /// What a table holds is told by the units that it stands for.
 #[derive(Drop)]
 pub struct Talks {
-    rows: IndexMap<TalkKey, TalkRow>,
+    rows: IndexMap<PackedKey, TalkRow>,
 }
 
 impl Model for Talks {
@@ -59,7 +61,7 @@ impl Talks {
 
     /// Counts one unit more, after those that the table stands for: units come in the order of the frames
     /// that completed them. All frames of its rows and the unit's are fewer than 2^64, and their bytes fewer
-    /// than 2^128.
+    /// than 2^128. The unit's first frame isn't later than its last one, and is the same if it came in one.
     ///
     /// `Limit` comes exactly if the unit's conversation is a new one and there are 1,048,576 already, `Memory`
     /// if a growth was refused. Both leave the table as it was.
@@ -67,6 +69,7 @@ impl Talks {
     pub fn add(&mut self, unit: &CountedUnit) -> Result<(), TalksFault>
         requires frames { frames_in self.old.rows + unit.now.frames < 2 ^ 64 }
         requires bytes { bytes_in self.old.rows + unit.now.bytes < 2 ^ 128 }
+        requires unit { IsUnitInOrder unit.now }
         ensures stands { OnOk result ((units : List CountedUnit) → StandsFor self.old units → StandsFor self.new (units ++ unit.now ∷ [])) }
         ensures frames { OnOk result (frames_in self.new.rows ≡ frames_in self.old.rows + unit.now.frames) }
         ensures bytes { OnOk result (bytes_in self.new.rows ≡ bytes_in self.old.rows + unit.now.bytes) }
@@ -91,17 +94,19 @@ impl Talks {
     {
         match self.rows.get_index(place) {
             None => None,
-            Some((key, row)) => Some((*key, *row)),
+            Some((key, row)) => Some((key.unpacked(), *row)),
         }
     }
 }
 
 // Counts one unit more in the row at a place.
 #[inline(always)]
-fn add_at(rows: &mut IndexMap<TalkKey, TalkRow>, place: usize, unit: &CountedUnit)
+fn add_at(rows: &mut IndexMap<PackedKey, TalkRow>, place: usize, unit: &CountedUnit)
     requires place { place < length rows.old.entries }
     requires frames { frames_of_row (row_in rows.old.entries place) + unit.now.frames < 2 ^ 64 }
     requires bytes { bytes_of_row (row_in rows.old.entries place) + unit.now.bytes < 2 ^ 128 }
+    requires order { is_in_order (row_in rows.old.entries place) ≡ true }
+    requires one { unit.now.frames ≡ 1 → unit.now.first ≡ unit.now.last }
     ensures { rows.new.entries ≡ set_value_at rows.old.entries place (with_unit (row_in rows.old.entries place) unit.now) }
 {
     let Some(row) = rows.get_index_mut(place) else {
@@ -113,13 +118,18 @@ fn add_at(rows: &mut IndexMap<TalkKey, TalkRow>, place: usize, unit: &CountedUni
 // Adds the row of a new conversation, of one unit.
 #[inline(never)]
 fn add_row(
-    rows: &mut IndexMap<TalkKey, TalkRow>,
-    key: TalkKey,
+    rows: &mut IndexMap<PackedKey, TalkRow>,
+    key: PackedKey,
     unit: CountedUnit,
 ) -> Result<(), TalksFault>
+    requires key { key ≡ packed (key_of unit) }
+    requires narrow { IsNarrow (key_of unit) }
+    requires keys { are_packed rows.old.entries ≡ true }
     requires frames { unit.frames < 2 ^ 64 }
     requires bytes { unit.bytes < 2 ^ 128 }
-    ensures entries { OnOk result (rows.new.entries ≡ insert_entry same_talk rows.old.entries key (with_unit (row_of []) unit)) }
+    requires one { unit.frames ≡ 1 → unit.first ≡ unit.last }
+    ensures entries { OnOk result (unpacked_talks rows.new.entries ≡ insert_entry same_talk (unpacked_talks rows.old.entries) (key_of unit) (with_unit (row_of []) unit)) }
+    ensures keys { are_packed rows.new.entries ≡ true }
     ensures limit { is_limit result ≡ not (nat_lt (length rows.old.entries) talk_limit) }
     ensures err { OnErr result (rows.new.entries ≡ rows.old.entries) }
 {
@@ -136,14 +146,18 @@ fn add_row(
 
 // Counts one unit more in the rows.
 #[inline(always)]
-fn add_unit(rows: &mut IndexMap<TalkKey, TalkRow>, unit: &CountedUnit) -> Result<(), TalksFault>
-    requires frames { frames_in rows.old.entries + unit.now.frames < 2 ^ 64 }
-    requires bytes { bytes_in rows.old.entries + unit.now.bytes < 2 ^ 128 }
-    ensures entries { OnOk result (rows.new.entries ≡ with_talk rows.old.entries unit.now) }
-    ensures limit { is_limit result ≡ is_refused talk_limit rows.old.entries (key_of unit.now) }
-    ensures err { OnErr result (rows.new.entries ≡ rows.old.entries) }
+fn add_unit(rows: &mut IndexMap<PackedKey, TalkRow>, unit: &CountedUnit) -> Result<(), TalksFault>
+    requires keys { are_packed rows.old.entries ≡ true }
+    requires frames { frames_in (unpacked_talks rows.old.entries) + unit.now.frames < 2 ^ 64 }
+    requires bytes { bytes_in (unpacked_talks rows.old.entries) + unit.now.bytes < 2 ^ 128 }
+    requires order { are_all_in_order (unpacked_talks rows.old.entries) ≡ true }
+    requires one { unit.now.frames ≡ 1 → unit.now.first ≡ unit.now.last }
+    ensures entries { OnOk result (unpacked_talks rows.new.entries ≡ with_talk (unpacked_talks rows.old.entries) unit.now) }
+    ensures keys { are_packed rows.new.entries ≡ true }
+    ensures limit { is_limit result ≡ is_refused talk_limit (unpacked_talks rows.old.entries) (key_of unit.now) }
+    ensures err { OnErr result (unpacked_talks rows.new.entries ≡ unpacked_talks rows.old.entries) }
 {
-    let key = TalkKey::of(unit);
+    let key = PackedKey::of(unit);
     match rows.get_index_of(&key) {
         Some(place) => {
             add_at(rows, place, unit);

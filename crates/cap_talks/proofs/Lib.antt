@@ -13,3 +13,4 @@ pub mod Waiting
 pub mod Written
 pub mod TableTexts
 pub mod Headline
+pub mod UnitOrder

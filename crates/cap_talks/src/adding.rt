@@ -1,8 +1,8 @@
 //! Units that packets complete, and how they are added to the conversations.
-ghost use Rattle.std.specs.Prelude.{◌≡◌, ◌+◌, ◌++◌, ◌<◌, ◌≤◌, ◌^◌, List, length, OnOk, OnErr};
+ghost use Rattle.std.specs.Prelude.{◌≡◌, ◌+◌, ◌++◌, ◌<◌, ◌≤◌, ◌^◌, List, length, IfSome, OnOk, OnErr};
 ghost use Rattle.cap_ip.specs.Transport.{transport_of};
 ghost use Rattle.cap_source.specs.Times.{meta_time};
-ghost use Rattle.cap_rows.specs.Rows.{StandsFor, frames_in, bytes_in};
+ghost use Rattle.cap_rows.specs.Rows.{StandsFor, IsUnitInOrder, frames_in, bytes_in};
 ghost use Rattle.cap_rows.specs.Talks.{frames_of, bytes_of};
 ghost use Rattle.cap_rows.specs.declared.units.CountedUnit.{CountedUnit};
 ghost use Rattle.cap_talks.specs.Talks.Adding.{datagram_unit, datagram_class, is_over};
@@ -103,6 +103,7 @@ pub fn joined_class(datagram: &Datagram) -> Class
 pub fn add_unit(talks: &mut Talks, unit: &Option<CountedUnit>) -> Result<(), TalksFault>
     requires frames { frames_in talks.old.rows + frames_of (listed unit.now) < 2 ^ 64 }
     requires bytes { bytes_in talks.old.rows + bytes_of (listed unit.now) < 2 ^ 128 }
+    requires unit { IfSome unit.now IsUnitInOrder }
     ensures stands { OnOk result ((units : List CountedUnit) → StandsFor talks.old units → StandsFor talks.new (units ++ listed unit.now)) }
     ensures frames { OnOk result (frames_in talks.new.rows ≡ frames_in talks.old.rows + frames_of (listed unit.now)) }
     ensures bytes { OnOk result (bytes_in talks.new.rows ≡ bytes_in talks.old.rows + bytes_of (listed unit.now)) }

@@ -4,12 +4,12 @@ use Rattle.std.specs.Prelude.{replicate, slice_set, slice_index_or, if◌then◌
 use Rattle.std.specs.List.{AllByRecursion, refill}
 use Rattle.std.proofs.lemmas.Bool.Decides.{nat_tests}
 use Rattle.cap_source.specs.declared.packets.Meta.{Meta}
-use Rattle.cap_counts.specs.Counting.{counted, with_packet, original_bytes, truncated_packets}
+use Rattle.cap_counts.specs.Counting.{counted, with_packet, are_in_order, original_bytes, truncated_packets}
 use Rattle.cap_talks.specs.ReportText.{metas_of, bytes_of, truncated_of}
 use Rattle.cap_talks.specs.Taken.{Taken}
 use Rattle.cap_talks.specs.Files.Totals.{TotalsState, TotalsStand, IsSoundTotals, counts_from, is_room}
 use Rattle.cap_counts.specs.declared.counts.Counts.{Counts}
-use Rattle.cap_counts.proofs.Counting.{counted-more}
+use Rattle.cap_counts.proofs.Counting.{counted-more, counted-in_order}
 
 pub one-more : {A : Type 0} (n : ℕ) (x : A) → replicate n x ++ (x ∷ []) ≡ replicate (suc n) x
 one-more zero x = refl
@@ -68,12 +68,13 @@ pub truncated-all : (xs : List Taken) → truncated_of xs ≤ length xs
 truncated-all [] = omega arith
 truncated-all (x ∷ xs) = grind (arith, truncated-all xs)
 
-room_by : (counts : Counts) → counts.packets < 2 ^ 45 → counts.bytes ≤ 2 ^ 45 * 2 ^ 32 → counts.truncated < 2 ^ 45 → is_room counts ≡ true
-room_by counts p b t = grind (arith, nat_tests, p, b, t)
+room_by : (counts : Counts) → counts.packets < 2 ^ 45 → counts.bytes ≤ 2 ^ 45 * 2 ^ 32 → counts.truncated < 2 ^ 45
+    → are_in_order counts.first counts.last ≡ true → is_room counts ≡ true
+room_by counts p b t order = grind (arith, nat_tests, p, b, t, order)
 
 counted-fits : (metas : List Meta) → (length metas < 2 ^ 45) → original_bytes metas ≤ 2 ^ 45 * 2 ^ 32 → truncated_packets metas < 2 ^ 45 → is_room (counted metas) ≡ true
 unfolding counted
-counted-fits metas p b t = room_by (counted metas) p b t
+counted-fits metas p b t = room_by (counted metas) p b t (counted-in_order metas)
 
 -- one packet more fits into the counts of its file
 pub has-room : (t : TotalsState) → IsSoundTotals t → t.packets < 2 ^ 45 → (place : ℕ) → place < length t.files → is_room (slice_index_or t.files place (counted [])) ≡ true

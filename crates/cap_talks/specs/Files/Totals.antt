@@ -1,7 +1,7 @@
 -- What is counted of the packets that were taken: of each file, and of all.
 use Rattle.std.specs.Prelude.{◌≡◌, ℕ, ◌+◌, ◌*◌, ◌^◌, ◌&&◌, ◌≤◌, ◌<◌, List, Bool, length, map, nat_lt}
 use Rattle.std.specs.List.{AllByRecursion, range_with_len}
-use Rattle.cap_counts.specs.Counting.{counted}
+use Rattle.cap_counts.specs.Counting.{counted, are_in_order}
 use Rattle.cap_talks.specs.ReportText.{metas_of, bytes_of, truncated_of}
 use Rattle.cap_talks.specs.Taken.{Taken}
 use Rattle.cap_counts.specs.declared.counts.Counts.{Counts}
@@ -32,6 +32,8 @@ pub record IsSoundTotals (t : TotalsState) : Type 0 where
   pub short : AllByRecursion (λ x. x.meta.original < 2 ^ 32) taken
   pub files : length t.files ≤ 32
 
--- one packet more fits into the counts of a file
+-- one packet more fits into the counts of a file, whose least and greatest time are in order
 abbrev pub is_room : Counts → Bool
-is_room counts = nat_lt counts.packets (2 ^ 45) && nat_lt counts.bytes (2 ^ 45 * 2 ^ 32 + 1) && nat_lt counts.truncated (2 ^ 45)
+is_room counts =
+    nat_lt counts.packets (2 ^ 45) && nat_lt counts.bytes (2 ^ 45 * 2 ^ 32 + 1) && nat_lt counts.truncated (2 ^ 45)
+    && are_in_order counts.first counts.last

@@ -1,10 +1,13 @@
-use Rattle.std.proofs.Common.{rules}
+use Rattle.std.proofs.Common.{arith, rules}
 use Rattle.std.proofs.lemmas.Result.{err_from_is_err_and}
-use Rattle.cap_counts.proofs.Counting.{found-packet, found-item, found-end, found-fault, counted-none, counted-taken, counted-end, counted-fault}
+use Rattle.cap_counts.proofs.Counting.{found-packet, found-item, found-end, found-fault, counted-in_order, counted-none, counted-taken, counted-end, counted-fault}
 use Rattle.cap_counts.proofs.files.count_packets.Goals as goal
 
 pub loop-feed-init : goal.loop-feed-init
 loop-feed-init g c = counted-none (g.F.PacketFeed.feed c.args.feed.now) c.new-counts.result c.requires c.new-counts.ensures
+
+pub take-requires-clause-order : goal.take-requires-clause-order
+take-requires-clause-order g c = grind (arith, counted-in_order, c.loop-feed.invariant.counts_is)
 
 pub returns-in_err-has_packet-clause-counts : goal.returns-in_err-has_packet-clause-counts
 returns-in_err-has_packet-clause-counts g c = λ t.

@@ -16,6 +16,7 @@ use Rattle.cap_talks.specs.Tallies.{TallyState, LimitBy, with_frames}
 use Rattle.cap_talks.specs.TallyView.{tally_view}
 use Rattle.cap_talks.specs.CountedUnits.{listed, whole_unit}
 use Rattle.cap_talks.proofs.Tallying.{unit-is}
+use Rattle.cap_talks.proofs.UnitOrder.{whole-order}
 use Rattle.cap_talks.proofs.Exits.{sum-taken, frames-taken, looks-plain, sound-plain, looks-datagram, sound-datagram, numbers-whole, limit-is, limit-by}
 use Rattle.cap_talks.proofs.tallies.Tally.look_at.Goals as goal
 
@@ -58,6 +59,9 @@ add_unit-requires-clause-bytes c =
     let original : c.stamped_of-stamped.result.original < 4294967296 = search rules in
     let one = numbers-whole c.in-Datagram.header c.in-Datagram.captured.now c.stamped_of-stamped.result original in
     omega (arith, one.0, one.1, ap (λ u. bytes_of (listed u)) c.whole_unit.ensures, s.bytes, frames-taken t s.taken s.next (λ us. (sum_law us).frames) s.stands, s.few)
+
+pub add_unit-requires-clause-unit : goal.add_unit-requires-clause-unit
+add_unit-requires-clause-unit c = rw c.whole_unit.ensures (whole-order c.in-Datagram.header c.in-Datagram.captured.now c.stamped_of-stamped.result)
 
 pub returns-in_err-add_unit-in-Datagram-clause-limit : goal.returns-in_err-add_unit-in-Datagram-clause-limit
 returns-in_err-add_unit-in-Datagram-clause-limit c =

@@ -7,6 +7,7 @@ use Rattle.cap_talks.specs.Talks.Adding.{is_over}
 use Rattle.cap_talks.specs.Tallies.{TallyState, Fits, counted_one, with_group}
 use Rattle.cap_talks.specs.TallyView.{tally_view}
 use Rattle.cap_talks.specs.CountedUnits.{listed}
+use Rattle.cap_talks.proofs.UnitOrder.{waiting-order}
 use Rattle.cap_talks.proofs.Exits.{sum-taken, frames-taken, joined-taken, numbers-joined, enough-for, stands-joined, sound-joined, limit-waiting, limit-by}
 use Rattle.cap_talks.proofs.tallies.Tally.take_waiting.Goals as goal
 
@@ -44,6 +45,11 @@ add_unit-requires-clause-bytes c =
       sum-taken t s.taken s.next s.stands,
       s.few,
     )
+
+pub add_unit-requires-clause-unit : goal.add_unit-requires-clause-unit
+add_unit-requires-clause-unit c =
+    let s = c.self.invariant in
+    rw c.joined_unit.ensures (waiting-order (tally_view c.self.inside) c.in-Some.datagram s.taken s.next c.in-Some.is s.stands)
 
 pub returns-in_err-add_unit-clause-limit : goal.returns-in_err-add_unit-clause-limit
 returns-in_err-add_unit-clause-limit c = grind (arith, err_from_is_err_and, limit-by, limit-waiting)
