@@ -1,11 +1,9 @@
 -- Keys that are packed, and a table of them.
-use Rattle.std.proofs.lemmas.Grind.{common_steps}
-use Rattle.std.proofs.Common.{◌≡◌, ℕ, zero, suc, ◌+◌, ◌*◌, ◌/◌, ◌%◌, ◌<◌, ◌≤◌, Bool, true, false, cond, List, [], ◌∷◌, length, map, refl, sym, ap, ◌∙◌, subst, true≢false, arith, Option, Some, None, is_some, position, slice_get}
+use Rattle.std.proofs.Common.{◌≡◌, ℕ, zero, suc, ◌+◌, ◌*◌, ◌/◌, ◌%◌, ◌<◌, Bool, true, false, cond, List, [], ◌∷◌, length, refl, sym, ap, ◌∙◌, subst, true≢false, arith, Option, Some, None, is_some, position, slice_get}
 use Rattle.std.proofs.lemmas.Bool.Decides.{nat_tests}
 use Rattle.std.specs.Prelude.{IfSome, ◌==◌, ◌&&◌, not, nat_lt}
 use Rattle.std.specs.Map.{lookup, values_of, keys_of}
 use Rattle.std.specs.Option.{option_map}
-use Rattle.std.specs.Ordering.{is_gt}
 use Rattle.std.proofs.lemmas.Bool.{eq-eqb, eqb-true}
 use Rattle.std.proofs.lemmas.List.{length-map}
 use Rattle.std.proofs.lemmas.Nat.{div-mul-add, mod-mul-add, div-add-mod'}
@@ -16,7 +14,6 @@ use Rattle.cap_rows.specs.Keys.{same_talk-is, and_left, and_right}
 use Rattle.cap_rows.specs.Packed.{port_number, port_of, end_number, end_of, packed, unpacked, IsNarrow, IsNarrowEnd, is_end, is_packed, same_packed, unpacked_talk, unpacked_talks, are_packed}
 use Rattle.cap_rows.specs.Rows.{is_refused, talk_limit, with_unit, with_talk, or_empty, row_at, row_in}
 use Rattle.cap_rows.specs.Talks.{key_of, row_of, same_talk}
-use Rattle.cap_rows.specs.Units.{end_cmp}
 use Rattle.cap_rows.specs.declared.keys.PackedKey.{PackedKey}
 use Rattle.cap_rows.specs.declared.rows.TalkKey.{TalkKey}
 use Rattle.cap_rows.specs.declared.rows.TalkRow.{TalkRow}
@@ -99,11 +96,6 @@ insert-packed key row (e ∷ es) n =
         ≡ cond b ((unpacked e.0, row) ∷ unpacked_talks es) (unpacked_talk e ∷ unpacked_talks (insert_entry same_packed es (packed key) row))
     pushed true = refl
     pushed false = refl
-
-pub set-packed : (es : List (PackedKey × TalkRow)) (place : ℕ) (row : TalkRow) → unpacked_talks (set_value_at es place row) ≡ set_value_at (unpacked_talks es) place row
-set-packed [] place row = refl
-set-packed (e ∷ es) zero row = refl
-set-packed (e ∷ es) (suc place) row = ap (λ talks. unpacked_talk e ∷ talks) (set-packed es place row)
 
 pub values-packed : (es : List (PackedKey × TalkRow)) → values_of (unpacked_talks es) ≡ values_of es
 values-packed [] = refl
@@ -193,7 +185,3 @@ pub refused-new : (k : PackedKey) (es : List (PackedKey × TalkRow)) (unit : Cou
 refused-new k es unit key n none =
     (λ i. not (nat_lt (sym (length-map es unpacked_talk) i) talk_limit))
     ∙ ap (λ b. not b && not (nat_lt (length (unpacked_talks es)) talk_limit)) (none ∙ ap (λ w. is_some (lookup (same_packed w) es)) key ∙ ap is_some (lookup-packed (key_of unit) es n))
-
--- Ends compare as their numbers do.
-pub ends-compare : (a b : End) → IsNarrowEnd a → IsNarrowEnd b → is_gt (end_cmp a b) ≡ nat_lt (end_number b) (end_number a)
-ends-compare a b h k = grind (arith, common_steps, nat_tests, port_below)

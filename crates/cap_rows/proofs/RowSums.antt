@@ -1,11 +1,11 @@
 -- How many rows there are, and what all of them count, with one unit more.
-use Rattle.std.proofs.Common.{◌≡◌, ℕ, suc, ◌+◌, ◌≤◌, Bool, false, cond, List, [], ◌∷◌, length, refl, sym, ap, ◌∙◌, arith, Some, Result, is_some, position, slice_get}
+use Rattle.std.proofs.Common.{◌≡◌, ℕ, suc, ◌+◌, ◌≤◌, Bool, cond, List, [], ◌∷◌, length, refl, arith, Some, Result, is_some}
 use Rattle.std.specs.Prelude.{OnOk, OnErr}
-use Rattle.std.specs.Map.{lookup, keys_of, values_of}
+use Rattle.std.specs.Map.{lookup}
 use Rattle.std.proofs.lemmas.Bool.{ltb-true}
 use Rattle.indexmap.specs.IndexMap.{insert_entry}
 use Rattle.cap_rows.specs.Talks.{Talk, key_of, row_of, same_talk}
-use Rattle.cap_rows.specs.Rows.{is_limit, is_refused, sum_in, frames_of_row, frames_in, bytes_of_row, bytes_in, with_unit, or_empty, row_at, row_in, with_talk}
+use Rattle.cap_rows.specs.Rows.{is_limit, is_refused, sum_in, frames_of_row, frames_in, bytes_of_row, bytes_in, with_unit, or_empty, row_at, with_talk}
 use Rattle.cap_rows.specs.declared.rows.TalkKey.{TalkKey}
 use Rattle.cap_rows.specs.declared.rows.TalkRow.{TalkRow}
 use Rattle.cap_rows.specs.declared.talks.TalksFault.{TalksFault}

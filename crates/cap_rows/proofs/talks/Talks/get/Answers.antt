@@ -1,6 +1,4 @@
-use Rattle.std.proofs.Common.{rules, arith, ap, sym, ◌∙◌}
-use Rattle.std.specs.Option.{option_map}
-use Rattle.cap_rows.specs.Packed.{unpacked_talk}
+use Rattle.std.proofs.Common.{rules, arith}
 use Rattle.cap_rows.proofs.Packing.{get-packed, key-packed}
 use Rattle.cap_rows.proofs.talks.Talks.get.Goals as goal
 
