@@ -19,7 +19,7 @@ use Rattle.cap_rows.specs.declared.rows.TalkKey.{TalkKey}
 use Rattle.cap_rows.specs.declared.rows.TalkRow.{TalkRow}
 use Rattle.cap_rows.specs.declared.units.CountedUnit.{CountedUnit}
 use Rattle.cap_rows.specs.declared.units.End.{End}
-use Rattle.cap_rows.proofs.Talking.{same_end-self, and_true}
+use Rattle.cap_rows.proofs.Talking.{same_talk-self, and_true}
 
 number_of_port : (n : ℕ) → port_number (port_of n) ≡ n
 number_of_port zero = refl
@@ -62,9 +62,6 @@ same_packed-is a b h =
 
 same_packed-self : (a : PackedKey) → same_packed a a ≡ true
 same_packed-self a = and_true (a.lesser == a.lesser) (a.greater == a.greater) (eq-eqb a.lesser a.lesser refl) (eq-eqb a.greater a.greater refl)
-
-same_talk-self : (a : TalkKey) → same_talk a a ≡ true
-same_talk-self a = grind (arith, and_true, same_end-self, eq-eqb)
 
 -- keys are the same if they are when packed
 pub same-packed : (key : TalkKey) (k : PackedKey) → IsNarrow key → same_packed (packed key) k ≡ same_talk key (unpacked k)

@@ -25,7 +25,7 @@ and_true x y h k = ap (λ b. b && y) h ∙ k
 pub same_end-self : (a : End) → same_end a a ≡ true
 same_end-self a = grind (arith, and_true, same_number)
 
-same_talk-self : (a : TalkKey) → same_talk a a ≡ true
+pub same_talk-self : (a : TalkKey) → same_talk a a ≡ true
 same_talk-self a = grind arith
 
 -- two keys that differ, the other way round

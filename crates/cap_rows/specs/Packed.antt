@@ -30,7 +30,7 @@ packed key = record { lesser = end_number key.lesser * 256 + key.protocol; great
 abbrev pub unpacked : PackedKey → TalkKey
 unpacked key = record { protocol = key.lesser % 256; lesser = end_of (key.lesser / 256); greater = end_of key.greater }
 
--- an address has 32 bits, and a port 16
+-- an address has 32 bits (RFC 791, 3.1), and a port 16 (RFC 768; RFC 9293, 3.1)
 pub record IsNarrowEnd (end : End) : Type 0 where
   pub address : end.address < 2 ^ 32
   pub port : IfSome end.port (λ port. port < 65536)
