@@ -2,11 +2,11 @@
 use Rattle.std.proofs.Common.{◌≡◌, ◌≤◌, ◌<◌, ◌+◌, ◌*◌, ◌^◌, ℕ, cond, nat_lt, List, [], ◌∷◌, ◌++◌, drop, sym, ap, ◌∙◌, arith, Some, None, option_map, IsTrue, Ok, Err, append-nil, append_assoc, length-append, true, false}
 use Rattle.std.specs.Option.{option_map_or}
 use Rattle.cap_bytes.specs.declared.faults.Fault.{Fault}
-use Rattle.cap_source.proofs.Onward.{Went, Went-none, Went-more}
-use Rattle.cap_source.specs.Feed.{Feed, Item, packet, Keeps, Passes, SameItems, FindsPacket, FindsItem, IsFeed, refusal_of}
-use Rattle.cap_source.specs.Walk.{GivesPacket, ShowsItem}
-use Rattle.cap_source.specs.declared.feeds.Head.TheVariants as heads
-use Rattle.cap_source.specs.declared.packets.Meta.{Meta}
+use Rattle.cap_feed.proofs.Onward.{Went, Went-none, Went-more}
+use Rattle.cap_feed.specs.Feed.{Feed, Item, packet, Keeps, Passes, SameItems, FindsPacket, FindsItem, IsFeed, refusal_of}
+use Rattle.cap_feed.specs.Walk.{GivesPacket, ShowsItem}
+use Rattle.cap_feed.specs.declared.feeds.Head.TheVariants as heads
+use Rattle.cap_feed.specs.declared.packets.Meta.{Meta}
 use Rattle.cap_counts.specs.Counting.{packets_of, are_in_order, original_bytes, truncated_packets, last_packet, counted, with_packet}
 use Rattle.cap_counts.specs.Reading.{CountsAll}
 use Rattle.cap_counts.specs.declared.counts.Counts.{Counts}

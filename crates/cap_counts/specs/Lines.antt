@@ -3,11 +3,11 @@ use Rattle.std.specs.Prelude.{ℕ, ◌+◌, Bool, true, false, List, [], ◌∷�
 use Rattle.cap_bytes.specs.declared.faults.Refusal.{Refusal}
 use Rattle.cap_bytes.specs.declared.faults.Tail.{Tail}
 use Rattle.cap_print.specs.Lines.{time_text}
-use Rattle.cap_source.specs.Feed.{refusal_of}
+use Rattle.cap_feed.specs.Feed.{refusal_of}
 use Rattle.cap_source.specs.Items.{file_items, file_ending}
-use Rattle.cap_source.specs.declared.feeds.Ending.{Ending}
-use Rattle.cap_source.specs.declared.packets.Format.{Format}
-use Rattle.cap_source.specs.declared.packets.Format.TheVariants.{Pcap, Pcapng}
+use Rattle.cap_feed.specs.declared.feeds.Ending.{Ending}
+use Rattle.cap_feed.specs.declared.packets.Format.{Format}
+use Rattle.cap_feed.specs.declared.packets.Format.TheVariants.{Pcap, Pcapng}
 use Rattle.cap_time.specs.Stamp.{printed_of}
 use Rattle.cap_counts.specs.Counting.{packets_of, counted}
 use Rattle.cap_counts.specs.declared.counts.Counts.{Counts}

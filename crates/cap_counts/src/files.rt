@@ -3,9 +3,9 @@ ghost use Rattle.std.specs.Prelude.{◌≡◌, ◌≤◌, ◌^◌, ◌++◌, fal
 ghost use Rattle.std.specs.List.{list_all, list_any};
 ghost use Rattle.cap_bytes.specs.Device.{WriterKeeps, writer_of};
 ghost use Rattle.cap_bytes.specs.Printing.{Prints, is_write};
-ghost use Rattle.cap_source.specs.Feed.{Keeps};
+ghost use Rattle.cap_feed.specs.Feed.{Keeps};
 ghost use Rattle.cap_source.specs.ReadFaults.{FailsAs, FailsOf};
-ghost use Rattle.cap_source.specs.Walk.{Walks};
+ghost use Rattle.cap_feed.specs.Walk.{Walks};
 ghost use Rattle.cap_counts.specs.Lines.{files_text, info_text, first_refusal};
 ghost use Rattle.cap_counts.specs.Reading.{CountsAll, CountsFile, CountsFiles, FailsFirst, counted_texts};
 ghost use Rattle.cap_counts.specs.Telling.{Tells};
@@ -13,7 +13,8 @@ ghost use Rattle.cap_counts.specs.Telling.{Tells};
 use crate::counts::Counts;
 use crate::lines::{file_line, files_line};
 use cap_bytes::{Fault, Sink, Source, Tail, put_all};
-use cap_source::{Capture, Ending, Head, PacketFeed};
+use cap_feed::{Ending, Head, PacketFeed};
+use cap_source::Capture;
 use std::alloc::Global;
 
 /// What is counted of a file, and how it has ended, if that is told.

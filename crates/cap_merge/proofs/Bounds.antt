@@ -4,7 +4,7 @@ use Rattle.std.specs.Prelude.{◌<ℤ◌, replicate, map}
 use Rattle.std.specs.List.{list_all}
 use Rattle.std.proofs.lemmas.List.{length-map}
 use Rattle.cap_bytes.specs.declared.faults.Fault.{Fault}
-use Rattle.cap_source.specs.Feed.{Feed}
+use Rattle.cap_feed.specs.Feed.{Feed}
 use Rattle.cap_time.specs.Stamp.{seconds_of}
 use Rattle.cap_time.specs.Clock.{later}
 use Rattle.cap_time.specs.declared.stamps.Stamp.{Stamp}

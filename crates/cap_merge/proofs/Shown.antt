@@ -3,10 +3,10 @@ use Rattle.std.proofs.Common.{arith, ◌≡◌, IsTrue, Some, None, Ok, Err}
 use Rattle.cap_bytes.specs.declared.faults.Fault.{Fault}
 use Rattle.cap_bytes.specs.declared.faults.Fault.TheVariants.{Refused}
 use Rattle.cap_bytes.specs.declared.faults.Refusal.{Refusal}
-use Rattle.cap_source.specs.Feed.{Feed, SameItems, FindsPacket, FindsItem, IsFeed}
-use Rattle.cap_source.specs.Walk.{ShowsItem}
-use Rattle.cap_source.specs.declared.feeds.Head.TheVariants as heads
-use Rattle.cap_source.specs.declared.packets.Meta.{Meta}
+use Rattle.cap_feed.specs.Feed.{Feed, SameItems, FindsPacket, FindsItem, IsFeed}
+use Rattle.cap_feed.specs.Walk.{ShowsItem}
+use Rattle.cap_feed.specs.declared.feeds.Head.TheVariants as heads
+use Rattle.cap_feed.specs.declared.packets.Meta.{Meta}
 
 -- what comes next of a feed, by what is known of it
 pub shows-packet : (old new : Feed) (meta : Meta) → IsFeed new → IsTrue new.told → new.known ≡ Some (heads.Packet meta) → SameItems old new

@@ -1,6 +1,6 @@
 -- Why the feeds as one are a lawful feed.
 use Rattle.std.specs.Prelude.{◌≡◌, List, length, map}
-use Rattle.cap_source.specs.Feed.{Feed, IsFeed}
+use Rattle.cap_feed.specs.Feed.{Feed, IsFeed}
 use Rattle.cap_merge.specs.declared.lanes.Lane.{Lane}
 use Rattle.cap_merge.specs.Parts.{parts, IsNumbered, HasReached, feed_of}
 use Rattle.cap_merge.specs.Sound.{sound-parts, lawful-each, numbered-from}

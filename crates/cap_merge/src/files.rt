@@ -5,7 +5,8 @@ ghost use Rattle.cap_merge.specs.View.{parts_of};
 
 use crate::merging::Merged;
 use cap_bytes::{Fault, Source, Tail};
-use cap_source::{Capture, PacketFeed};
+use cap_feed::PacketFeed;
+use cap_source::Capture;
 use std::alloc::Global;
 
 // The packets of files, which have the numbers from 1 on. Nothing is read yet.

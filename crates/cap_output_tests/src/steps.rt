@@ -9,8 +9,9 @@ use crate::vectors::{
     AT_1, AT_3, AT_4, AT_31, FIRST, FRAGMENT_FRAMES, File, LAST, RAW, TAGGED_FRAMES,
 };
 use cap_bytes::{Fault, Pieces, Room, Tail};
+use cap_feed::PacketFeed;
 use cap_merge::merge_files;
-use cap_source::{Capture, PacketFeed};
+use cap_source::Capture;
 use cap_talks::{Step, Table};
 use std::alloc::{AllocError, Global};
 use std::process::Abort;

@@ -1,6 +1,6 @@
 -- What asking for what comes next tells of the file as a feed, and of its first interface.
 use Rattle.std.proofs.Common.{arith, ◌≡◌, Option, Some, IsTrue}
-use Rattle.cap_source.specs.Feed.{Knows, SameItems}
+use Rattle.cap_feed.specs.Feed.{Knows, SameItems}
 use Rattle.cap_source.specs.Items.{Progress}
 use Rattle.cap_source.specs.FileState.{FileState, feed_of, head_of, first_by, is_whole, LearnsOr}
 use Rattle.cap_source.specs.Readers.{state_of, is_there}

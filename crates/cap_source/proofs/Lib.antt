@@ -4,12 +4,9 @@ pub mod Fields
 pub mod Firsts
 pub mod Frames
 pub mod Going
-pub mod Lists
 pub mod Looks
-pub mod Onward
 pub mod Options
 pub mod Pcaps
 pub mod Resolutions
 pub mod Saying
 pub mod Showing
-pub mod Walking

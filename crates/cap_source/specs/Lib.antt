@@ -1,14 +1,10 @@
 pub mod Captures
 pub mod TimeBases
 pub mod Contents
-pub mod Feed
 pub mod Fields
 pub mod Items
 pub mod FileState
 pub mod Laws
-pub mod Listed
 pub mod ReadFaults
 pub mod Reached
 pub mod Readers
-pub mod Times
-pub mod Walk

@@ -7,7 +7,6 @@ ghost use Rattle.cap_source.specs.Reached.{progress_of, counted};
 ghost use Rattle.cap_source.specs.Readers.{state_of, is_there, IsReady, is_stopped, Opens, LooksAtWindow, reader_by, reader_room};
 ghost use Rattle.cap_source.specs.declared.reached.Reached.{Reached};
 
-use crate::packets::Format;
 use crate::pcap::next_of_pcap;
 use crate::pcapng::next_of_blocks;
 use crate::reached::Reached;
@@ -15,6 +14,7 @@ use crate::readers::{Next, Reader};
 use crate::{pcap, pcapng};
 use cap_blocks::{BlockReader, is_section};
 use cap_bytes::{Fault, Source, Window};
+use cap_feed::Format;
 use cap_pcap::PcapReader;
 use std::mem;
 

@@ -3,20 +3,13 @@
 
 mod captures;
 mod contents;
-mod feeds;
 mod interfaces;
 pub mod laws;
 mod learning;
-mod listed;
-mod packets;
 mod pcap;
 mod pcapng;
 mod reached;
 mod readers;
-mod walks;
 
 pub use crate::captures::Capture;
-pub use crate::feeds::{Ending, FeedHeld, Head, PacketFeed};
-pub use crate::listed::Listed;
-pub use crate::packets::{Format, Meta};
-pub use crate::walks::next_packet;
+pub use cap_feed::{Ending, FeedHeld, Format, Head, Listed, Meta, PacketFeed, next_packet};

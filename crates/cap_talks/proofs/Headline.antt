@@ -12,9 +12,9 @@ use Rattle.cap_merge.proofs.Unread.{told-readers, bytes-readers, Fails-merged}
 use Rattle.cap_merge.specs.Files.{clocked_run, endings_of_files}
 use Rattle.cap_merge.specs.Parts.{Part, feed_of, run_of}
 use Rattle.cap_merge.specs.Readers.{Reader, IsUnreadRun}
-use Rattle.cap_source.specs.Feed.{Feed}
+use Rattle.cap_feed.specs.Feed.{Feed}
 use Rattle.cap_source.specs.ReadFaults.{FailsOf}
-use Rattle.cap_source.specs.Walk.{Walks}
+use Rattle.cap_feed.specs.Walk.{Walks}
 use Rattle.cap_talks.specs.Reporting.{TookAll, TakesAll}
 use Rattle.cap_talks.specs.ReportText.{text_of, taken_after, refusal_after, report_text, report_refusal}
 use Rattle.cap_talks.specs.Stepping.{TableState, TableStands, endings_so_far}

@@ -4,9 +4,9 @@ use Rattle.std.specs.List.{flat_map, range_with_len}
 use Rattle.cap_bytes.specs.declared.faults.Refusal.{Refusal}
 use Rattle.cap_bytes.specs.declared.faults.Rule.TheVariants.{TalkLimit}
 use Rattle.cap_merge.specs.Run.{Clocked}
-use Rattle.cap_source.specs.Feed.{Item, packet, refused}
-use Rattle.cap_source.specs.declared.feeds.Ending.{Ending}
-use Rattle.cap_source.specs.declared.packets.Meta.{Meta}
+use Rattle.cap_feed.specs.Feed.{Item, packet, refused}
+use Rattle.cap_feed.specs.declared.feeds.Ending.{Ending}
+use Rattle.cap_feed.specs.declared.packets.Meta.{Meta}
 use Rattle.cap_counts.specs.Counting.{counted}
 use Rattle.cap_counts.specs.Lines.{file_text, files_text, ending_at, or_else}
 use Rattle.cap_time.specs.declared.stamps.Stamp.{Stamp}

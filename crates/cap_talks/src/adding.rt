@@ -1,7 +1,7 @@
 //! Units that packets complete, and how they are added to the conversations.
 ghost use Rattle.std.specs.Prelude.{◌≡◌, ◌+◌, ◌++◌, ◌<◌, ◌≤◌, ◌^◌, List, length, IfSome, OnOk, OnErr};
 ghost use Rattle.cap_ip.specs.Transport.{transport_of};
-ghost use Rattle.cap_source.specs.Times.{meta_time};
+ghost use Rattle.cap_feed.specs.Times.{meta_time};
 ghost use Rattle.cap_rows.specs.Rows.{StandsFor, IsUnitInOrder, frames_in, bytes_in};
 ghost use Rattle.cap_rows.specs.Talks.{frames_of, bytes_of};
 ghost use Rattle.cap_rows.specs.declared.units.CountedUnit.{CountedUnit};
@@ -12,10 +12,10 @@ ghost use Rattle.cap_talks.specs.Tallies.{LimitBy};
 ghost use Rattle.cap_talks.specs.CountedUnits.{listed, whole_unit};
 
 use crate::classes::Class;
+use cap_feed::Meta;
 use cap_ip::{Header, Transport, transport};
 use cap_join::{Datagram, Stamped};
 use cap_rows::{CountedUnit, Talks, TalksFault, ends_of, timed_frame};
-use cap_source::Meta;
 use cap_time::Stamp;
 
 /// What is told of a packet's frame, which has that place in the run and that time.

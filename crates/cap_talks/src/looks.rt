@@ -7,9 +7,9 @@ ghost use Rattle.cap_talks.specs.Looking.{look_of, IsAll, taken};
 ghost use Rattle.cap_talks.specs.Taken.{look_in, look, stamped_of};
 
 use crate::classes::Class;
+use cap_feed::Meta;
 use cap_ip::{Header, HeaderOr};
 use cap_link::{Network, network};
-use cap_source::Meta;
 
 /// What a packet is by itself.
 #[derive(Clone, Copy)]

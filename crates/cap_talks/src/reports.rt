@@ -6,7 +6,7 @@ ghost use Rattle.cap_bytes.specs.Printing.{is_write};
 ghost use Rattle.cap_merge.specs.Files.{clocked_run, endings_of_files};
 ghost use Rattle.cap_merge.specs.Parts.{feed_of};
 ghost use Rattle.cap_source.specs.ReadFaults.{FailsOf};
-ghost use Rattle.cap_source.specs.Walk.{Walks};
+ghost use Rattle.cap_feed.specs.Walk.{Walks};
 ghost use Rattle.cap_talks.specs.Reporting.{TakesAll};
 ghost use Rattle.cap_talks.specs.ReportText.{report_text, report_refusal};
 ghost use Rattle.cap_talks.specs.Stepping.{IsMore};
@@ -15,8 +15,8 @@ ghost use Rattle.cap_counts.specs.Telling.{Tells};
 
 use crate::tables::{Step, Table};
 use cap_bytes::{Fault, Sink, Source, Tail};
+use cap_feed::PacketFeed;
 use cap_merge::merge_files;
-use cap_source::PacketFeed;
 use std::alloc::Global;
 
 // Whether a step took a packet.

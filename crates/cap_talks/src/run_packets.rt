@@ -1,10 +1,10 @@
 //! A packet of a run, as it comes to a tally.
 ghost use Rattle.std.specs.Prelude.{◌≡◌, ◌<ℤ◌, ◌^◌, pos, IfSome};
 ghost use Rattle.std.proofs.Props.{props};
-ghost use Rattle.cap_source.specs.Times.{meta_time};
+ghost use Rattle.cap_feed.specs.Times.{meta_time};
 ghost use Rattle.cap_time.specs.Stamp.{seconds_of};
 
-use cap_source::Meta;
+use cap_feed::Meta;
 use cap_time::Stamp;
 
 /// A packet of a run.

@@ -6,7 +6,8 @@ ghost use Rattle.cap_bytes.specs.Printing.{Prints, is_write};
 ghost use Rattle.cap_source.specs.ReadFaults.{FailsOf};
 
 use cap_bytes::{Fault, Order, Sink, Source, Tail};
-use cap_source::{Capture, Format};
+use cap_feed::Format;
+use cap_source::Capture;
 use cap_write::{to_pcap, to_pcapng};
 use std::alloc::Global;
 

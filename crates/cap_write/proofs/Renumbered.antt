@@ -8,15 +8,15 @@ use Rattle.indexmap.specs.IndexSet.{insert_key}
 use Rattle.cap_bytes.specs.declared.faults.Rule.{Rule}
 use Rattle.cap_bytes.specs.declared.faults.Rule.TheVariants.{InterfaceLimit}
 use Rattle.cap_bytes.specs.declared.numbers.Order.{Order}
-use Rattle.cap_source.specs.Feed.{Item, packet, refused}
+use Rattle.cap_feed.specs.Feed.{Item, packet, refused}
 use Rattle.cap_source.specs.Items.{file_items}
-use Rattle.cap_source.specs.declared.packets.Meta.{Meta}
+use Rattle.cap_feed.specs.declared.packets.Meta.{Meta}
 use Rattle.cap_write.proofs.Feeding.{count_after-is}
 use Rattle.cap_write.proofs.Files.{merged-again}
 use Rattle.cap_write.proofs.MergedAgain.{room_left, IsNumbered-given, AllFit-given, all_described-given}
 use Rattle.cap_write.proofs.Places.{position_or_len-none, position_or_len-some}
 use Rattle.cap_write.specs.Laws.{read_items, meta_again, instances, numbers, measured, MergedAgain}
-use Rattle.cap_source.specs.Feed.{refusal_of}
+use Rattle.cap_feed.specs.Feed.{refusal_of}
 use Rattle.cap_write.specs.Numbering.{Origin, origin_of, is_origin, is_used, number_of, with_origin, write_fault, Numbered, numbered_of, numbered_or, numbered, refusal_or, refusal_in}
 use Rattle.cap_write.specs.Texts.{interface_part, packet_part, count_after, merged_bytes}
 

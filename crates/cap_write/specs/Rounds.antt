@@ -4,9 +4,9 @@ use Rattle.std.specs.List.{AllByRecursion, AllZip, flat_map}
 use Rattle.std.specs.Option.{option_map}
 use Rattle.std.specs.declared.cmp.Ordering.TheVariants.{Equal}
 use Rattle.cap_bytes.specs.declared.faults.Rule.{Rule}
-use Rattle.cap_source.specs.Feed.{Item, packet, refused}
-use Rattle.cap_source.specs.declared.packets.Format.TheVariants.{Pcapng}
-use Rattle.cap_source.specs.declared.packets.Meta.{Meta}
+use Rattle.cap_feed.specs.Feed.{Item, packet, refused}
+use Rattle.cap_feed.specs.declared.packets.Format.TheVariants.{Pcapng}
+use Rattle.cap_feed.specs.declared.packets.Meta.{Meta}
 use Rattle.cap_time.specs.Clock.{clock_cmp, greatest}
 use Rattle.cap_write.specs.Numbering.{Numbered, numbered, refusal_in}
 use Rattle.cap_merge.specs.Files.{run_of_lists}

@@ -3,8 +3,8 @@ ghost use Rattle.std.specs.Prelude.{IsTrue, is_err, IsOkUnless};
 ghost use Rattle.cap_bytes.specs.Device.{Puts, WriterKeeps, writer_of};
 ghost use Rattle.cap_bytes.specs.Printing.{Prints, is_write};
 ghost use Rattle.cap_source.specs.Captures.{feed_of, number_of, first_of};
-ghost use Rattle.cap_source.specs.Feed.{Keeps};
-ghost use Rattle.cap_source.specs.Walk.{Walks};
+ghost use Rattle.cap_feed.specs.Feed.{Keeps};
+ghost use Rattle.cap_feed.specs.Walk.{Walks};
 ghost use Rattle.cap_write.specs.Interfaces.{Holds};
 ghost use Rattle.cap_write.specs.Texts.{first_origins, first_bytes, front_bytes, pcapng_bytes, pcapng_refusal};
 
@@ -12,7 +12,8 @@ use crate::interfaces::Origins;
 use crate::packets::put_packets;
 use cap_blocks::{put_interface, put_section};
 use cap_bytes::{Fault, Order, Sink, Source};
-use cap_source::{Capture, PacketFeed};
+use cap_feed::PacketFeed;
+use cap_source::Capture;
 use cap_time::Interface;
 use std::alloc::Global;
 

@@ -1,5 +1,5 @@
 use Rattle.std.proofs.Common.{arith}
-use Rattle.cap_source.proofs.Onward.{Keeps-trans}
+use Rattle.cap_feed.proofs.Onward.{Keeps-trans}
 use Rattle.cap_write.proofs.pcap.to_pcap.Goals as goal
 
 pub returns-clause-walks : goal.returns-clause-walks

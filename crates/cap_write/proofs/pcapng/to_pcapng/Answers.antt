@@ -1,5 +1,5 @@
 use Rattle.std.proofs.Common.{arith, rules}
-use Rattle.cap_source.proofs.Onward.{Keeps-trans}
+use Rattle.cap_feed.proofs.Onward.{Keeps-trans}
 use Rattle.cap_write.proofs.pcapng.to_pcapng.Goals as goal
 
 pub returns-clause-walks : goal.returns-clause-walks

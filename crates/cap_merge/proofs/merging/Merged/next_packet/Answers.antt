@@ -2,7 +2,7 @@ use Rattle.std.proofs.Common.{◌≡◌, sym, ◌∙◌, map, subst, Option}
 use Rattle.std.specs.Prelude.{IfSome, ◌<ℤ◌, pos, ◌^◌}
 use Rattle.cap_time.specs.declared.stamps.Stamp.{Stamp}
 use Rattle.cap_time.specs.Stamp.{seconds_of}
-use Rattle.cap_source.specs.Feed.{IsPacket}
+use Rattle.cap_feed.specs.Feed.{IsPacket}
 use Rattle.cap_merge.specs.First.{lane_at}
 use Rattle.cap_merge.specs.Parts.{parts, feed_of, run_of, BeginsAt}
 use Rattle.cap_merge.proofs.Bounds.{first-bounded}

@@ -3,7 +3,7 @@ use Rattle.std.proofs.lemmas.Result.{err_from_is_err_and}
 use Rattle.cap_merge.specs.MergedLaws.{merged-is-feed}
 use Rattle.cap_merge.specs.Parts.{feed_of}
 use Rattle.cap_merge.specs.View.{parts_of}
-use Rattle.cap_source.specs.declared.feeds.FeedHeld.{FeedHeld}
+use Rattle.cap_feed.specs.declared.feeds.FeedHeld.{FeedHeld}
 use Rattle.cap_talks.specs.Looking.{taken}
 use Rattle.cap_talks.specs.Stepping.{next_taken, clocked}
 use Rattle.cap_talks.specs.Taken.{Taken}

@@ -37,7 +37,7 @@ pub struct Meta {
 
 impl Meta {
     ghost use Rattle.cap_time.specs.Stamp.{seconds_of};
-    ghost use Rattle.cap_source.specs.Times.{meta_time};
+    ghost use Rattle.cap_feed.specs.Times.{meta_time};
 
     /// The time of the packet, if it has one. Its seconds are below 2^65.
     #[inline(always)]

@@ -1,6 +1,6 @@
 //! A list of packets that comes one by one, from wherever it comes.
 ghost use Rattle.std.specs.Prelude.{◌≡◌, IsTrue, Some};
-ghost use Rattle.cap_source.specs.Feed.{Feed, GivesHead, Keeps, KeepsItems, SameItems, FindsPacket, ShowsPacket, FindsItem, Passes, IsPacket, HasFile, IsFeed};
+ghost use Rattle.cap_feed.specs.Feed.{Feed, GivesHead, Keeps, KeepsItems, SameItems, FindsPacket, ShowsPacket, FindsItem, Passes, IsPacket, HasFile, IsFeed};
 
 use crate::packets::{Format, Meta};
 use cap_bytes::{Fault, Refusal};

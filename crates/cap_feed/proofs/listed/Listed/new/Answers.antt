@@ -1,5 +1,5 @@
 use Rattle.std.proofs.Common.{rules}
-use Rattle.cap_source.proofs.listed.Listed.new.Goals as goal
+use Rattle.cap_feed.proofs.listed.Listed.new.Goals as goal
 
 pub returns : goal.returns
 returns c = search rules

@@ -3,7 +3,7 @@ use Rattle.std.specs.Prelude.{Option}
 use Rattle.std.specs.Option.{option_map}
 use Rattle.cap_time.specs.Stamp.{stamp_in}
 use Rattle.cap_time.specs.declared.stamps.Stamp.{Stamp}
-use Rattle.cap_source.specs.declared.packets.Meta.{Meta}
+use Rattle.cap_feed.specs.declared.packets.Meta.{Meta}
 
 -- the time of a packet, if it has one
 abbrev pub meta_time : Meta → Option Stamp

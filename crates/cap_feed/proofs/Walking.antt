@@ -7,9 +7,9 @@ use Rattle.cap_bytes.specs.Printing.{Prints}
 use Rattle.cap_bytes.specs.declared.faults.Fault.{Fault}
 use Rattle.cap_bytes.specs.declared.faults.Fault.TheVariants.{Refused, Read, Write, Memory}
 use Rattle.cap_bytes.specs.declared.faults.Refusal.{Refusal}
-use Rattle.cap_source.specs.Feed.{Feed, Item, packet, refused, Keeps}
-use Rattle.cap_source.specs.Walk.{ShowsItem}
-use Rattle.cap_source.specs.declared.packets.Meta.{Meta}
+use Rattle.cap_feed.specs.Feed.{Feed, Item, packet, refused, Keeps}
+use Rattle.cap_feed.specs.Walk.{ShowsItem}
+use Rattle.cap_feed.specs.declared.packets.Meta.{Meta}
 
 -- what is to be written of the items to come, and what is answered then
 pub record Plan : Type 0 where

@@ -4,11 +4,11 @@ use Rattle.std.specs.List.{list_any}
 use Rattle.cap_bytes.specs.declared.faults.Fault.{Fault}
 use Rattle.cap_bytes.specs.declared.faults.Fault.TheVariants.{Refused, Read, Write, Memory}
 use Rattle.cap_bytes.specs.declared.faults.Refusal.{Refusal}
-use Rattle.cap_source.specs.declared.feeds.Ending.{Ending}
-use Rattle.cap_source.specs.declared.feeds.FeedHeld.{FeedHeld}
-use Rattle.cap_source.specs.declared.feeds.Head.{Head}
-use Rattle.cap_source.specs.declared.feeds.Head.TheVariants as heads
-use Rattle.cap_source.specs.declared.packets.Meta.{Meta}
+use Rattle.cap_feed.specs.declared.feeds.Ending.{Ending}
+use Rattle.cap_feed.specs.declared.feeds.FeedHeld.{FeedHeld}
+use Rattle.cap_feed.specs.declared.feeds.Head.{Head}
+use Rattle.cap_feed.specs.declared.feeds.Head.TheVariants as heads
+use Rattle.cap_feed.specs.declared.packets.Meta.{Meta}
 
 -- what comes of a file, or of several: packets with their captured bytes, and a refusal if one ends them
 pub data Item : Type 0 where

@@ -2,9 +2,9 @@
 use Rattle.std.specs.Prelude.{◌≡◌, ℕ, [], ◌∷◌, drop, IsTrue, Option, Some, None, IfSome, Result, Ok, Err, ⊤}
 use Rattle.cap_bytes.specs.declared.faults.Fault.{Fault}
 use Rattle.cap_bytes.specs.declared.faults.Fault.TheVariants.{Refused, Read, Write, Memory}
-use Rattle.cap_source.specs.Feed.{Feed, Knows, Breaks, Waits, Goes, HasFile, SameItems, packet, refused}
-use Rattle.cap_source.specs.declared.feeds.Head.TheVariants as heads
-use Rattle.cap_source.specs.declared.packets.Meta.{Meta}
+use Rattle.cap_feed.specs.Feed.{Feed, Knows, Breaks, Waits, Goes, HasFile, SameItems, packet, refused}
+use Rattle.cap_feed.specs.declared.feeds.Head.TheVariants as heads
+use Rattle.cap_feed.specs.declared.packets.Meta.{Meta}
 
 -- A packet comes next, or the end, or a refusal, which is answered as a fault.
 abbrev pub GivesPacket : Feed → Result (Option Meta) Fault → Feed → Type 0

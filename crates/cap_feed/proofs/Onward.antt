@@ -2,9 +2,9 @@
 use Rattle.std.proofs.Common.{Some, None, Ok, Err, refl, sym, ◌∙◌, arith}
 use Rattle.cap_bytes.specs.Printing.{IsRead}
 use Rattle.cap_bytes.specs.declared.faults.Fault.{Fault}
-use Rattle.cap_source.specs.Feed.{Feed, Keeps, Goes, Passes}
-use Rattle.cap_source.specs.Walk.{GivesPacket, Lasts, Walks}
-use Rattle.cap_source.specs.declared.packets.Meta.{Meta}
+use Rattle.cap_feed.specs.Feed.{Feed, Keeps, Goes, Passes}
+use Rattle.cap_feed.specs.Walk.{GivesPacket, Lasts, Walks}
+use Rattle.cap_feed.specs.declared.packets.Meta.{Meta}
 
 -- What is true of a feed on the way: all that every answer keeps, and no read has failed.
 pub record Went (old new : Feed) : Type 0 where

@@ -2,9 +2,9 @@
 use Rattle.std.proofs.Common.{◌≡◌, ◌≤◌, ◌+◌, ◌^◌, ℕ, List, length, drop, Option, None, arith}
 use Rattle.std.specs.Option.{ForSome}
 use Rattle.cap_bytes.specs.declared.faults.Rule.{Rule}
-use Rattle.cap_source.specs.Feed.{IsPacket, Passes}
-use Rattle.cap_source.specs.Listed.{head_at, list_feed}
-use Rattle.cap_source.specs.declared.feeds.Head.{Head}
+use Rattle.cap_feed.specs.Feed.{IsPacket, Passes}
+use Rattle.cap_feed.specs.Listed.{head_at, list_feed}
+use Rattle.cap_feed.specs.declared.feeds.Head.{Head}
 use Rattle.cap_time.specs.declared.resolutions.Interface.{Interface}
 
 pub list_passes : (file : ℕ) (interface : Interface) (end : Option Rule) (place : ℕ) (times : List ℕ) (known : Option Head) → place + length times ≤ 2 ^ 40

@@ -1,0 +1,4 @@
+pub mod Feed
+pub mod Listed
+pub mod Times
+pub mod Walk
