@@ -1,15 +1,15 @@
 -- The feeds of a merge before anything is read.
-use Rattle.std.proofs.Common.{◌≡◌, ℕ, zero, suc, ◌+◌, ◌≤◌, ◌<◌, List, [], ◌∷◌, ◌++◌, length, map, Bool, ◌&&◌, ◌||◌, IsTrue, None, Result, refl, sym, ap, ◌∙◌, subst, arith}
+use Rattle.std.proofs.Common.{◌≡◌, ℕ, ◌+◌, ◌≤◌, List, [], ◌∷◌, ◌++◌, length, map, Bool, ◌&&◌, ◌||◌, IsTrue, None, Result, refl, sym, ap, ◌∙◌, subst, arith}
 use Rattle.std.specs.List.{flat_map, list_all, list_any, range_with_len}
-use Rattle.std.proofs.lemmas.Bool.{false≢true}
 use Rattle.std.proofs.lemmas.List.{length-map}
 use Rattle.cap_bytes.specs.declared.faults.Fault.{Fault}
 use Rattle.cap_bytes.specs.declared.faults.Tail.{Tail}
+use Rattle.cap_order.proofs.Numbers.{numbers-within}
 use Rattle.cap_merge.specs.Files.{items_of_files, run_of_files, clocked_run, endings_from, endings_of_files}
-use Rattle.cap_merge.specs.Parts.{Part, new_parts, item_time, is_refusal, feed_of, run_of, known_of, broken_of, endings_of, IsNumbered}
+use Rattle.cap_order.specs.Parts.{Part, new_parts, item_time, is_refusal, feed_of, run_of, known_of, broken_of, endings_of, IsNumbered}
 use Rattle.cap_merge.specs.Readers.{Reader, IsUnread, AreUnread, IsUnreadRun}
-use Rattle.cap_merge.specs.Run.{opened, run}
-use Rattle.cap_feed.specs.Feed.{Feed, HasFile}
+use Rattle.cap_order.specs.Run.{opened, run}
+use Rattle.cap_feed.specs.Feed.{Feed}
 use Rattle.cap_source.specs.ReadFaults.{FailsOf}
 use Rattle.cap_feed.specs.Walk.{Walks}
 
@@ -116,11 +116,6 @@ pub run-items : {A : Type 0} (reader : A → Reader) (tail : Tail) (sources : Li
     → (feed_of ps).items ≡ run_of_files tail (map (λ s. (reader s).bytes) sources)
 unfolding feed_of run_of_files
 run-items reader tail sources ps u = ap (map (λ x. x.item)) (u.run ∙ ap (clocked_run tail) (bytes-readers reader sources))
-
--- a file that is one of some has a number of theirs
-pub numbers-within : (file count n : ℕ) → HasFile (range_with_len file count) n → (file ≤ n) × (n < file + count)
-numbers-within file zero n has = absurd (false≢true has)
-numbers-within file (suc count) n has = grind (arith, numbers-within (file + 1) count n)
 
 -- A read that fails as files are gone through as one is told of one of them.
 pub Fails-merged : {A B : Type 0} (reader : A → Reader) (tail : Tail) (sources : List A) (ps : List Part) (new : Feed) (result : Result B Fault)

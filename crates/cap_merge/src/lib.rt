@@ -2,10 +2,6 @@
 #![tactic(auto)]
 
 mod files;
-mod lanes;
-mod merging;
-mod walks;
 
 pub use crate::files::merge_files;
-pub use crate::merging::{Merged, NextPacket};
-pub use crate::walks::next_of;
+pub use cap_order::{Merged, NextPacket, next_of};

@@ -3,7 +3,8 @@ ghost use Rattle.std.specs.Prelude.{◌≤◌};
 
 use crate::vectors::File;
 use cap_bytes::{Fault, Pieces, Room, Tail};
-use cap_merge::{Merged, merge_files};
+use cap_merge::merge_files;
+use cap_order::Merged;
 use cap_source::Capture;
 use cap_talks::report;
 use std::alloc::Global;

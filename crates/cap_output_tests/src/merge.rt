@@ -1,15 +1,15 @@
 //! Packets of several files in the order of exact time: lists of packets, and files that are read.
 ghost use Rattle.std.specs.Prelude.{◌≡◌, ◌∷◌, [], IfOk};
 ghost use Rattle.cap_feed.specs.Feed.{HasFile};
-ghost use Rattle.cap_merge.specs.Parts.{feed_of};
-ghost use Rattle.cap_merge.specs.View.{parts_of};
+ghost use Rattle.cap_order.specs.Parts.{feed_of};
+ghost use Rattle.cap_order.specs.View.{parts_of};
 
 use crate::checks::{holds, same};
 use crate::files::{merged_of, sources_of};
 use crate::vectors::{File, PACKET, RUNS_BACK, RUNS_ON, SECTION};
 use cap_bytes::{Fault, Refusal, Rule};
 use cap_feed::{Ending, Format, Head, Listed, PacketFeed};
-use cap_merge::Merged;
+use cap_order::Merged;
 use cap_time::{Interface, Resolution, Stamp};
 use std::alloc::Global;
 use std::process::Abort;

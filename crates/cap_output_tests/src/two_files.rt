@@ -5,7 +5,7 @@ use crate::files::{bytes_of, merged_of};
 use crate::vectors::{File, OPTIONS_PCAPNG, RUNS_BACK};
 use cap_bytes::{Fault, Pieces};
 use cap_feed::{Head, PacketFeed};
-use cap_merge::Merged;
+use cap_order::Merged;
 use cap_source::Capture;
 use std::alloc::Global;
 use std::test::Fail;

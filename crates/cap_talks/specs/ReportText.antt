@@ -3,7 +3,7 @@ use Rattle.std.specs.Prelude.{ℕ, List, [], ◌∷◌, ◌++◌, ◌+◌, ◌==
 use Rattle.std.specs.List.{flat_map, range_with_len}
 use Rattle.cap_bytes.specs.declared.faults.Refusal.{Refusal}
 use Rattle.cap_bytes.specs.declared.faults.Rule.TheVariants.{TalkLimit}
-use Rattle.cap_merge.specs.Run.{Clocked}
+use Rattle.cap_order.specs.Run.{Clocked}
 use Rattle.cap_feed.specs.Feed.{Item, packet, refused}
 use Rattle.cap_feed.specs.declared.feeds.Ending.{Ending}
 use Rattle.cap_feed.specs.declared.packets.Meta.{Meta}

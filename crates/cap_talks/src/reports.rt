@@ -4,7 +4,7 @@ ghost use Rattle.std.specs.List.{list_all, list_any};
 ghost use Rattle.cap_bytes.specs.Device.{WriterKeeps, writer_of};
 ghost use Rattle.cap_bytes.specs.Printing.{is_write};
 ghost use Rattle.cap_merge.specs.Files.{clocked_run, endings_of_files};
-ghost use Rattle.cap_merge.specs.Parts.{feed_of};
+ghost use Rattle.cap_order.specs.Parts.{feed_of};
 ghost use Rattle.cap_source.specs.ReadFaults.{FailsOf};
 ghost use Rattle.cap_feed.specs.Walk.{Walks};
 ghost use Rattle.cap_talks.specs.Reporting.{TakesAll};

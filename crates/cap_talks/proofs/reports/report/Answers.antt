@@ -2,9 +2,9 @@ use Rattle.std.proofs.Common.{sym, subst, Err}
 use Rattle.std.specs.List.{list_any}
 use Rattle.cap_source.specs.ReadFaults.{FailsOf}
 use Rattle.std.proofs.lemmas.Result.{err_from_is_err_and}
-use Rattle.cap_merge.specs.Parts.{feed_of}
+use Rattle.cap_order.specs.Parts.{feed_of}
 use Rattle.cap_merge.specs.Readers.{reader_of}
-use Rattle.cap_merge.specs.View.{parts_of}
+use Rattle.cap_order.specs.View.{parts_of}
 use Rattle.cap_talks.specs.TableView.{table_of}
 use Rattle.cap_talks.proofs.Headline.{Begins, tells-report, tells-nothing, fails-of, fails-none, writer-same}
 use Rattle.cap_talks.proofs.reports.report.Goals as goal

@@ -1,8 +1,8 @@
 use Rattle.std.proofs.Common.{◌∷◌, drop, length, List, Option, Err, inr, sym, ap, ◌∙◌, subst, arith, refl}
 use Rattle.std.proofs.lemmas.Result.{err_from_is_err_and}
-use Rattle.cap_merge.specs.MergedLaws.{merged-is-feed}
-use Rattle.cap_merge.specs.Parts.{feed_of}
-use Rattle.cap_merge.specs.View.{parts_of}
+use Rattle.cap_order.specs.MergedLaws.{merged-is-feed}
+use Rattle.cap_order.specs.Parts.{feed_of}
+use Rattle.cap_order.specs.View.{parts_of}
 use Rattle.cap_feed.specs.declared.feeds.FeedHeld.{FeedHeld}
 use Rattle.cap_talks.specs.Looking.{taken}
 use Rattle.cap_talks.specs.Stepping.{next_taken, clocked}
@@ -10,7 +10,7 @@ use Rattle.cap_talks.specs.Taken.{Taken}
 use Rattle.cap_talks.specs.Tallies.{LimitBy, Stands}
 use Rattle.cap_talks.specs.CountedUnits.{is_limit_at}
 use Rattle.cap_talks.proofs.Stepping.{known-packet, known-end, faulted, stands-asked, next-is, first-asked, run-packet, run-end, of-file, is-left, is-packet}
-use Rattle.cap_merge.proofs.Unread.{numbers-within}
+use Rattle.cap_order.proofs.Numbers.{numbers-within}
 use Rattle.cap_talks.proofs.tables.Table.step.Goals as goal
 
 pub returns-in_err-has_packet-clause-step : goal.returns-in_err-has_packet-clause-step
