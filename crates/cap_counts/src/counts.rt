@@ -74,31 +74,31 @@ fn count(counts: &mut Counts, time: Option<Stamp>, meta: &Meta)
     counts.bytes += u128::from(meta.original);
     counts.truncated += u64::from(meta.captured < meta.original);
     counts.skipped = meta.skipped;
-    take_time(&mut counts.first, &mut counts.last, &time);
+    take_time(&mut counts.first, &mut counts.last, time);
 }
 
 // Takes a time, if there is one, into the least and the greatest one so far. Most packets are later than all before them: they aren't
 // compared with the least.
 #[inline(always)]
-fn take_time(first: &mut Option<Stamp>, last: &mut Option<Stamp>, time: &Option<Stamp>)
+fn take_time(first: &mut Option<Stamp>, last: &mut Option<Stamp>, time: Option<Stamp>)
     requires order { are_in_order first.old last.old ≡ true }
-    ensures first { first.new ≡ earlier first.old time.now }
-    ensures last { last.new ≡ later last.old time.now }
+    ensures first { first.new ≡ earlier first.old time }
+    ensures last { last.new ≡ later last.old time }
 {
     let Some(time) = time else {
         return;
     };
     match last {
         None => {
-            *first = Some(*time);
-            *last = Some(*time);
+            *first = Some(time);
+            *last = Some(time);
         }
-        Some(last) => match last.reach(time) {
+        Some(last) => match last.reach(&time) {
             Ordering::Less => {}
             _ => {
                 if let Some(first) = first {
-                    if *time < *first {
-                        *first = *time;
+                    if time < *first {
+                        *first = time;
                     }
                 }
             }

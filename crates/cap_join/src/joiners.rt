@@ -107,11 +107,12 @@ impl Joiner {
     }
 
     /// Drops the group of a key, as a whole datagram of that key does.
+    #[inline(always)]
     pub fn flush(&mut self, key: Key)
         ensures stands { (events : List Event) → StandsFor self.old events → StandsFor self.new (flushes key ∷ events) }
         ensures next { self.new.next ≡ self.old.next }
     {
-        drop_group(&mut self.table, &key);
+        drop_group(&mut self.table, key);
     }
 
     /// How many groups are open: at most 1,024. A group that is too old counts until the next fragment is

@@ -358,12 +358,14 @@ pub(crate) fn put_fragment(
     }
 }
 
-/// Drops the group of a key.
-pub(crate) fn drop_group(table: &mut Option<Table>, key: &Key)
-    ensures entries { entries_of table.new ≡ remove_entry (same_key key.now) (entries_of table.old) }
+/// Drops the group of a key. The key is copied where it is looked for, so that before the first fragment it need not be in memory.
+#[inline(always)]
+pub(crate) fn drop_group(table: &mut Option<Table>, key: Key)
+    ensures entries { entries_of table.new ≡ remove_entry (same_key key) (entries_of table.old) }
     ensures unique { IsDistinct same_key (keys_of (entries_of table.old)) → IsDistinct same_key (keys_of (entries_of table.new)) }
 {
     if let Some(groups) = table {
-        groups.remove(key);
+        let sought = key;
+        groups.remove(&sought);
     }
 }

@@ -8,6 +8,7 @@ pub mod Placing
 pub mod Finding
 pub mod Others
 pub mod Calls
+pub mod FirstClock
 pub mod Firsts
 pub mod Looking
 pub mod Peeking

@@ -107,7 +107,8 @@ fn stop(lane: &mut Lane, fault: Fault) -> Result<(), Fault>
     }
 }
 
-// Asks a feed what comes next, which isn't known.
+// Asks a feed what comes next, which isn't known. It isn't inlined: where packets are at hand it is never called, and its answer would take
+// room at each of them.
 #[tactic(auto, using(crate::proofs::Bounds::later_bounded))]
 #[inline(never)]
 fn learn<F: PacketFeed>(lane: &mut Lane, feed: &mut F) -> Result<(), Fault>
@@ -389,11 +390,11 @@ pub(crate) fn is_packet_at(lanes: &[Lane], first: Option<usize>) -> bool
 
 /// The clock of the lane at a place.
 #[inline(always)]
-pub(crate) fn clock_at(lanes: &[Lane], place: usize) -> Option<Stamp>
+pub(crate) fn clock_at(lanes: &[Lane], place: usize) -> &Option<Stamp>
     requires { place < length lanes.now }
-    ensures { result ≡ (lane_at lanes.now place).clock }
+    ensures { result.now ≡ (lane_at lanes.now place).clock }
 {
-    lanes[place].clock
+    &lanes[place].clock
 }
 
 // Drops the packet that comes next of a feed.

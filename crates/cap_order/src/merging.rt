@@ -43,8 +43,8 @@ pub struct Merged<F: PacketFeed> {
 /// The packet that comes next of a merge.
 #[derive(Clone, Copy)]
 pub struct NextPacket<'a> {
-    /// Its clock.
-    pub clock: Option<Stamp>,
+    /// Its clock: the greatest time of the packets of its file up to it, and none if there is no such time.
+    pub clock: &'a Option<Stamp>,
     /// What is told of it.
     pub meta: &'a Meta,
     /// Its captured bytes.
@@ -93,7 +93,7 @@ impl<F: PacketFeed> Merged<F> {
             → BeginsAt result (run_of (parts_of self.now)) }
     {
         match self.first_place() {
-            Some(place) => clock_at(self.lanes.as_slice(), place),
+            Some(place) => *clock_at(self.lanes.as_slice(), place),
             None => unreachable!(),
         }
     }
@@ -102,10 +102,13 @@ impl<F: PacketFeed> Merged<F> {
     #[inline(always)]
     pub fn next_packet(&self) -> NextPacket<'_>
         requires { IsPacket (feed_of (parts_of self.now)).known }
-        ensures clock { result.clock ≡ clock_of (parts_of self.now) }
-        ensures bounded { IfSome result.clock (λ clock. seconds_of clock <ℤ pos (2 ^ 65)) }
+        ensures clock { result.clock.now ≡ clock_of (parts_of self.now) }
+        ensures bounded { IfSome result.clock.now (λ clock. seconds_of clock <ℤ pos (2 ^ 65)) }
+        ensures from { ClocksFrom result.clock.now (parts_of self.now) }
+        ensures not_below { (clock : Option Stamp) → ClocksFrom clock (parts_of self.now)
+            → is_gt (clock_cmp clock result.clock.now) ≡ false }
         ensures run { IsTrue (feed_of (parts_of self.now)).told
-            → BeginsAt result.clock (run_of (parts_of self.now)) }
+            → BeginsAt result.clock.now (run_of (parts_of self.now)) }
         ensures packet { (feed_of (parts_of self.now)).known ≡ Some (Head.Packet result.meta.now) }
         ensures frame { result.frame.now ≡ (feed_of (parts_of self.now)).frame }
     {

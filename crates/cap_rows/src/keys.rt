@@ -92,6 +92,7 @@ impl PackedKey {
             }
         }
     }
+
     /// The key that it was made of.
     pub(crate) fn unpacked(self) -> TalkKey
         requires { is_packed self ≡ true }

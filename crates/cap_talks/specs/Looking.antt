@@ -26,4 +26,4 @@ taken clock meta frame = record { clock = clock; meta = meta; frame = frame }
 
 -- a packet that a tally takes
 abbrev pub taken_of : RunPacket → Taken
-taken_of packet = taken packet.clock packet.meta.now packet.frame.now
+taken_of packet = taken packet.clock.now packet.meta.now packet.frame.now

@@ -23,6 +23,7 @@ pub enum Seen<'a> {
 }
 
 // What the bytes of an IPv4 packet are.
+#[inline(always)]
 fn look_into(bytes: &[u8], whole: bool) -> Seen<'_>
     ensures value { (stamped : Stamped) → look_of result stamped ≡ look_in (read_of bytes.now whole) stamped }
     ensures all { IsAll result }
@@ -42,6 +43,7 @@ fn look_into(bytes: &[u8], whole: bool) -> Seen<'_>
 
 /// What a packet is by itself: its meta and its captured bytes.
 #[tactic(auto, unfolding(crate::specs::Taken::look))]
+#[inline(always)]
 pub fn look<'a>(meta: &Meta, frame: &'a [u8]) -> Seen<'a>
     ensures value { (clock : Option Stamp) (place : ℕ) → look_of result (stamped_of place meta.now) ≡ look place (taken clock meta.now frame.entry.now) }
     ensures all { IsAll result }

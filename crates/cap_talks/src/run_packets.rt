@@ -1,7 +1,6 @@
 //! A packet of a run, as it comes to a tally.
 ghost use Rattle.std.specs.Prelude.{◌≡◌, ◌<ℤ◌, ◌^◌, pos, IfSome};
 ghost use Rattle.std.proofs.Props.{props};
-ghost use Rattle.cap_feed.specs.Times.{meta_time};
 ghost use Rattle.cap_time.specs.Stamp.{seconds_of};
 
 use cap_feed::Meta;
@@ -11,13 +10,10 @@ use cap_time::Stamp;
 #[derive(Clone, Copy)]
 pub struct RunPacket<'a> {
     /// Its clock.
-    pub clock: Option<Stamp>,
-    /// Its own time.
-    pub time: Option<Stamp>,
+    pub clock: &'a Option<Stamp>,
     /// What is told of it.
     pub meta: &'a Meta,
     /// Its captured bytes.
     pub frame: &'a [u8],
-    ghost bounded: { IfSome clock (λ c. seconds_of c <ℤ pos (2 ^ 65)) } by { Prim.hlevel props },
-    ghost own: { time ≡ meta_time meta.now },
+    ghost bounded: { IfSome clock.now (λ c. seconds_of c <ℤ pos (2 ^ 65)) } by { Prim.hlevel props },
 }

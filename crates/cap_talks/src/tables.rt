@@ -114,11 +114,10 @@ impl<F: PacketFeed> Table<F> {
         let time = meta.time();
         let packet = RunPacket {
             clock: next.clock,
-            time,
             meta,
             frame,
         };
-        match self.tally.take(packet) {
+        match self.tally.take(packet, time) {
             Ok(()) => {
                 self.totals.take(time, meta, frame);
                 self.merged.pass();

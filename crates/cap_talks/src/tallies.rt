@@ -9,7 +9,8 @@ ghost use Rattle.cap_join.specs.Joiners.{StandsFor, IsAnswer, most_bytes, open_l
 ghost use Rattle.cap_time.specs.Stamp.{seconds_of};
 ghost use Rattle.cap_talks.specs.Looking.{taken_of};
 ghost use Rattle.cap_talks.specs.ReportText.{frames_text, joined_text};
-ghost use Rattle.cap_talks.specs.Taken.{Taken, fragment, look, stamped_of};
+ghost use Rattle.cap_talks.specs.Taken.{Taken, datagram, fragment, look, stamped_of};
+ghost use Rattle.cap_source.specs.Times.{meta_time};
 ghost use Rattle.cap_talks.specs.Tallies.{Stands, LimitBy, one_if, tally_text, waiting_bytes, counted_one, Looks, WaitsIf, with_frames, with_group};
 ghost use Rattle.cap_rows.specs.declared.talks.TalksFault.TheVariants.{Memory};
 ghost use Rattle.cap_talks.specs.Classes.{sum_of};
@@ -53,12 +54,12 @@ impl Model for Tally {
     ghost invariant = { IsSoundInside };
 }
 
-// The counts with more packets of a class.
-pub fn with_frames(counts: ClassCounts, class: Class, frames: u64) -> ClassCounts
-    requires few { sum_of counts + frames < 2 ^ 64 }
-    ensures { result ≡ with_frames class frames counts }
+// Counts more packets of a class.
+#[inline(always)]
+fn count_frames(counts: &mut ClassCounts, class: Class, frames: u64)
+    requires few { sum_of counts.old + frames < 2 ^ 64 }
+    ensures { counts.new ≡ with_frames class frames counts.old }
 {
-    let mut counts = counts;
     match class {
         Class::OtherLink => counts.other_link += frames,
         Class::NotIpv4 => counts.not_ipv4 += frames,
@@ -68,6 +69,15 @@ pub fn with_frames(counts: ClassCounts, class: Class, frames: u64) -> ClassCount
         Class::Unjoined => counts.unjoined += frames,
         Class::Counted => counts.counted += frames,
     }
+}
+
+// The counts with more packets of a class.
+pub fn with_frames(counts: ClassCounts, class: Class, frames: u64) -> ClassCounts
+    requires few { sum_of counts + frames < 2 ^ 64 }
+    ensures { result ≡ with_frames class frames counts }
+{
+    let mut counts = counts;
+    count_frames(&mut counts, class, frames);
     counts
 }
 
@@ -163,8 +173,8 @@ impl Tally {
         ensures fault { IfErr result (λ e. e ≡ Memory) }
         ensures err { OnErr result (self.new ≡ self.old) }
     {
-        let stamped = stamped_of(self.place, packet.time, packet.meta);
-        match put_fragment(&mut self.joiner, packet.clock, &header, bytes, stamped)? {
+        let stamped = stamped_of(self.place, packet.meta.time(), packet.meta);
+        match put_fragment(&mut self.joiner, *packet.clock, &header, bytes, stamped)? {
             Put::Kept => {
                 self.classes = with_frames(self.classes, Class::Unjoined, 1);
                 self.place += 1;
@@ -177,9 +187,42 @@ impl Tally {
         }
     }
 
-    // Looks at the packet that comes next, while no datagram waits. It is counted, or it completes a datagram, which waits from then
-    // on; the answer is whether one does.
-    fn look_at(&mut self, packet: RunPacket<'_>) -> Result<bool, TalksFault>
+    // Counts a whole datagram, while none waits.
+    #[inline(always)]
+    fn take_datagram(
+        &mut self,
+        packet: RunPacket<'_>,
+        time: Option<Stamp>,
+        header: Header,
+        captured: &[u8],
+    ) -> Result<(), TalksFault>
+        requires none { self.old.waiting ≡ None }
+        requires few { self.old.place < 2 ^ 62 }
+        requires time { time ≡ meta_time packet.meta.now }
+        requires look { (place : ℕ) → look place (taken_of packet) ≡ datagram header captured.now }
+        ensures looks { OnOk result (Looks self.old (taken_of packet.entry) false self.new) }
+        ensures none { OnOk result (self.new.waiting ≡ None) }
+        ensures place { OnOk result (self.new.place ≡ self.old.place + 1) }
+        ensures limit { IfErr result (λ e. (xs : List Taken) → Stands self.old xs (Some (taken_of packet.entry))
+            → LimitBy (Err e) (is_limit_at xs (taken_of packet.entry))) }
+        ensures err { OnErr result (self.new ≡ self.old) }
+    {
+        let seen = transport(header.key().protocol, captured, header.data_length());
+        let stamped = stamped_of(self.place, time, packet.meta);
+        add_unit(
+            &mut self.talks,
+            &whole_unit(&header, captured, seen, stamped),
+        )?;
+        self.joiner.flush(header.key());
+        count_frames(&mut self.classes, class_of(seen), 1);
+        self.place += 1;
+        Ok(())
+    }
+
+    // The same of any packet. It isn't inlined, so that what a fragment takes, and a packet that is none of IPv4, has no room where
+    // whole datagrams are taken.
+    #[inline(never)]
+    fn look_again(&mut self, packet: RunPacket<'_>) -> Result<bool, TalksFault>
         requires none { self.old.waiting ≡ None }
         requires few { self.old.place < 2 ^ 62 }
         ensures looks { IfOk result (λ waits. Looks self.old (taken_of packet.entry) waits self.new) }
@@ -189,7 +232,6 @@ impl Tally {
             → LimitBy (Err e) (is_limit_at xs (taken_of packet.entry))) }
         ensures err { OnErr result (self.new ≡ self.old) }
     {
-        let stamped = stamped_of(self.place, packet.time, packet.meta);
         match look(packet.meta, packet.frame) {
             Seen::Plain(class) => {
                 self.classes = with_frames(self.classes, class, 1);
@@ -197,17 +239,33 @@ impl Tally {
                 Ok(false)
             }
             Seen::Datagram(header, captured) => {
-                let seen = transport(header.key().protocol, captured, header.data_length());
-                add_unit(
-                    &mut self.talks,
-                    &whole_unit(&header, captured, seen, stamped),
-                )?;
-                self.joiner.flush(header.key());
-                self.classes = with_frames(self.classes, class_of(seen), 1);
-                self.place += 1;
+                self.take_datagram(packet, packet.meta.time(), header, captured)?;
                 Ok(false)
             }
             Seen::Fragment(header, bytes) => self.take_fragment(packet, header, bytes),
+        }
+    }
+
+    // Looks at the packet that comes next, which has that time, while no datagram waits. It is counted, or it completes a datagram, which
+    // waits from then on; the answer is whether one does.
+    #[inline(always)]
+    fn look_at(&mut self, packet: RunPacket<'_>, time: Option<Stamp>) -> Result<bool, TalksFault>
+        requires time { time ≡ meta_time packet.meta.now }
+        requires none { self.old.waiting ≡ None }
+        requires few { self.old.place < 2 ^ 62 }
+        ensures looks { IfOk result (λ waits. Looks self.old (taken_of packet.entry) waits self.new) }
+        ensures waits { IfOk result (λ waits. WaitsIf self.new.waiting waits) }
+        ensures place { IfOk result (λ waits. self.new.place ≡ (if waits then self.old.place else self.old.place + 1)) }
+        ensures limit { IfErr result (λ e. (xs : List Taken) → Stands self.old xs (Some (taken_of packet.entry))
+            → LimitBy (Err e) (is_limit_at xs (taken_of packet.entry))) }
+        ensures err { OnErr result (self.new ≡ self.old) }
+    {
+        match look(packet.meta, packet.frame) {
+            Seen::Datagram(header, captured) => {
+                self.take_datagram(packet, time, header, captured)?;
+                Ok(false)
+            }
+            _ => self.look_again(packet),
         }
     }
 
@@ -235,12 +293,14 @@ impl Tally {
         Ok(())
     }
 
-    /// Takes the packet that comes next.
+    /// Takes the packet that comes next, which has that time.
     ///
     /// `Limit` comes exactly if it completes a unit of a new conversation and there are 1,048,576 already, `Memory` if a
     /// growth was refused. Both leave the counts as they were, and the same call may be made again; a datagram that the packet joined is kept
     /// for it.
-    pub fn take(&mut self, packet: RunPacket<'_>) -> Result<(), TalksFault>
+    #[inline(always)]
+    pub fn take(&mut self, packet: RunPacket<'_>, time: Option<Stamp>) -> Result<(), TalksFault>
+        requires time { time ≡ meta_time packet.meta.now }
         requires few { self.old.place < 2 ^ 62 }
         ensures stands { OnOk result (Looks self.old (taken_of packet.entry) false self.new) }
         ensures limit { IfErr result (λ e. (xs : List Taken) → Stands self.old xs (Some (taken_of packet.entry))
@@ -254,7 +314,7 @@ impl Tally {
         if self.is_waiting() {
             return self.take_waiting();
         }
-        if self.look_at(packet)? {
+        if self.look_at(packet, time)? {
             return self.take_waiting();
         }
         Ok(())

@@ -1,13 +1,9 @@
-use Rattle.std.proofs.Common.{◌≡◌, sym, ◌∙◌, map, subst, Option}
-use Rattle.std.specs.Prelude.{IfSome, ◌<ℤ◌, pos, ◌^◌}
-use Rattle.cap_time.specs.declared.stamps.Stamp.{Stamp}
-use Rattle.cap_time.specs.Stamp.{seconds_of}
+use Rattle.std.proofs.Common.{sym, ◌∙◌, map, subst}
 use Rattle.cap_feed.specs.Feed.{IsPacket}
-use Rattle.cap_order.specs.First.{lane_at}
-use Rattle.cap_order.specs.Parts.{parts, feed_of, run_of, BeginsAt}
-use Rattle.cap_order.proofs.Bounds.{first-bounded}
+use Rattle.cap_order.specs.Parts.{parts, feed_of}
+use Rattle.cap_order.proofs.FirstClock.{first-clock}
+use Rattle.cap_order.proofs.Firsts.{known-there, frame-here, no-packet, packet-next}
 use Rattle.cap_order.proofs.Placing.{none-placed, place_within}
-use Rattle.cap_order.proofs.Firsts.{clock-of-first, begins-of, known-there, frame-here, no-packet, packet-next}
 use Rattle.cap_order.proofs.merging.Merged.next_packet.Goals as goal
 
 pub clock_at-requires : goal.clock_at-requires
@@ -37,14 +33,17 @@ returns g c =
     let ls = m.lanes.items in
     let fs = m.feeds.items in
     let f = g.F.PacketFeed.feed in
-    let ps = parts ls (map f fs) in
     let place = c.in-Some.place in
     let at = sym c.first_place.ensures.place ∙ c.in-Some.is in
-    let told : (lane_at ls place).clock ≡ c.clock_at.result = sym (rw c.as_slice.ensures.value at c.clock_at.ensures) in
+    let next = packet-next (feed_of (parts ls (map f fs))).known c.requires in
+    let clock = first-clock f g.met.F.PacketFeed.lawful ls fs place m.some m.alike at next m.bounded m.reached
+    c.clock_at.result.now (sym (rw c.as_slice.ensures.value at c.clock_at.ensures)) in
     record {
-      clock = sym told ∙ clock-of-first f ls fs place m.some m.alike at;
-      bounded = subst (λ (w : Option Stamp). IfSome w (λ k. seconds_of k <ℤ pos (2 ^ 65))) told (first-bounded f ls fs place m.alike at m.bounded);
-      run = λ t. subst (λ (w : Option Stamp). BeginsAt w (run_of ps)) told (begins-of f g.met.F.PacketFeed.lawful ls fs place m.some m.alike at (packet-next (feed_of ps).known c.requires) m.reached t);
+      clock = clock.value;
+      bounded = clock.bounded;
+      from = clock.from;
+      not_below = clock.not_below;
+      run = clock.run;
       packet = known-there f ls fs place c.index.result.now c.index.ensures m.alike at c.requires ∙ c.packet.ensures.packet;
       frame = c.frame.ensures.frame ∙ frame-here f ls fs place c.index-in-Some.result.now c.index-in-Some.ensures m.alike at;
     }

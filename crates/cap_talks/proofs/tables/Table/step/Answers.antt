@@ -92,8 +92,8 @@ returns-in-Ok-clause-step g c =
     let meta = c.next_packet-next.result.meta.now in
     let known = known-packet (feed_of p) (feed_of q) c.in_ok-has_packet.field-0 meta c.if-not-branch.false e.answer c.next_packet-next.ensures.packet in
     let law = merged-is-feed g.F.PacketFeed.feed g.met.F.PacketFeed.lawful m.lanes.items m.feeds.items m.alike m.numbered m.reached in
-    let x = taken c.next_packet-next.result.clock meta c.next_packet-next.result.frame.now in
-    let next = next-is q meta c.next_packet-next.result.clock c.next_packet-next.result.frame.now known.known c.next_packet-next.ensures.clock c.next_packet-next.ensures.frame in
+    let x = taken c.next_packet-next.result.clock.now meta c.next_packet-next.result.frame.now in
+    let next = next-is q meta c.next_packet-next.result.clock.now c.next_packet-next.result.frame.now known.known c.next_packet-next.ensures.clock c.next_packet-next.ensures.frame in
     let after = parts_of c.pass.new.self in
     record {
       item = x;
@@ -101,7 +101,7 @@ returns-in-Ok-clause-step g c =
       left = omega (arith, c.pass.ensures.passes.left, e.keeps.left);
       run = λ t.
           let told = e.keeps.told t in
-          let first = run-packet p q meta c.next_packet-next.result.clock c.next_packet-next.result.frame.now law told known.known c.next_packet-next.ensures.frame (c.next_packet-next.ensures.run told) (e.run t) in
+          let first = run-packet p q meta c.next_packet-next.result.clock.now c.next_packet-next.result.frame.now law told known.known c.next_packet-next.ensures.frame (c.next_packet-next.ensures.run told) (e.run t) in
           first ∙ ap (λ l. clocked x ∷ l) (sym (c.pass.ensures.run told ∙ ap (drop 1) (e.run t)));
       goes = record { before = known.goes.before; after = c.pass.ensures.passes.broken; failed = ap (λ (h : FeedHeld). h.failed) c.pass.ensures.passes.held ∙ known.goes.failed };
       endings = λ t file. c.pass.ensures.passes.endings (e.keeps.told t) file ∙ (e.items t).endings file;
@@ -109,7 +109,7 @@ returns-in-Ok-clause-step g c =
           let asked = stands-asked c.args.self.now.tally p q xs e.asks h.tally in
           let now = subst (λ (n : Option Taken). Stands c.args.self.now.tally xs n) next asked in
           let took = c.in-Ok.ensures.stands xs now in
-          (took.0, record { totals = c.take-in-Ok.ensures.stands c.next_packet-next.result.clock xs h.totals; tally = took.1 (next_taken after) });
+          (took.0, record { totals = c.take-in-Ok.ensures.stands c.next_packet-next.result.clock.now xs h.totals; tally = took.1 (next_taken after) });
       going = refl;
     }
 
@@ -122,8 +122,8 @@ returns-in-Err-Limit-clause-step g c =
     let meta = c.next_packet-next.result.meta.now in
     let known = known-packet (feed_of p) (feed_of q) c.in_ok-has_packet.field-0 meta c.if-not-branch.false e.answer c.next_packet-next.ensures.packet in
     let law = merged-is-feed g.F.PacketFeed.feed g.met.F.PacketFeed.lawful m.lanes.items m.feeds.items m.alike m.numbered m.reached in
-    let x = taken c.next_packet-next.result.clock meta c.next_packet-next.result.frame.now in
-    let next = next-is q meta c.next_packet-next.result.clock c.next_packet-next.result.frame.now known.known c.next_packet-next.ensures.clock c.next_packet-next.ensures.frame in
+    let x = taken c.next_packet-next.result.clock.now meta c.next_packet-next.result.frame.now in
+    let next = next-is q meta c.next_packet-next.result.clock.now c.next_packet-next.result.frame.now known.known c.next_packet-next.ensures.clock c.next_packet-next.ensures.frame in
     let now = λ (xs : List Taken) (h : Stands c.args.self.now.tally xs (next_taken p)).
     subst (λ (n : Option Taken). Stands c.args.self.now.tally xs n) next (stands-asked c.args.self.now.tally p q xs e.asks h) in
     inr (record {
@@ -132,7 +132,7 @@ returns-in-Err-Limit-clause-step g c =
       first = first-asked p q x e.asks next;
       next = next;
       run = λ t.
-          run-packet p q meta c.next_packet-next.result.clock c.next_packet-next.result.frame.now law (e.keeps.told t) known.known c.next_packet-next.ensures.frame
+          run-packet p q meta c.next_packet-next.result.clock.now c.next_packet-next.result.frame.now law (e.keeps.told t) known.known c.next_packet-next.ensures.frame
           (c.next_packet-next.ensures.run (e.keeps.told t)) (e.run t);
       same = λ t. record { run = e.run t; endings = (e.items t).endings };
       goes = known.goes;
@@ -155,7 +155,7 @@ returns-in-Err-Memory-clause-step g c =
     let meta = c.next_packet-next.result.meta.now in
     let known = known-packet (feed_of p) (feed_of q) c.in_ok-has_packet.field-0 meta c.if-not-branch.false e.answer c.next_packet-next.ensures.packet in
     let law = merged-is-feed g.F.PacketFeed.feed g.met.F.PacketFeed.lawful m.lanes.items m.feeds.items m.alike m.numbered m.reached in
-    let next = next-is q meta c.next_packet-next.result.clock c.next_packet-next.result.frame.now known.known c.next_packet-next.ensures.clock c.next_packet-next.ensures.frame in
+    let next = next-is q meta c.next_packet-next.result.clock.now c.next_packet-next.result.frame.now known.known c.next_packet-next.ensures.clock c.next_packet-next.ensures.frame in
     record {
       cause = inr (is-packet (feed_of q) meta known.known);
       same = λ t. record { run = e.run t; endings = (e.items t).endings };

@@ -24,8 +24,8 @@ invariant_of-self-in-Kept c =
     sound-kept t x (ap (λ (n : TallyState). n.waiting) c.self.view_is ∙ c.requires.none) p
     c.requires.look
     c.put_fragment.new.joiner
-    (λ es stands. subst (λ s. joiners.StandsFor c.put_fragment.new.joiner (arrives c.args.packet.clock (piece_of c.args.header c.args.bytes.now s) ∷ es)) own (e.stands es stands))
-    (λ es stands. kept-of _ (joined_pieces c.args.packet.clock (p t.place) (state_of open_limit es)) c.in-Kept.is (subst (λ s. IsAnswer c.in_ok-put_fragment.field-0 (joined_pieces c.args.packet.clock (piece_of c.args.header c.args.bytes.now s) (state_of open_limit es))) own (e.answer es stands)))
+    (λ es stands. subst (λ s. joiners.StandsFor c.put_fragment.new.joiner (arrives c.args.packet.clock.now (piece_of c.args.header c.args.bytes.now s) ∷ es)) own (e.stands es stands))
+    (λ es stands. kept-of _ (joined_pieces c.args.packet.clock.now (p t.place) (state_of open_limit es)) c.in-Kept.is (subst (λ s. IsAnswer c.in_ok-put_fragment.field-0 (joined_pieces c.args.packet.clock.now (piece_of c.args.header c.args.bytes.now s) (state_of open_limit es))) own (e.answer es stands)))
     _ c.with_frames-self-inside.ensures
     c.self.invariant (omega (arith, c.requires.few, ap (λ (n : TallyState). n.place) c.self.view_is))
     (omega (arith, e.next, ap (λ s. s.place) own))
@@ -41,8 +41,8 @@ returns-in-Kept-clause-looks c =
     (looks-kept t x (ap (λ (n : TallyState). n.waiting) c.self.view_is ∙ c.requires.none) p
     c.requires.look
     c.put_fragment.new.joiner
-    (λ es stands. subst (λ s. joiners.StandsFor c.put_fragment.new.joiner (arrives c.args.packet.clock (piece_of c.args.header c.args.bytes.now s) ∷ es)) own (e.stands es stands))
-    (λ es stands. kept-of _ (joined_pieces c.args.packet.clock (p t.place) (state_of open_limit es)) c.in-Kept.is (subst (λ s. IsAnswer c.in_ok-put_fragment.field-0 (joined_pieces c.args.packet.clock (piece_of c.args.header c.args.bytes.now s) (state_of open_limit es))) own (e.answer es stands)))
+    (λ es stands. subst (λ s. joiners.StandsFor c.put_fragment.new.joiner (arrives c.args.packet.clock.now (piece_of c.args.header c.args.bytes.now s) ∷ es)) own (e.stands es stands))
+    (λ es stands. kept-of _ (joined_pieces c.args.packet.clock.now (p t.place) (state_of open_limit es)) c.in-Kept.is (subst (λ s. IsAnswer c.in_ok-put_fragment.field-0 (joined_pieces c.args.packet.clock.now (piece_of c.args.header c.args.bytes.now s) (state_of open_limit es))) own (e.answer es stands)))
     _ c.with_frames-self-inside.ensures)
 
 pub invariant_of-self-in-Joined : goal.invariant_of-self-in-Joined
@@ -55,9 +55,9 @@ invariant_of-self-in-Joined c =
     sound-waiting t x (ap (λ (n : TallyState). n.waiting) c.self.view_is ∙ c.requires.none) p
     c.requires.look
     c.put_fragment.new.joiner
-    (λ es stands. subst (λ s. joiners.StandsFor c.put_fragment.new.joiner (arrives c.args.packet.clock (piece_of c.args.header c.args.bytes.now s) ∷ es)) own (e.stands es stands))
+    (λ es stands. subst (λ s. joiners.StandsFor c.put_fragment.new.joiner (arrives c.args.packet.clock.now (piece_of c.args.header c.args.bytes.now s) ∷ es)) own (e.stands es stands))
     c.in-Joined.datagram
-    (λ es stands. joined-of _ c.in-Joined.datagram (joined_pieces c.args.packet.clock (p t.place) (state_of open_limit es)) c.in-Joined.is (subst (λ s. IsAnswer c.in_ok-put_fragment.field-0 (joined_pieces c.args.packet.clock (piece_of c.args.header c.args.bytes.now s) (state_of open_limit es))) own (e.answer es stands)))
+    (λ es stands. joined-of _ c.in-Joined.datagram (joined_pieces c.args.packet.clock.now (p t.place) (state_of open_limit es)) c.in-Joined.is (subst (λ s. IsAnswer c.in_ok-put_fragment.field-0 (joined_pieces c.args.packet.clock.now (piece_of c.args.header c.args.bytes.now s) (state_of open_limit es))) own (e.answer es stands)))
     c.self.invariant (omega (arith, e.next, ap (λ s. s.place) own)) (subst FitsPut c.in-Joined.is e.fits)
 
 pub returns-in-Joined-clause-looks : goal.returns-in-Joined-clause-looks
@@ -71,6 +71,6 @@ returns-in-Joined-clause-looks c =
     (looks-waiting t x (ap (λ (n : TallyState). n.waiting) c.self.view_is ∙ c.requires.none) p
     c.requires.look
     c.put_fragment.new.joiner
-    (λ es stands. subst (λ s. joiners.StandsFor c.put_fragment.new.joiner (arrives c.args.packet.clock (piece_of c.args.header c.args.bytes.now s) ∷ es)) own (e.stands es stands))
+    (λ es stands. subst (λ s. joiners.StandsFor c.put_fragment.new.joiner (arrives c.args.packet.clock.now (piece_of c.args.header c.args.bytes.now s) ∷ es)) own (e.stands es stands))
     c.in-Joined.datagram
-    (λ es stands. joined-of _ c.in-Joined.datagram (joined_pieces c.args.packet.clock (p t.place) (state_of open_limit es)) c.in-Joined.is (subst (λ s. IsAnswer c.in_ok-put_fragment.field-0 (joined_pieces c.args.packet.clock (piece_of c.args.header c.args.bytes.now s) (state_of open_limit es))) own (e.answer es stands))))
+    (λ es stands. joined-of _ c.in-Joined.datagram (joined_pieces c.args.packet.clock.now (p t.place) (state_of open_limit es)) c.in-Joined.is (subst (λ s. IsAnswer c.in_ok-put_fragment.field-0 (joined_pieces c.args.packet.clock.now (piece_of c.args.header c.args.bytes.now s) (state_of open_limit es))) own (e.answer es stands))))
