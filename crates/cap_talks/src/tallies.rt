@@ -10,7 +10,7 @@ ghost use Rattle.cap_time.specs.Stamp.{seconds_of};
 ghost use Rattle.cap_talks.specs.Looking.{taken_of};
 ghost use Rattle.cap_talks.specs.ReportText.{frames_text, joined_text};
 ghost use Rattle.cap_talks.specs.Taken.{Taken, datagram, fragment, look, stamped_of};
-ghost use Rattle.cap_source.specs.Times.{meta_time};
+ghost use Rattle.cap_feed.specs.Times.{meta_time};
 ghost use Rattle.cap_talks.specs.Tallies.{Stands, LimitBy, one_if, tally_text, waiting_bytes, counted_one, Looks, WaitsIf, with_frames, with_group};
 ghost use Rattle.cap_rows.specs.declared.talks.TalksFault.TheVariants.{Memory};
 ghost use Rattle.cap_talks.specs.Classes.{sum_of};

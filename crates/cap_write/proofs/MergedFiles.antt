@@ -12,12 +12,13 @@ use Rattle.cap_source.specs.Fields.{HasFrame, ItemFits}
 use Rattle.cap_source.specs.Items.{file_items}
 use Rattle.cap_time.specs.declared.resolutions.Interface.{Interface}
 use Rattle.cap_write.proofs.Alike.{merge-all}
-use Rattle.cap_write.proofs.Instances.{one_interface-law}
-use Rattle.cap_write.proofs.Measured.{numbered-measured}
-use Rattle.cap_write.proofs.Renumbered.{merged_again-law}
-use Rattle.cap_write.specs.Laws.{AllAlike, HasFields, AllHave, MergeLaw}
-use Rattle.cap_write.specs.Numbering.{Origin}
+use Rattle.cap_convert.proofs.Instances.{one_interface-law}
+use Rattle.cap_convert.proofs.Measured.{numbered-measured}
+use Rattle.cap_convert.proofs.Renumbered.{merged_again-law}
+use Rattle.cap_convert.specs.Laws.{AllAlike, HasFields, AllHave}
+use Rattle.cap_convert.specs.Numbering.{Origin}
 use Rattle.cap_merge.specs.Files.{items_of_files, run_of_files}
+use Rattle.cap_write.specs.Rounds.{MergeLaw}
 
 -- A packet has the interface of its origin, its fields fit, and its file has at least that number.
 abbrev IsOfFile : ℕ → (Origin → Interface) → Item → Type 0

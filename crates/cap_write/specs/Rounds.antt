@@ -1,17 +1,40 @@
--- Laws of merging: a packet's clock in the merged list, and merging in rounds.
-use Rattle.std.specs.Prelude.{◌≡◌, ℕ, suc, List, [], ◌∷◌, ◌++◌, map, Option, Some, None}
+-- Laws of merging: what is written of a merge is read again, a packet's clock in the merged list, and merging in rounds.
+use Rattle.std.specs.Prelude.{◌≡◌, ℕ, suc, ◌≤◌, ◌^◌, List, [], ◌∷◌, ◌++◌, length, map, Option, Some, None}
 use Rattle.std.specs.List.{AllByRecursion, AllZip, flat_map}
 use Rattle.std.specs.Option.{option_map}
 use Rattle.std.specs.declared.cmp.Ordering.TheVariants.{Equal}
+use Rattle.cap_blocks.specs.Split.{AreBytes}
 use Rattle.cap_bytes.specs.declared.faults.Rule.{Rule}
-use Rattle.cap_feed.specs.Feed.{Item, packet, refused}
+use Rattle.cap_bytes.specs.declared.faults.Tail.{Tail}
+use Rattle.cap_bytes.specs.declared.numbers.Order.{Order}
+use Rattle.cap_feed.specs.Feed.{Item, packet, refused, refusal_of}
+use Rattle.cap_source.specs.Items.{file_items}
 use Rattle.cap_feed.specs.declared.packets.Format.TheVariants.{Pcapng}
 use Rattle.cap_feed.specs.declared.packets.Meta.{Meta}
 use Rattle.cap_time.specs.Clock.{clock_cmp, greatest}
-use Rattle.cap_write.specs.Numbering.{Numbered, numbered, refusal_in}
-use Rattle.cap_merge.specs.Files.{run_of_lists}
+use Rattle.cap_convert.specs.Laws.{instances, numbers}
+use Rattle.cap_convert.specs.Numbering.{Numbered, numbered, refusal_in}
+use Rattle.cap_convert.specs.Texts.{merged_bytes}
+use Rattle.cap_merge.specs.Files.{run_of_files, run_of_lists}
 use Rattle.cap_order.specs.Run.{Clocked, opened, run}
 use Rattle.cap_order.specs.Parts.{item_time, is_refusal}
+
+-- ---- the merge law
+
+-- What is written of a merge of any files, if it is at most 2^40 bytes long, has the packets of their run,
+-- those before a refusal, in order: both have the same numbered packets, and a packet's instance is its number
+-- there.
+abbrev pub MergeLaw : Type 0
+MergeLaw =
+    (order : Order) (tail tail_again : Tail) (file_again : ℕ) (files : List (List ℕ)) → AllByRecursion AreBytes files
+    → (let items = run_of_files tail files in
+    let text = merged_bytes order items in
+    let again = file_items tail_again file_again text in
+    length text ≤ 2 ^ 40
+    → (numbered [] again ≡ numbered [] items)
+    × (refusal_in [] again ≡ None)
+    × (refusal_of again ≡ None)
+    × (instances again ≡ numbers (numbered [] again)))
 
 -- ---- the clock law
 

@@ -10,19 +10,18 @@ ghost use Rattle.cap_feed.specs.Feed.{Keeps};
 ghost use Rattle.cap_feed.specs.Walk.{Walks};
 ghost use Rattle.cap_write.specs.Datagrams.{Stands, origins_behind};
 ghost use Rattle.cap_write.specs.Joined.{datagram_meta, events_after, joined_items, joined_bytes, joined_refusal};
-ghost use Rattle.cap_write.specs.Numbering.{refusal_in};
+ghost use Rattle.cap_convert.specs.Numbering.{refusal_in};
 ghost use Rattle.cap_write.specs.PlacedPackets.{items_in};
-ghost use Rattle.cap_write.specs.Texts.{text_behind};
+ghost use Rattle.cap_convert.specs.Texts.{text_behind};
 
 use crate::datagrams::take_packet;
-use crate::interfaces::{Origins, units_of};
-use crate::packets::put_one;
 use crate::placed_packets::{Joining, PlacedPacket};
 use cap_blocks::put_section;
 use cap_bytes::{Fault, Order, Sink};
-use cap_feed::{Meta, PacketFeed};
+use cap_convert::{Origins, put_one, units_of};
 use cap_join::Joiner;
 use cap_order::{Merged, next_of};
+use cap_feed::{Meta, PacketFeed};
 use cap_time::Interface;
 use std::alloc::Global;
 

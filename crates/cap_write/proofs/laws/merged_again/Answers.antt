@@ -1,5 +1,5 @@
 use Rattle.cap_write.proofs.MergedFiles.{merge-law}
-use Rattle.cap_write.proofs.Renumbered.{merged_again-law}
+use Rattle.cap_convert.proofs.Renumbered.{merged_again-law}
 use Rattle.cap_write.proofs.laws.merged_again.Goals as goal
 
 pub returns-clause-files : goal.returns-clause-files

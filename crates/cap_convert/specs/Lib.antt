@@ -1,0 +1,6 @@
+pub mod Laws
+pub mod Interfaces
+pub mod Numbering
+pub mod Pcap
+pub mod Texts
+pub mod Times
