@@ -12,8 +12,8 @@ import pathlib, re, sys
 TOP = pathlib.Path(__file__).resolve().parent.parent
 PRINTS, TELLS = "cap_bytes.Printing.Prints", "cap_counts.Telling.Tells"
 ROOTS = {
-    "list": ["cap_tasks.ListText.list_text", "cap_tasks.ListText.list_refusal", PRINTS],
-    "blocks": ["cap_tasks.BlockText.block_list", "cap_tasks.BlockText.block_refusal", PRINTS],
+    "list": ["cap_lists.ListText.list_text", "cap_lists.ListText.list_refusal", PRINTS],
+    "blocks": ["cap_lists.BlockText.block_list", "cap_lists.BlockText.block_refusal", PRINTS],
     "info": ["cap_counts.Lines.info_text", "cap_counts.Lines.first_refusal", TELLS],
     "report": [
         "cap_talks.ReportText.report_text", "cap_talks.ReportText.report_refusal", "cap_merge.Files.clocked_run",

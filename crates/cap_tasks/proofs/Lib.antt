@@ -1,3 +1,1 @@
-pub mod BlockListing
-pub mod Listing
 pub mod Merging

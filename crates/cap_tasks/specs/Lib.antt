@@ -1,10 +1,10 @@
-pub mod BlockText
 pub mod Converted
 pub mod Jobs
-pub mod Lines
-pub mod ListText
 pub mod JoinText
 pub mod MergeText
+pub use Rattle.cap_lists.specs.BlockText
+pub use Rattle.cap_lists.specs.Lines
+pub use Rattle.cap_lists.specs.ListText
 pub use Rattle.cap_outcomes.specs.Outcomes
 pub use Rattle.cap_outcomes.specs.Progress
 pub use Rattle.cap_outcomes.specs.Watched

@@ -7,13 +7,12 @@ ghost use Rattle.cap_bytes.specs.Device.{WriterKeeps, writer_of};
 ghost use Rattle.cap_bytes.specs.Printing.{is_write};
 ghost use Rattle.cap_source.specs.ReadFaults.{FailsOf};
 
-use crate::blocks::blocks_to;
 use crate::convert::{Encoding, convert_to};
 use crate::join::join_to;
-use crate::list::list_to;
 use crate::merge::merge_to;
 use cap_bytes::{Fault, Sink, Source, Tail};
 use cap_jobs::{Job, Task};
+use cap_lists::{blocks_to, list_to};
 use cap_talks::{file_lines, report};
 use std::alloc::Global;
 

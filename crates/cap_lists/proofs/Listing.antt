@@ -6,7 +6,7 @@ use Rattle.cap_feed.proofs.Onward.{Went}
 use Rattle.cap_feed.proofs.Walking.{Plan, IsPlan, GoesOn, Walking}
 use Rattle.cap_feed.specs.Feed.{Feed}
 use Rattle.cap_feed.specs.declared.packets.Meta.{Meta}
-use Rattle.cap_tasks.specs.ListText.{list_lines, packet_text}
+use Rattle.cap_lists.specs.ListText.{list_lines, packet_text}
 use Rattle.cap_feed.specs.Feed.{refusal_of}
 
 -- what is to be written from the packet number n on

@@ -10,7 +10,7 @@ use Rattle.cap_time.specs.Time.{Printed, printed_form}
 use Rattle.cap_time.specs.declared.resolutions.Interface.{Interface}
 use Rattle.cap_feed.specs.Feed.{refusal_of}
 use Rattle.cap_print.specs.Lines.{time_text}
-use Rattle.cap_tasks.specs.Lines.{data_text}
+use Rattle.cap_lists.specs.Lines.{data_text}
 
 -- a time in the form of its own interface, if there is one
 abbrev pub printed_in : Option ℕ → Interface → Option Printed

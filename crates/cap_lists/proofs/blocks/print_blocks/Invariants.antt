@@ -1,6 +1,6 @@
 use Rattle.std.proofs.Common.{◌-◌, ◌^◌}
-use Rattle.cap_tasks.proofs.BlockListing.{Printing}
-use Rattle.cap_tasks.proofs.blocks.print_blocks.Given as goal
+use Rattle.cap_lists.proofs.BlockListing.{Printing}
+use Rattle.cap_lists.proofs.blocks.print_blocks.Given as goal
 
 -- the lines of the blocks that were given are written, and those of the others are to be
 abbrev pub invariant-loop-block : goal.invariant-loop-block

@@ -4,9 +4,9 @@ use Rattle.cap_bytes.proofs.Putting.{Putting-front}
 use Rattle.cap_feed.proofs.Onward.{Went-more, Walks-end, Walks-fault, Walks-stop}
 use Rattle.cap_feed.proofs.Walking.{Walking-more, Prints-fault, Prints-end}
 use Rattle.cap_feed.specs.Walk.{ShowsItem}
-use Rattle.cap_tasks.proofs.Listing.{plan_of, plan_of-is, plan_of-next}
-use Rattle.cap_tasks.specs.ListText.{list_lines, packet_text}
-use Rattle.cap_tasks.proofs.list.list_packets.Goals as goal
+use Rattle.cap_lists.proofs.Listing.{plan_of, plan_of-is, plan_of-next}
+use Rattle.cap_lists.specs.ListText.{list_lines, packet_text}
+use Rattle.cap_lists.proofs.list.list_packets.Goals as goal
 
 pub returns-in_err-meta-clause-text : goal.returns-in_err-meta-clause-text
 returns-in_err-meta-clause-text g c = λ t w.

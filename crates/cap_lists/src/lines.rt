@@ -1,10 +1,10 @@
 //! The lines of packets and blocks.
 ghost use Rattle.std.specs.Prelude.{◌≡◌, ◌+◌, ◌≤◌, ◌++◌, length, option_map};
 ghost use Rattle.cap_print.specs.Lines.{room_in, text_in};
-ghost use Rattle.cap_tasks.specs.BlockText.{block_text, kind_text, order_text};
-ghost use Rattle.cap_tasks.specs.Lines.{data_text};
+ghost use Rattle.cap_lists.specs.BlockText.{block_text, kind_text, order_text};
+ghost use Rattle.cap_lists.specs.Lines.{data_text};
 ghost use Rattle.cap_time.specs.Stamp.{printed_of};
-ghost use Rattle.cap_tasks.specs.ListText.{packet_text, printed_in};
+ghost use Rattle.cap_lists.specs.ListText.{packet_text, printed_in};
 
 use cap_blocks::Block;
 use cap_bytes::Order;

@@ -1,10 +1,10 @@
 use Rattle.std.proofs.Common.{◌≡◌, ◌+◌, ◌++◌, Some, None, Ok, sym, ◌∙◌, ap, rules}
 use Rattle.std.proofs.lemmas.Result.{err_from_is_err_and}
 use Rattle.cap_blocks.specs.Reader.{GivesBlock, TakesItem, items_of}
-use Rattle.cap_tasks.proofs.BlockListing.{Printing-more, Printing-none, Prints-block_fault, Prints-block_end, block_lines-given}
+use Rattle.cap_lists.proofs.BlockListing.{Printing-more, Printing-none, Prints-block_fault, Prints-block_end, block_lines-given}
 use Rattle.cap_bytes.proofs.Putting.{Putting-front}
-use Rattle.cap_tasks.specs.BlockText.{block_lines, block_text}
-use Rattle.cap_tasks.proofs.blocks.print_blocks.Goals as goal
+use Rattle.cap_lists.specs.BlockText.{block_lines, block_text}
+use Rattle.cap_lists.proofs.blocks.print_blocks.Goals as goal
 
 pub returns-in_err-block-clause-text : goal.returns-in_err-block-clause-text
 returns-in_err-block-clause-text g c = λ t w.

@@ -2,8 +2,8 @@ use Rattle.std.proofs.Common.{◌≡◌, ℕ, Option, option_map, ap, ◌∙◌,
 use Rattle.cap_time.proofs.StampForms.{printed_of-stamp_in}
 use Rattle.cap_time.specs.Stamp.{printed_of, stamp_in}
 use Rattle.cap_time.specs.declared.resolutions.Interface.{Interface}
-use Rattle.cap_tasks.specs.ListText.{printed_in}
-use Rattle.cap_tasks.proofs.lines.stamp_of.Goals as goal
+use Rattle.cap_lists.specs.ListText.{printed_in}
+use Rattle.cap_lists.proofs.lines.stamp_of.Goals as goal
 
 printed-time : (units : Option ℕ) (interface : Interface) → option_map printed_of (option_map (λ u. stamp_in u interface) units) ≡ printed_in units interface
 printed-time units interface = grind (arith, printed_of-stamp_in)

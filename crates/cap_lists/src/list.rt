@@ -1,6 +1,6 @@
 //! `capt list`: one line for each packet, as it is found.
 ghost use Rattle.std.specs.Prelude.{◌≤◌, ◌^◌, IsTrue};
-ghost use Rattle.cap_tasks.specs.ListText.{list_lines, list_text, list_refusal};
+ghost use Rattle.cap_lists.specs.ListText.{list_lines, list_text, list_refusal};
 ghost use Rattle.cap_bytes.specs.Device.{WriterKeeps, writer_of};
 ghost use Rattle.cap_bytes.specs.Printing.{Prints, is_write};
 ghost use Rattle.cap_feed.specs.Feed.{refusal_of};

@@ -1,5 +1,5 @@
-use Rattle.cap_tasks.proofs.Listing.{Listing}
-use Rattle.cap_tasks.proofs.list.list_packets.Given as goal
+use Rattle.cap_lists.proofs.Listing.{Listing}
+use Rattle.cap_lists.proofs.list.list_packets.Given as goal
 
 -- the lines of the packets that were given are written, and those of the others are to be
 abbrev pub invariant-loop-meta : goal.invariant-loop-meta

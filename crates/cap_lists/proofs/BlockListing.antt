@@ -12,7 +12,7 @@ use Rattle.cap_blocks.specs.Reader.{GivesBlock, TakesItem, items_of}
 use Rattle.cap_blocks.specs.declared.blocks.Block.{Block}
 use Rattle.cap_bytes.specs.declared.stops.Stop.{Stop}
 use Rattle.cap_bytes.proofs.Putting.{Putting-all}
-use Rattle.cap_tasks.specs.BlockText.{block_lines, block_text, refusal_by, refusal_of}
+use Rattle.cap_lists.specs.BlockText.{block_lines, block_text, refusal_by, refusal_of}
 use Rattle.cap_bytes.specs.Printing.{Prints}
 
 -- the lines so far of a reader that was `old` are written by a writer that was `from`

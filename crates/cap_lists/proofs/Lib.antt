@@ -1,0 +1,2 @@
+pub mod BlockListing
+pub mod Listing

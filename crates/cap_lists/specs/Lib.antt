@@ -1,0 +1,3 @@
+pub mod BlockText
+pub mod Lines
+pub mod ListText
