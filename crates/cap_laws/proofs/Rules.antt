@@ -4,7 +4,7 @@ use Rattle.std.specs.Option.{option_map}
 use Rattle.cap_order.specs.Run.{Clocked}
 use Rattle.cap_feed.specs.Feed.{Item}
 use Rattle.cap_talks.specs.ReportText.{refusal_after, with_item}
-use Rattle.cap_talks.specs.Taken.{Taken}
+use Rattle.cap_tally.specs.Taken.{Taken}
 use Rattle.cap_laws.specs.Reports.{refused_after, RuleLaw}
 
 rule-after : (xs : List Taken) (run : List (Clocked Item)) → option_map (λ p. p.rule) (refused_after xs run) ≡ option_map (λ r. r.rule) (refusal_after xs run)

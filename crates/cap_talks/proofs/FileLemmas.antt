@@ -1,3 +1,2 @@
 -- Lemmas of what is told of files.
 pub mod TableLines
-pub mod Totaling

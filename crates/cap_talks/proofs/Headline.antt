@@ -16,9 +16,10 @@ use Rattle.cap_feed.specs.Feed.{Feed}
 use Rattle.cap_source.specs.ReadFaults.{FailsOf}
 use Rattle.cap_feed.specs.Walk.{Walks}
 use Rattle.cap_talks.specs.Reporting.{TookAll, TakesAll}
-use Rattle.cap_talks.specs.ReportText.{text_of, taken_after, refusal_after, report_text, report_refusal}
+use Rattle.cap_talks.specs.ReportText.{taken_after, refusal_after, report_text, report_refusal}
+use Rattle.cap_tally.specs.TakenText.{text_of}
 use Rattle.cap_talks.specs.Stepping.{TableState, TableStands, endings_so_far}
-use Rattle.cap_talks.specs.Taken.{Taken}
+use Rattle.cap_tally.specs.Taken.{Taken}
 use Rattle.cap_counts.specs.Telling.{Tells}
 use Rattle.cap_counts.proofs.Printing.{tells-printed}
 

@@ -1,16 +1,7 @@
 pub mod FileLemmas
-pub mod Recount
-pub mod Steps
-pub mod Frames
 pub mod WorkedRows
-pub mod Tallying
-pub mod Exits
 pub mod Stepping
 pub mod Reporting
-pub mod Lone
-pub mod Room
-pub mod Waiting
-pub mod Written
+pub mod InOrder
 pub mod TableTexts
 pub mod Headline
-pub mod UnitOrder

@@ -12,8 +12,8 @@ use Rattle.cap_time.specs.declared.stamps.Stamp.{Stamp}
 use Rattle.cap_talks.specs.ReportText.{refusal_at, taken_after, refusal_after}
 use Rattle.cap_talks.specs.Reporting.{TookAll, TakesAll}
 use Rattle.cap_talks.specs.Stepping.{clocked, TableState, TableStands, StepKeeps, Takes, Steps, IsMore}
-use Rattle.cap_talks.specs.Taken.{Taken}
-use Rattle.cap_talks.specs.CountedUnits.{is_limit_at}
+use Rattle.cap_tally.specs.Taken.{Taken}
+use Rattle.cap_tally.specs.CountedUnits.{is_limit_at}
 use Rattle.cap_talks.specs.declared.tables.Step.{Step}
 use Rattle.cap_talks.specs.declared.tables.Step.TheVariants as steps
 

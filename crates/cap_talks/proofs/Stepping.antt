@@ -17,9 +17,9 @@ use Rattle.cap_feed.specs.declared.feeds.Head.TheVariants as heads
 use Rattle.cap_feed.specs.declared.packets.Meta.{Meta}
 use Rattle.cap_time.specs.declared.stamps.Stamp.{Stamp}
 use Rattle.cap_talks.specs.Stepping.{next_by, next_taken, TableStands, Steps}
-use Rattle.cap_talks.specs.Taken.{Taken}
-use Rattle.cap_talks.specs.Files.Totals.{TotalsState}
-use Rattle.cap_talks.specs.Tallies.{TallyState, Joins, Stands}
+use Rattle.cap_tally.specs.Taken.{Taken}
+use Rattle.cap_tally.specs.Totals.{TotalsState}
+use Rattle.cap_tally.specs.Tallies.{TallyState, Joins, Stands}
 
 -- ---- what was known stays
 

@@ -1,19 +1,19 @@
 -- The text of what a table stands for.
 use Rattle.std.proofs.Common.{arith, ◌≡◌, ℕ, List, ◌++◌, length, Option, refl, ◌∙◌, append_assoc}
 use Rattle.cap_feed.specs.declared.feeds.Ending.{Ending}
-use Rattle.cap_talks.specs.Classes.{classes, counts_of}
-use Rattle.cap_talks.specs.CountedUnits.{units_of, joined_in, given_up_in}
+use Rattle.cap_tally.specs.Classes.{classes, counts_of}
+use Rattle.cap_tally.specs.CountedUnits.{units_of, joined_in, given_up_in}
 use Rattle.cap_counts.specs.Lines.{files_text}
 use Rattle.cap_counts.specs.Reading.{ended_from, counted_texts}
-use Rattle.cap_talks.specs.ReportText.{files_part, body_text, text_of, total_text, frames_text, joined_text, bytes_of, truncated_of}
-use Rattle.cap_talks.specs.Taken.{Taken}
+use Rattle.cap_tally.specs.TakenText.{files_part, body_text, text_of, total_text, frames_text, joined_text, bytes_of, truncated_of}
+use Rattle.cap_tally.specs.Taken.{Taken}
 use Rattle.cap_rows.specs.Talks.{rows_of}
 use Rattle.cap_rows.specs.Lines.{talk_texts, talks_text}
-use Rattle.cap_talks.specs.Tallies.{TallyState, Stands, tally_text}
-use Rattle.cap_talks.specs.Files.Totals.{TotalsState, TotalsStand}
+use Rattle.cap_tally.specs.Tallies.{TallyState, Stands, tally_text}
+use Rattle.cap_tally.specs.Totals.{TotalsState, TotalsStand}
 use Rattle.cap_counts.specs.declared.files.Counted.{Counted}
 use Rattle.cap_talks.proofs.FileLemmas.TableLines.{ended-length, lines-counted}
-use Rattle.cap_talks.proofs.Waiting.{given-up}
+use Rattle.cap_tally.proofs.Waiting.{given-up}
 
 -- the lines of the files
 files-are : (e : Option (ℕ → Ending)) (t : TotalsState) (xs : List Taken) (ended : List Counted) → TotalsStand t xs → ended ≡ ended_from e 1 t.files

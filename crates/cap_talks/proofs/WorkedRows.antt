@@ -15,11 +15,11 @@ use Rattle.cap_rows.specs.Talks.{rows_of}
 use Rattle.cap_time.specs.Code.{units_of_code}
 use Rattle.cap_time.specs.Stamp.{stamp_cmp, stamp_in, stamp_plus}
 use Rattle.cap_time.specs.Time.{time_cmp, time_at, floor_of, remainder_of}
-use Rattle.cap_talks.specs.Classes.{classes, group_class}
+use Rattle.cap_tally.specs.Classes.{classes, group_class}
 use Rattle.cap_join.specs.Completed.{completed_of}
-use Rattle.cap_talks.specs.ReportText.{body_text, files_part}
-use Rattle.cap_talks.specs.Taken.{look, events_of}
-use Rattle.cap_talks.specs.CountedUnits.{group_unit, unit_at, units_of}
+use Rattle.cap_tally.specs.TakenText.{body_text, files_part}
+use Rattle.cap_tally.specs.Taken.{look, events_of}
+use Rattle.cap_tally.specs.CountedUnits.{group_unit, unit_at, units_of}
 use Rattle.cap_talks.specs.WorkedReport.{Overlapped, Tagged}
 
 pub overlapped : Overlapped

@@ -2,6 +2,5 @@
 pub use Rattle.cap_counts.specs.Counting
 pub use Rattle.cap_counts.specs.Lines
 pub use Rattle.cap_counts.specs.Reading
-pub mod Totals
-pub mod TotalsView
+pub use Rattle.cap_tally.specs.Totals
 pub mod Props

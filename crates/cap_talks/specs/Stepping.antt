@@ -10,11 +10,11 @@ use Rattle.cap_feed.specs.declared.feeds.Ending.{Ending}
 use Rattle.cap_feed.specs.declared.feeds.Head.{Head}
 use Rattle.cap_feed.specs.declared.feeds.Head.TheVariants as heads
 use Rattle.cap_time.specs.declared.stamps.Stamp.{Stamp}
-use Rattle.cap_talks.specs.CountedUnits.{is_limit_at}
+use Rattle.cap_tally.specs.CountedUnits.{is_limit_at}
 use Rattle.cap_talks.specs.ReportText.{refusal_at}
-use Rattle.cap_talks.specs.Taken.{Taken}
-use Rattle.cap_talks.specs.Tallies.{TallyState, Stands}
-use Rattle.cap_talks.specs.Files.Totals.{TotalsState, TotalsStand}
+use Rattle.cap_tally.specs.Taken.{Taken}
+use Rattle.cap_tally.specs.Tallies.{TallyState, Stands}
+use Rattle.cap_tally.specs.Totals.{TotalsState, TotalsStand}
 use Rattle.cap_talks.specs.declared.tables.Step.{Step}
 use Rattle.cap_talks.specs.declared.tables.Step.TheVariants as steps
 

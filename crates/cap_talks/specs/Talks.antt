@@ -7,4 +7,4 @@ pub use Rattle.cap_rows.specs.View
 pub use Rattle.cap_rows.specs.Lines
 pub use Rattle.cap_rows.specs.Laws
 pub use Rattle.cap_rows.specs.Worked
-pub mod Adding
+pub use Rattle.cap_tally.specs.Adding

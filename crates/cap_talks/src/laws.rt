@@ -1,8 +1,8 @@
 //! Laws of the definitions.
 ghost use Rattle.std.specs.Prelude.{List};
-ghost use Rattle.cap_talks.specs.Classes.{OneClass};
+ghost use Rattle.cap_tally.specs.Classes.{OneClass};
 ghost use Rattle.cap_talks.specs.InOrder.{ByPlaces};
-ghost use Rattle.cap_talks.specs.Taken.{Taken};
+ghost use Rattle.cap_tally.specs.Taken.{Taken};
 ghost use Rattle.cap_talks.specs.WorkedReport.{Overlapped, Tagged};
 
 /// Each packet has one class, and the seven counts add up to the number of packets. In every run the class

@@ -1,16 +1,9 @@
 //! What is told of capture files: the lines of the files, and the conversations of their datagrams.
 #![tactic(auto)]
 
-mod adding;
-mod classes;
 mod laws;
-mod looks;
-mod report_lines;
 mod reports;
-mod run_packets;
 mod tables;
-mod tallies;
-mod totals;
 
 pub use crate::laws::{one_class, worked_report};
 pub use crate::reports::report;

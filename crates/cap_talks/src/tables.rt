@@ -11,19 +11,17 @@ ghost use Rattle.cap_counts.specs.Lines.{ending_at};
 ghost use Rattle.cap_counts.specs.Reading.{ended_from};
 ghost use Rattle.cap_talks.specs.Holding.{held_of};
 ghost use Rattle.cap_talks.specs.Stepping.{TableStands, StepKeeps, Steps, AnswersAgain, endings_so_far};
-ghost use Rattle.cap_talks.specs.ReportText.{refusal_at, text_of};
-ghost use Rattle.cap_talks.specs.Taken.{Taken};
+ghost use Rattle.cap_talks.specs.ReportText.{refusal_at};
+ghost use Rattle.cap_tally.specs.TakenText.{text_of};
+ghost use Rattle.cap_tally.specs.Taken.{Taken};
 
-use crate::report_lines::total_line;
-use crate::run_packets::RunPacket;
-use crate::tallies::Tally;
-use crate::totals::Totals;
 use arrayvec::ArrayVec;
 use cap_bytes::{Fault, Refusal, Rule, Sink, put_all};
 use cap_counts::{Counted, Counts, put_files};
-use cap_feed::{Ending, Meta, PacketFeed};
 use cap_order::Merged;
 use cap_rows::TalksFault;
+use cap_feed::{Ending, Meta, PacketFeed};
+use cap_tally::{RunPacket, Tally, Totals, total_line};
 use std::alloc::Global;
 
 /// What a step did.

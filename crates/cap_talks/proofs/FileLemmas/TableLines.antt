@@ -6,9 +6,9 @@ use Rattle.cap_feed.specs.declared.feeds.Ending.{Ending}
 use Rattle.cap_counts.specs.Counting.{counted}
 use Rattle.cap_counts.specs.Lines.{file_text, ending_at}
 use Rattle.cap_counts.specs.Reading.{ended_from, counted_texts}
-use Rattle.cap_talks.specs.ReportText.{file_line, metas_of}
-use Rattle.cap_talks.specs.Taken.{Taken}
-use Rattle.cap_talks.specs.Files.Totals.{counts_from}
+use Rattle.cap_tally.specs.TakenText.{file_line, metas_of}
+use Rattle.cap_tally.specs.Taken.{Taken}
+use Rattle.cap_tally.specs.Totals.{counts_from}
 use Rattle.cap_counts.specs.declared.counts.Counts.{Counts}
 
 -- a file of that number is one of them

@@ -4,11 +4,11 @@ use Rattle.cap_order.specs.MergedLaws.{merged-is-feed}
 use Rattle.cap_order.specs.Parts.{feed_of}
 use Rattle.cap_order.specs.View.{parts_of}
 use Rattle.cap_feed.specs.declared.feeds.FeedHeld.{FeedHeld}
-use Rattle.cap_talks.specs.Looking.{taken}
+use Rattle.cap_tally.specs.Looking.{taken}
 use Rattle.cap_talks.specs.Stepping.{next_taken, clocked}
-use Rattle.cap_talks.specs.Taken.{Taken}
-use Rattle.cap_talks.specs.Tallies.{LimitBy, Stands}
-use Rattle.cap_talks.specs.CountedUnits.{is_limit_at}
+use Rattle.cap_tally.specs.Taken.{Taken}
+use Rattle.cap_tally.specs.Tallies.{LimitBy, Stands}
+use Rattle.cap_tally.specs.CountedUnits.{is_limit_at}
 use Rattle.cap_talks.proofs.Stepping.{known-packet, known-end, faulted, stands-asked, next-is, first-asked, run-packet, run-end, of-file, is-left, is-packet}
 use Rattle.cap_order.proofs.Numbers.{numbers-within}
 use Rattle.cap_talks.proofs.tables.Table.step.Goals as goal

@@ -7,11 +7,11 @@ use Rattle.cap_order.specs.Parts.{feed_of}
 use Rattle.cap_order.specs.View.{parts_of}
 use Rattle.cap_counts.specs.Lines.{files_text}
 use Rattle.cap_counts.specs.Reading.{ended_from, counted_texts}
-use Rattle.cap_talks.specs.ReportText.{total_text}
+use Rattle.cap_tally.specs.TakenText.{total_text}
 use Rattle.cap_talks.specs.Stepping.{next_taken}
-use Rattle.cap_talks.specs.Tallies.{tally_text}
+use Rattle.cap_tally.specs.Tallies.{tally_text}
 use Rattle.cap_talks.proofs.TableTexts.{text-is}
-use Rattle.cap_talks.proofs.Written.{prints-first}
+use Rattle.cap_tally.proofs.Written.{prints-first}
 use Rattle.cap_talks.proofs.tables.Table.write_so_far.Goals as goal
 
 pub returns-in_err-put_files-clause-text : goal.returns-in_err-put_files-clause-text

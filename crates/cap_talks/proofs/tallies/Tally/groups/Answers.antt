@@ -1,7 +1,0 @@
-use Rattle.std.proofs.Common.{arith}
-use Rattle.cap_talks.specs.TallyView.{tally_view}
-use Rattle.cap_talks.proofs.Waiting.{groups-few}
-use Rattle.cap_talks.proofs.tallies.Tally.groups.Goals as goal
-
-pub returns-clause-bound : goal.returns-clause-bound
-returns-clause-bound c = omega (arith, groups-few (tally_view c.self.inside) c.self.invariant, c.open_count.ensures.value, c.waiting_count.ensures)

@@ -1,0 +1,11 @@
+pub mod Recount
+pub mod Steps
+pub mod Frames
+pub mod Tallying
+pub mod Exits
+pub mod LoneFragments
+pub mod Room
+pub mod Waiting
+pub mod Written
+pub mod Totaling
+pub mod UnitOrder

@@ -1,0 +1,7 @@
+use Rattle.std.proofs.Common.{arith}
+use Rattle.cap_tally.specs.TallyView.{tally_view}
+use Rattle.cap_tally.proofs.Waiting.{groups-few}
+use Rattle.cap_tally.proofs.tallies.Tally.groups.Goals as goal
+
+pub returns-clause-bound : goal.returns-clause-bound
+returns-clause-bound c = omega (arith, groups-few (tally_view c.self.inside) c.self.invariant, c.open_count.ensures.value, c.waiting_count.ensures)

@@ -1,0 +1,10 @@
+pub mod Taken
+pub mod Classes
+pub mod CountedUnits
+pub mod Adding
+pub mod TakenText
+pub mod Totals
+pub mod TotalsView
+pub mod Looking
+pub mod Tallies
+pub mod TallyView
