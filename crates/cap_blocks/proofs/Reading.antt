@@ -1,5 +1,5 @@
 -- What a look at the window makes of a reader, and what that does to the items to come.
-use Rattle.std.proofs.Common.{arith, ◌≡◌, ℕ, ◌+◌, ◌-◌, ◌≤◌, List, ◌∷◌, ◌++◌, length, drop, Option, Some, None, Ok, IfSome, true, is_some, IsTrue, Result, refl, sym, ◌∙◌, length-drop, length-take-le}
+use Rattle.std.proofs.Common.{arith, ◌≡◌, ℕ, ◌+◌, ◌-◌, ◌≤◌, List, ◌∷◌, ◌++◌, length, drop, Option, Some, None, Ok, IfSome, Bool, true, false, is_some, IsTrue, Result, ap, refl, sym, ◌∙◌, length-drop, length-take-le}
 use Rattle.std.proofs.lemmas.List.{take-append-le, drop-append-le}
 use Rattle.cap_bytes.specs.Items.{given, items_by_stop}
 use Rattle.cap_bytes.specs.Reader.{State, Keeps}
@@ -8,11 +8,10 @@ use Rattle.cap_bytes.specs.declared.faults.Tail.{Tail}
 use Rattle.cap_bytes.specs.declared.numbers.Order.{Order}
 use Rattle.cap_bytes.specs.declared.stops.Stop.{Stop}
 use Rattle.cap_bytes.specs.Window.{State as WindowState, Passes}
-use Rattle.cap_bytes.proofs.Parsing.{coming-passed}
 use Rattle.cap_bytes.proofs.Readers.{Stands-passed, Gives-seen}
 use Rattle.cap_blocks.specs.Grammar.{is_known}
-use Rattle.cap_blocks.specs.Parsing.{SeesBlock}
-use Rattle.cap_blocks.specs.Reader.{GivesBlock, GivesNext, TakesItem, items_of, size_of, body_of, state_of}
+use Rattle.cap_blocks.specs.Parsing.{Leaves, SeesBlock}
+use Rattle.cap_blocks.specs.Reader.{GivesBlock, GivesNext, TakesItem, items_of, size_of, body_of, shown_size, state_of}
 use Rattle.cap_blocks.specs.Split.{block_at, body_in, stop_at, items_from}
 use Rattle.cap_blocks.specs.declared.blocks.Block.{Block}
 use Rattle.cap_blocks.proofs.Items.{items_from-stop, items_from-block}
@@ -40,22 +39,38 @@ pub TakesItem_next : (old new : State Order) (result : Result (Option Block) Fau
     → TakesItem old result new
 TakesItem_next old new result g k t = grind (arith, is_some, items_from-stop, taken)
 
--- A block of a known kind is shown already, after the one that was given last.
-pub GivesBlock-shown : (w u : WindowState) (tail : Tail) (section : Option Order) (shown : Option ℕ) (stop : Option Stop) (block : Block)
-    → stop ≡ None → size_of shown ≤ length w.shown → Passes (size_of shown) w u → is_known block.kind ≡ true → SeesBlock section tail block u u
-    → GivesBlock (state_of w tail section shown stop) block (state_of u tail (Some block.order) (Some block.total) stop)
-GivesBlock-shown w u tail section shown stop block free within p known s =
-    let enough : block.total ≤ length u.shown = grind (arith, s.left) in record {
-      gives = Gives-seen (state_of w tail section shown stop) u u (Stands-passed w u tail section (size_of shown) (body_of shown w.shown) stop free within p)
-          (Some block.order) block.total block.total (body_of (Some block.total) u.shown) s.goes refl (λ t. refl);
+-- A block is found after the one that was given last.
+pub GivesBlock-found : (known : Bool) (w u v : WindowState) (tail : Tail) (section : Option Order) (shown : Option ℕ) (stop : Option Stop) (block : Block)
+    → stop ≡ None → size_of shown ≤ length w.shown → Passes (size_of shown) w u → is_known block.kind ≡ known → SeesBlock section tail block u v
+    → GivesBlock (state_of w tail section shown stop) block (state_of v tail (Some block.order) (shown_size known block.total) stop)
+GivesBlock-found true w u v tail section shown stop block free within p known s =
+    let at = Stands-passed w u tail section (size_of shown) (body_of shown w.shown) stop free within p in
+    let left : Leaves true block.total u v = rw known at s.left in
+    let enough = left.1 in record {
+      gives = Gives-seen (state_of w tail section shown stop) u v at (Some block.order) block.total block.total (body_of (Some block.total) v.shown)
+          s.goes (ap (λ n. n + block.total) left.0) (λ t. ap (drop block.total) (left.2 t));
       offset = s.offset ∙ p.offset;
       allowed = s.allowed;
       least = s.least;
       known = sym known;
-      size = omega (arith, length-take-le (block.total - 12) (drop 8 u.shown) (omega (arith, enough, s.least, length-drop 8 u.shown)), s.least);
-      none = λ t. grind (arith, coming-passed);
-      block_is = λ t. grind (arith, coming-passed);
-      body_is = λ t. grind (arith, coming-passed, body_in-append);
+      size = omega (arith, length-take-le (block.total - 12) (drop 8 v.shown) (omega (arith, enough, s.least, length-drop 8 v.shown)), s.least);
+      none = λ t. rw (at.file, at.offset, at.coming_same) at (s.none (at.told t));
+      block_is = λ t. rw (at.offset, at.coming_same) at (s.block_is (at.told t));
+      body_is = λ t. sym (body_in-append block.total v.shown v.unread s.least enough)
+          ∙ ap (body_in block.total) (left.2 (at.told t) ∙ at.coming_same);
+    }
+GivesBlock-found false w u v tail section shown stop block free within p known s =
+    let at = Stands-passed w u tail section (size_of shown) (body_of shown w.shown) stop free within p in
+    let left : Leaves false block.total u v = rw known at s.left in record {
+      gives = Gives-seen (state_of w tail section shown stop) u v at (Some block.order) block.total 0 None s.goes (omega (arith, left.0)) left.1;
+      offset = s.offset ∙ p.offset;
+      allowed = s.allowed;
+      least = s.least;
+      known = sym known;
+      size = tt;
+      none = λ t. rw (at.file, at.offset, at.coming_same) at (s.none (at.told t));
+      block_is = λ t. rw (at.offset, at.coming_same) at (s.block_is (at.told t));
+      body_is = λ t. tt;
     }
 
 -- What a block that was shown already does to the items to come.

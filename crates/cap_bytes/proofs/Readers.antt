@@ -1,8 +1,8 @@
 -- What a look at the window makes of a reader, and what that does to the items to come.
-use Rattle.std.proofs.Common.{◌≡◌, ℕ, ◌+◌, ◌≤◌, List, [], ◌∷◌, length, drop, Option, Some, None, Bool, IsTrue, Result, arith}
+use Rattle.std.proofs.Common.{◌≡◌, ℕ, ◌+◌, ◌≤◌, List, [], ◌∷◌, length, drop, Option, Some, None, Bool, IsTrue, Result, Err, arith}
 use Rattle.cap_bytes.specs.Items.{stop_where, answer_of, Item, stopped, items_by_stop, TakesItem}
 use Rattle.cap_bytes.specs.Reader.{State, Keeps, Waits, Gives, GivesStop, GivesNext, state_of}
-use Rattle.cap_bytes.specs.Parsing.{SeesStop}
+use Rattle.cap_bytes.specs.Parsing.{FailsBy, SeesStop}
 use Rattle.cap_bytes.specs.Window.{State as WindowState, Passes, coming}
 use Rattle.cap_bytes.specs.Window as windows
 use Rattle.cap_bytes.specs.declared.faults.Fault.{Fault}
@@ -43,6 +43,12 @@ module _ {K : Type 0} (old : State K) (u v : WindowState) (at : Stands old u) wh
         → GivesNext Comes inside (fault old.offset old.coming) size (lacks old.offset old.coming old.room) old (answer_of end)
         (state_of v old.tail old.known 0 None (Some end))
     GivesNext-stopped end s = grind arith
+
+    -- a fault of the look
+    pub GivesNext-failed : (f : Fault) → FailsBy size (lacks u.offset (coming u) u.room) u f v
+        → GivesNext Comes inside (fault old.offset old.coming) size (lacks old.offset old.coming old.room) old (Err f)
+        (state_of v old.tail old.known 0 None old.stop)
+    GivesNext-failed f h = grind arith
 
 -- What ended the pieces is the one item to come, now and again.
 module _ {K P : Type 0} (items : Option K → Tail → ℕ → ℕ → List ℕ → List (Item P)) where

@@ -1,8 +1,32 @@
-use Rattle.cap_bytes.proofs.Readers.{Stands-passed, GivesNext-stopped}
+use Rattle.std.proofs.Common.{None, refl}
+use Rattle.std.proofs.lemmas.Result.{err_from_is_err_and}
+use Rattle.cap_bytes.proofs.Readers.{Stands-passed, GivesNext-stopped, GivesNext-failed}
 use Rattle.cap_bytes.proofs.Parsing.{none_from}
+use Rattle.cap_blocks.specs.Grammar.{is_known}
 use Rattle.cap_blocks.specs.Reader.{GivesBlock, state_of, size_of, body_of}
 use Rattle.cap_blocks.specs.Split.{block_fault, LacksRoom}
+use Rattle.cap_blocks.proofs.Reading.{GivesBlock-found}
 use Rattle.cap_blocks.proofs.readers.BlockReader.read_block.Goals as goal
+
+pub returns-in_err-block-clause-answer : goal.returns-in_err-block-clause-answer
+returns-in_err-block-clause-answer g c =
+    let p = err_from_is_err_and c.from_residual.result c.from_residual.ensures.1 in
+    let i = c.self.inside in
+    let old = state_of i.window i.tail i.section i.given i.stop in
+    let at = Stands-passed i.window c.pass.new.self i.tail i.section (size_of i.given) (body_of i.given i.window.shown) i.stop
+    (none_from i.stop c.in_default.not-Some) c.self.invariant.within (rw c.size_given.ensures at c.pass.ensures.passes) in
+    rw (← c.self.view_is, p.1, p.2)
+    (GivesNext-failed old c.pass.new.self c.look_for_block.new.window at
+    (λ block. GivesBlock old block (state_of c.look_for_block.new.window i.tail i.section None i.stop)) _ (block_fault i.section) 524288 (LacksRoom i.section)
+    c.in_err-block.field-0.0 c.in_err-block.ensures.answer)
+
+pub returns-in-Ok-clause-answer : goal.returns-in-Ok-clause-answer
+returns-in-Ok-clause-answer g c =
+    let i = c.self.inside in
+    rw (← c.self.view_is, c.shown_of-self-inside.ensures)
+    (GivesBlock-found (is_known c.in-Ok.block.kind) i.window c.pass.new.self c.look_for_block.new.window i.tail i.section i.given i.stop c.in-Ok.block
+    (none_from i.stop c.in_default.not-Some) c.self.invariant.within (rw c.size_given.ensures at c.pass.ensures.passes) refl
+    (rw c.in-Ok.is at c.in_ok-block.ensures.answer))
 
 pub returns-in-Err-clause-answer : goal.returns-in-Err-clause-answer
 returns-in-Err-clause-answer g c =

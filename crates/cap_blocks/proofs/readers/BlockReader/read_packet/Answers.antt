@@ -1,7 +1,7 @@
-use Rattle.std.proofs.Common.{rules, ap, arith}
+use Rattle.std.proofs.Common.{true, rules, ap, arith}
 use Rattle.cap_blocks.specs.Parsing.{SeesBlock}
 use Rattle.cap_blocks.specs.Grammar.{is_known}
-use Rattle.cap_blocks.proofs.Reading.{GivesBlock-shown}
+use Rattle.cap_blocks.proofs.Reading.{GivesBlock-found}
 use Rattle.cap_blocks.proofs.readers.BlockReader.read_packet.Goals as goal
 
 pub invariant_of-self : goal.invariant_of-self
@@ -13,7 +13,7 @@ pub returns-in-Some-clause-answer : goal.returns-in-Some-clause-answer
 returns-in-Some-clause-answer g c =
     let i = c.self.inside in
     rw (← c.self.view_is)
-    (GivesBlock-shown i.window c.take_packet.new.window i.tail i.section i.given i.stop c.in-Some.block
+    (GivesBlock-found true i.window c.take_packet.new.window c.take_packet.new.window i.tail i.section i.given i.stop c.in-Some.block
     (grind arith) c.self.invariant.within (rw c.size_given.ensures at c.in-Some.ensures.passes) (ap is_known c.in-Some.ensures.kind) (c.in-Some.ensures.sees i.tail))
 
 pub returns-in-Some-clause-keeps : goal.returns-in-Some-clause-keeps
