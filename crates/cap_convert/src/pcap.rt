@@ -12,8 +12,8 @@ ghost use Rattle.cap_convert.specs.Numbering.{refusal_by};
 
 use crate::interfaces::{refused, units_of};
 use cap_bytes::{Fault, Order, Refusal, Rule, Sink, Source};
-use cap_pcap::{PcapHeader, RecordTime, put_header, put_record};
 use cap_feed::{Head, Meta, PacketFeed, next_packet};
+use cap_pcap::{PcapHeader, RecordTime, put_header, put_record};
 use cap_source::Capture;
 use cap_time::{Interface, Stamp, Unit};
 

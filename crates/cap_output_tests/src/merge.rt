@@ -105,7 +105,7 @@ fn next_of(feed: &mut Merged<Listed>) -> Result<(u32, Option<Stamp>), Fail> {
     }
     let clock = feed.clock();
     let next = feed.next_packet();
-    if next.clock != clock || *next.meta != meta {
+    if *next.clock != clock || *next.meta != meta {
         return Err(Fail::from("another packet or clock"));
     }
     if !feed.frame().is_empty() || !next.frame.is_empty() {

@@ -18,9 +18,9 @@ ghost use Rattle.cap_tally.specs.Taken.{Taken};
 use arrayvec::ArrayVec;
 use cap_bytes::{Fault, Refusal, Rule, Sink, put_all};
 use cap_counts::{Counted, Counts, put_files};
+use cap_feed::{Ending, Meta, PacketFeed};
 use cap_order::Merged;
 use cap_rows::TalksFault;
-use cap_feed::{Ending, Meta, PacketFeed};
 use cap_tally::{RunPacket, Tally, Totals, total_line};
 use std::alloc::Global;
 

@@ -19,9 +19,9 @@ use crate::placed_packets::{Joining, PlacedPacket};
 use cap_blocks::put_section;
 use cap_bytes::{Fault, Order, Sink};
 use cap_convert::{Origins, put_one, units_of};
+use cap_feed::{Meta, PacketFeed};
 use cap_join::Joiner;
 use cap_order::{Merged, next_of};
-use cap_feed::{Meta, PacketFeed};
 use cap_time::Interface;
 use std::alloc::Global;
 
