@@ -1,4 +1,3 @@
-pub mod Laws
 pub mod Interfaces
 pub mod Numbering
 pub mod Pcap

@@ -2,7 +2,6 @@
 #![tactic(auto)]
 
 mod interfaces;
-pub mod laws;
 mod packets;
 mod pcap;
 mod pcapng;

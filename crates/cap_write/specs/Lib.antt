@@ -1,10 +1,8 @@
 pub use Rattle.cap_convert.specs.Interfaces
-pub use Rattle.cap_convert.specs.Laws
 pub use Rattle.cap_convert.specs.Numbering
 pub use Rattle.cap_convert.specs.Pcap
 pub use Rattle.cap_convert.specs.Texts
 pub use Rattle.cap_convert.specs.Times
 pub mod Datagrams
 pub mod Joined
-pub mod Rounds
 pub mod PlacedPackets

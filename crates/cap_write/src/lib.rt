@@ -3,7 +3,6 @@
 
 mod datagrams;
 mod joined;
-pub mod laws;
 mod merged;
 mod placed_packets;
 

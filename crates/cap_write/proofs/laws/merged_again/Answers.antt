@@ -1,9 +1,0 @@
-use Rattle.cap_write.proofs.MergedFiles.{merge-law}
-use Rattle.cap_convert.proofs.Renumbered.{merged_again-law}
-use Rattle.cap_write.proofs.laws.merged_again.Goals as goal
-
-pub returns-clause-files : goal.returns-clause-files
-returns-clause-files c = merge-law
-
-pub returns-clause-packets : goal.returns-clause-packets
-returns-clause-packets c = merged_again-law

@@ -1,0 +1,10 @@
+//! Laws of written files: what of one capture is read again when it is written in either format, and of several when they are
+//! merged, at once or in rounds.
+#![tactic(auto)]
+
+mod laws;
+
+pub use crate::laws::{
+    clock_law, merged_again, one_interface, pcap_again, pcapng_again, round_trip, rounds_law,
+};
+pub use cap_source::laws::fields_fit;
