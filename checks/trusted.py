@@ -10,11 +10,11 @@ Use: checks/trusted.py [COMMAND | --page]
 import pathlib, re, sys
 
 TOP = pathlib.Path(__file__).resolve().parent.parent
-PRINTS, TELLS = "cap_bytes.Printing.Prints", "cap_counts.Telling.Tells"
+PRINTS, TELLS = "cap_bytes.Printing.Prints", "cap_talks.Telling.Tells"
 ROOTS = {
     "list": ["cap_lists.ListText.list_text", "cap_lists.ListText.list_refusal", PRINTS],
     "blocks": ["cap_lists.BlockText.block_list", "cap_lists.BlockText.block_refusal", PRINTS],
-    "info": ["cap_counts.Lines.info_text", "cap_counts.Lines.first_refusal", TELLS],
+    "info": ["cap_talks.InfoText.info_text", "cap_talks.InfoText.first_refusal", TELLS],
     "report": [
         "cap_talks.ReportText.report_text", "cap_talks.ReportText.report_refusal", "cap_merge.Files.clocked_run",
         "cap_merge.Files.endings_of_files", TELLS,

@@ -1,4 +1,3 @@
 pub mod Times
 pub mod Counting
 pub mod Printing
-pub mod FileByFile

@@ -1,16 +1,10 @@
 -- The lines of files, written one by one.
 use Rattle.std.proofs.lemmas.Grind.{common_steps}
-use Rattle.std.proofs.Common.{◌≡◌, ◌<◌, ◌≤◌, ◌+◌, ℕ, suc, List, [], ◌∷◌, ◌++◌, length, take, drop, get_or, IsTrue, IsOkUnless, refl, sym, ap, ◌∙◌, subst, arith, Option, None, Result, length-append, take_at, drop_at}
+use Rattle.std.proofs.Common.{◌≡◌, ◌<◌, ◌≤◌, ◌+◌, ℕ, suc, List, [], ◌∷◌, ◌++◌, length, take, drop, get_or, IsTrue, refl, sym, ap, ◌∙◌, subst, arith, length-append, take_at, drop_at}
 use Rattle.cap_bytes.proofs.Putting.{Putting, Putting-more, Putting-front}
 use Rattle.cap_bytes.specs.Device.{Writer}
-use Rattle.cap_bytes.specs.Printing.{Prints, PrintsFront}
-use Rattle.cap_bytes.specs.declared.faults.Fault.{Fault}
-use Rattle.cap_bytes.specs.declared.faults.Fault.TheVariants.{Write}
-use Rattle.cap_bytes.specs.declared.faults.Refusal.{Refusal}
-use Rattle.cap_bytes.specs.declared.faults.Tail.{Tail}
-use Rattle.cap_counts.specs.Lines.{file_text, files_text, file_texts, info_text}
-use Rattle.cap_counts.specs.Reading.{counted_texts, counted_files}
-use Rattle.cap_counts.specs.Telling.{Tells}
+use Rattle.cap_bytes.specs.Printing.{PrintsFront}
+use Rattle.cap_counts.specs.Lines.{file_text, counted_texts}
 use Rattle.cap_counts.specs.declared.files.Counted.{Counted}
 
 -- the line of the file at a place, and those after it
@@ -50,21 +44,3 @@ lines-front from mid held all place it line n is within text p t wrote =
     let behind = counted_texts (place + 1 + 1) (drop (suc place) all) in
     let split : counted_texts (place + 1) (drop place all) ≡ line ++ behind = texts-at all place (place + 1) it is within ∙ ap (λ l. l ++ behind) (sym text) in
     Putting-front from mid held (counted_texts 1 all) line behind n (subst (Putting from mid (counted_texts 1 all)) split p) t wrote
-
--- the lines of what was counted of files are those of the files
-pub texts-counted : (tail : Tail) (file : ℕ) (files : List (List ℕ)) → counted_texts file (counted_files tail file files) ≡ file_texts tail file files
-texts-counted tail file [] = refl
-texts-counted tail file (bytes ∷ files) = cc (texts-counted tail (file + 1) files)
-
-files-counted : (tail : Tail) (file : ℕ) (files : List (List ℕ)) → length (counted_files tail file files) ≡ length files
-files-counted tail file [] = refl
-files-counted tail file (bytes ∷ files) = ap suc (files-counted tail (file + 1) files)
-
-pub info-counted : (tail : Tail) (files : List (List ℕ)) (all : List Counted) → all ≡ counted_files tail 1 files
-    → files_text (length all) ++ counted_texts 1 all ≡ info_text tail files
-info-counted tail files all is = grind (arith, files-counted, texts-counted)
-
--- a text that is written after everything that can be refused
-pub tells-printed : (text : List ℕ) (refusal : Option Refusal) (old : List ℕ) (result : Result (Unit {0}) Fault) (new : List ℕ) → refusal ≡ None
-    → IsOkUnless result Write → Prints text None old result new → Tells text refusal old result new
-tells-printed text refusal old result new none fault p = grind arith

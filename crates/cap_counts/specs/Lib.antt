@@ -1,4 +1,2 @@
 pub mod Counting
 pub mod Lines
-pub mod Reading
-pub mod Telling

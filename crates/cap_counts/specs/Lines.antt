@@ -1,16 +1,12 @@
--- The lines of the files, as `info` prints them.
-use Rattle.std.specs.Prelude.{ℕ, ◌+◌, Bool, true, false, List, [], ◌∷◌, ◌++◌, codes, decimal, length, Option, Some, None, option_map}
-use Rattle.cap_bytes.specs.declared.faults.Refusal.{Refusal}
-use Rattle.cap_bytes.specs.declared.faults.Tail.{Tail}
+-- The lines of files that were counted.
+use Rattle.std.specs.Prelude.{ℕ, ◌+◌, Bool, true, false, List, [], ◌∷◌, ◌++◌, codes, decimal, Option, Some, None, option_map}
 use Rattle.cap_print.specs.Lines.{time_text}
-use Rattle.cap_feed.specs.Feed.{refusal_of}
-use Rattle.cap_source.specs.Items.{file_items, file_ending}
 use Rattle.cap_feed.specs.declared.feeds.Ending.{Ending}
 use Rattle.cap_feed.specs.declared.packets.Format.{Format}
 use Rattle.cap_feed.specs.declared.packets.Format.TheVariants.{Pcap, Pcapng}
 use Rattle.cap_time.specs.Stamp.{printed_of}
-use Rattle.cap_counts.specs.Counting.{packets_of, counted}
 use Rattle.cap_counts.specs.declared.counts.Counts.{Counts}
+use Rattle.cap_counts.specs.declared.files.Counted.{Counted}
 
 abbrev pub format_text : Option Format → List ℕ
 format_text None = codes "-"
@@ -45,23 +41,12 @@ ending_at (Some endings) file = Some (endings file)
 abbrev pub files_text : ℕ → List ℕ
 files_text count = codes "files " ++ decimal count ++ codes "\n"
 
--- the lines of files of those bytes, from that number on
-abbrev pub file_texts : Tail → ℕ → List (List ℕ) → List ℕ
-file_texts tail file [] = []
-file_texts tail file (bytes ∷ files) =
-    file_text file (counted (packets_of (file_items tail file bytes))) (Some (file_ending tail file bytes))
-    ++ file_texts tail (file + 1) files
+-- what is counted of files, with how each has ended, if that is told, from that number on
+abbrev pub ended_from : Option (ℕ → Ending) → ℕ → List Counts → List Counted
+ended_from endings file [] = []
+ended_from endings file (counts ∷ rest) = record { counts = counts; ending = ending_at endings file } ∷ ended_from endings (file + 1) rest
 
--- what is printed of all files
-abbrev pub info_text : Tail → List (List ℕ) → List ℕ
-info_text tail files = files_text (length files) ++ file_texts tail 1 files
-
--- a file's refusal, or else that of a later one
-abbrev pub or_else : Option Refusal → Option Refusal → Option Refusal
-or_else None later = later
-or_else (Some refusal) later = Some refusal
-
--- the refusal of the first of the files that is refused, from that number on
-abbrev pub first_refusal : Tail → ℕ → List (List ℕ) → Option Refusal
-first_refusal tail file [] = None
-first_refusal tail file (bytes ∷ files) = or_else (refusal_of (file_items tail file bytes)) (first_refusal tail (file + 1) files)
+-- the lines of files that were counted, from that number on
+abbrev pub counted_texts : ℕ → List Counted → List ℕ
+counted_texts file [] = []
+counted_texts file (it ∷ rest) = file_text file it.counts it.ending ++ counted_texts (file + 1) rest

@@ -1,4 +1,4 @@
-//! What is counted of the packets of capture files, and the lines of the files.
+//! What is counted of the packets of a file, and the lines of files that were counted.
 #![tactic(auto)]
 
 mod counts;
@@ -6,5 +6,5 @@ mod files;
 mod lines;
 
 pub use crate::counts::Counts;
-pub use crate::files::{Counted, file_lines, put_files};
+pub use crate::files::{Counted, put_files};
 pub use crate::lines::{file_line, files_line};

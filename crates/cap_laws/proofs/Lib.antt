@@ -1,5 +1,6 @@
 mod Alike
 mod FileNumbers
+mod InOrder
 mod LikePieces
 mod LikeReports
 mod LikeUnits
@@ -9,4 +10,5 @@ mod Rounds
 mod Rules
 mod SameRun
 mod Twins
+mod WorkedRows
 mod Written

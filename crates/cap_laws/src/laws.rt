@@ -1,8 +1,13 @@
 //! Laws, each the contract of a function that does nothing.
+ghost use Rattle.std.specs.Prelude.{List};
 ghost use Rattle.cap_laws.specs.Forms.{BodyParts, PcapReport};
+ghost use Rattle.cap_laws.specs.InOrder.{ByPlaces};
 ghost use Rattle.cap_laws.specs.Reports.{MergedReport, PcapngReport, RuleLaw};
 ghost use Rattle.cap_laws.specs.Rounds.{RoundsInBytes};
 ghost use Rattle.cap_laws.specs.Runs.{MergedRun, PcapngRun};
+ghost use Rattle.cap_laws.specs.WorkedReport.{Overlapped, Tagged};
+ghost use Rattle.cap_tally.specs.Classes.{OneClass};
+ghost use Rattle.cap_tally.specs.Taken.{Taken};
 
 use cap_write_laws::{merged_again, pcap_again, pcapng_again, rounds_law};
 
@@ -70,3 +75,18 @@ pub fn pcapng_run()
 {
     pcapng_again();
 }
+
+/// Each packet has one class, and the seven counts add up to the number of packets. In every run the class
+/// of a packet is the one that it has by places: whether its group completes is asked of the fragments that
+/// complete theirs.
+pub fn one_class()
+    ensures classes { (xs : List Taken) → OneClass xs }
+    ensures places { ByPlaces }
+{}
+
+/// The report on four fragments that overlap, after two of them and after all, and on three tagged frames, by
+/// computation.
+pub fn worked_report()
+    ensures overlapped { Overlapped }
+    ensures tagged { Tagged }
+{}

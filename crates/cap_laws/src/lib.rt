@@ -5,5 +5,6 @@
 mod laws;
 
 pub use crate::laws::{
-    merged_report, merged_run, pcap_report, pcapng_report, pcapng_run, refusal_rule, rounds_bytes,
+    merged_report, merged_run, one_class, pcap_report, pcapng_report, pcapng_run, refusal_rule,
+    rounds_bytes, worked_report,
 };

@@ -1,13 +1,11 @@
 -- Counted units: IPv4 datagrams (RFC 791, 3.1) with the ends between which they went (RFC 768; RFC 9293, 3.1).
 use Rattle.std.specs.Prelude.{ℕ, Option, Some, None}
 use Rattle.std.specs.Ordering.{nat_cmp, ordering_then}
-use Rattle.std.specs.Option.{option_cmp, option_map}
+use Rattle.std.specs.Option.{option_cmp}
 use Rattle.std.specs.declared.cmp.Ordering.{Ordering}
 use Rattle.cap_ip.specs.declared.transports.Transport.{Transport}
 use Rattle.cap_ip.specs.declared.transports.Transport.TheVariants.{Ports, NoPorts, Bad, Cut}
-use Rattle.cap_join.specs.declared.datagrams.Stamped.{Stamped}
 use Rattle.cap_rows.specs.declared.units.End.{End}
-use Rattle.cap_rows.specs.declared.units.TimedFrame.{TimedFrame}
 
 -- an end of an address, with a port if it has one
 abbrev pub end_at : ℕ → Option ℕ → End
@@ -23,8 +21,3 @@ ends_of source destination Cut = None
 -- ends compare as pairs of numbers: by address, and then by port
 abbrev pub end_cmp : End → End → Ordering
 end_cmp a b = ordering_then (nat_cmp a.address b.address) (option_cmp nat_cmp a.port b.port)
-
--- a frame, if it has a time
-abbrev pub timed_frame : Option Stamped → Option TimedFrame
-timed_frame None = None
-timed_frame (Some frame) = option_map (λ time. record { time = time; place = frame.place }) frame.time

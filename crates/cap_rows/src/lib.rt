@@ -12,4 +12,4 @@ pub use crate::laws::{talk_laws, worked_talks};
 pub use crate::lines::{put_talks, talk_line, talks_line};
 pub use crate::rows::{TalkKey, TalkRow};
 pub use crate::talks::{Talks, TalksFault};
-pub use crate::units::{CountedUnit, End, TimedFrame, ends_of, timed_frame};
+pub use crate::units::{CountedUnit, End, TimedFrame, ends_of};

@@ -1,9 +1,8 @@
 //! Counted units: whole datagrams, with the ends between which they went.
 ghost use Rattle.std.specs.Prelude.{◌≡◌};
-ghost use Rattle.cap_rows.specs.Units.{ends_of, timed_frame};
+ghost use Rattle.cap_rows.specs.Units.{ends_of};
 
 use cap_ip::Transport;
-use cap_join::Stamped;
 use cap_time::Stamp;
 
 /// An end of a conversation: an IPv4 address (RFC 791, 3.1), and a port if the protocol has ports
@@ -45,17 +44,6 @@ pub struct TimedFrame {
     pub time: Stamp,
     /// Its place in the list of packets, counted from 0.
     pub place: u64,
-}
-
-/// A frame, if it has a time.
-pub fn timed_frame(frame: Option<Stamped>) -> Option<TimedFrame>
-    ensures { result ≡ timed_frame frame }
-{
-    let frame = frame?;
-    Some(TimedFrame {
-        time: frame.time?,
-        place: frame.place,
-    })
 }
 
 /// An IPv4 datagram that counts in a conversation: one that came whole, or one that was joined.

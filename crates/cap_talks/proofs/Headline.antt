@@ -18,10 +18,10 @@ use Rattle.cap_feed.specs.Walk.{Walks}
 use Rattle.cap_talks.specs.Reporting.{TookAll, TakesAll}
 use Rattle.cap_talks.specs.ReportText.{taken_after, refusal_after, report_text, report_refusal}
 use Rattle.cap_tally.specs.TakenText.{text_of}
-use Rattle.cap_talks.specs.Stepping.{TableState, TableStands, endings_so_far}
+use Rattle.cap_table.specs.Stepping.{TableState, TableStands, endings_so_far}
 use Rattle.cap_tally.specs.Taken.{Taken}
-use Rattle.cap_counts.specs.Telling.{Tells}
-use Rattle.cap_counts.proofs.Printing.{tells-printed}
+use Rattle.cap_talks.specs.Telling.{Tells}
+use Rattle.cap_talks.proofs.Telling.{tells-printed}
 
 length-range : (first count : ℕ) → length (range_with_len first count) ≡ count
 length-range first zero = refl

@@ -1,7 +1,5 @@
-pub mod FileLemmas
-pub mod WorkedRows
-pub mod Stepping
+pub mod CountedPackets
+pub mod FileByFile
+pub mod Telling
 pub mod Reporting
-pub mod InOrder
-pub mod TableTexts
 pub mod Headline

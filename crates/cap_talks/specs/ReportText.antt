@@ -1,16 +1,14 @@
 -- The report of a run of packets.
 use Rattle.std.specs.Prelude.{ℕ, List, [], ◌∷◌, Option, Some, None, if◌then◌else◌}
 use Rattle.cap_bytes.specs.declared.faults.Refusal.{Refusal}
-use Rattle.cap_bytes.specs.declared.faults.Rule.TheVariants.{TalkLimit}
 use Rattle.cap_order.specs.Run.{Clocked}
 use Rattle.cap_feed.specs.Feed.{Item, packet, refused}
 use Rattle.cap_feed.specs.declared.feeds.Ending.{Ending}
-use Rattle.cap_feed.specs.declared.packets.Meta.{Meta}
-use Rattle.cap_counts.specs.Lines.{or_else}
 use Rattle.cap_time.specs.declared.stamps.Stamp.{Stamp}
 use Rattle.cap_tally.specs.Taken.{Taken}
-use Rattle.cap_tally.specs.CountedUnits.{is_limit_at}
+use Rattle.cap_tally.specs.CountedUnits.{is_limit_at, refusal_at}
 use Rattle.cap_tally.specs.TakenText.{text_of}
+use Rattle.cap_talks.specs.InfoText.{or_else}
 
 -- the packets of a run after those that were taken
 abbrev pub with_item : Option Stamp → Item → List Taken → List Taken
@@ -22,9 +20,6 @@ taken_after xs [] = xs
 taken_after xs (x ∷ run) = taken_after (with_item x.clock x.item xs) run
 
 -- the refusal of a packet that would open a conversation too many, and the one that ends a run
-abbrev pub refusal_at : Meta → Refusal
-refusal_at meta = record { file = meta.file; offset = meta.offset; rule = TalkLimit }
-
 abbrev pub refusal_here : List Taken → Option Stamp → Item → Option Refusal
 refusal_here xs clock (packet meta frame) =
     if is_limit_at xs (record { clock = clock; meta = meta; frame = frame }) then Some (refusal_at meta) else None

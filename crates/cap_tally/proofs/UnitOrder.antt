@@ -8,14 +8,13 @@ use Rattle.cap_join.specs.Groups.{IsDatagramOf}
 use Rattle.cap_join.specs.declared.datagrams.Datagram.{Datagram}
 use Rattle.cap_join.specs.declared.datagrams.Stamped.{Stamped}
 use Rattle.cap_rows.specs.Rows.{are_in_order, IsUnitInOrder}
-use Rattle.cap_rows.specs.Units.{timed_frame}
 use Rattle.cap_rows.specs.declared.units.End.{End}
 use Rattle.cap_rows.specs.declared.units.TimedFrame.{TimedFrame}
 use Rattle.cap_time.specs.Stamp.{stamp_cmp}
 use Rattle.cap_time.specs.StampLaws.{stamp_cmp_total}
 use Rattle.cap_time.specs.declared.stamps.Stamp.{Stamp}
 use Rattle.cap_time.proofs.Chosen.{not_trans}
-use Rattle.cap_tally.specs.CountedUnits.{unit_of, whole_unit}
+use Rattle.cap_tally.specs.CountedUnits.{timed_frame, unit_of, whole_unit}
 use Rattle.cap_tally.specs.Adding.{datagram_unit}
 use Rattle.cap_tally.specs.Taken.{Taken}
 use Rattle.cap_tally.specs.Tallies.{TallyState, Joins, Stands}

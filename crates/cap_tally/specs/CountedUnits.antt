@@ -2,6 +2,9 @@
 -- completes it. Lists of packets have the latest first, units stand in their order.
 use Rattle.std.specs.Prelude.{ℕ, List, [], ◌∷◌, ◌++◌, Bool, false, ◌+◌, length, if◌then◌else◌, Option, Some, None, option_and_then}
 use Rattle.std.specs.Option.{option_map, option_map_or}
+use Rattle.cap_bytes.specs.declared.faults.Refusal.{Refusal}
+use Rattle.cap_bytes.specs.declared.faults.Rule.TheVariants.{TalkLimit}
+use Rattle.cap_feed.specs.declared.packets.Meta.{Meta}
 use Rattle.cap_ip.specs.Header.{HeaderFields}
 use Rattle.cap_ip.specs.Transport.{transport_of}
 use Rattle.cap_join.specs.ByteMap.{header_of, data_of}
@@ -12,7 +15,7 @@ use Rattle.cap_join.specs.Joiners.{open_limit}
 use Rattle.cap_join.specs.declared.datagrams.Stamped.{Stamped}
 use Rattle.cap_rows.specs.Rows.{is_refused, talk_limit}
 use Rattle.cap_rows.specs.Talks.{key_of, rows_of}
-use Rattle.cap_rows.specs.Units.{ends_of, timed_frame}
+use Rattle.cap_rows.specs.Units.{ends_of}
 use Rattle.cap_rows.specs.declared.units.CountedUnit.{CountedUnit}
 use Rattle.cap_rows.specs.declared.units.End.{End}
 use Rattle.cap_rows.specs.declared.units.TimedFrame.{TimedFrame}
@@ -21,6 +24,11 @@ use Rattle.cap_tally.specs.Classes.{group_class, groups_of, is_class}
 use Rattle.cap_join.specs.Completed.{if_complete}
 use Rattle.cap_tally.specs.Taken.{Taken, Look, plain, datagram, fragment, look, events_of, stamped_of}
 use Rattle.cap_tally.specs.declared.classes.Class.TheVariants as class
+
+-- a frame, if it has a time
+abbrev pub timed_frame : Option Stamped → Option TimedFrame
+timed_frame None = None
+timed_frame (Some frame) = option_map (λ time. record { time = time; place = frame.place }) frame.time
 
 -- a unit between two ends, with the number of its frames, their bytes, and the first and the last of those that have a time
 abbrev pub unit_of : ℕ → ℕ → ℕ → Option TimedFrame → Option TimedFrame → End × End → CountedUnit
@@ -76,3 +84,7 @@ given_up_in xs = (state_of open_limit (events_of xs)).given_up
 -- after some packets, the next one completes a unit of a new conversation, and 1,048,576 conversations stand
 abbrev pub is_limit_at : List Taken → Taken → Bool
 is_limit_at xs x = option_map_or (λ unit. is_refused talk_limit (rows_of (units_of xs)) (key_of unit)) (unit_at xs x) false
+
+-- the refusal of such a packet: rule 16, talk-limit
+abbrev pub refusal_at : Meta → Refusal
+refusal_at meta = record { file = meta.file; offset = meta.offset; rule = TalkLimit }

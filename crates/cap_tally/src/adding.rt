@@ -9,13 +9,13 @@ ghost use Rattle.cap_tally.specs.Adding.{datagram_unit, datagram_class, is_over}
 ghost use Rattle.cap_tally.specs.Classes.{class_of};
 ghost use Rattle.cap_tally.specs.Taken.{stamped_of};
 ghost use Rattle.cap_tally.specs.Tallies.{LimitBy};
-ghost use Rattle.cap_tally.specs.CountedUnits.{listed, whole_unit};
+ghost use Rattle.cap_tally.specs.CountedUnits.{listed, timed_frame, whole_unit};
 
 use crate::classes::Class;
 use cap_feed::Meta;
 use cap_ip::{Header, Transport, transport};
 use cap_join::{Datagram, Stamped};
-use cap_rows::{CountedUnit, Talks, TalksFault, ends_of, timed_frame};
+use cap_rows::{CountedUnit, Talks, TalksFault, TimedFrame, ends_of};
 use cap_time::Stamp;
 
 /// What is told of a packet's frame, which has that place in the run and that time.
@@ -29,6 +29,17 @@ pub fn stamped_of(place: u64, time: Option<Stamp>, meta: &Meta) -> Stamped
         place,
         original: meta.original,
     }
+}
+
+// A frame, if it has a time.
+fn timed_frame(frame: Option<Stamped>) -> Option<TimedFrame>
+    ensures { result ≡ timed_frame frame }
+{
+    let frame = frame?;
+    Some(TimedFrame {
+        time: frame.time?,
+        place: frame.place,
+    })
 }
 
 /// A datagram's class, by what its data says of its ports.

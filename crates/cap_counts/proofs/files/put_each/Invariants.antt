@@ -1,6 +1,6 @@
 use Rattle.std.proofs.Common.{◌≡◌, ◌+◌, drop}
 use Rattle.cap_bytes.proofs.Putting.{Putting}
-use Rattle.cap_counts.specs.Reading.{counted_texts}
+use Rattle.cap_counts.specs.Lines.{counted_texts}
 use Rattle.cap_counts.proofs.files.put_each.Given as goal
 
 -- the lines of the files so far are written

@@ -2,7 +2,7 @@ use Rattle.std.proofs.Common.{◌∙◌, None, length}
 use Rattle.std.proofs.lemmas.Result.{err_from_is_err_and}
 use Rattle.cap_bytes.proofs.Putting.{Prints-head, Prints-behind}
 use Rattle.cap_counts.specs.Lines.{files_text}
-use Rattle.cap_counts.specs.Reading.{counted_texts}
+use Rattle.cap_counts.specs.Lines.{counted_texts}
 use Rattle.cap_counts.proofs.files.put_files.Goals as goal
 
 pub returns-in_err-put_all-clause-text : goal.returns-in_err-put_all-clause-text

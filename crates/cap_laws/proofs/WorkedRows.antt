@@ -1,0 +1,31 @@
+-- The report on a few frames.
+use Rattle.std.proofs.Common.{refl}
+use Rattle.std.specs.Fmt.{digits}
+use Rattle.cap_bytes.specs.Number.{number}
+use Rattle.cap_ip.specs.Fields.{version, header_length, service, total_length, identification, more_fragments, offset, time_to_live, protocol, source, destination, data_length, is_fragment}
+use Rattle.cap_ip.specs.Read.{key_of, fragment_of, fields_of, data_of as header_data, ended, is_malformed, lacks_data, is_overstated, is_misfit, is_partial, read_of}
+use Rattle.cap_ip.specs.Transport.{ports_of, udp_length, udp_of, tcp_header_length, tcp_of, transport_of}
+use Rattle.cap_join.specs.ByteMap.{completes, data_of}
+use Rattle.cap_join.specs.Fragments.{piece_of}
+use Rattle.cap_join.specs.History.{joined_pieces, step, state_of}
+use Rattle.cap_link.specs.Links.{typed, raw, network_of}
+use Rattle.cap_link.specs.Tags.{is_tag, ended as tag_ended, payload, carried}
+use Rattle.cap_counts.specs.Counting.{counted}
+use Rattle.cap_rows.specs.Talks.{rows_of}
+use Rattle.cap_time.specs.Code.{units_of_code}
+use Rattle.cap_time.specs.Stamp.{stamp_cmp, stamp_in, stamp_plus}
+use Rattle.cap_time.specs.Time.{time_cmp, time_at, floor_of, remainder_of}
+use Rattle.cap_tally.specs.Classes.{classes, group_class}
+use Rattle.cap_join.specs.Completed.{completed_of}
+use Rattle.cap_tally.specs.TakenText.{body_text, files_part}
+use Rattle.cap_tally.specs.Taken.{look, events_of}
+use Rattle.cap_tally.specs.CountedUnits.{group_unit, unit_at, units_of}
+use Rattle.cap_laws.specs.WorkedReport.{Overlapped, Tagged}
+
+pub overlapped : Overlapped
+unfolding digits number version header_length service total_length identification more_fragments offset time_to_live protocol source destination data_length is_fragment key_of fragment_of fields_of header_data ended is_malformed lacks_data is_overstated is_misfit is_partial read_of ports_of udp_length udp_of tcp_header_length tcp_of transport_of completes data_of piece_of joined_pieces step state_of typed raw network_of counted rows_of units_of_code stamp_cmp stamp_in stamp_plus time_cmp time_at floor_of remainder_of classes group_class completed_of body_text files_part look events_of group_unit unit_at units_of
+overlapped = record { before = refl; after = refl; so_far = refl; done = refl }
+
+pub tagged : Tagged
+unfolding digits number version header_length service total_length identification more_fragments offset time_to_live protocol source destination data_length is_fragment key_of fragment_of fields_of header_data ended is_malformed lacks_data is_overstated is_misfit is_partial read_of ports_of udp_length udp_of tcp_header_length tcp_of transport_of completes data_of piece_of joined_pieces step state_of typed raw network_of counted rows_of units_of_code stamp_cmp stamp_in stamp_plus time_cmp time_at floor_of remainder_of classes group_class completed_of body_text files_part look events_of group_unit unit_at units_of is_tag tag_ended payload carried
+tagged = record { classes_are = refl; done = refl }

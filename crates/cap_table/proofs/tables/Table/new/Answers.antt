@@ -1,0 +1,20 @@
+use Rattle.std.proofs.Common.{◌∙◌, ap, None, refl, sym, arith}
+use Rattle.std.specs.List.{range_with_len}
+use Rattle.cap_order.specs.MergedLaws.{merged-is-feed}
+use Rattle.cap_order.specs.View.{parts_of}
+use Rattle.cap_table.specs.Stepping.{next_taken}
+use Rattle.cap_table.proofs.tables.Table.new.Goals as goal
+
+pub invariant_of-result : goal.invariant_of-result
+invariant_of-result g c =
+    let m = c.args.merged in
+    let law = merged-is-feed g.F.PacketFeed.feed g.met.F.PacketFeed.lawful m.lanes.items m.feeds.items m.alike m.numbered m.reached in
+    record {
+      numbered = c.files.ensures.numbered ∙ ap (range_with_len 1) (sym c.new-totals.ensures.files);
+      finished = refl;
+      counted = c.new-totals.ensures.stands.packets ∙ sym (c.new.ensures.stands None).place;
+      places = omega (arith, (c.new.ensures.stands None).place, law.most, c.files.ensures.files, c.files.ensures.most);
+    }
+
+pub returns-clause-stands : goal.returns-clause-stands
+returns-clause-stands g c = record { totals = c.new-totals.ensures.stands; tally = c.new.ensures.stands (next_taken (parts_of c.args.merged)) }

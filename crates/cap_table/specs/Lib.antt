@@ -1,0 +1,4 @@
+pub mod Stepping
+pub mod TableView
+pub mod Holding
+pub mod Props

@@ -1,2 +1,0 @@
--- Lemmas of what is told of files.
-pub mod TableLines

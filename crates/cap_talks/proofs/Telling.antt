@@ -1,0 +1,30 @@
+-- The text of files that were counted, and a text that is written after everything that can be refused.
+use Rattle.std.proofs.Common.{◌≡◌, ◌+◌, ℕ, suc, List, [], ◌∷◌, ◌++◌, length, IsOkUnless, refl, ap, arith, Option, None, Result}
+use Rattle.cap_bytes.specs.Printing.{Prints}
+use Rattle.cap_bytes.specs.declared.faults.Fault.{Fault}
+use Rattle.cap_bytes.specs.declared.faults.Fault.TheVariants.{Write}
+use Rattle.cap_bytes.specs.declared.faults.Refusal.{Refusal}
+use Rattle.cap_bytes.specs.declared.faults.Tail.{Tail}
+use Rattle.cap_counts.specs.Lines.{files_text, counted_texts}
+use Rattle.cap_counts.specs.declared.files.Counted.{Counted}
+use Rattle.cap_talks.specs.InfoText.{file_texts, info_text}
+use Rattle.cap_talks.specs.Reading.{counted_files}
+use Rattle.cap_talks.specs.Telling.{Tells}
+
+-- the lines of what was counted of files are those of the files
+pub texts-counted : (tail : Tail) (file : ℕ) (files : List (List ℕ)) → counted_texts file (counted_files tail file files) ≡ file_texts tail file files
+texts-counted tail file [] = refl
+texts-counted tail file (bytes ∷ files) = cc (texts-counted tail (file + 1) files)
+
+files-counted : (tail : Tail) (file : ℕ) (files : List (List ℕ)) → length (counted_files tail file files) ≡ length files
+files-counted tail file [] = refl
+files-counted tail file (bytes ∷ files) = ap suc (files-counted tail (file + 1) files)
+
+pub info-counted : (tail : Tail) (files : List (List ℕ)) (all : List Counted) → all ≡ counted_files tail 1 files
+    → files_text (length all) ++ counted_texts 1 all ≡ info_text tail files
+info-counted tail files all is = grind (arith, files-counted, texts-counted)
+
+-- a text that is written after everything that can be refused
+pub tells-printed : (text : List ℕ) (refusal : Option Refusal) (old : List ℕ) (result : Result (Unit {0}) Fault) (new : List ℕ) → refusal ≡ None
+    → IsOkUnless result Write → Prints text None old result new → Tells text refusal old result new
+tells-printed text refusal old result new none fault p = grind arith

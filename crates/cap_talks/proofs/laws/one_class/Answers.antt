@@ -1,9 +1,0 @@
-use Rattle.cap_talks.proofs.InOrder.{by-places}
-use Rattle.cap_tally.proofs.Steps.{one-class}
-use Rattle.cap_talks.proofs.laws.one_class.Goals as goal
-
-pub returns-clause-classes : goal.returns-clause-classes
-returns-clause-classes c = one-class
-
-pub returns-clause-places : goal.returns-clause-places
-returns-clause-places c = by-places
