@@ -5,11 +5,21 @@ ghost use Rattle.cap_convert.specs.Interfaces.{HasUnits, Numbers};
 
 use cap_bytes::{Fault, Refusal, Rule};
 use cap_feed::Meta;
+use cap_time::Interface;
 use indexmap::IndexSet;
 
 /// The origins of the interfaces that were used, in the order of their first use. An origin is the number of a file,
 /// and how many interface blocks of the file stand before the interface's own.
 pub type Origins = IndexSet<(u32, u64)>;
+
+/// A file by its number and its first interface, if one stands before the first packet.
+#[derive(Clone, Copy)]
+pub struct FileStart {
+    /// The number of the file.
+    pub file: u32,
+    /// Its first interface.
+    pub first: Option<Interface>,
+}
 
 // How many interfaces a written file describes at most.
 const WRITTEN_INTERFACE_LIMIT: usize = 1024;

@@ -1,4 +1,4 @@
-//! Written packets of one feed, and one capture file in either format: exactly as they were read, or a refusal.
+//! The packets of one feed written as a file of either format: exactly as they were read, or a refusal.
 #![tactic(auto)]
 
 mod interfaces;
@@ -6,7 +6,7 @@ mod packets;
 mod pcap;
 mod pcapng;
 
-pub use crate::interfaces::{Origins, units_of};
+pub use crate::interfaces::{FileStart, Origins, units_of};
 pub use crate::packets::{put_one, put_packets};
-pub use crate::pcap::to_pcap;
-pub use crate::pcapng::to_pcapng;
+pub use crate::pcap::put_pcap;
+pub use crate::pcapng::put_pcapng;

@@ -1,8 +1,7 @@
-//! Files written as pcap.
+//! A feed written as a pcap file.
 ghost use Rattle.std.specs.Prelude.{◌≡◌, ◌≤◌, length, IsTrue, IsFalse, OnOk, Some, None};
 ghost use Rattle.cap_bytes.specs.Device.{WriterKeeps, writer_of};
 ghost use Rattle.cap_bytes.specs.Printing.{Prints, IsRead, is_write};
-ghost use Rattle.cap_source.specs.Captures.{feed_of, number_of, first_of};
 ghost use Rattle.cap_feed.specs.Feed.{Keeps};
 ghost use Rattle.cap_feed.specs.Walk.{Walks};
 ghost use Rattle.cap_convert.specs.Pcap.{fraction_of, header_of, packet_record, record_fault, records_bytes, records_refusal, pcap_bytes, pcap_refusal};
@@ -10,11 +9,10 @@ ghost use Rattle.cap_convert.specs.Times.{HasTime, HasRecord, IsBare};
 ghost use Rattle.cap_convert.specs.Texts.{text_or};
 ghost use Rattle.cap_convert.specs.Numbering.{refusal_by};
 
-use crate::interfaces::{refused, units_of};
-use cap_bytes::{Fault, Order, Refusal, Rule, Sink, Source};
+use crate::interfaces::{FileStart, refused, units_of};
+use cap_bytes::{Fault, Order, Refusal, Rule, Sink};
 use cap_feed::{Head, Meta, PacketFeed, next_packet};
 use cap_pcap::{PcapHeader, RecordTime, put_header, put_record};
-use cap_source::Capture;
 use cap_time::{Interface, Stamp, Unit};
 
 // How many microseconds there are in a second.
@@ -149,50 +147,29 @@ fn refuse_bare<F: PacketFeed>(feed: &mut F, file: u32) -> Result<(), Fault>
     }
 }
 
-/// Writes a file as a pcap file (draft-ietf-opsawg-pcap, 4 and 5) in that byte order, with the link and the
-/// snaplen of its first interface, in microseconds if each of that interface's units is a whole number of
-/// them, else in nanoseconds. Nothing of the file was passed before. `Refused` comes, in this order, at a
-/// packet that has no time (rule 17, no-time), has another link (18, link-mixed), has a time that isn't whole
-/// in that fraction (19, inexact) or one whose seconds are below 0 or above 4,294,967,295 (20, time-range),
-/// and if the file's packets end in a refusal: what is written is the text of the packets before it. A
-/// file that describes no interface before its first packet is refused, by its own refusal or by rule 21,
-/// no-interface, and nothing is written. After `Read`, `Write` or `Memory` a prefix of the text is written.
-pub fn to_pcap<R: Source, W: Sink>(
-    capture: &mut Capture<R>,
-    order: Order,
-    writer: &mut W,
-) -> Result<(), Fault>
-    ensures text { IsTrue (feed_of capture.old).told → IsTrue (W.tells_held writer.old)
-        → Prints (pcap_bytes order (first_of capture.old) (feed_of capture.old).items)
-        (pcap_refusal (number_of capture.old) (first_of capture.old) (feed_of capture.old).items)
-        (W.held writer.old) result (W.held writer.new) }
-    ensures writer { WriterKeeps (writer_of W.Sink writer.old) (is_write result) (writer_of W.Sink writer.new) }
-    ensures walks { Walks (feed_of capture.old) result (feed_of capture.new) }
-    ensures keeps { Keeps (feed_of capture.old) (feed_of capture.new) }
-{
-    let file = capture.file();
-    let first = capture.first()?;
-    put_pcap(capture, file, first, order, writer)
-}
-
-// Writes the packets of a feed as the pcap file of a file of that number with that first interface.
-fn put_pcap<F: PacketFeed, W: Sink>(
+/// Writes the packets of a feed as the pcap file (draft-ietf-opsawg-pcap, 4 and 5), in that byte order, of a file of that number with
+/// that first interface: with its link and its snaplen, in microseconds if each of its units is a whole number of them, else in
+/// nanoseconds. `Refused` comes, in this order, at a packet that has no time (rule 17, no-time), has another link (18, link-mixed),
+/// has a time that isn't whole in that fraction (19, inexact) or one whose seconds are below 0 or above 4,294,967,295 (20,
+/// time-range), and if the feed's items end in a refusal: what is written is the text of the packets before it. If there is no
+/// first interface, the feed's own refusal, or rule 21, no-interface, is answered, and nothing is written. After `Read`, `Write`
+/// or `Memory` a prefix of the text is written.
+pub fn put_pcap<F: PacketFeed, W: Sink>(
     feed: &mut F,
-    file: u32,
-    first: Option<Interface>,
+    start: FileStart,
     order: Order,
     writer: &mut W,
 ) -> Result<(), Fault>
     ensures text { IsTrue (F.feed feed.old).told → IsTrue (W.tells_held writer.old)
-        → Prints (pcap_bytes order first (F.feed feed.old).items)
-        (pcap_refusal file first (F.feed feed.old).items)
+        → Prints (pcap_bytes order start.first (F.feed feed.old).items)
+        (pcap_refusal start.file start.first (F.feed feed.old).items)
         (W.held writer.old) result (W.held writer.new) }
     ensures writer { WriterKeeps (writer_of W.Sink writer.old) (is_write result) (writer_of W.Sink writer.new) }
     ensures walks { Walks (F.feed feed.old) result (F.feed feed.new) }
     ensures keeps { Keeps (F.feed feed.old) (F.feed feed.new) }
 {
-    match first {
+    match start.first {
         Some(first) => put_file(feed, order, &first, writer),
-        None => refuse_bare(feed, file),
+        None => refuse_bare(feed, start.file),
     }
 }

@@ -14,10 +14,10 @@ use Rattle.cap_talks.specs.InfoText.{first_refusal, info_text}
 use Rattle.cap_talks.specs.ReportText.{report_refusal, report_text}
 use Rattle.cap_talks.specs.Telling.{Tells}
 use Rattle.cap_lists.specs.BlockText.{block_list, block_refusal}
-use Rattle.cap_tasks.specs.Converted.{convert_refusal, convert_text}
-use Rattle.cap_tasks.specs.JoinText.{join_refusal, join_text}
+use Rattle.cap_write.specs.Converted.{convert_refusal, convert_text}
+use Rattle.cap_write.specs.JoinText.{join_refusal, join_text}
 use Rattle.cap_lists.specs.ListText.{list_refusal, list_text}
-use Rattle.cap_tasks.specs.MergeText.{merge_refusal, merge_text}
+use Rattle.cap_write.specs.MergeText.{merge_refusal, merge_text}
 
 -- what is done with a cut end
 abbrev pub tail_of : Bool → Tail

@@ -7,13 +7,11 @@ ghost use Rattle.cap_bytes.specs.Device.{WriterKeeps, writer_of};
 ghost use Rattle.cap_bytes.specs.Printing.{is_write};
 ghost use Rattle.cap_source.specs.ReadFaults.{FailsOf};
 
-use crate::convert::{Encoding, convert_to};
-use crate::join::join_to;
-use crate::merge::merge_to;
 use cap_bytes::{Fault, Sink, Source, Tail};
 use cap_jobs::{Job, Task};
 use cap_lists::{blocks_to, list_to};
 use cap_talks::{file_lines, report};
+use cap_write::{Encoding, convert_to, join_to, merge_to};
 use std::alloc::Global;
 
 // What is done with a cut end.

@@ -1,3 +1,4 @@
 mod Completed
 mod Joining
 mod Lengths
+mod Merging

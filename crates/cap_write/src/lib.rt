@@ -1,11 +1,15 @@
-//! Written files of several captures: their packets in one order, or the datagrams of these, exactly as they were read, or a refusal.
+//! Written files: one capture file in either format, the packets of several in one order, or the datagrams of these; exactly as they
+//! were read, or a refusal.
 #![tactic(auto)]
 
+mod commands;
 mod datagrams;
+mod files;
 mod joined;
 mod merged;
 mod placed_packets;
 
+pub use crate::commands::{Encoding, convert_to, join_to, merge_to};
+pub use crate::files::{to_pcap, to_pcapng};
 pub use crate::joined::write_joined;
 pub use crate::merged::write_merged;
-pub use cap_convert::{to_pcap, to_pcapng};

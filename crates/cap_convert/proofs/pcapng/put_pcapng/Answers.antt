@@ -9,9 +9,9 @@ pub returns-in_err-put_front-clause-text : goal.returns-in_err-put_front-clause-
 returns-in_err-put_front-clause-text g c = λ t w.
     let p = err_from_is_err_and c.from_residual-in_err-put_front.result c.from_residual-in_err-put_front.ensures.1 in
     let items = (g.F.PacketFeed.feed c.args.feed.now).items in
-    let origins = first_origins c.args.begun.file c.args.begun.first in
+    let origins = first_origins c.args.start.file c.args.start.first in
     rw (p.1, p.2)
-    (Prints-head (refusal_in origins items) (g.W.Sink.held c.args.writer.now) (g.W.Sink.held c.put_front.new.writer) (front_bytes c.args.order c.args.begun.first)
+    (Prints-head (refusal_in origins items) (g.W.Sink.held c.args.writer.now) (g.W.Sink.held c.put_front.new.writer) (front_bytes c.args.order c.args.start.first)
     (text_behind c.args.order origins items) c.in_err-put_front.field-0.0 c.in_err-put_front.ensures.fault (c.in_err-put_front.ensures.bytes w))
 
 pub returns-clause-text : goal.returns-clause-text

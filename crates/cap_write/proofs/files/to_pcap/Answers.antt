@@ -1,6 +1,6 @@
 use Rattle.std.proofs.Common.{arith}
 use Rattle.cap_feed.proofs.Onward.{Keeps-trans}
-use Rattle.cap_convert.proofs.pcap.to_pcap.Goals as goal
+use Rattle.cap_write.proofs.files.to_pcap.Goals as goal
 
 pub returns-clause-walks : goal.returns-clause-walks
 returns-clause-walks g c = grind arith

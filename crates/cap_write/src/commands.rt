@@ -1,0 +1,102 @@
+//! What `capt convert`, `merge` and `join` write of files.
+ghost use Rattle.std.specs.Prelude.{◌≤◌, IsTrue, map, vec_len};
+ghost use Rattle.std.specs.List.{list_all, list_any};
+ghost use Rattle.cap_bytes.specs.Device.{WriterKeeps, writer_of};
+ghost use Rattle.cap_bytes.specs.Printing.{Prints, is_write};
+ghost use Rattle.cap_source.specs.ReadFaults.{FailsOf};
+ghost use Rattle.cap_write.specs.Converted.{convert_text, convert_refusal};
+ghost use Rattle.cap_write.specs.JoinText.{join_text, join_refusal};
+ghost use Rattle.cap_write.specs.MergeText.{merge_text, merge_refusal};
+
+use crate::files::{to_pcap, to_pcapng};
+use crate::joined::write_joined;
+use crate::merged::write_merged;
+use cap_bytes::{Fault, Order, Sink, Source, Tail};
+use cap_feed::Format;
+use cap_merge::merge_files;
+use cap_source::Capture;
+use std::alloc::Global;
+
+/// How packets are written.
+#[derive(Clone, Copy, Debug, PartialEq, Eq)]
+pub struct Encoding {
+    /// The format of the file.
+    pub format: Format,
+    /// The byte order of its numbers.
+    pub order: Order,
+}
+
+/// Writes the packets of a capture file of either format as a file of that format, with numbers in that
+/// byte order, exactly as they were read, up to the first refusal, which it answers: one of the file that is
+/// read, or of a packet that the format can't hold (rules 13 and 17 in pcapng, 17 to 21 in pcap, as of
+/// `to_pcapng` and `to_pcap`). `Read` comes if a read fails, `Write` if a write does, `Memory` if a growth is refused;
+/// after these a prefix of that text is written.
+pub fn convert_to<R: Source, W: Sink>(
+    alloc: Global,
+    source: R,
+    tail: Tail,
+    encoding: Encoding,
+    writer: &mut W,
+) -> Result<(), Fault>
+    ensures text { IsTrue (R.tells_coming source) → IsTrue (W.tells_held writer.old)
+        → Prints (convert_text encoding.format encoding.order tail (R.coming source)) (convert_refusal encoding.format tail (R.coming source))
+        (W.held writer.old) result (W.held writer.new) }
+    ensures writer { WriterKeeps (writer_of W.Sink writer.old) (is_write result) (writer_of W.Sink writer.new) }
+    ensures read { FailsOf 1 (R.can_fail source) result }
+{
+    let mut capture = Capture::new(alloc, source, 1, tail);
+    match encoding.format {
+        Format::Pcap => to_pcap(&mut capture, encoding.order, writer),
+        Format::Pcapng => to_pcapng(alloc, &mut capture, encoding.order, writer),
+    }
+}
+
+/// Writes the packets of 1 to 32 capture files, each of either format, as a pcapng file of one section in
+/// that byte order, sorted by exact time: by the greatest time so far in a packet's file, of equal ones
+/// by file, then by place in the file. It ends at the first refusal, which it answers: one of a file that
+/// is read, or of a packet that can't be written (rules 13 and 17, as of `write_merged`). `Read` comes if a
+/// read fails, `Write` if a write does, `Memory` if a growth is refused; after these a prefix of that text is
+/// written.
+pub fn merge_to<R: Source, W: Sink>(
+    alloc: Global,
+    sources: Vec<R>,
+    tail: Tail,
+    order: Order,
+    writer: &mut W,
+) -> Result<(), Fault>
+    requires some { 1 ≤ vec_len sources }
+    requires most { vec_len sources ≤ 32 }
+    ensures text { IsTrue (list_all R.tells_coming sources.items) → IsTrue (W.tells_held writer.old)
+        → Prints (merge_text order tail (map R.coming sources.items)) (merge_refusal tail (map R.coming sources.items))
+        (W.held writer.old) result (W.held writer.new) }
+    ensures writer { WriterKeeps (writer_of W.Sink writer.old) (is_write result) (writer_of W.Sink writer.new) }
+    ensures read { FailsOf (vec_len sources) (list_any R.can_fail sources.items) result }
+{
+    let mut merged = merge_files(alloc, sources, tail)?;
+    write_merged(alloc, &mut merged, order, writer)
+}
+
+/// Writes the whole IPv4 datagrams of 1 to 32 capture files, each of either format, as a pcapng file of
+/// one section in that byte order: the packets are taken in the order of exact time, as of `merge_to`, their
+/// fragments are joined (RFC 791, 3.2), and each datagram is one packet without a link header, as of
+/// `write_joined`. It ends at the first refusal, which it answers: one of a file that is read, or of a
+/// packet or a datagram that can't be written (rules 13 and 17, as of `write_joined`). `Read` comes if a read
+/// fails, `Write` if a write does, `Memory` if a growth is refused; after these a prefix of that text is written.
+pub fn join_to<R: Source, W: Sink>(
+    alloc: Global,
+    sources: Vec<R>,
+    tail: Tail,
+    order: Order,
+    writer: &mut W,
+) -> Result<(), Fault>
+    requires some { 1 ≤ vec_len sources }
+    requires most { vec_len sources ≤ 32 }
+    ensures text { IsTrue (list_all R.tells_coming sources.items) → IsTrue (W.tells_held writer.old)
+        → Prints (join_text order tail (map R.coming sources.items)) (join_refusal tail (map R.coming sources.items))
+        (W.held writer.old) result (W.held writer.new) }
+    ensures writer { WriterKeeps (writer_of W.Sink writer.old) (is_write result) (writer_of W.Sink writer.new) }
+    ensures read { FailsOf (vec_len sources) (list_any R.can_fail sources.items) result }
+{
+    let mut run = merge_files(alloc, sources, tail)?;
+    write_joined(alloc, &mut run, order, writer)
+}

@@ -1,0 +1,66 @@
+//! One capture file written in either format.
+ghost use Rattle.std.specs.Prelude.{IsTrue};
+ghost use Rattle.cap_bytes.specs.Device.{WriterKeeps, writer_of};
+ghost use Rattle.cap_bytes.specs.Printing.{Prints, is_write};
+ghost use Rattle.cap_convert.specs.Pcap.{pcap_bytes, pcap_refusal};
+ghost use Rattle.cap_convert.specs.Texts.{pcapng_bytes, pcapng_refusal};
+ghost use Rattle.cap_feed.specs.Feed.{Keeps};
+ghost use Rattle.cap_feed.specs.Walk.{Walks};
+ghost use Rattle.cap_source.specs.Captures.{feed_of, number_of, first_of};
+
+use cap_bytes::{Fault, Order, Sink, Source};
+use cap_convert::{FileStart, put_pcap, put_pcapng};
+use cap_feed::PacketFeed;
+use cap_source::Capture;
+use std::alloc::Global;
+
+/// Writes a file as a pcapng file (draft-ietf-opsawg-pcapng, 4) of one section in that byte order: its first
+/// interface, if one stands before the first packet, right after the section header, and each other interface
+/// in front of its first packet. Nothing of the file was passed before. `Refused` comes at a packet that has no time
+/// (rule 17, no-time), at one whose interface would be the 1,025th (rule 13, interface-limit), and if
+/// the file's packets end in a refusal: what is written is the text of the packets before it. After
+/// `Read`, `Write` or `Memory` a prefix of the text is written.
+pub fn to_pcapng<R: Source, W: Sink>(
+    alloc: Global,
+    capture: &mut Capture<R>,
+    order: Order,
+    writer: &mut W,
+) -> Result<(), Fault>
+    ensures text { IsTrue (feed_of capture.old).told → IsTrue (W.tells_held writer.old)
+        → Prints (pcapng_bytes order (number_of capture.old) (first_of capture.old) (feed_of capture.old).items)
+        (pcapng_refusal (number_of capture.old) (first_of capture.old) (feed_of capture.old).items)
+        (W.held writer.old) result (W.held writer.new) }
+    ensures writer { WriterKeeps (writer_of W.Sink writer.old) (is_write result) (writer_of W.Sink writer.new) }
+    ensures walks { Walks (feed_of capture.old) result (feed_of capture.new) }
+    ensures keeps { Keeps (feed_of capture.old) (feed_of capture.new) }
+{
+    let file = capture.file();
+    let first = capture.first()?;
+    put_pcapng(alloc, capture, FileStart { file, first }, order, writer)
+}
+
+/// Writes a file as a pcap file (draft-ietf-opsawg-pcap, 4 and 5) in that byte order, with the link and the
+/// snaplen of its first interface, in microseconds if each of that interface's units is a whole number of
+/// them, else in nanoseconds. Nothing of the file was passed before. `Refused` comes, in this order, at a
+/// packet that has no time (rule 17, no-time), has another link (18, link-mixed), has a time that isn't whole
+/// in that fraction (19, inexact) or one whose seconds are below 0 or above 4,294,967,295 (20, time-range),
+/// and if the file's packets end in a refusal: what is written is the text of the packets before it. A
+/// file that describes no interface before its first packet is refused, by its own refusal or by rule 21,
+/// no-interface, and nothing is written. After `Read`, `Write` or `Memory` a prefix of the text is written.
+pub fn to_pcap<R: Source, W: Sink>(
+    capture: &mut Capture<R>,
+    order: Order,
+    writer: &mut W,
+) -> Result<(), Fault>
+    ensures text { IsTrue (feed_of capture.old).told → IsTrue (W.tells_held writer.old)
+        → Prints (pcap_bytes order (first_of capture.old) (feed_of capture.old).items)
+        (pcap_refusal (number_of capture.old) (first_of capture.old) (feed_of capture.old).items)
+        (W.held writer.old) result (W.held writer.new) }
+    ensures writer { WriterKeeps (writer_of W.Sink writer.old) (is_write result) (writer_of W.Sink writer.new) }
+    ensures walks { Walks (feed_of capture.old) result (feed_of capture.new) }
+    ensures keeps { Keeps (feed_of capture.old) (feed_of capture.new) }
+{
+    let file = capture.file();
+    let first = capture.first()?;
+    put_pcap(capture, FileStart { file, first }, order, writer)
+}
