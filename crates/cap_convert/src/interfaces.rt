@@ -12,12 +12,12 @@ use indexmap::IndexSet;
 /// and how many interface blocks of the file stand before the interface's own.
 pub type Origins = IndexSet<(u32, u64)>;
 
-/// A file by its number and its first interface, if one stands before the first packet.
+/// What is told of a file before its first packet.
 #[derive(Clone, Copy)]
 pub struct FileStart {
     /// The number of the file.
     pub file: u32,
-    /// Its first interface.
+    /// Its first interface; `None` if none stands before the first packet.
     pub first: Option<Interface>,
 }
 

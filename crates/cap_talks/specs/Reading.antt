@@ -1,12 +1,11 @@
 -- What reading a file whole, to count its packets, answers.
-use Rattle.std.specs.Prelude.{◌≡◌, ℕ, ◌+◌, ◌-◌, List, [], ◌∷◌, take, Vec, Option, Some, None, Result, Ok, Err, ⊤}
+use Rattle.std.specs.Prelude.{◌≡◌, ℕ, ◌+◌, ◌-◌, List, [], ◌∷◌, take, Vec, Some, None, Result, Ok, Err, ⊤}
 use Rattle.std.specs.declared.alloc.Global.{Global}
 use Rattle.cap_bytes.specs.declared.faults.Fault.{Fault}
 use Rattle.cap_bytes.specs.declared.faults.Fault.TheVariants.{Refused, Read, Write, Memory}
 use Rattle.cap_bytes.specs.declared.faults.Tail.{Tail}
 use Rattle.cap_feed.specs.Feed.{Feed, refusal_of}
 use Rattle.cap_source.specs.Items.{file_items, file_ending}
-use Rattle.cap_feed.specs.declared.feeds.Ending.{Ending}
 use Rattle.cap_counts.specs.Counting.{packets_of, counted}
 use Rattle.cap_counts.specs.declared.counts.Counts.{Counts}
 use Rattle.cap_counts.specs.declared.files.Counted.{Counted}

@@ -1,23 +1,9 @@
-use Rattle.std.proofs.Common.{rules, ℕ, ◌<◌, ◌++◌, ◌∷◌, length, Some, Err, sym, ap, ◌∙◌, subst, arith}
-use Rattle.std.proofs.lemmas.Result.{err_from_is_err_and}
-use Rattle.cap_ip.specs.Transport.{transport_of}
-use Rattle.cap_ip.specs.declared.headers.Key.{Key}
-use Rattle.cap_join.specs.History.{flushes}
-use Rattle.cap_join.specs.Joiners.{IsAnswer, open_limit}
-use Rattle.cap_join.specs.Joiners as joiners
-use Rattle.cap_rows.specs.Rows.{StandsFor}
-use Rattle.cap_rows.specs.Talks.{frames_of, bytes_of}
-use Rattle.cap_rows.proofs.SumLaws.{sum_law}
-use Rattle.cap_tally.specs.Adding.{is_over}
-use Rattle.cap_tally.specs.Classes.{class_of}
+use Rattle.std.proofs.Common.{sym, ap, ◌∙◌, arith}
 use Rattle.cap_tally.specs.Looking.{look_of, taken_of}
-use Rattle.cap_tally.specs.Taken.{datagram, stamped_of}
-use Rattle.cap_tally.specs.Tallies.{TallyState, LimitBy, with_frames}
+use Rattle.cap_tally.specs.Taken.{stamped_of}
+use Rattle.cap_tally.specs.Tallies.{TallyState}
 use Rattle.cap_tally.specs.TallyView.{tally_view}
-use Rattle.cap_tally.specs.CountedUnits.{listed, whole_unit}
-use Rattle.cap_tally.proofs.Tallying.{unit-is}
-use Rattle.cap_tally.proofs.UnitOrder.{whole-order}
-use Rattle.cap_tally.proofs.Exits.{sum-taken, frames-taken, looks-plain, sound-plain, looks-datagram, sound-datagram, numbers-whole, limit-is, limit-by}
+use Rattle.cap_tally.proofs.Exits.{sum-taken, looks-plain, sound-plain}
 use Rattle.cap_tally.proofs.tallies.Tally.look_again.Goals as goal
 
 pub with_frames-self-inside-requires : goal.with_frames-self-inside-requires

@@ -10,14 +10,14 @@ use Rattle.cap_rows.specs.Talks.{frames_of, bytes_of}
 use Rattle.cap_rows.proofs.SumLaws.{sum_law}
 use Rattle.cap_tally.specs.Adding.{is_over}
 use Rattle.cap_tally.specs.Classes.{class_of}
-use Rattle.cap_tally.specs.Looking.{look_of, taken_of}
+use Rattle.cap_tally.specs.Looking.{taken_of}
 use Rattle.cap_tally.specs.Taken.{datagram, stamped_of}
 use Rattle.cap_tally.specs.Tallies.{TallyState, LimitBy, with_frames}
 use Rattle.cap_tally.specs.TallyView.{tally_view}
 use Rattle.cap_tally.specs.CountedUnits.{listed, whole_unit}
 use Rattle.cap_tally.proofs.Tallying.{unit-is}
 use Rattle.cap_tally.proofs.UnitOrder.{whole-order}
-use Rattle.cap_tally.proofs.Exits.{sum-taken, frames-taken, looks-plain, sound-plain, looks-datagram, sound-datagram, numbers-whole, limit-is, limit-by}
+use Rattle.cap_tally.proofs.Exits.{sum-taken, frames-taken, looks-datagram, sound-datagram, numbers-whole, limit-is, limit-by}
 use Rattle.cap_tally.proofs.tallies.Tally.take_datagram.Goals as goal
 
 pub add_unit-requires-clause-frames : goal.add_unit-requires-clause-frames
