@@ -28,7 +28,7 @@ pub struct Encoding {
 
 /// Writes the packets of a capture file of either format as a file of that format, with numbers in that
 /// byte order, exactly as they were read, up to the first refusal, which it answers: one of the file that is
-/// read, or of a packet that the format can't hold (rules 13 and 17 in pcapng, 17 to 21 in pcap, as of
+/// read, or of a packet that the format can't hold (rules 13 and 17 in pcapng, 17 to 21 in pcap: see
 /// `to_pcapng` and `to_pcap`). `Read` comes if a read fails, `Write` if a write does, `Memory` if a growth is refused;
 /// after these a prefix of that text is written.
 pub fn convert_to<R: Source, W: Sink>(
@@ -54,7 +54,7 @@ pub fn convert_to<R: Source, W: Sink>(
 /// Writes the packets of 1 to 32 capture files, each of either format, as a pcapng file of one section in
 /// that byte order, sorted by exact time: by the greatest time so far in a packet's file, of equal ones
 /// by file, then by place in the file. It ends at the first refusal, which it answers: one of a file that
-/// is read, or of a packet that can't be written (rules 13 and 17, as of `write_merged`). `Read` comes if a
+/// is read, or of a packet that can't be written (rules 13 and 17: see `write_merged`). `Read` comes if a
 /// read fails, `Write` if a write does, `Memory` if a growth is refused; after these a prefix of that text is
 /// written.
 pub fn merge_to<R: Source, W: Sink>(
@@ -77,10 +77,10 @@ pub fn merge_to<R: Source, W: Sink>(
 }
 
 /// Writes the whole IPv4 datagrams of 1 to 32 capture files, each of either format, as a pcapng file of
-/// one section in that byte order: the packets are taken in the order of exact time, as of `merge_to`, their
-/// fragments are joined (RFC 791, 3.2), and each datagram is one packet without a link header, as of
-/// `write_joined`. It ends at the first refusal, which it answers: one of a file that is read, or of a
-/// packet or a datagram that can't be written (rules 13 and 17, as of `write_joined`). `Read` comes if a read
+/// one section in that byte order: the packets are taken in the order of exact time, as `merge_to` does, their
+/// fragments are joined (RFC 791, 3.2), and each datagram is one packet without a link header, as
+/// `write_joined` writes it. It ends at the first refusal, which it answers: one of a file that is read, or of a
+/// packet or a datagram that can't be written (rules 13 and 17: see `write_joined`). `Read` comes if a read
 /// fails, `Write` if a write does, `Memory` if a growth is refused; after these a prefix of that text is written.
 pub fn join_to<R: Source, W: Sink>(
     alloc: Global,
