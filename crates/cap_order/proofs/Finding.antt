@@ -2,9 +2,10 @@
 use Rattle.std.proofs.Common.{◌≡◌, ℕ, zero, suc, ◌<◌, ◌≤◌, Bool, List, length, get_or, cond, [], ◌∷◌, refl, sym, ap, ◌∙◌, subst, arith, Option, Some, None}
 use Rattle.std.specs.Prelude.{IfSome}
 use Rattle.std.proofs.lemmas.List.{length-map}
+use Rattle.cap_order.specs.declared.lanes.Coming.TheVariants as comings
 use Rattle.cap_order.specs.declared.lanes.Front.{Front}
 use Rattle.cap_order.specs.declared.lanes.Lane.{Lane}
-use Rattle.cap_order.specs.First.{Turn, lane_turn, lane_turns, has_item, sooner_place, first_among, first_place, front_at, found_of, passed_of, IsFound}
+use Rattle.cap_order.specs.First.{Turn, lane_at, lane_turn, lane_turns, has_item, sooner_place, first_among, first_place, front_at, found_of, passed_of, IsFound}
 
 sooner_within : (ts : List Turn) (o : Option ℕ) (place : ℕ) → IfSome o (λ n. n < place) → IfSome (sooner_place ts o place) (λ n. n < suc place)
 sooner_within ts o place h = grind arith
@@ -56,3 +57,9 @@ pub first-alone : (ls : List Lane) (l : Lane) (b : Bool) → length ls ≡ 1 →
 unfolding first_among
 first-alone (k ∷ []) l b e is h = λ i. cond (sym (h ∙ ap (λ (w : Lane). has_item w.next) is) i) (Some 0) None
 first-alone ls l b e is h = grind arith
+
+-- the packet of the only lane comes first
+pub packet-alone : (ls : List Lane) (place : ℕ) → length ls ≡ 1 → (lane_at ls place).next ≡ Some comings.Packet → first_place (lane_turns ls) ≡ Some place
+unfolding first_among
+packet-alone (l ∷ []) zero e is = ap (λ next. cond (has_item next) (Some 0) None) is
+packet-alone ls place e is = grind arith

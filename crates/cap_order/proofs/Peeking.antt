@@ -1,5 +1,5 @@
 -- Asking the feed that was passed whether it has a packet at hand.
-use Rattle.std.proofs.Common.{◌≡◌, ℕ, zero, suc, ◌<◌, Bool, true, false, List, [], ◌∷◌, length, get_or, refl, sym, ◌∙◌, subst, arith, inl, inr, Some, Result, Ok, Err}
+use Rattle.std.proofs.Common.{◌≡◌, ℕ, zero, suc, ◌<◌, Bool, true, false, List, ◌∷◌, length, get_or, refl, sym, ◌∙◌, subst, arith, inl, inr, Some, Result, Ok, Err}
 use Rattle.std.specs.Prelude.{map, is_some, not, ◌&&◌}
 use Rattle.std.specs.List.{AllByRecursion, list_all}
 use Rattle.std.specs.Ordering.{is_lt}

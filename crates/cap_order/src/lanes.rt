@@ -177,6 +177,7 @@ fn show<F: PacketFeed>(lane: &mut Lane, feed: &mut F) -> bool
     requires { Matches lane.old (F.feed feed.old) }
     ensures shows { Shows (part lane.old (F.feed feed.old)) result (part lane.new (F.feed feed.new)) }
     ensures agrees { Matches lane.new (F.feed feed.new) }
+    ensures packet { result ≡ true → lane.new.next ≡ Some Coming.Packet }
 {
     if lane.next.is_some() {
         return false;
@@ -199,6 +200,7 @@ fn show_at<F: PacketFeed>(lanes: &mut [Lane], feeds: &mut [F], place: usize) -> 
     requires others { known_but (parts lanes.old (map F.feed feeds.old)) place ≡ true }
     ensures shows { ShowsAt (parts lanes.old (map F.feed feeds.old)) place result (parts lanes.new (map F.feed feeds.new)) }
     ensures agrees { Agrees lanes.new (map F.feed feeds.new) }
+    ensures packet { result ≡ true → (lane_at lanes.new place).next ≡ Some Coming.Packet }
 {
     show(&mut lanes[place], &mut feeds[place])
 }
@@ -217,6 +219,7 @@ pub(crate) fn show_next<F: PacketFeed>(
     ensures shows { ShowsAt (parts lanes.old.items (map F.feed feeds.old.items)) place result
         (parts lanes.new.items (map F.feed feeds.new.items)) }
     ensures agrees { Agrees lanes.new.items (map F.feed feeds.new.items) }
+    ensures packet { result ≡ true → (lane_at lanes.new.items place).next ≡ Some Coming.Packet }
     ensures lanes { length lanes.new.items ≡ length lanes.old.items }
     ensures feeds { length feeds.new.items ≡ length feeds.old.items }
 {

@@ -157,6 +157,11 @@ impl<F: PacketFeed> Merged<F> {
             self.front = Front::Unknown;
             return false;
         }
+        // The packet at hand of the only file comes first.
+        if self.lanes.len() == 1 {
+            self.front = Front::At(place);
+            return true;
+        }
         let first = first_lane(self.lanes.as_slice());
         self.front = Front::at(first);
         is_packet_at(self.lanes.as_slice(), first)

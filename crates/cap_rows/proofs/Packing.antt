@@ -163,13 +163,17 @@ new-more k es new unit key n none is =
     empty_row (Some row) h = absurd (true≢false (sym h))
 
 -- the row of a new conversation
-pub row-put : (k : PackedKey) (es new : List (PackedKey × TalkRow)) (unit : CountedUnit) (row : TalkRow) → k ≡ packed (key_of unit) → IsNarrow (key_of unit)
-    → new ≡ insert_entry same_packed es k row → unpacked_talks new ≡ insert_entry same_talk (unpacked_talks es) (key_of unit) row
-row-put k es new unit row key n is = ap unpacked_talks (is ∙ ap (λ w. insert_entry same_packed es w row) key) ∙ insert-packed (key_of unit) row es n
+pub row-put : (k : PackedKey) (es new : List (PackedKey × TalkRow)) (row : TalkRow) → IsNarrow (unpacked k)
+    → new ≡ insert_entry same_packed es k row → unpacked_talks new ≡ insert_entry same_talk (unpacked_talks es) (unpacked k) row
+row-put k es new row n is = ap unpacked_talks (is ∙ ap (λ w. insert_entry same_packed es w row) (sym (packed-unpacked k))) ∙ insert-packed (unpacked k) row es n
 
-pub keys-put : (k : PackedKey) (es new : List (PackedKey × TalkRow)) (unit : CountedUnit) (row : TalkRow) → k ≡ packed (key_of unit) → IsNarrow (key_of unit)
+pub keys-put : (k : PackedKey) (es new : List (PackedKey × TalkRow)) (row : TalkRow) → IsNarrow (unpacked k)
     → new ≡ insert_entry same_packed es k row → are_packed es ≡ true → are_packed new ≡ true
-keys-put k es new unit row key n is a = ap are_packed is ∙ insert-are_packed k row es (ap is_packed key ∙ packed-narrow (key_of unit) n) a
+keys-put k es new row n is a = ap are_packed is ∙ insert-are_packed k row es (ap is_packed (sym (packed-unpacked k)) ∙ packed-narrow (unpacked k) n) a
+
+-- the key of a unit, as it is looked up, is read as that key
+pub key-read : (k : PackedKey) (unit : CountedUnit) → k ≡ packed (key_of unit) → IsNarrow (key_of unit) → unpacked k ≡ key_of unit
+key-read k unit key n = ap unpacked key ∙ unpacked-packed (key_of unit) n
 
 -- whether it is one too many
 pub refused-there : (k : PackedKey) (es : List (PackedKey × TalkRow)) (unit : CountedUnit) → k ≡ packed (key_of unit) → IsNarrow (key_of unit)

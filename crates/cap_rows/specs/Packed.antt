@@ -48,6 +48,10 @@ is_end number = nat_lt (number / 131072) (2 ^ 32) && nat_lt (number % 131072) 65
 abbrev pub is_packed : PackedKey → Bool
 is_packed key = is_end (key.lesser / 256) && is_end key.greater
 
+-- both of its numbers as one of 128 bits
+abbrev pub both_numbers : PackedKey → ℕ
+both_numbers key = key.lesser * 2 ^ 64 + key.greater
+
 -- two packed keys are the same
 abbrev pub same_packed : PackedKey → PackedKey → Bool
 same_packed a b = (a.lesser == b.lesser) && (a.greater == b.greater)

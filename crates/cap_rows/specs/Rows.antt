@@ -6,6 +6,7 @@ use Rattle.std.specs.Ordering.{is_lt}
 use Rattle.indexmap.specs.IndexMap.{insert_entry}
 use Rattle.cap_rows.specs.Talks.{Talk, row_of, is_forward, key_of, by_time, earlier_frame, later_frame, frame_time, place_or, same_talk, rows_of}
 use Rattle.cap_rows.specs.declared.rows.TalkKey.{TalkKey}
+use Rattle.cap_rows.specs.declared.rows.Share.{Share}
 use Rattle.cap_rows.specs.declared.rows.TalkRow.{TalkRow}
 use Rattle.cap_rows.specs.declared.talks.TalksFault.{TalksFault}
 use Rattle.cap_rows.specs.declared.talks.TalksFault.TheVariants.{Limit, Memory}
@@ -100,15 +101,24 @@ with_frames row first last =
       last_place = place_or (later_frame (frame_of row.last row.last_place) last) row.last_place;
     }
 
+-- what a unit adds to the row of its conversation
+abbrev pub share_of : CountedUnit → Share
+share_of unit =
+    record { is_forward = is_forward unit; frames = unit.frames; bytes = unit.bytes; first = unit.first; last = unit.last }
+
+-- a row with that added
+abbrev pub with_share : TalkRow → Share → TalkRow
+with_share row share =
+    record (with_frames row share.first share.last) {
+      forward_bytes = if share.is_forward then row.forward_bytes + share.bytes else row.forward_bytes;
+      backward_bytes = if share.is_forward then row.backward_bytes else row.backward_bytes + share.bytes;
+      forward_frames = if share.is_forward then row.forward_frames + share.frames else row.forward_frames;
+      backward_frames = if share.is_forward then row.backward_frames else row.backward_frames + share.frames;
+    }
+
 -- a row with one unit of its conversation more
 abbrev pub with_unit : TalkRow → CountedUnit → TalkRow
-with_unit row unit =
-    record (with_frames row unit.first unit.last) {
-      forward_bytes = if is_forward unit then row.forward_bytes + unit.bytes else row.forward_bytes;
-      backward_bytes = if is_forward unit then row.backward_bytes else row.backward_bytes + unit.bytes;
-      forward_frames = if is_forward unit then row.forward_frames + unit.frames else row.forward_frames;
-      backward_frames = if is_forward unit then row.backward_frames else row.backward_frames + unit.frames;
-    }
+with_unit row unit = with_share row (share_of unit)
 
 abbrev pub or_empty : Option TalkRow → TalkRow
 or_empty None = row_of []

@@ -1,18 +1,36 @@
 //! Keys of conversations as they are looked up.
 ghost use Rattle.std.specs.Prelude.{◌≡◌, ◌+◌, ◌<◌, ◌^◌, true, IfSome};
-ghost use Rattle.cap_rows.specs.Talks.{key_of};
-ghost use Rattle.cap_rows.specs.Packed.{port_number, port_of, end_number, end_of, packed, unpacked, IsNarrow, IsNarrowEnd, is_end, is_packed};
+ghost use Rattle.cap_rows.specs.Talks.{key_of, is_forward};
+ghost use Rattle.std.specs.Hash as fed;
+ghost use Rattle.std.specs.Cmp.Rules.{hashing};
+ghost use Rattle.std.proofs.Common.{rules};
+ghost use Rattle.cap_rows.specs.Packed.{both_numbers, port_number, port_of, end_number, end_of, packed, unpacked, IsNarrow, IsNarrowEnd, is_end, is_packed};
 
 use crate::rows::TalkKey;
 use crate::units::{CountedUnit, End};
+use std::hash::{Hash, Hasher};
 
 /// A key as two numbers, which are compared and hashed in a fraction of the time that its fields take.
-#[derive(Clone, Copy, Debug, PartialEq, Eq, Hash)]
+#[derive(Clone, Copy, Debug, PartialEq, Eq)]
 pub(crate) struct PackedKey {
     // the lesser end, and below it the protocol
     lesser: u64,
     // the greater end
     greater: u64,
+}
+
+// The two numbers are hashed as one of 128 bits, which takes one product: two would wait for each other.
+impl Hash for PackedKey {
+    ghost hash_input = { λ key. fed.u128 (both_numbers key) };
+
+    ghost respects_eq = { Prim.search (hashing, rules) };
+
+    #[inline(always)]
+    fn hash<H: Hasher>(&self, state: &mut H) {
+        state.write_u128(
+            u128::from(self.lesser) * 0x1_0000_0000_0000_0000 + u128::from(self.greater),
+        );
+    }
 }
 
 // A port as a number: 0 is none.
@@ -71,25 +89,28 @@ fn protocol_number(protocol: u8) -> u64
 }
 
 impl PackedKey {
-    /// The key of the conversation that a unit belongs to.
+    /// The key of the conversation that a unit belongs to, and whether it goes from the lesser of its ends, or from an end to itself.
     #[inline(always)]
-    pub(crate) fn of(unit: &CountedUnit) -> PackedKey
-        ensures value { result ≡ packed (key_of unit.now) }
+    pub(crate) fn of(unit: &CountedUnit) -> (PackedKey, bool)
+        ensures value { result.0 ≡ packed (key_of unit.now) }
+        ensures forward { result.1 ≡ is_forward unit.now }
         ensures narrow { IsNarrow (key_of unit.now) }
     {
         let protocol = protocol_number(unit.protocol);
         let source = end_number(&unit.source);
         let destination = end_number(&unit.destination);
         if source <= destination {
-            PackedKey {
+            let key = PackedKey {
                 lesser: source * 256 + protocol,
                 greater: destination,
-            }
+            };
+            (key, true)
         } else {
-            PackedKey {
+            let key = PackedKey {
                 lesser: destination * 256 + protocol,
                 greater: source,
-            }
+            };
+            (key, false)
         }
     }
 

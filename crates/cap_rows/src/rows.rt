@@ -1,7 +1,7 @@
 //! The row of a conversation: what is counted of its units.
 ghost use Rattle.std.specs.Prelude.{◌≡◌, ◌+◌, ◌<◌, ◌^◌, [], true, if◌then◌else◌};
 ghost use Rattle.cap_rows.specs.Talks.{is_forward, earlier_frame, later_frame, frame_time, place_or, row_of};
-ghost use Rattle.cap_rows.specs.Rows.{with_unit, with_frames, frames_of_row, bytes_of_row, frame_of, is_earlier, is_after, is_in_order};
+ghost use Rattle.cap_rows.specs.Rows.{share_of, with_share, with_frames, frames_of_row, bytes_of_row, frame_of, is_earlier, is_after, is_in_order};
 
 use crate::units::{CountedUnit, End, TimedFrame};
 use cap_time::Stamp;
@@ -18,26 +18,55 @@ pub struct TalkKey {
     pub greater: End,
 }
 
-/// What is counted of the units of a conversation. The wide fields stand first, so that a row takes no more room than it needs.
+/// What is counted of the units of a conversation. What a unit changes stands side by side, whichever way it goes, so that a packet
+/// touches as few lines of the processor's memory as it can.
 #[derive(Clone, Copy, Debug)]
 pub struct TalkRow {
     /// The sum of the original lengths, in bytes, of the frames of units from the lesser end, so also of those from an end to
     /// itself.
     pub forward_bytes: u128,
-    /// The same of the units from the greater end.
-    pub backward_bytes: u128,
-    /// The least time of their frames; `None` if no frame has a time.
-    pub first: Option<Stamp>,
-    /// The greatest time of their frames.
-    pub last: Option<Stamp>,
     /// In how many frames the units from the lesser end came.
     pub forward_frames: u64,
-    /// The same of the units from the greater end.
-    pub backward_frames: u64,
-    /// The place of the frame of the least time, of equal times the lowest; 0 if no frame has a time.
-    pub first_place: u64,
     /// The place of the frame of the greatest time, of equal times the lowest.
     pub last_place: u64,
+    /// The greatest time of their frames; `None` if no frame has a time.
+    pub last: Option<Stamp>,
+    /// In how many frames the units from the greater end came.
+    pub backward_frames: u64,
+    /// The sum of the original lengths of their frames.
+    pub backward_bytes: u128,
+    /// The least time of the frames of all units; `None` if no frame has a time.
+    pub first: Option<Stamp>,
+    /// The place of the frame of the least time, of equal times the lowest; 0 if no frame has a time.
+    pub first_place: u64,
+}
+
+/// What a unit adds to the row of its conversation: all of it but its ends, which need not be kept once the row is found.
+#[derive(Clone, Copy)]
+pub(crate) struct Share {
+    // whether the unit goes from the lesser of its ends, or from an end to itself
+    pub(crate) is_forward: bool,
+    pub(crate) frames: u64,
+    pub(crate) bytes: u128,
+    pub(crate) first: Option<TimedFrame>,
+    pub(crate) last: Option<TimedFrame>,
+}
+
+impl Share {
+    // What a unit adds, which goes from the lesser of its ends or not.
+    #[inline(always)]
+    pub(crate) fn of(unit: &CountedUnit, forward: bool) -> Share
+        requires { forward ≡ is_forward unit.now }
+        ensures { result ≡ share_of unit.now }
+    {
+        Share {
+            is_forward: forward,
+            frames: unit.frames,
+            bytes: unit.bytes,
+            first: unit.first,
+            last: unit.last,
+        }
+    }
 }
 
 impl TalkRow {
@@ -47,41 +76,34 @@ impl TalkRow {
     {
         TalkRow {
             forward_bytes: 0,
+            forward_frames: 0,
+            last_place: 0,
+            last: None,
+            backward_frames: 0,
             backward_bytes: 0,
             first: None,
-            last: None,
-            forward_frames: 0,
-            backward_frames: 0,
             first_place: 0,
-            last_place: 0,
         }
     }
 
     // Counts one unit more.
     #[inline(always)]
-    pub(crate) fn take(&mut self, unit: &CountedUnit)
-        requires frames { frames_of_row self.old + unit.now.frames < 2 ^ 64 }
-        requires bytes { bytes_of_row self.old + unit.now.bytes < 2 ^ 128 }
+    pub(crate) fn take(&mut self, share: Share)
+        requires frames { frames_of_row self.old + share.frames < 2 ^ 64 }
+        requires bytes { bytes_of_row self.old + share.bytes < 2 ^ 128 }
         requires order { is_in_order self.old ≡ true }
-        requires one { unit.now.frames ≡ 1 → unit.now.first ≡ unit.now.last }
-        ensures { self.new ≡ with_unit self.old unit.now }
+        requires one { share.frames ≡ 1 → share.first ≡ share.last }
+        ensures { self.new ≡ with_share self.old share }
     {
-        if is_forward(unit) {
-            self.forward_frames += unit.frames;
-            self.forward_bytes += unit.bytes;
+        if share.is_forward {
+            self.forward_frames += share.frames;
+            self.forward_bytes += share.bytes;
         } else {
-            self.backward_frames += unit.frames;
-            self.backward_bytes += unit.bytes;
+            self.backward_frames += share.frames;
+            self.backward_bytes += share.bytes;
         }
-        take_frames(self, unit);
+        take_frames(self, share);
     }
-}
-
-// Whether a unit goes from the lesser of its ends, or from an end to itself.
-fn is_forward(unit: &CountedUnit) -> bool
-    ensures { result ≡ is_forward unit.now }
-{
-    unit.source <= unit.destination
 }
 
 // Whether a frame comes before the first one so far: it has the lesser time, of equal times the lower place, or is the only one.
@@ -102,15 +124,15 @@ fn is_earlier(frame: &TimedFrame, first: &Option<Stamp>, place: u64) -> bool
 // Takes the first and the last frame of a unit into the least and the greatest time so far. Most units came in one frame, which is
 // later than all before it: it isn't compared with the first of those.
 #[inline(always)]
-fn take_frames(row: &mut TalkRow, unit: &CountedUnit)
+fn take_frames(row: &mut TalkRow, share: Share)
     requires order { is_in_order row.old ≡ true }
-    requires one { unit.now.frames ≡ 1 → unit.now.first ≡ unit.now.last }
-    ensures { row.new ≡ with_frames row.old unit.now.first unit.now.last }
+    requires one { share.frames ≡ 1 → share.first ≡ share.last }
+    ensures { row.new ≡ with_frames row.old share.first share.last }
 {
-    if unit.frames == 1 && goes_on(&mut row.last, &mut row.last_place, &unit.last) {
+    if share.frames == 1 && goes_on(&mut row.last, &mut row.last_place, &share.last) {
         return;
     }
-    take_both(row, unit.first, unit.last);
+    take_both(row, share.first, share.last);
 }
 
 // Takes a first and a last frame, whatever times they have. It takes copies, and isn't inlined, so that where a frame is later than all

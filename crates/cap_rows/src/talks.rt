@@ -3,13 +3,13 @@ ghost use Rattle.std.specs.Prelude.{◌≡◌, ◌+◌, ◌≤◌, ◌<◌, ◌^
 ghost use Rattle.std.specs.Map.{lookup};
 ghost use Rattle.indexmap.specs.IndexMap.{insert_entry};
 ghost use Rattle.indexmap.specs.Layout.{set_value_at};
-ghost use Rattle.cap_rows.specs.Packed.{packed, IsNarrow, unpacked_talks, are_packed};
+ghost use Rattle.cap_rows.specs.Packed.{unpacked, IsNarrow, unpacked_talks, are_packed};
 ghost use Rattle.cap_rows.specs.Talks.{key_of, row_of, same_talk};
-ghost use Rattle.cap_rows.specs.Rows.{StandsFor, is_refused, is_limit, talk_limit, frames_in, bytes_in, frames_of_row, bytes_of_row, row_in, with_unit, with_talk, IsUnitInOrder, is_in_order, are_all_in_order};
+ghost use Rattle.cap_rows.specs.Rows.{StandsFor, is_refused, is_limit, talk_limit, frames_in, bytes_in, frames_of_row, bytes_of_row, row_in, with_share, with_talk, IsUnitInOrder, is_in_order, are_all_in_order};
 ghost use Rattle.cap_rows.specs.declared.units.CountedUnit.{CountedUnit};
 
 use crate::keys::PackedKey;
-use crate::rows::{TalkKey, TalkRow};
+use crate::rows::{Share, TalkKey, TalkRow};
 use crate::units::CountedUnit;
 use indexmap::IndexMap;
 use std::alloc::Global;
@@ -101,18 +101,18 @@ impl Talks {
 
 // Counts one unit more in the row at a place.
 #[inline(always)]
-fn add_at(rows: &mut IndexMap<PackedKey, TalkRow>, place: usize, unit: &CountedUnit)
+fn add_at(rows: &mut IndexMap<PackedKey, TalkRow>, place: usize, share: Share)
     requires place { place < length rows.old.entries }
-    requires frames { frames_of_row (row_in rows.old.entries place) + unit.now.frames < 2 ^ 64 }
-    requires bytes { bytes_of_row (row_in rows.old.entries place) + unit.now.bytes < 2 ^ 128 }
+    requires frames { frames_of_row (row_in rows.old.entries place) + share.frames < 2 ^ 64 }
+    requires bytes { bytes_of_row (row_in rows.old.entries place) + share.bytes < 2 ^ 128 }
     requires order { is_in_order (row_in rows.old.entries place) ≡ true }
-    requires one { unit.now.frames ≡ 1 → unit.now.first ≡ unit.now.last }
-    ensures { rows.new.entries ≡ set_value_at rows.old.entries place (with_unit (row_in rows.old.entries place) unit.now) }
+    requires one { share.frames ≡ 1 → share.first ≡ share.last }
+    ensures { rows.new.entries ≡ set_value_at rows.old.entries place (with_share (row_in rows.old.entries place) share) }
 {
     let Some(row) = rows.get_index_mut(place) else {
         unreachable!();
     };
-    row.take(unit);
+    row.take(share);
 }
 
 // Adds the row of a new conversation, of one unit.
@@ -120,15 +120,14 @@ fn add_at(rows: &mut IndexMap<PackedKey, TalkRow>, place: usize, unit: &CountedU
 fn add_row(
     rows: &mut IndexMap<PackedKey, TalkRow>,
     key: PackedKey,
-    unit: CountedUnit,
+    share: Share,
 ) -> Result<(), TalksFault>
-    requires key { key ≡ packed (key_of unit) }
-    requires narrow { IsNarrow (key_of unit) }
+    requires key { IsNarrow (unpacked key) }
     requires keys { are_packed rows.old.entries ≡ true }
-    requires frames { unit.frames < 2 ^ 64 }
-    requires bytes { unit.bytes < 2 ^ 128 }
-    requires one { unit.frames ≡ 1 → unit.first ≡ unit.last }
-    ensures entries { OnOk result (unpacked_talks rows.new.entries ≡ insert_entry same_talk (unpacked_talks rows.old.entries) (key_of unit) (with_unit (row_of []) unit)) }
+    requires frames { share.frames < 2 ^ 64 }
+    requires bytes { share.bytes < 2 ^ 128 }
+    requires one { share.frames ≡ 1 → share.first ≡ share.last }
+    ensures entries { OnOk result (unpacked_talks rows.new.entries ≡ insert_entry same_talk (unpacked_talks rows.old.entries) (unpacked key) (with_share (row_of []) share)) }
     ensures keys { are_packed rows.new.entries ≡ true }
     ensures limit { is_limit result ≡ not (nat_lt (length rows.old.entries) talk_limit) }
     ensures err { OnErr result (rows.new.entries ≡ rows.old.entries) }
@@ -137,7 +136,7 @@ fn add_row(
         return Err(TalksFault::Limit);
     }
     let mut row = TalkRow::new();
-    row.take(&unit);
+    row.take(share);
     match rows.insert(key, row) {
         Ok(_) => Ok(()),
         Err(_) => Err(TalksFault::Memory),
@@ -157,12 +156,12 @@ fn add_unit(rows: &mut IndexMap<PackedKey, TalkRow>, unit: &CountedUnit) -> Resu
     ensures limit { is_limit result ≡ is_refused talk_limit (unpacked_talks rows.old.entries) (key_of unit.now) }
     ensures err { OnErr result (unpacked_talks rows.new.entries ≡ unpacked_talks rows.old.entries) }
 {
-    let key = PackedKey::of(unit);
+    let (key, forward) = PackedKey::of(unit);
     match rows.get_index_of(&key) {
         Some(place) => {
-            add_at(rows, place, unit);
+            add_at(rows, place, Share::of(unit, forward));
             Ok(())
         }
-        None => add_row(rows, key, *unit),
+        None => add_row(rows, key, Share::of(unit, forward)),
     }
 }

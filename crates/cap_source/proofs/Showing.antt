@@ -1,23 +1,25 @@
 -- Whether a packet comes next that is shown already.
-use Rattle.std.proofs.Common.{◌≡◌, IsTrue, Bool, true, false, Option, Some, None, refl, sym, ap, subst, ◌∙◌, inl, inr, arith}
+use Rattle.std.proofs.Common.{◌≡◌, IsTrue, Bool, true, false, Option, Some, None, is_some, refl, sym, ap, subst, ◌∙◌, inl, inr, arith}
 use Rattle.cap_feed.specs.Feed.{Knows, ShowsPacket}
 use Rattle.cap_source.specs.FileState.{FileState, feed_of, head_of, is_packet, is_whole, Learns, LearnsOr, ShowsNext, TakesShown}
 use Rattle.cap_source.specs.declared.readers.Next.{Next}
 use Rattle.cap_source.specs.declared.readers.Next.TheVariants as nexts
 
 -- it is known already
-pub shows-known : (old : FileState) (known : Option Next) (next : Next) (shown : Bool) → known ≡ Some next → shown ≡ is_packet known → ShowsNext old known shown old known
-shows-known old None next shown is e = grind arith
-shows-known old (Some (nexts.Packet meta place)) next shown is e =
+pub shows-known : (old : FileState) (known : Option Next) (shown : Bool) → IsTrue (is_some known) → shown ≡ is_packet known → ShowsNext old known shown old known
+shows-known old None shown is e = grind arith
+shows-known old (Some (nexts.Packet meta place)) shown is e =
     subst (λ (b : Bool). ShowsNext old (Some (nexts.Packet meta place)) b old (Some (nexts.Packet meta place))) (sym e) (meta, place, refl, (refl, refl))
-shows-known old (Some (nexts.Refused refusal ending)) next shown is e =
+shows-known old (Some (nexts.Refused refusal ending)) shown is e =
     subst (λ (b : Bool). ShowsNext old (Some (nexts.Refused refusal ending)) b old (Some (nexts.Refused refusal ending))) (sym e) (inl (refl, refl))
-shows-known old (Some (nexts.End ending)) next shown is e =
+shows-known old (Some (nexts.End ending)) shown is e =
     subst (λ (b : Bool). ShowsNext old (Some (nexts.End ending)) b old (Some (nexts.End ending))) (sym e) (inl (refl, refl))
 
 -- it is learned
-pub shows-learned : (old new : FileState) (after : Option Next) (shown : Bool) → TakesShown old true after new → shown ≡ is_packet after → ShowsNext old None shown new after
-shows-learned old new after shown h e =
+pub shows-learned : (old new : FileState) (known after : Option Next) (shown : Bool) → is_some known ≡ false → TakesShown old true after new → shown ≡ is_packet after
+    → ShowsNext old known shown new after
+shows-learned old new (Some next) after shown is h e = grind arith
+shows-learned old new None after shown is h e =
     subst (λ (a : Option Next). ShowsNext old None shown new a) (sym h.1) (by h.0 h.2 (e ∙ ap is_packet h.1))
   where
     by : (next : Next) → Learns old next new → shown ≡ is_packet (Some next) → ShowsNext old None shown new (Some next)

@@ -160,6 +160,13 @@ abbrev pub size_of : Option (List ℕ) → ℕ
 size_of None = 0
 size_of (Some bytes) = length bytes + 1
 
+-- where the captured bytes of a packet begin in what is lent
+abbrev pub start_of : Option Next → ℕ
+start_of None = 0
+start_of (Some (nexts.Packet meta place)) = place
+start_of (Some (nexts.Refused refusal ending)) = 0
+start_of (Some (nexts.End ending)) = 0
+
 -- how many bytes are captured of a packet
 abbrev pub captured_of : Option Next → ℕ
 captured_of None = 0

@@ -4,6 +4,7 @@ pub mod Contents
 pub mod Fields
 pub mod Items
 pub mod FileState
+pub mod KnownView
 pub mod Laws
 pub mod ReadFaults
 pub mod Reached

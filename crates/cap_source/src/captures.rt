@@ -7,6 +7,7 @@ ghost use Rattle.cap_source.specs.Laws.{captures_lawful};
 ghost use Rattle.cap_source.specs.Reached.{progress_of};
 ghost use Rattle.cap_source.specs.Readers.{state_of, is_there, reader_room};
 
+use crate::known::Known;
 use crate::learning::{learn, shows};
 use crate::reached::{Reached, nothing_reached};
 use crate::readers::{Next, Reader, ending_of, failed_of, held_of, noted_of, number_of, part_of};
@@ -22,7 +23,7 @@ pub struct Capture<R: Source> {
     reader: Reader<R>,
     reached: Reached,
     // what comes next, once it was asked for
-    next: Option<Next>,
+    next: Known,
     ghost there: { IsTrue (is_there reader) },
     ghost free: { IsTrue (is_free next (state_of reader (progress_of reached)).stops) },
     ghost whole: { IsTrue (is_whole next (state_of reader (progress_of reached)).broken) },
@@ -57,7 +58,7 @@ impl<R: Source> Capture<R> {
         Capture {
             reader: Reader::Unread(Window::new(alloc, reader, file), tail),
             reached: nothing_reached(alloc),
-            next: None,
+            next: Known::new(),
         }
     }
 
@@ -86,9 +87,9 @@ impl<R: Source> PacketFeed for Capture<R> {
 
     fn head(&mut self) -> Result<Head, Fault> {
         learn(&mut self.reader, &mut self.reached, &mut self.next)?;
-        match &self.next {
-            Some(Next::Packet(meta, _)) => Ok(Head::Packet(*meta)),
-            Some(Next::Refused(refusal, _)) => Ok(Head::Refused(*refusal)),
+        match self.next.get() {
+            Some(Next::Packet(meta, _)) => Ok(Head::Packet(meta)),
+            Some(Next::Refused(refusal, _)) => Ok(Head::Refused(refusal)),
             Some(Next::End(_)) => Ok(Head::End),
             None => unreachable!(),
         }
@@ -97,9 +98,9 @@ impl<R: Source> PacketFeed for Capture<R> {
     #[inline(always)]
     fn has_packet(&mut self) -> Result<bool, Fault> {
         learn(&mut self.reader, &mut self.reached, &mut self.next)?;
-        match &self.next {
+        match self.next.get() {
             Some(Next::Packet(_, _)) => Ok(true),
-            Some(Next::Refused(refusal, _)) => Err(Fault::Refused(*refusal)),
+            Some(Next::Refused(refusal, _)) => Err(Fault::Refused(refusal)),
             Some(Next::End(_)) => Ok(false),
             None => unreachable!(),
         }
@@ -112,10 +113,7 @@ impl<R: Source> PacketFeed for Capture<R> {
 
     #[inline(always)]
     fn packet(&self) -> &Meta {
-        match &self.next {
-            Some(Next::Packet(meta, _)) => meta,
-            _ => unreachable!(),
-        }
+        self.next.packet()
     }
 
     fn frame(&self) -> &[u8] {
@@ -123,11 +121,11 @@ impl<R: Source> PacketFeed for Capture<R> {
     }
 
     fn pass(&mut self) {
-        self.next = None;
+        self.next.forget();
     }
 
     fn ending(&self, _file: u32) -> Ending {
-        ending_of(self.next)
+        ending_of(self.next.get())
     }
 
     fn feed_held(&self) -> FeedHeld {

@@ -2,15 +2,16 @@
 ghost use Rattle.std.specs.Prelude.{◌≡◌, ◌≤◌, ◌^◌, false, IsTrue, IfOk, None};
 ghost use Rattle.cap_bytes.specs.Window as windows;
 ghost use Rattle.cap_source.specs.Items.{Progress};
-ghost use Rattle.cap_source.specs.FileState.{IsSound, LearnsNext, ShowsNext, Answers, TakesShown, FileKeeps, is_packet};
+ghost use Rattle.cap_source.specs.FileState.{IsSound, LearnsNext, ShowsNext, Answers, TakesShown, FileKeeps};
 ghost use Rattle.cap_source.specs.Reached.{progress_of, counted};
 ghost use Rattle.cap_source.specs.Readers.{state_of, is_there, IsReady, is_stopped, Opens, LooksAtWindow, reader_by, reader_room};
 ghost use Rattle.cap_source.specs.declared.reached.Reached.{Reached};
 
+use crate::known::Known;
 use crate::pcap::next_of_pcap;
 use crate::pcapng::next_of_blocks;
 use crate::reached::Reached;
-use crate::readers::{Next, Reader};
+use crate::readers::Reader;
 use crate::{pcap, pcapng};
 use cap_blocks::{BlockReader, is_section};
 use cap_bytes::{Fault, Source, Window};
@@ -72,11 +73,7 @@ fn open<R: Source>(reader: &mut Reader<R>) -> Result<(), Fault>
 // Puts the packet that comes next of a file into `known`, if the window shows it already. Answers whether it did: if not,
 // nothing has changed.
 #[inline(always)]
-fn take_shown<R: Source>(
-    reader: &mut Reader<R>,
-    reached: &Reached,
-    known: &mut Option<Next>,
-) -> bool
+fn take_shown<R: Source>(reader: &mut Reader<R>, reached: &Reached, known: &mut Known) -> bool
     requires unknown { known.old ≡ None }
     requires there { IsTrue (is_there reader.old) }
     requires counted { counted (progress_of reached.now) ≤ 2 ^ 40 }
@@ -86,8 +83,11 @@ fn take_shown<R: Source>(
     ensures room { IsTrue (reader_room reader.old reached.now) → IsTrue (reader_room reader.new reached.now) }
     ensures none { result ≡ false → (reader.new ≡ reader.old) × (known.new ≡ None) }
 {
+    // the commonest format is asked for first, in place of a jump by a table
+    if let Reader::Pcap(reader) = reader {
+        return pcap::take_shown(reader, known);
+    }
     match reader {
-        Reader::Pcap(reader) => pcap::take_shown(reader, known),
         Reader::Pcapng(reader) => pcapng::take_shown(reader, reached, known),
         _ => false,
     }
@@ -99,7 +99,7 @@ fn take_shown<R: Source>(
 pub fn next_of<R: Source>(
     reader: &mut Reader<R>,
     reached: &mut Reached,
-    known: &mut Option<Next>,
+    known: &mut Known,
 ) -> Result<(), Fault>
     requires unknown { known.old ≡ None }
     requires there { IsTrue (is_there reader.old) }
@@ -120,18 +120,10 @@ pub fn next_of<R: Source>(
     }
 }
 
-// Whether a packet is known to come next.
-#[inline(always)]
-fn is_packet(known: &Option<Next>) -> bool
-    ensures { result ≡ is_packet known.now }
-{
-    matches!(known, Some(Next::Packet(_, _)))
-}
-
 /// Puts the packet that comes next of a file into `known`, unless that is known, if the window shows it already. Answers whether
 /// a packet is known then.
 #[inline(always)]
-pub fn shows<R: Source>(reader: &mut Reader<R>, reached: &Reached, known: &mut Option<Next>) -> bool
+pub fn shows<R: Source>(reader: &mut Reader<R>, reached: &Reached, known: &mut Known) -> bool
     requires there { IsTrue (is_there reader.old) }
     requires sound { IsSound (state_of reader.old (progress_of reached.now)) known.old }
     requires room { IsTrue (reader_room reader.old reached.now) }
@@ -142,10 +134,10 @@ pub fn shows<R: Source>(reader: &mut Reader<R>, reached: &Reached, known: &mut O
     ensures keeps { FileKeeps (state_of reader.old (progress_of reached.now)) (state_of reader.new (progress_of reached.now)) }
     ensures room { IsTrue (reader_room reader.new reached.now) }
 {
-    match known {
-        Some(_) => is_packet(known),
-        None => take_shown(reader, reached, known) && is_packet(known),
+    if known.is_some() {
+        return known.is_packet();
     }
+    take_shown(reader, reached, known) && known.is_packet()
 }
 
 /// Puts into `known` what comes next of a file, unless it is known.
@@ -153,7 +145,7 @@ pub fn shows<R: Source>(reader: &mut Reader<R>, reached: &Reached, known: &mut O
 pub fn learn<R: Source>(
     reader: &mut Reader<R>,
     reached: &mut Reached,
-    known: &mut Option<Next>,
+    known: &mut Known,
 ) -> Result<(), Fault>
     requires there { IsTrue (is_there reader.old) }
     requires sound { IsSound (state_of reader.old (progress_of reached.old)) known.old }
@@ -165,13 +157,11 @@ pub fn learn<R: Source>(
     ensures keeps { FileKeeps (state_of reader.old (progress_of reached.old)) (state_of reader.new (progress_of reached.new)) }
     ensures room { IsTrue (reader_room reader.new reached.new) }
 {
-    match known {
-        Some(_) => Ok(()),
-        None => {
-            if take_shown(reader, reached, known) {
-                return Ok(());
-            }
-            next_of(reader, reached, known)
-        }
+    if known.is_some() {
+        return Ok(());
     }
+    if take_shown(reader, reached, known) {
+        return Ok(());
+    }
+    next_of(reader, reached, known)
 }

@@ -4,6 +4,7 @@
 mod captures;
 mod contents;
 mod interfaces;
+mod known;
 pub mod laws;
 mod learning;
 mod pcap;

@@ -3,7 +3,7 @@ ghost use Rattle.std.specs.Prelude.{◌≡◌, None, Some, false};
 ghost use Rattle.cap_source.specs.Items.{Progress, resolution_of_unit, interface_of, pcap_ending_with, meta_of};
 ghost use Rattle.cap_source.specs.FileState.{Answers, TakesShown, FileKeeps, noted_by, pcap_state};
 
-use crate::readers::Next;
+use crate::known::Known;
 use cap_bytes::{Fault, Source};
 use cap_feed::{Ending, Format, Meta};
 use cap_pcap::{PcapHeader, PcapReader, Record};
@@ -73,7 +73,7 @@ pub fn noted_of_pcap<R: Source>(reader: &PcapReader<R>) -> Option<Interface>
 /// Puts the packet that comes next of a pcap file into `known`, if the window shows its record already, as it does most of
 /// them. Answers whether it did: if not, nothing has changed.
 #[inline(always)]
-pub fn take_shown<R: Source>(reader: &mut PcapReader<R>, known: &mut Option<Next>) -> bool
+pub fn take_shown<R: Source>(reader: &mut PcapReader<R>, known: &mut Known) -> bool
     requires unknown { known.old ≡ None }
     ensures answer { (progress : Progress) → TakesShown (pcap_state reader.old progress) result known.new (pcap_state reader.new progress) }
     ensures keeps { (progress : Progress) → FileKeeps (pcap_state reader.old progress) (pcap_state reader.new progress) }
@@ -86,7 +86,7 @@ pub fn take_shown<R: Source>(reader: &mut PcapReader<R>, known: &mut Option<Next
     match reader.take_shown(header) {
         Some(record) => {
             let meta = meta_of_record(file, header, record);
-            *known = Some(Next::Packet(meta, 0));
+            known.put_packet(meta, 0);
             true
         }
         None => false,
@@ -97,7 +97,7 @@ pub fn take_shown<R: Source>(reader: &mut PcapReader<R>, known: &mut Option<Next
 fn next_record_of<R: Source>(
     reader: &mut PcapReader<R>,
     header: PcapHeader,
-    known: &mut Option<Next>,
+    known: &mut Known,
 ) -> Result<(), Fault>
     requires unknown { known.old ≡ None }
     requires header { reader.old.known ≡ Some header }
@@ -108,15 +108,15 @@ fn next_record_of<R: Source>(
     let file = reader.window().file();
     match reader.next_record() {
         Ok(Some(record)) => {
-            *known = Some(Next::Packet(meta_of_record(file, header, record), 0));
+            known.put_packet(meta_of_record(file, header, record), 0);
             Ok(())
         }
         Ok(None) => {
-            *known = Some(Next::End(ending_of_pcap(reader.was_cut())));
+            known.put_end(ending_of_pcap(reader.was_cut()));
             Ok(())
         }
         Err(Fault::Refused(refusal)) => {
-            *known = Some(Next::Refused(refusal, ending_of_pcap(false)));
+            known.put_refused(refusal, ending_of_pcap(false));
             Ok(())
         }
         Err(Fault::Read { file, offset }) => Err(Fault::Read { file, offset }),
@@ -126,10 +126,7 @@ fn next_record_of<R: Source>(
 }
 
 /// Puts into `known` what comes next of a pcap file.
-pub fn next_of_pcap<R: Source>(
-    reader: &mut PcapReader<R>,
-    known: &mut Option<Next>,
-) -> Result<(), Fault>
+pub fn next_of_pcap<R: Source>(reader: &mut PcapReader<R>, known: &mut Known) -> Result<(), Fault>
     requires unknown { known.old ≡ None }
     requires free { reader.old.stop ≡ None }
     ensures answer { (progress : Progress) → Answers (pcap_state reader.old progress) result known.new (pcap_state reader.new progress) }
@@ -138,7 +135,7 @@ pub fn next_of_pcap<R: Source>(
     match reader.header() {
         Ok(header) => next_record_of(reader, header, known),
         Err(Fault::Refused(refusal)) => {
-            *known = Some(Next::Refused(refusal, ending_of_pcap(false)));
+            known.put_refused(refusal, ending_of_pcap(false));
             Ok(())
         }
         Err(Fault::Read { file, offset }) => Err(Fault::Read { file, offset }),

@@ -7,8 +7,8 @@ ghost use Rattle.cap_source.specs.FileState.{Answers, TakesShown, FileKeeps, Ste
 ghost use Rattle.cap_source.specs.Reached.{progress_of, counted, has_room};
 
 use crate::contents::{Content, Packet, content_of, enhanced_packet};
+use crate::known::Known;
 use crate::reached::{Reached, go_on};
-use crate::readers::Next;
 use cap_blocks::{Block, BlockReader, is_known};
 use cap_bytes::{Fault, Refusal, Rule, Source};
 use cap_feed::{Ending, Format, Meta};
@@ -70,7 +70,7 @@ fn take_content(
     file: u32,
     block: Block,
     content: Result<Content, Rule>,
-    known: &mut Option<Next>,
+    known: &mut Known,
 )
     requires room { vec_len reached.old.interfaces < vec_capacity reached.old.interfaces }
     requires limit { counted (progress_of reached.old) < 2 ^ 40 }
@@ -80,7 +80,7 @@ fn take_content(
 {
     match content {
         Ok(Content::Packet(packet)) => {
-            *known = Some(Next::Packet(meta_of_packet(file, block, reached, packet), packet.place));
+            known.put_packet(meta_of_packet(file, block, reached, packet), packet.place);
         }
         Ok(content) => {
             go_on(reached, content);
@@ -95,7 +95,7 @@ fn take_content(
 pub fn take_shown<R: Source>(
     reader: &mut BlockReader<R>,
     reached: &Reached,
-    known: &mut Option<Next>,
+    known: &mut Known,
 ) -> bool
     requires unknown { known.old ≡ None }
     requires counted { counted (progress_of reached.now) ≤ 2 ^ 40 }
@@ -122,14 +122,14 @@ fn put_packet(
     file: u32,
     block: Block,
     said: Result<Packet, Rule>,
-    known: &mut Option<Next>,
+    known: &mut Known,
 )
     requires { reached.now.base < 2 ^ 63 }
     ensures { known.new ≡ next_at file (progress_of reached.now) block (of_body Content.Packet said) }
 {
     match said {
         Ok(packet) => {
-            *known = Some(Next::Packet(meta_of_packet(file, block, reached, packet), packet.place));
+            known.put_packet(meta_of_packet(file, block, reached, packet), packet.place);
         }
         Err(rule) => refuse(reached, file, block, rule, known),
     }
@@ -138,17 +138,17 @@ fn put_packet(
 // Puts the refusal of a block into `known`. It isn't inlined, so that a packet is written where it is kept without a look at
 // what a refusal keeps there.
 #[inline(never)]
-fn refuse(reached: &Reached, file: u32, block: Block, rule: Rule, known: &mut Option<Next>)
+fn refuse(reached: &Reached, file: u32, block: Block, rule: Rule, known: &mut Known)
     ensures { known.new ≡ next_at file (progress_of reached.now) block (Err rule) }
 {
-    *known = Some(Next::Refused(
+    known.put_refused(
         Refusal {
             file,
             offset: block.offset,
             rule,
         },
         ending_of_blocks(reached, false),
-    ));
+    );
 }
 
 // Takes one block: what comes next, or none if the file goes on after it. There is room for an
@@ -156,7 +156,7 @@ fn refuse(reached: &Reached, file: u32, block: Block, rule: Rule, known: &mut Op
 fn take_block<R: Source>(
     reader: &mut BlockReader<R>,
     reached: &mut Reached,
-    known: &mut Option<Next>,
+    known: &mut Known,
 ) -> Result<(), Fault>
     requires room { vec_len reached.old.interfaces < vec_capacity reached.old.interfaces }
     requires unknown { known.old ≡ None }
@@ -174,11 +174,11 @@ fn take_block<R: Source>(
             Ok(())
         }
         Ok(None) => {
-            *known = Some(Next::End(ending_of_blocks(reached, reader.was_cut())));
+            known.put_end(ending_of_blocks(reached, reader.was_cut()));
             Ok(())
         }
         Err(Fault::Refused(refusal)) => {
-            *known = Some(Next::Refused(refusal, ending_of_blocks(reached, false)));
+            known.put_refused(refusal, ending_of_blocks(reached, false));
             Ok(())
         }
         Err(Fault::Read { file, offset }) => Err(Fault::Read { file, offset }),
@@ -191,7 +191,7 @@ fn take_block<R: Source>(
 fn step<R: Source>(
     reader: &mut BlockReader<R>,
     reached: &mut Reached,
-    known: &mut Option<Next>,
+    known: &mut Known,
 ) -> Result<(), Fault>
     requires unknown { known.old ≡ None }
     requires counted { counted (progress_of reached.old) ≤ reader.old.offset }
@@ -209,7 +209,7 @@ fn step<R: Source>(
 pub fn next_of_blocks<R: Source>(
     reader: &mut BlockReader<R>,
     reached: &mut Reached,
-    known: &mut Option<Next>,
+    known: &mut Known,
 ) -> Result<(), Fault>
     requires unknown { known.old ≡ None }
     requires counted { counted (progress_of reached.old) ≤ reader.old.offset }
@@ -222,9 +222,8 @@ pub fn next_of_blocks<R: Source>(
 {
     loop {
         step(reader, reached, known)?;
-        match known {
-            Some(_) => return Ok(()),
-            None => {}
+        if known.is_some() {
+            return Ok(());
         }
     }
 }

@@ -6,6 +6,7 @@ ghost use Rattle.cap_source.specs.FileState.{head_by, end_of, size_of, frame_of,
 ghost use Rattle.cap_source.specs.Reached.{progress_of};
 ghost use Rattle.cap_source.specs.Readers.{state_of, is_there, lent_of};
 
+use crate::known::Known;
 use crate::pcap::noted_of_pcap;
 use crate::reached::Reached;
 use cap_blocks::BlockReader;
@@ -43,26 +44,24 @@ fn lent_of<R: Source>(reader: &Reader<R>) -> &[u8]
     requires { IsSome (lent_of reader.now) }
     ensures { lent_of reader.now ≡ Some result.now }
 {
+    // the commonest format is asked for first, in place of a jump by a table
+    if let Reader::Pcap(reader) = reader {
+        return reader.frame();
+    }
     match reader {
-        Reader::Pcap(reader) => reader.frame(),
         Reader::Pcapng(reader) => reader.body(),
         _ => unreachable!(),
     }
 }
 
 /// The captured bytes of a packet that comes next.
-pub fn part_of<'a, R: Source>(reader: &'a Reader<R>, next: &Option<Next>) -> &'a [u8]
+pub fn part_of<'a, R: Source>(reader: &'a Reader<R>, next: &Known) -> &'a [u8]
     requires packet { IsPacket (head_by next.now) }
     requires lent { end_of next.now ≤ size_of (lent_of reader.now) }
     ensures { result.now ≡ frame_of next.now (lent_of reader.entry.now) }
 {
-    match next {
-        Some(Next::Packet(meta, place)) => {
-            let (_, behind) = lent_of(reader).split_at(*place as usize);
-            behind.split_at(meta.captured as usize).0
-        }
-        _ => unreachable!(),
-    }
+    let (_, behind) = lent_of(reader).split_at(next.place());
+    behind.split_at(next.packet().captured as usize).0
 }
 
 /// How a file ended of which the end comes next.

@@ -72,7 +72,7 @@ fn count_frames(counts: &mut ClassCounts, class: Class, frames: u64)
 }
 
 // The counts with more packets of a class.
-pub fn with_frames(counts: ClassCounts, class: Class, frames: u64) -> ClassCounts
+fn with_frames(counts: ClassCounts, class: Class, frames: u64) -> ClassCounts
     requires few { sum_of counts + frames < 2 ^ 64 }
     ensures { result ≡ with_frames class frames counts }
 {
@@ -82,7 +82,7 @@ pub fn with_frames(counts: ClassCounts, class: Class, frames: u64) -> ClassCount
 }
 
 // The counts after a packet completes a group of `frames` fragments, itself one of them: they move from the unjoined ones to a class.
-pub fn with_group(counts: ClassCounts, class: Class, frames: u64) -> ClassCounts
+fn with_group(counts: ClassCounts, class: Class, frames: u64) -> ClassCounts
     requires unjoined { frames ≤ counts.unjoined + 1 }
     requires few { sum_of counts + 1 < 2 ^ 64 }
     ensures { result ≡ with_group class frames counts }
@@ -219,8 +219,9 @@ impl Tally {
         Ok(())
     }
 
-    // The same of any packet. It isn't inlined, so that what a fragment takes, and a packet that is none of IPv4, has no room where
-    // whole datagrams are taken.
+    // Looks at any packet, while no datagram waits. It is counted, or it completes a datagram, which waits from then on; the answer is
+    // whether one does. It isn't inlined, so that what a fragment takes, and a packet that is none of IPv4, has no room where whole
+    // datagrams are taken.
     #[inline(never)]
     fn look_again(&mut self, packet: RunPacket<'_>) -> Result<bool, TalksFault>
         requires none { self.old.waiting ≡ None }
@@ -243,29 +244,6 @@ impl Tally {
                 Ok(false)
             }
             Seen::Fragment(header, bytes) => self.take_fragment(packet, header, bytes),
-        }
-    }
-
-    // Looks at the packet that comes next, which has that time, while no datagram waits. It is counted, or it completes a datagram, which
-    // waits from then on; the answer is whether one does.
-    #[inline(always)]
-    fn look_at(&mut self, packet: RunPacket<'_>, time: Option<Stamp>) -> Result<bool, TalksFault>
-        requires time { time ≡ meta_time packet.meta.now }
-        requires none { self.old.waiting ≡ None }
-        requires few { self.old.place < 2 ^ 62 }
-        ensures looks { IfOk result (λ waits. Looks self.old (taken_of packet.entry) waits self.new) }
-        ensures waits { IfOk result (λ waits. WaitsIf self.new.waiting waits) }
-        ensures place { IfOk result (λ waits. self.new.place ≡ (if waits then self.old.place else self.old.place + 1)) }
-        ensures limit { IfErr result (λ e. (xs : List Taken) → Stands self.old xs (Some (taken_of packet.entry))
-            → LimitBy (Err e) (is_limit_at xs (taken_of packet.entry))) }
-        ensures err { OnErr result (self.new ≡ self.old) }
-    {
-        match look(packet.meta, packet.frame) {
-            Seen::Datagram(header, captured) => {
-                self.take_datagram(packet, time, header, captured)?;
-                Ok(false)
-            }
-            _ => self.look_again(packet),
         }
     }
 
@@ -314,14 +292,17 @@ impl Tally {
         if self.is_waiting() {
             return self.take_waiting();
         }
-        if self.look_at(packet, time)? {
+        if let Seen::Datagram(header, captured) = look(packet.meta, packet.frame) {
+            return self.take_datagram(packet, time, header, captured);
+        }
+        if self.look_again(packet)? {
             return self.take_waiting();
         }
         Ok(())
     }
 
-    /// Whether a joined datagram waits for its conversation.
-    pub fn is_waiting(&self) -> bool
+    // Whether a joined datagram waits for its conversation.
+    fn is_waiting(&self) -> bool
         ensures { WaitsIf self.now.waiting result }
     {
         match self.waiting {

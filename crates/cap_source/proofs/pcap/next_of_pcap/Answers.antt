@@ -1,4 +1,3 @@
-use Rattle.std.proofs.Common.{refl}
 use Rattle.cap_source.proofs.Going.{FileKeeps-trans, Answers-behind}
 use Rattle.cap_source.proofs.Pcaps.{header_refused, header_waits, pcap_keeps}
 use Rattle.cap_source.specs.FileState.{pcap_state}
@@ -22,7 +21,7 @@ pub returns-in-Err-Refused-clause-answer : goal.returns-in-Err-Refused-clause-an
 returns-in-Err-Refused-clause-answer g c = λ p.
     let e = rw c.in-Err-Refused.field-0-is at c.in-Err-Refused.ensures in (
       nexts.Refused c.in-Err-Refused.refusal c.ending_of_pcap.result,
-      refl,
+      c.put_refused.ensures,
       rw c.ending_of_pcap.ensures
           (header_refused c.in-Err-Refused.refusal c.args.reader.now c.header.new.self p c.requires.free e.answer e.keeps (λ t. (e.items t).0)),
     )

@@ -1,5 +1,4 @@
-use Rattle.std.proofs.Common.{◌∙◌, refl, false}
-use Rattle.cap_source.specs.Items.{pcap_ending_with}
+use Rattle.std.proofs.Common.{◌∙◌}
 use Rattle.cap_source.specs.declared.readers.Next.TheVariants as nexts
 use Rattle.cap_bytes.proofs.Parsing.{from_some}
 use Rattle.cap_source.proofs.Pcaps.{record_learned, end_learned, refusal_learned}
@@ -9,7 +8,7 @@ pub returns-in-Ok-Some-clause-answer : goal.returns-in-Ok-Some-clause-answer
 returns-in-Ok-Some-clause-answer g c = λ progress.
     let e = rw c.in-Ok-Some.field-0-is at c.in-Ok-Some.ensures in (
       nexts.Packet c.meta_of_record.result 0,
-      refl,
+      c.put_packet.ensures,
       rw c.meta_of_record.ensures
           (record_learned c.args.header c.file-file.result c.in-Ok-Some.record c.args.reader.now c.next_record.new.self progress
           (c.file-file.ensures ∙ c.window.ensures.file) c.requires.header
@@ -21,7 +20,7 @@ returns-in-Ok-None-clause-answer g c = λ progress.
     let e = rw c.in-Ok-None.field-0-is at c.in-Ok-None.ensures in
     let answer = from_some _ _ _ c.requires.header e.answer in (
       nexts.End c.ending_of_pcap.result,
-      refl,
+      c.put_end.ensures,
       rw c.ending_of_pcap.ensures
           (end_learned c.args.header c.was_cut.result answer.0 c.args.reader.now c.next_record.new.self progress
           c.requires.header c.requires.free answer.1 answer.2 c.was_cut.ensures e.keeps (λ t. (e.items t).3)),
@@ -30,10 +29,10 @@ returns-in-Ok-None-clause-answer g c = λ progress.
 pub returns-in-Err-Refused-clause-answer : goal.returns-in-Err-Refused-clause-answer
 returns-in-Err-Refused-clause-answer g c = λ progress.
     let e = rw c.in-Err-Refused.field-0-is at c.in-Err-Refused.ensures in
-    let answer = from_some _ _ _ c.requires.header e.answer in
-    rw (c.in-Err-Refused.field-0-is, c.ending_of_pcap-in-Err-Refused.ensures) (
-      nexts.Refused c.in-Err-Refused.refusal (pcap_ending_with false),
-      refl,
-      refusal_learned c.args.header c.in-Err-Refused.refusal c.args.reader.now c.next_record.new.self progress
-          c.requires.header c.requires.free answer e.keeps (λ t. (e.items t).0),
+    let answer = from_some _ _ _ c.requires.header e.answer in (
+      nexts.Refused c.in-Err-Refused.refusal c.ending_of_pcap-in-Err-Refused.result,
+      rw c.in-Err-Refused.field-0-is at c.put_refused.ensures,
+      rw c.ending_of_pcap-in-Err-Refused.ensures
+          (refusal_learned c.args.header c.in-Err-Refused.refusal c.args.reader.now c.next_record.new.self progress
+          c.requires.header c.requires.free answer e.keeps (λ t. (e.items t).0)),
     )

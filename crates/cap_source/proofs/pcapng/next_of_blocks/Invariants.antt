@@ -3,8 +3,8 @@ use Rattle.cap_source.specs.FileState.{FileKeeps, Waits, pcapng_state}
 use Rattle.cap_source.specs.Reached.{progress_of, counted, has_room}
 use Rattle.cap_source.proofs.pcapng.next_of_blocks.Given as goal
 
-abbrev pub invariant-loop : goal.invariant-loop
-invariant-loop g l = record {
+abbrev pub invariant-loop-known : goal.invariant-loop-known
+invariant-loop-known g l = record {
   unknown : l.known ≡ None;
   waits : Waits (pcapng_state l.initial.reader (progress_of l.initial.reached)) (pcapng_state l.reader (progress_of l.reached));
   keeps : FileKeeps (pcapng_state l.initial.reader (progress_of l.initial.reached)) (pcapng_state l.reader (progress_of l.reached));
@@ -14,5 +14,5 @@ invariant-loop g l = record {
   limit : l.reader.offset ≤ 2 ^ 40;
 }
 
-abbrev pub decreases-loop : goal.decreases-loop
-decreases-loop g l = 2 ^ 40 - l.reader.offset
+abbrev pub decreases-loop-known : goal.decreases-loop-known
+decreases-loop-known g l = 2 ^ 40 - l.reader.offset

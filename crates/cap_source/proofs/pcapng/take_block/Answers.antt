@@ -26,12 +26,13 @@ returns-in-Ok-Some-clause-keeps g c =
 pub returns-in-Ok-None-clause-answer : goal.returns-in-Ok-None-clause-answer
 returns-in-Ok-None-clause-answer g c =
     let e = rw c.in-Ok-None.field-0-is at c.in-Ok-None.ensures in
-    rw c.ending_of_blocks.ensures
+    rw (c.put_end.ensures, c.ending_of_blocks.ensures)
     (end_learned c.was_cut.result e.answer.0 c.args.reader.now c.next_block.new.self (progress_of c.args.reached.now)
     c.requires.free e.answer.1 e.answer.2 c.was_cut.ensures.cut e.keeps (λ t. (e.items t).3))
 
 pub returns-in-Err-Refused-clause-answer : goal.returns-in-Err-Refused-clause-answer
 returns-in-Err-Refused-clause-answer g c =
     let e = rw c.in-Err-Refused.field-0-is at c.in-Err-Refused.ensures in
-    refusal_kept c.in-Err-Refused.refusal c.ending_of_blocks-in-Err-Refused.result c.args.reader.now c.next_block.new.self (progress_of c.args.reached.now)
-    c.ending_of_blocks-in-Err-Refused.ensures c.requires.free e.answer e.keeps (λ t. (e.items t).0)
+    rw c.put_refused.ensures
+    (refusal_kept c.in-Err-Refused.refusal c.ending_of_blocks-in-Err-Refused.result c.args.reader.now c.next_block.new.self (progress_of c.args.reached.now)
+    c.ending_of_blocks-in-Err-Refused.ensures c.requires.free e.answer e.keeps (λ t. (e.items t).0))

@@ -5,9 +5,10 @@ use Rattle.cap_order.specs.Parts.{parts, others_known}
 use Rattle.cap_order.specs.Sound.{each-reached}
 use Rattle.cap_order.proofs.Bounds.{asked-bounded}
 use Rattle.cap_order.proofs.Calls.{asked-numbered, asked-sound-each, asked-known, numbered-kept}
-use Rattle.cap_order.proofs.Finding.{found-here, none-passed}
+use Rattle.cap_order.proofs.Finding.{found-here, none-passed, packet-alone}
 use Rattle.cap_order.proofs.Others.{but-within}
 use Rattle.cap_order.proofs.Peeking.{peeked-kept, peeked-reached, peeked-bounded, peeked-looks, shows-first}
+use Rattle.cap_order.proofs.Placing.{coming-first}
 use Rattle.cap_order.proofs.merging.Merged.shows_first.Goals as goal
 
 pub show_next-requires-clause-place : goal.show_next-requires-clause-place
@@ -45,6 +46,43 @@ returns-then-not-show_next g c =
     let others = rw (sym c.passed.ensures ∙ c.in-Some.is) at m.others in
     let peeks = rw c.if-not-show_next.true at c.show_next.ensures.shows in
     λ r rs h. peeked-looks c.in-Some.place ps qs rs r others peeks h
+
+pub invariant_of-self-then-len-eq1 : goal.invariant_of-self-then-len-eq1
+invariant_of-self-then-len-eq1 g c =
+    let m = c.args.self.now in
+    let f = g.F.PacketFeed.feed in
+    let law = g.met.F.PacketFeed.lawful in
+    let ps = parts m.lanes.items (map f m.feeds.items) in
+    let ls = c.show_next.new.lanes.items in
+    let fs = c.show_next.new.feeds.items in
+    let qs = parts ls (map f fs) in
+    let r : Result Bool Fault = Ok true in
+    let learns = rw c.if-not-show_next.false at c.show_next.ensures.shows in
+    record {
+      alike = c.show_next.ensures.lanes ∙ m.alike ∙ sym c.show_next.ensures.feeds;
+      some = rw c.show_next.ensures.feeds m.some;
+      most = rw c.show_next.ensures.feeds m.most;
+      numbered = asked-numbered f law m.lanes.items ls m.feeds.items fs r m.alike c.show_next.ensures.lanes c.show_next.ensures.feeds learns m.numbered;
+      agrees = c.show_next.ensures.agrees;
+      reached = each-reached qs (asked-sound-each f law m.lanes.items ls m.feeds.items fs r learns m.reached);
+      bounded = asked-bounded ps qs r learns m.bounded;
+      found = packet-alone ls c.in-Some.place (sym c.len.ensures.value ∙ c.if-len-eq1.true) (c.show_next.ensures.packet c.if-not-show_next.false);
+      others = refl;
+    }
+
+pub returns-then-len-eq1 : goal.returns-then-len-eq1
+returns-then-len-eq1 g c =
+    let m = c.args.self.now in
+    let f = g.F.PacketFeed.feed in
+    let ps = parts m.lanes.items (map f m.feeds.items) in
+    let ls = c.show_next.new.lanes.items in
+    let fs = map f c.show_next.new.feeds.items in
+    let learns = rw c.if-not-show_next.false at c.show_next.ensures.shows in
+    let packet = c.show_next.ensures.packet c.if-not-show_next.false in
+    let first = packet-alone ls c.in-Some.place (sym c.len.ensures.value ∙ c.if-len-eq1.true) packet in
+    let alike = length-map c.show_next.new.feeds.items f ∙ c.show_next.ensures.feeds ∙ sym m.alike ∙ sym c.show_next.ensures.lanes in
+    let agrees = c.show_next.ensures.agrees in
+    shows-first ps (parts ls fs) true learns (λ t. coming-first ls fs _ _ _ (asked-known ps ls fs agrees learns) alike agrees first packet)
 
 pub invariant_of-self-2 : goal.invariant_of-self-2
 invariant_of-self-2 g c =

@@ -17,4 +17,4 @@ pub returns-then-is_waiting-clause-stands : goal.returns-then-is_waiting-clause-
 returns-then-is_waiting-clause-stands c = grind (arith, taken_on, c.take_waiting.ensures.stands)
 
 pub returns-then-branch-clause-stands : goal.returns-then-branch-clause-stands
-returns-then-branch-clause-stands c = grind (arith, taken_on, c.if-branch.true, c.in_ok-look_at.ensures.looks, c.take_waiting-then-branch.ensures.stands)
+returns-then-branch-clause-stands c = grind (arith, taken_on, c.if-branch.true, c.in_ok-look_again.ensures.looks, c.take_waiting-then-branch.ensures.stands)
