@@ -20,8 +20,8 @@ enum Kind {
     End,
 }
 
-/// What comes next of a file, if that is known. Each kind has a room of its own, so that a packet is forgotten by one mark: an
-/// `Option<Next>` would be set to zero whole.
+/// What comes next of a file, if that is known. Each kind has fields of its own, so that a packet is forgotten by one mark: an
+/// `Option<Next>` would be set to zero as a whole.
 #[derive(Drop)]
 pub struct Known {
     kind: Kind,
