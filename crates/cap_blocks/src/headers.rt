@@ -1,9 +1,10 @@
 //! The header of a block: its first 12 bytes (draft-ietf-opsawg-pcapng, 3.1 and 4.1).
-ghost use Rattle.std.specs.Prelude.{◌≡◌, ◌+◌, ◌≤◌, ◌^◌, ◌&&◌, ◌==◌, None, is_some, length};
+ghost use Rattle.std.specs.Prelude.{◌≡◌, ◌+◌, ◌≤◌, ◌^◌, ◌&&◌, ◌==◌, None, Some, Ok, IfSome, is_some, length};
+ghost use Rattle.cap_blocks.specs.Grammar.{enhanced_kind};
 ghost use Rattle.cap_blocks.specs.Parsing.{FindsOwnOrder, FindsOrder, ParsesHeader, LooksAtHeader, Stays};
 ghost use Rattle.cap_blocks.specs.Split.{is_section, is_ordered, first_fault};
 
-use crate::blocks::{Block, ORDER_MAGIC, SECTION, is_total};
+use crate::blocks::{Block, ENHANCED_PACKET, ORDER_MAGIC, SECTION, is_total};
 use cap_bytes::{FILE_LIMIT, Fault, Order, Refusal, Rule, Source, Stop, Tail, Window, u32_at};
 
 /// How many bytes stand round the body of a block; its first ones tell its order and its total length.
@@ -97,6 +98,30 @@ pub fn header_of(section: Option<Order>, offset: u64, bytes: &[u8]) -> Result<Bl
     }
     Ok(Block {
         kind,
+        offset,
+        total,
+        order,
+    })
+}
+
+/// The enhanced packet block that stands at the front of some bytes, which begin at `offset`, as far as its first 12 bytes tell it: what `header_of` answers
+/// then, with no table of kinds on the way of a packet. `None` says nothing: the block is another one, or breaks a rule.
+#[inline(always)]
+pub fn enhanced_at(order: Order, offset: u64, bytes: &[u8]) -> Option<Block>
+    requires head { 12 ≤ length bytes.now }
+    requires limit { offset ≤ 2 ^ 40 }
+    ensures header { IfSome result (λ block. ParsesHeader (Some order) offset bytes.now (Ok block)) }
+    ensures kind { IfSome result (λ block. block.kind ≡ enhanced_kind) }
+{
+    if is_section(bytes) || u32_at(order, bytes, 0) != ENHANCED_PACKET {
+        return None;
+    }
+    let total = u32_at(order, bytes, 4);
+    if !is_total(ENHANCED_PACKET, total) || offset + u64::from(total) > FILE_LIMIT {
+        return None;
+    }
+    Some(Block {
+        kind: ENHANCED_PACKET,
         offset,
         total,
         order,

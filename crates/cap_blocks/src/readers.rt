@@ -8,9 +8,9 @@ ghost use Rattle.cap_blocks.specs.Parsing.{LooksForBlock, SeesBlock, Stays};
 ghost use Rattle.cap_bytes.specs.Window.{Passes};
 ghost use Rattle.cap_bytes.specs.declared.faults.Tail.{Tail};
 
-use crate::blocks::{Block, ENHANCED_PACKET, is_known};
+use crate::blocks::{Block, is_known};
 use crate::bodies::{body_rule, look_at_body};
-use crate::headers::{FRAME_SIZE, header_of, look_at_header};
+use crate::headers::{FRAME_SIZE, enhanced_at, look_at_header};
 use cap_bytes::{Fault, Order, Refusal, Source, Stop, Tail, Window, u32_at};
 use std::marker::Model;
 
@@ -64,19 +64,6 @@ fn look_for_block<R: Source>(
     }
 }
 
-// Whether the kind at the front of some bytes is that of an enhanced packet block, in the order of the section that is
-// being read. Asked before the header is read, so that the compiler puts no table of kinds on the way of a packet.
-#[inline(always)]
-fn is_enhanced(section: Option<Order>, bytes: &[u8]) -> bool
-    requires { 4 ≤ length bytes.now }
-    ensures { MatchOption section (result ≡ false) (λ order. result ≡ (number order 4 bytes.now == enhanced_kind)) }
-{
-    match section {
-        Some(order) => u32_at(order, bytes, 0) == ENHANCED_PACKET,
-        None => false,
-    }
-}
-
 // Passes the first bytes that a window shows, if it shows a whole enhanced packet block after them.
 #[inline(always)]
 fn take_packet<R: Source>(
@@ -92,19 +79,16 @@ fn take_packet<R: Source>(
     ensures sees { IfSome result (λ block. (tail : Tail) → SeesBlock section tail block window.new window.new) }
     ensures none { IsNone result → window.new ≡ window.old }
 {
+    let Some(order) = section else {
+        return None;
+    };
     if !window.shows(given + FRAME_SIZE) {
         return None;
     }
     let (_, bytes) = window.bytes().split_at(given);
-    if !is_enhanced(section, bytes) {
-        return None;
-    }
     let offset = window.offset() + given as u64;
-    match header_of(section, offset, bytes) {
-        Ok(block) => {
-            if block.kind != ENHANCED_PACKET {
-                return None;
-            }
+    match enhanced_at(order, offset, bytes) {
+        Some(block) => {
             if bytes.len() < block.total as usize {
                 return None;
             }
@@ -116,7 +100,7 @@ fn take_packet<R: Source>(
                 Some(_) => None,
             }
         }
-        Err(_) => None,
+        None => None,
     }
 }
 

@@ -12,6 +12,7 @@ use cap_bytes::{
     FILE_LIMIT, Fault, Order, PACKET_LIMIT, Refusal, Rule, Sink, Source, Stop, Tail, Window,
     put_all, put_u32, u32_at,
 };
+use cap_time::Unit;
 
 /// What a record says of its packet. draft-ietf-opsawg-pcap, 5.
 #[derive(Clone, Copy, Debug, PartialEq, Eq)]
@@ -58,19 +59,32 @@ fn measure(order: Order, offset: u64, bytes: &[u8]) -> Result<usize, Rule>
     Ok(size)
 }
 
-// The record that begins with these bytes.
+// The record that begins with these bytes, in that order.
 #[tactic(auto, unfolding(crate::specs::Split::record_at))]
+#[inline(always)]
+fn record_in(order: Order, unit: Unit, offset: u64, bytes: &[u8]) -> Record
+    requires { 16 ≤ length bytes.now }
+    ensures { result ≡ record_at order unit offset bytes.now }
+{
+    let seconds = u32_at(order, bytes, 0) as u64;
+    let fraction = u32_at(order, bytes, 4) as u64;
+    Record {
+        offset,
+        units: seconds * unit.in_second() as u64 + fraction,
+        captured: u32_at(order, bytes, 8),
+        original: u32_at(order, bytes, 12),
+    }
+}
+
+// The record of a file that begins with these bytes. Each order has a way of its own: on one for both, each number is read in both.
+#[inline(always)]
 fn record_of(header: PcapHeader, offset: u64, bytes: &[u8]) -> Record
     requires { 16 ≤ length bytes.now }
     ensures { result ≡ record_at header.order header.unit offset bytes.now }
 {
-    let seconds = u32_at(header.order, bytes, 0) as u64;
-    let fraction = u32_at(header.order, bytes, 4) as u64;
-    Record {
-        offset,
-        units: seconds * header.unit.in_second() as u64 + fraction,
-        captured: u32_at(header.order, bytes, 8),
-        original: u32_at(header.order, bytes, 12),
+    match header.order {
+        Order::Little => record_in(Order::Little, header.unit, offset, bytes),
+        Order::Big => record_in(Order::Big, header.unit, offset, bytes),
     }
 }
 

@@ -89,14 +89,24 @@ fn timed_packet(
     }
 }
 
-/// What an enhanced packet block says, or the first rule that its body breaks. draft-ietf-opsawg-pcapng, 4.3.
+/// What an enhanced packet block says, or the first rule that its body breaks. Each order has a way of its own: on one for both, each
+/// number is read in both. draft-ietf-opsawg-pcapng, 4.3.
 #[tactic(auto, unfolding(crate::specs::Contents::content_in))]
 #[inline(always)]
 pub fn enhanced_packet(interfaces: &[Interface], order: Order, body: &[u8]) -> Result<Packet, Rule>
     requires { 20 ≤ length body.now }
     ensures { of_body Content.Packet result ≡ content_in interfaces.now enhanced_kind order body.now }
 {
-    timed_packet(interfaces, u32_at(order, body, 0), order, body)
+    match order {
+        Order::Little => {
+            let number = u32_at(Order::Little, body, 0);
+            timed_packet(interfaces, number, Order::Little, body)
+        }
+        Order::Big => {
+            let number = u32_at(Order::Big, body, 0);
+            timed_packet(interfaces, number, Order::Big, body)
+        }
+    }
 }
 
 // How many bytes are captured of a simple packet.
