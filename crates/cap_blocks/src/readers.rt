@@ -1,6 +1,5 @@
 //! A reader of pcapng files.
-ghost use Rattle.std.specs.Prelude.{◌≡◌, ◌==◌, ◌↔◌, ◌≤◌, ◌+◌, ◌^◌, true, false, length, IsTrue, IsSome, IsNone, IfSome, OnSome, MatchOption, Some, Ok};
-ghost use Rattle.cap_bytes.specs.Number.{number};
+ghost use Rattle.std.specs.Prelude.{◌≡◌, ◌↔◌, ◌≤◌, ◌+◌, ◌^◌, length, IsTrue, IsSome, IsNone, IfSome, OnSome, Some, Ok};
 ghost use Rattle.cap_bytes.specs.Reader.{opened, Keeps, HasWindow};
 ghost use Rattle.cap_blocks.specs.Reader.{GivesNext, TakesItem, size_of, shown_size};
 ghost use Rattle.cap_blocks.specs.Grammar.{enhanced_kind, is_known};
@@ -11,7 +10,7 @@ ghost use Rattle.cap_bytes.specs.declared.faults.Tail.{Tail};
 use crate::blocks::{Block, is_known};
 use crate::bodies::{body_rule, look_at_body};
 use crate::headers::{FRAME_SIZE, enhanced_at, look_at_header};
-use cap_bytes::{Fault, Order, Refusal, Source, Stop, Tail, Window, u32_at};
+use cap_bytes::{Fault, Order, Refusal, Source, Stop, Tail, Window};
 use std::marker::Model;
 
 // How many bytes of a block stand in front of its body.

@@ -1,9 +1,9 @@
 //! Keys of conversations as they are looked up.
 ghost use Rattle.std.specs.Prelude.{◌≡◌, ◌+◌, ◌<◌, ◌^◌, true, IfSome};
-ghost use Rattle.cap_rows.specs.Talks.{key_of, is_forward};
-ghost use Rattle.std.specs.Hash as fed;
-ghost use Rattle.std.specs.Cmp.Rules.{hashing};
 ghost use Rattle.std.proofs.Common.{rules};
+ghost use Rattle.std.specs.Cmp.Rules.{hashing};
+ghost use Rattle.std.specs.Hash as fed;
+ghost use Rattle.cap_rows.specs.Talks.{key_of, is_forward};
 ghost use Rattle.cap_rows.specs.Packed.{both_numbers, port_number, port_of, end_number, end_of, packed, unpacked, IsNarrow, IsNarrowEnd, is_end, is_packed};
 
 use crate::rows::TalkKey;
@@ -19,7 +19,7 @@ pub(crate) struct PackedKey {
     greater: u64,
 }
 
-// The two numbers are hashed as one of 128 bits, which takes one product: two would wait for each other.
+// The two numbers are hashed as one of 128 bits, by one product: of two, the second would wait for the first.
 impl Hash for PackedKey {
     ghost hash_input = { λ key. fed.u128 (both_numbers key) };
 
