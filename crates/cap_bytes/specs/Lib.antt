@@ -2,7 +2,6 @@ pub mod Calls
 pub mod Device
 pub mod SourceState
 pub mod Items
-pub mod Number
 pub mod Printing
 pub mod Reader
 pub mod Rules

@@ -10,8 +10,9 @@ ghost use Rattle.cap_convert.specs.Texts.{text_or};
 ghost use Rattle.cap_convert.specs.Numbering.{refusal_by};
 
 use crate::interfaces::{FileStart, refused, units_of};
-use cap_bytes::{Fault, Order, Refusal, Rule, Sink};
+use cap_bytes::{Fault, Refusal, Rule, Sink};
 use cap_feed::{Head, Meta, PacketFeed, next_packet};
+use cap_numbers::Order;
 use cap_pcap::{PcapHeader, RecordTime, put_header, put_record};
 use cap_time::{Interface, Stamp, Unit};
 

@@ -8,7 +8,8 @@ use cap_blocks::{
     Block, BlockReader, Options, PacketFields, is_known, is_section, put_interface, put_packet,
     put_section,
 };
-use cap_bytes::{Device, Fault, Order, Pieces, Room, Rule, Sink, Source, Tail, Window};
+use cap_bytes::{Device, Fault, Pieces, Room, Rule, Sink, Source, Tail, Window};
+use cap_numbers::Order;
 use cap_time::{Interface, Resolution};
 use std::alloc::{AllocError, Global};
 use std::cmp::min;

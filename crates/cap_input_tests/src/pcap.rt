@@ -4,7 +4,8 @@ ghost use Rattle.std.specs.Prelude.{◌≤◌};
 
 use crate::checks::{holds, same};
 use crate::vectors::{CARRY_PCAP, refused};
-use cap_bytes::{Device, Fault, Order, Pieces, Room, Rule, Source, Tail, Window};
+use cap_bytes::{Device, Fault, Pieces, Room, Rule, Source, Tail, Window};
+use cap_numbers::Order;
 use cap_pcap::{PcapHeader, PcapReader, Record, RecordTime, put_header, put_record};
 use cap_time::Unit;
 use std::alloc::{AllocError, Global};

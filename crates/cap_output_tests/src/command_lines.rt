@@ -1,9 +1,9 @@
 //! Command lines with their jobs and faults.
 use crate::checks::same;
-use cap_bytes::Order;
 use cap_feed::Format;
 use cap_jobs::{LineFault, Task, USAGE};
 use cap_line::{message, parse};
+use cap_numbers::Order;
 use std::alloc::Global;
 
 // A job's task, its first file, how many it has, and whether a cut end is dropped.

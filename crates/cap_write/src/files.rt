@@ -8,9 +8,10 @@ ghost use Rattle.cap_feed.specs.Feed.{Keeps};
 ghost use Rattle.cap_feed.specs.Walk.{Walks};
 ghost use Rattle.cap_source.specs.Captures.{feed_of, number_of, first_of};
 
-use cap_bytes::{Fault, Order, Sink, Source};
+use cap_bytes::{Fault, Sink, Source};
 use cap_convert::{FileStart, put_pcap, put_pcapng};
 use cap_feed::PacketFeed;
+use cap_numbers::Order;
 use cap_source::Capture;
 use std::alloc::Global;
 

@@ -7,9 +7,10 @@ ghost use Rattle.cap_feed.specs.Walk.{Walks};
 ghost use Rattle.cap_convert.specs.Texts.{merged_bytes, merged_refusal};
 
 use cap_blocks::put_section;
-use cap_bytes::{Fault, Order, Sink};
+use cap_bytes::{Fault, Sink};
 use cap_convert::{Origins, put_packets};
 use cap_feed::PacketFeed;
+use cap_numbers::Order;
 use std::alloc::Global;
 
 /// Writes the packets of a feed as a pcapng file (draft-ietf-opsawg-pcapng, 4) of one section in that byte

@@ -3,8 +3,9 @@ ghost use Rattle.std.specs.Prelude.{◌≤◌};
 
 use crate::checks::same;
 use crate::commands::refused;
-use cap_bytes::{Fault, Order, Pieces, Room, Rule, Tail};
+use cap_bytes::{Fault, Pieces, Room, Rule, Tail};
 use cap_feed::Format;
+use cap_numbers::Order;
 use cap_tasks::{Encoding, convert_to};
 use std::alloc::Global;
 use std::test::Fail;

@@ -3,7 +3,8 @@ ghost use Rattle.std.specs.Prelude.{◌≤◌};
 
 use crate::checks::same;
 use crate::commands::{decoded, roomy};
-use cap_bytes::{Fault, Order, Pieces, Room, Tail};
+use cap_bytes::{Fault, Pieces, Room, Tail};
+use cap_numbers::Order;
 use cap_tasks::join_to;
 use std::alloc::Global;
 use std::test::Fail;
