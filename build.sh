@@ -20,5 +20,7 @@ sed 's|^\([^:]*\):.*|crates/\1|' "$copy/crates.txt" | tar -c --exclude=must-fail
 mkdir "$copy/.git"
 
 (cd "$copy" && rt ci)
-install -m755 "$copy/crates/$program/out/$program" capt
+mkdir -p "crates/$program/out"
+install -m755 "$copy/crates/$program/out/$program" "crates/$program/out/"
+ln -sf "crates/$program/out/$program" capt
 ./capt --help
