@@ -1,5 +1,5 @@
 //! A buffer that is read into after what it holds.
-ghost use Rattle.std.specs.Prelude.{◌≡◌, ℕ, List, Bool, ◌||◌, ◌+◌, ◌-◌, ◌≤◌, ◌<◌, ◌++◌, [], length, take, drop, is_err, IsTrue, IsErr, IfOk, IfSome, OnOk, OnErr, vec_len, slice_range};
+ghost use Rattle.std.specs.Prelude.{◌≡◌, ◌||◌, ◌+◌, ◌-◌, ◌≤◌, ◌<◌, [], length, take, is_err, IsTrue, IsErr, IfOk, IfSome, OnOk, OnErr, vec_len, slice_range};
 ghost use Rattle.cap_bytes.specs.SourceState.{source_of, Reads, IsWithin, Fills, Discards};
 
 use crate::devices::{Broken, Source};

@@ -1,5 +1,5 @@
 //! A window over a reader: the one cursor by which bytes are read.
-ghost use Rattle.std.specs.Prelude.{◌≡◌, ℕ, ◌+◌, ◌^◌, ◌≤◌, ◌<◌, IsSome, IsTrue, ◌↔◌, None, length};
+ghost use Rattle.std.specs.Prelude.{◌≡◌, ◌+◌, ◌^◌, ◌≤◌, ◌<◌, IsSome, IsTrue, ◌↔◌, None, length};
 ghost use Rattle.cap_bytes.specs.SourceState.{source_of, IsWithin};
 ghost use Rattle.cap_bytes.specs.Window.{opened, Keeps, Needs, Passes, Skips, FailsAt};
 

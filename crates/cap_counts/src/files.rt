@@ -1,5 +1,5 @@
 //! The lines of files that were counted.
-ghost use Rattle.std.specs.Prelude.{◌≡◌, ◌≤◌, ◌++◌, IsTrue, IsOkUnless, None, length};
+ghost use Rattle.std.specs.Prelude.{◌≤◌, ◌++◌, IsTrue, IsOkUnless, None, length};
 ghost use Rattle.cap_bytes.specs.Device.{WriterKeeps, writer_of};
 ghost use Rattle.cap_bytes.specs.Printing.{Prints, is_write};
 ghost use Rattle.cap_counts.specs.Lines.{counted_texts, files_text};

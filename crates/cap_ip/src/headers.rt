@@ -1,5 +1,5 @@
 //! IPv4 headers (RFC 791, 3.1).
-ghost use Rattle.std.specs.Prelude.{◌≡◌, ◌≤◌, Bool, false, length};
+ghost use Rattle.std.specs.Prelude.{◌≡◌, ◌≤◌, false, length};
 ghost use Rattle.std.specs.Bool.{OnFalse};
 ghost use Rattle.cap_ip.specs.Fields.{header_length, total_length};
 ghost use Rattle.cap_ip.specs.Header.{IsWellFormed};

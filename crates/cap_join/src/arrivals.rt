@@ -1,7 +1,6 @@
 //! IPv4 packets, as they come to a joiner.
 ghost use Rattle.std.specs.Prelude.{◌≡◌, List, ◌+◌, ◌≤◌, ◌<◌, ◌<ℤ◌, ◌^◌, pos, length, IfSome, IfOk, IfErr, OnOk, OnErr};
 ghost use Rattle.cap_time.specs.Stamp.{seconds_of};
-ghost use Rattle.cap_ip.specs.Header.{HeaderFields};
 ghost use Rattle.cap_ip.specs.Read.{read_of, found, IsShaped};
 ghost use Rattle.cap_join.specs.Arrivals.{IsArrived, events_with};
 ghost use Rattle.cap_join.specs.History.{Event};

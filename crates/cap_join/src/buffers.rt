@@ -1,5 +1,5 @@
 //! The buffer of a group of fragments.
-ghost use Rattle.std.specs.Prelude.{◌≡◌, ℕ, List, ◌∷◌, ◌+◌, ◌<◌, ◌≤◌, ◌%◌, ◌^◌, length, vec_len, IfOk, OnErr};
+ghost use Rattle.std.specs.Prelude.{◌≡◌, List, ◌∷◌, ◌+◌, ◌<◌, ◌≤◌, ◌%◌, length, vec_len, IfOk, OnErr};
 ghost use Rattle.cap_join.specs.Holes.{Span, IsChain, HasHoles, HasCursor};
 ghost use Rattle.cap_join.specs.Fragments.{Piece, IsShaped};
 ghost use Rattle.cap_join.specs.Buffers.{Maps, Grown};

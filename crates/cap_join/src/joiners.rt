@@ -1,7 +1,6 @@
 //! The joiner of fragments.
-ghost use Rattle.std.specs.Prelude.{◌≡◌, ℕ, List, [], ◌∷◌, ◌+◌, ◌≤◌, ◌<◌, ◌<ℤ◌, ◌^◌, pos, length, IsSome, IfSome, IfOk, IfErr, OnOk, OnErr};
+ghost use Rattle.std.specs.Prelude.{◌≡◌, List, [], ◌∷◌, ◌+◌, ◌≤◌, ◌<◌, ◌<ℤ◌, ◌^◌, pos, length, IsSome, IfSome, IfOk, IfErr, OnOk, OnErr};
 ghost use Rattle.cap_time.specs.Stamp.{seconds_of};
-ghost use Rattle.cap_ip.specs.Header.{IsPiece};
 ghost use Rattle.cap_join.specs.Fitting.{FitsPut};
 ghost use Rattle.cap_join.specs.Fragments.{piece_of};
 ghost use Rattle.cap_join.specs.History.{Event, arrives, flushes, state_of, joined_pieces};

@@ -1,5 +1,5 @@
 //! The table of open groups, in the order in which they were opened.
-ghost use Rattle.std.specs.Prelude.{◌≡◌, ℕ, List, [], ◌∷◌, ◌++◌, ◌+◌, ◌<◌, ◌≤◌, ◌<ℤ◌, ◌^◌, pos, true, false, not, length, Some, None, IsTrue, IsSome, IfSome, IfNone, IsSomeAnd, IfOk, OnOk, OnErr, remove, nat_lt, if◌then◌else◌};
+ghost use Rattle.std.specs.Prelude.{◌≡◌, List, [], ◌∷◌, ◌++◌, ◌+◌, ◌<◌, ◌≤◌, ◌<ℤ◌, ◌^◌, pos, true, false, not, length, Some, None, IsSome, IfSome, IfNone, IsSomeAnd, IfOk, OnOk, OnErr, remove, nat_lt, if◌then◌else◌};
 ghost use Rattle.cap_time.specs.Stamp.{seconds_of};
 ghost use Rattle.cap_join.specs.Fitting.{FitsPut};
 ghost use Rattle.cap_join.specs.Incoming.{key_in, piece_in, place_in};

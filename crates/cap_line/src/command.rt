@@ -1,5 +1,5 @@
 //! The command line as clap reads it: one small function for each argument and each subcommand.
-ghost use Rattle.std.specs.Prelude.{◌≡◌, codes, false, IfOk};
+ghost use Rattle.std.specs.Prelude.{◌≡◌, false, IfOk};
 ghost use Rattle.clap.specs.Words.{app_of, rule_of};
 ghost use Rattle.clap.specs.declared.builder.command.Command.TheViews.{out-Command as fields_of};
 ghost use Rattle.cap_line.specs.Command.{AddsMade, IsCapt, IsConvert, IsJoin, IsMerge, IsOrderRule, IsToRule, IsWriting, allow_cut_rule, blocks_app, capt_alone, capture_app, captures_app, file_rule, files_rule, info_app, list_app, listing_app, out_rule, printing_app, report_app};

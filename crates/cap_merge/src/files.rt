@@ -1,5 +1,5 @@
 //! The packets of several capture files as one feed.
-ghost use Rattle.std.specs.Prelude.{◌≡◌, ◌≤◌, IfOk, IsOkUnless, map, vec_len};
+ghost use Rattle.std.specs.Prelude.{◌≤◌, IfOk, IsOkUnless, map, vec_len};
 ghost use Rattle.cap_merge.specs.Readers.{AreUnread, IsUnreadRun, reader_of};
 ghost use Rattle.cap_order.specs.View.{parts_of};
 

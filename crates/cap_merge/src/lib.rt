@@ -4,4 +4,3 @@
 mod files;
 
 pub use crate::files::merge_files;
-pub use cap_order::{Merged, NextPacket, next_of};

@@ -1,5 +1,5 @@
 -- Bytes of which some spell a number that was put there.
-use Rattle.std.proofs.Common.{◌≡◌, ◌+◌, ◌≤◌, ℕ, List, ◌++◌, length, take, drop, refl, subst, arith, append_assoc, length-append}
+use Rattle.std.proofs.Common.{◌≡◌, ◌+◌, ◌≤◌, ℕ, List, ◌++◌, length, take, drop, refl, ap, ◌∙◌, subst, arith, append_assoc, length-append}
 use Rattle.std.proofs.lemmas.List.{drop-drop, length-take}
 use Rattle.std.proofs.Math.Seq.{take-append_seam}
 
@@ -14,3 +14,9 @@ pub spelled-front : (n place : ℕ) (bytes rest spelled : List ℕ) → length s
 spelled-front n place bytes rest spelled len within =
     let all : length (take place bytes ++ spelled) ≡ place + n = omega (arith, length-append (take place bytes) spelled, length-take place bytes) in
     subst (λ k. take k (take place bytes ++ spelled ++ rest) ≡ take place bytes ++ spelled) all (take-append_seam (take place bytes ++ spelled) rest)
+
+-- so the bytes as far as that end with what was spelled
+pub spelled-in-front : (n place : ℕ) (bytes front rest new spelled : List ℕ) → front ≡ take place bytes → rest ≡ drop place bytes → new ≡ spelled ++ drop n rest
+    → length spelled ≡ n → place + n ≤ length bytes → take (place + n) (front ++ new) ≡ take place bytes ++ spelled
+spelled-in-front n place bytes front rest new spelled a b d len within =
+    ap (take (place + n)) (spelled-over n place bytes front rest new spelled a b d) ∙ spelled-front n place bytes (drop (place + n) bytes) spelled len within

@@ -1,4 +1,3 @@
-pub use Rattle.cap_time.specs.Clock
 pub mod Run
 pub mod Parts
 pub mod First

@@ -6,7 +6,7 @@ ghost use Rattle.cap_time.specs.declared.stamps.Stamp.{Stamp};
 ghost use Rattle.cap_time.specs.Stamp.{seconds_of};
 ghost use Rattle.cap_time.specs.Clock.{clock_cmp};
 ghost use Rattle.cap_feed.specs.declared.feeds.Head.{Head};
-ghost use Rattle.cap_feed.specs.Feed.{GivesHead, Keeps, KeepsItems, FindsPacket, FindsItem, Passes, IsPacket, HasFile, IsFeed};
+ghost use Rattle.cap_feed.specs.Feed.{GivesHead, Keeps, KeepsItems, FindsPacket, FindsItem, Passes, IsPacket};
 ghost use Rattle.cap_order.specs.Run.{opened, run};
 ghost use Rattle.cap_order.specs.Parts.{item_time, is_refusal, parts, IsNumbered, Agrees, HasReached, AreBounded, feed_of, new_parts, clock_of, run_of, OthersKnown, ClocksFrom, MovesClocks, KeepsRun, ShowsRun, BeginsAt, turns};
 ghost use Rattle.cap_order.specs.First.{coming_of, has_next, first_place, found_of, passed_of, IsFound, IsFound-prop};

@@ -1,5 +1,5 @@
 //! How far a run is, shown at a terminal while the run takes long.
-ghost use Rattle.std.specs.Prelude.{◌≡◌, ◌+◌, ◌<◌, ◌≤◌, ◌^◌, ◌++◌, length};
+ghost use Rattle.std.specs.Prelude.{◌≡◌, ◌+◌, ◌<◌, ◌≤◌, ◌++◌, length};
 ghost use Rattle.cap_print.specs.Lines.{room_in, text_in};
 ghost use Rattle.cap_outcomes.specs.Progress.{amount_text, left_text, of_text, progress_text, time_text};
 

@@ -1,8 +1,8 @@
 //! The packets of one capture file.
-ghost use Rattle.std.specs.Prelude.{◌≡◌, ◌+◌, ◌≤◌, ◌^◌, List, [], ◌∷◌, ℕ, None, IsTrue, length};
+ghost use Rattle.std.specs.Prelude.{◌≡◌, ◌≤◌, ◌^◌, [], ◌∷◌, ℕ, None, IsTrue};
 ghost use Rattle.cap_feed.specs.Feed.{Keeps};
 ghost use Rattle.cap_source.specs.Items.{file_items, file_ending, file_first};
-ghost use Rattle.cap_source.specs.FileState.{feed_of, GivesFirst, KeepsFirst, IsNext, end_of, size_of, captured_of, behind_of, file_of, is_free, is_whole};
+ghost use Rattle.cap_source.specs.FileState.{feed_of, GivesFirst, KeepsFirst, end_of, size_of, captured_of, behind_of, file_of, is_free, is_whole};
 ghost use Rattle.cap_source.specs.Laws.{captures_lawful};
 ghost use Rattle.cap_source.specs.Reached.{progress_of};
 ghost use Rattle.cap_source.specs.Readers.{state_of, is_there, reader_room};

@@ -13,4 +13,3 @@ mod reached;
 mod readers;
 
 pub use crate::captures::Capture;
-pub use cap_feed::{Ending, FeedHeld, Format, Head, Listed, Meta, PacketFeed, next_packet};

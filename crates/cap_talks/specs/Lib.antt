@@ -1,15 +1,5 @@
-pub mod Files
 pub mod InfoText
 pub mod Reading
 pub mod Telling
-pub mod Talks
-pub use Rattle.cap_tally.specs.Taken
-pub use Rattle.cap_tally.specs.Classes
-pub use Rattle.cap_tally.specs.CountedUnits
-pub use Rattle.cap_tally.specs.TakenText
-pub use Rattle.cap_tally.specs.Tallies
-pub use Rattle.cap_table.specs.Stepping
-pub use Rattle.cap_table.specs.TableView
-pub use Rattle.cap_table.specs.Holding
 pub mod ReportText
 pub mod Reporting

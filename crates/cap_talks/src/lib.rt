@@ -6,5 +6,3 @@ mod reports;
 
 pub use crate::files::file_lines;
 pub use crate::reports::report;
-pub use cap_rows::{talk_laws, worked_talks};
-pub use cap_table::{Held, Step, Table};

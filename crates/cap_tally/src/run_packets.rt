@@ -1,5 +1,5 @@
 //! A packet of a run, as it comes to a tally.
-ghost use Rattle.std.specs.Prelude.{◌≡◌, ◌<ℤ◌, ◌^◌, pos, IfSome};
+ghost use Rattle.std.specs.Prelude.{◌<ℤ◌, ◌^◌, pos, IfSome};
 ghost use Rattle.std.proofs.Props.{props};
 ghost use Rattle.cap_time.specs.Stamp.{seconds_of};
 

@@ -1,5 +1,5 @@
 //! What is counted of the packets that were taken: of each file, and of all.
-ghost use Rattle.std.specs.Prelude.{◌≡◌, ◌+◌, ◌-◌, ◌*◌, ◌≤◌, ◌<◌, ◌^◌, List, [], ◌∷◌, Option, true, length, replicate, slice_index_or, slice_set, if◌then◌else◌};
+ghost use Rattle.std.specs.Prelude.{◌≡◌, ◌+◌, ◌-◌, ◌≤◌, ◌<◌, ◌^◌, List, [], ◌∷◌, Option, true, length, replicate, slice_index_or, slice_set, if◌then◌else◌};
 ghost use Rattle.cap_feed.specs.Times.{meta_time};
 ghost use Rattle.cap_counts.specs.Counting.{counted, with_packet};
 ghost use Rattle.cap_tally.specs.Looking.{taken};

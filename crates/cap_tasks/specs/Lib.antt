@@ -1,10 +1,1 @@
 pub mod Jobs
-pub use Rattle.cap_lists.specs.BlockText
-pub use Rattle.cap_lists.specs.Lines
-pub use Rattle.cap_lists.specs.ListText
-pub use Rattle.cap_outcomes.specs.Outcomes
-pub use Rattle.cap_outcomes.specs.Progress
-pub use Rattle.cap_outcomes.specs.Watched
-pub use Rattle.cap_write.specs.Converted
-pub use Rattle.cap_write.specs.JoinText
-pub use Rattle.cap_write.specs.MergeText

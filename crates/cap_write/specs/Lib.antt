@@ -1,8 +1,3 @@
-pub use Rattle.cap_convert.specs.Interfaces
-pub use Rattle.cap_convert.specs.Numbering
-pub use Rattle.cap_convert.specs.Pcap
-pub use Rattle.cap_convert.specs.Texts
-pub use Rattle.cap_convert.specs.Times
 pub mod Converted
 pub mod Datagrams
 pub mod Joined

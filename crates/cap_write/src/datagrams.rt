@@ -1,12 +1,11 @@
 //! IPv4 datagrams as packets: whole ones, and those that are joined of fragments.
-ghost use Rattle.std.specs.Prelude.{◌≡◌, ◌+◌, ◌≤◌, ◌<◌, ◌<ℤ◌, ◌^◌, ◌++◌, ◌==◌, ◌&&◌, pos, length, List, [], IsTrue, IsOkUnless, IfOk, IfSome, OnOk};
+ghost use Rattle.std.specs.Prelude.{◌≡◌, ◌+◌, ◌≤◌, ◌<◌, ◌++◌, ◌==◌, ◌&&◌, length, List, IsTrue, IsOkUnless, IfOk, OnOk};
 ghost use Rattle.cap_ip.specs.Read.{read_of};
 ghost use Rattle.cap_ip.specs.Transport.{transport_of};
 ghost use Rattle.cap_ip.specs.Written.{header_bytes};
 ghost use Rattle.cap_join.specs.Arrivals.{events_with};
 ghost use Rattle.cap_join.specs.History.{Event};
 ghost use Rattle.cap_join.specs.Joiners.{StandsFor};
-ghost use Rattle.cap_time.specs.Stamp.{seconds_of};
 ghost use Rattle.cap_write.specs.Datagrams.{IsFilled, IsShort, Stands, answered};
 ghost use Rattle.cap_write.specs.PlacedPackets.{stamped_in, whole_in};
 ghost use Rattle.cap_write.specs.Joined.{has_form, complete_of, completed_in, completed, events_after};

@@ -4,7 +4,7 @@ ghost use Rattle.std.specs.Prelude.{◌≤◌};
 use crate::checks::same;
 use crate::commands::refused;
 use cap_bytes::{Fault, Pieces, Room, Rule, Tail};
-use cap_tasks::blocks_to;
+use cap_lists::blocks_to;
 use std::alloc::Global;
 use std::test::Fail;
 

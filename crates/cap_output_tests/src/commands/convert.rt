@@ -6,7 +6,7 @@ use crate::commands::refused;
 use cap_bytes::{Fault, Pieces, Room, Rule, Tail};
 use cap_feed::Format;
 use cap_numbers::Order;
-use cap_tasks::{Encoding, convert_to};
+use cap_write::{Encoding, convert_to};
 use std::alloc::Global;
 use std::test::Fail;
 

@@ -5,7 +5,7 @@ use crate::checks::same;
 use crate::commands::{decoded, roomy};
 use cap_bytes::{Fault, Pieces, Room, Tail};
 use cap_numbers::Order;
-use cap_tasks::join_to;
+use cap_write::join_to;
 use std::alloc::Global;
 use std::test::Fail;
 

@@ -5,7 +5,7 @@ use crate::checks::same;
 use crate::commands::{decoded, refused, roomy};
 use cap_bytes::{Fault, Pieces, Room, Rule, Tail};
 use cap_numbers::Order;
-use cap_tasks::merge_to;
+use cap_write::merge_to;
 use std::alloc::Global;
 use std::test::Fail;
 
