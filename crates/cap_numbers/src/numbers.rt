@@ -4,7 +4,8 @@ ghost use Rattle.cap_numbers.specs.Number.{number, bytes_of, with_number};
 
 use byteorder::{BigEndian, ByteOrder, LittleEndian};
 
-/// The order of a number's bytes.
+/// The order of a number's bytes: one in a pcap file (draft-ietf-opsawg-pcap, 4) and in a section of a pcapng file
+/// (draft-ietf-opsawg-pcapng, 3.6), `Big` in IPv4 headers (RFC 791, Appendix B).
 #[derive(Clone, Copy, Debug, PartialEq, Eq)]
 pub enum Order {
     /// The highest byte first.
@@ -13,7 +14,7 @@ pub enum Order {
     Little,
 }
 
-/// The number in the 2 bytes from `place` on.
+/// The number in the 2 bytes from `place` on, in that order.
 #[tactic(auto, unfolding(crate::specs::Number::number))]
 pub fn u16_at(order: Order, bytes: &[u8], place: usize) -> u16
     requires { place + 2 ≤ length bytes.now }
@@ -26,7 +27,7 @@ pub fn u16_at(order: Order, bytes: &[u8], place: usize) -> u16
     }
 }
 
-/// The number in the 4 bytes from `place` on.
+/// The number in the 4 bytes from `place` on, in that order.
 #[tactic(auto, unfolding(crate::specs::Number::number))]
 pub fn u32_at(order: Order, bytes: &[u8], place: usize) -> u32
     requires { place + 4 ≤ length bytes.now }
@@ -39,7 +40,7 @@ pub fn u32_at(order: Order, bytes: &[u8], place: usize) -> u32
     }
 }
 
-/// The number in the 8 bytes from `place` on.
+/// The number in the 8 bytes from `place` on, in that order.
 #[tactic(auto, unfolding(crate::specs::Number::number))]
 pub fn u64_at(order: Order, bytes: &[u8], place: usize) -> u64
     requires { place + 8 ≤ length bytes.now }
@@ -52,7 +53,7 @@ pub fn u64_at(order: Order, bytes: &[u8], place: usize) -> u64
     }
 }
 
-/// Puts a number into the 2 bytes from `place` on.
+/// Puts a number into the 2 bytes from `place` on, in that order. The other bytes stay.
 #[tactic(auto, unfolding(crate::specs::Number::with_number, crate::specs::Number::bytes_of))]
 pub fn put_u16(order: Order, bytes: &mut [u8], place: usize, number: u16)
     requires { place + 2 ≤ length bytes.old }
@@ -66,7 +67,7 @@ pub fn put_u16(order: Order, bytes: &mut [u8], place: usize, number: u16)
     }
 }
 
-/// Puts a number into the 4 bytes from `place` on.
+/// Puts a number into the 4 bytes from `place` on, in that order. The other bytes stay.
 #[tactic(auto, unfolding(crate::specs::Number::with_number, crate::specs::Number::bytes_of))]
 pub fn put_u32(order: Order, bytes: &mut [u8], place: usize, number: u32)
     requires { place + 4 ≤ length bytes.old }
@@ -80,7 +81,7 @@ pub fn put_u32(order: Order, bytes: &mut [u8], place: usize, number: u32)
     }
 }
 
-/// Puts a number into the 8 bytes from `place` on.
+/// Puts a number into the 8 bytes from `place` on, in that order. The other bytes stay.
 #[tactic(auto, unfolding(crate::specs::Number::with_number, crate::specs::Number::bytes_of))]
 pub fn put_u64(order: Order, bytes: &mut [u8], place: usize, number: u64)
     requires { place + 8 ≤ length bytes.old }

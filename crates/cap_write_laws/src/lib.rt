@@ -7,4 +7,3 @@ mod laws;
 pub use crate::laws::{
     clock_law, merged_again, one_interface, pcap_again, pcapng_again, round_trip, rounds_law,
 };
-pub use cap_source::laws::fields_fit;
