@@ -12,7 +12,7 @@ use cap_bytes::{Fault, Pieces, Room, Tail};
 use cap_feed::PacketFeed;
 use cap_merge::merge_files;
 use cap_source::Capture;
-use cap_table::{Step, Table};
+use cap_tally::{Step, Table};
 use std::alloc::{AllocError, Global};
 use std::process::Abort;
 use std::test::Fail;

@@ -18,7 +18,7 @@ use Rattle.cap_feed.specs.Walk.{Walks}
 use Rattle.cap_talks.specs.Reporting.{TookAll, TakesAll}
 use Rattle.cap_talks.specs.ReportText.{taken_after, refusal_after, report_text, report_refusal}
 use Rattle.cap_tally.specs.TakenText.{text_of}
-use Rattle.cap_table.specs.Stepping.{TableState, TableStands, endings_so_far}
+use Rattle.cap_tally.specs.Stepping.{TableState, TableStands, endings_so_far}
 use Rattle.cap_tally.specs.Taken.{Taken}
 use Rattle.cap_talks.specs.Telling.{Tells}
 use Rattle.cap_talks.proofs.Telling.{tells-printed}

@@ -5,7 +5,7 @@ use Rattle.cap_bytes.specs.declared.faults.Fault.TheVariants.{Refused, Read, Wri
 use Rattle.cap_order.specs.Parts.{feed_of, run_of}
 use Rattle.cap_feed.specs.declared.feeds.Head.TheVariants as heads
 use Rattle.cap_talks.specs.ReportText.{taken_after, refusal_after}
-use Rattle.cap_table.specs.Stepping.{TableState, TableStands}
+use Rattle.cap_tally.specs.Stepping.{TableState, TableStands}
 
 -- All packets of a run that isn't refused were taken, by a table that stood for none.
 pub record TookAll (old new : TableState) : Type 0 where

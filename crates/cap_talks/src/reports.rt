@@ -9,14 +9,14 @@ ghost use Rattle.cap_source.specs.ReadFaults.{FailsOf};
 ghost use Rattle.cap_feed.specs.Walk.{Walks};
 ghost use Rattle.cap_talks.specs.Reporting.{TakesAll};
 ghost use Rattle.cap_talks.specs.ReportText.{report_text, report_refusal};
-ghost use Rattle.cap_table.specs.Stepping.{IsMore};
-ghost use Rattle.cap_table.specs.TableView.{table_of};
+ghost use Rattle.cap_tally.specs.Stepping.{IsMore};
+ghost use Rattle.cap_tally.specs.TableView.{table_of};
 ghost use Rattle.cap_talks.specs.Telling.{Tells};
 
 use cap_bytes::{Fault, Sink, Source, Tail};
 use cap_feed::PacketFeed;
 use cap_merge::merge_files;
-use cap_table::{Step, Table};
+use cap_tally::{Step, Table};
 use std::alloc::Global;
 
 // Whether a step took a packet.

@@ -9,3 +9,6 @@ pub mod Waiting
 pub mod Written
 pub mod Totaling
 pub mod UnitOrder
+pub mod Stepping
+pub mod TableLines
+pub mod TableTexts

@@ -8,3 +8,7 @@ pub mod TotalsView
 pub mod Looking
 pub mod Tallies
 pub mod TallyView
+pub mod Stepping
+pub mod TableView
+pub mod Holding
+pub mod Props

@@ -20,7 +20,7 @@ use cap_time::Stamp;
 
 /// What is told of a packet's frame, which has that place in the run and that time.
 #[inline(always)]
-pub fn stamped_of(place: u64, time: Option<Stamp>, meta: &Meta) -> Stamped
+pub(crate) fn stamped_of(place: u64, time: Option<Stamp>, meta: &Meta) -> Stamped
     requires time { time ≡ meta_time meta.now }
     ensures { result ≡ stamped_of place meta.now }
 {
@@ -43,7 +43,7 @@ fn timed_frame(frame: Option<Stamped>) -> Option<TimedFrame>
 }
 
 /// A datagram's class, by what its data says of its ports.
-pub fn class_of(transport: Transport) -> Class
+pub(crate) fn class_of(transport: Transport) -> Class
     ensures { result ≡ class_of transport }
 {
     match transport {
@@ -56,7 +56,7 @@ pub fn class_of(transport: Transport) -> Class
 
 /// The unit that a whole datagram is, of which some data was captured.
 #[inline(always)]
-pub fn whole_unit(
+pub(crate) fn whole_unit(
     header: &Header,
     captured: &[u8],
     seen: Transport,
@@ -80,7 +80,7 @@ pub fn whole_unit(
 
 /// The unit that a joined datagram is.
 #[tactic(auto, unfolding(crate::specs::Adding::datagram_unit))]
-pub fn joined_unit(datagram: &Datagram) -> Option<CountedUnit>
+pub(crate) fn joined_unit(datagram: &Datagram) -> Option<CountedUnit>
     requires short { length datagram.now.payload.items ≤ 65520 }
     ensures { result ≡ datagram_unit datagram.now }
 {
@@ -101,7 +101,7 @@ pub fn joined_unit(datagram: &Datagram) -> Option<CountedUnit>
 
 /// The class of a joined datagram's frames.
 #[tactic(auto, unfolding(crate::specs::Adding::datagram_class))]
-pub fn joined_class(datagram: &Datagram) -> Class
+pub(crate) fn joined_class(datagram: &Datagram) -> Class
     requires short { length datagram.now.payload.items ≤ 65520 }
     ensures { result ≡ datagram_class datagram.now }
 {
@@ -111,7 +111,7 @@ pub fn joined_class(datagram: &Datagram) -> Class
 
 /// Adds a unit to the conversations, if there is one.
 #[inline(always)]
-pub fn add_unit(talks: &mut Talks, unit: &Option<CountedUnit>) -> Result<(), TalksFault>
+pub(crate) fn add_unit(talks: &mut Talks, unit: &Option<CountedUnit>) -> Result<(), TalksFault>
     requires frames { frames_in talks.old.rows + frames_of (listed unit.now) < 2 ^ 64 }
     requires bytes { bytes_in talks.old.rows + bytes_of (listed unit.now) < 2 ^ 128 }
     requires unit { IfSome unit.now IsUnitInOrder }

@@ -1,4 +1,4 @@
-//! What is counted of the packets of a run, one by one: of each file, of each class, and of the conversations.
+//! The table of a report: what is counted of the packets of a run, one by one, and step by step of a merge of files.
 #![tactic(auto)]
 
 mod adding;
@@ -6,11 +6,8 @@ mod classes;
 mod looks;
 mod report_lines;
 mod run_packets;
+mod tables;
 mod tallies;
 mod totals;
 
-pub use crate::classes::{Class, ClassCounts};
-pub use crate::report_lines::total_line;
-pub use crate::run_packets::RunPacket;
-pub use crate::tallies::Tally;
-pub use crate::totals::Totals;
+pub use crate::tables::{Held, Step, Table};

@@ -13,7 +13,7 @@ use cap_link::{Network, network};
 
 /// What a packet is by itself.
 #[derive(Clone, Copy)]
-pub enum Seen<'a> {
+pub(crate) enum Seen<'a> {
     /// One of a class.
     Plain(Class),
     /// A whole datagram, with the captured part of its data.
@@ -44,7 +44,7 @@ fn look_into(bytes: &[u8], whole: bool) -> Seen<'_>
 /// What a packet is by itself: its meta and its captured bytes.
 #[tactic(auto, unfolding(crate::specs::Taken::look))]
 #[inline(always)]
-pub fn look<'a>(meta: &Meta, frame: &'a [u8]) -> Seen<'a>
+pub(crate) fn look<'a>(meta: &Meta, frame: &'a [u8]) -> Seen<'a>
     ensures value { (clock : Option Stamp) (place : ℕ) → look_of result (stamped_of place meta.now) ≡ look place (taken clock meta.now frame.entry.now) }
     ensures all { IsAll result }
 {

@@ -7,7 +7,7 @@ use crate::classes::ClassCounts;
 use cap_print::Line;
 
 /// `total packets P bytes B truncated Q`.
-pub fn total_line(packets: u64, bytes: u128, truncated: u64) -> Line
+pub(crate) fn total_line(packets: u64, bytes: u128, truncated: u64) -> Line
     ensures { text_in result ≡ total_text packets bytes truncated }
 {
     let mut line = Line::new();
@@ -19,7 +19,7 @@ pub fn total_line(packets: u64, bytes: u128, truncated: u64) -> Line
 }
 
 /// `frames other-link N not-ipv4 N short N cut N bad N unjoined N counted N`.
-pub fn frames_line(counts: &ClassCounts) -> Line
+pub(crate) fn frames_line(counts: &ClassCounts) -> Line
     ensures { text_in result ≡ frames_text counts.now }
 {
     let mut line = Line::new();
@@ -35,7 +35,7 @@ pub fn frames_line(counts: &ClassCounts) -> Line
 }
 
 /// `joined J given-up G`.
-pub fn joined_line(joined: u64, given_up: u64) -> Line
+pub(crate) fn joined_line(joined: u64, given_up: u64) -> Line
     ensures { text_in result ≡ joined_text joined given_up }
 {
     let mut line = Line::new();

@@ -8,12 +8,12 @@ use cap_time::Stamp;
 
 /// A packet of a run.
 #[derive(Clone, Copy)]
-pub struct RunPacket<'a> {
+pub(crate) struct RunPacket<'a> {
     /// Its clock.
-    pub clock: &'a Option<Stamp>,
+    pub(crate) clock: &'a Option<Stamp>,
     /// What is told of it.
-    pub meta: &'a Meta,
+    pub(crate) meta: &'a Meta,
     /// Its captured bytes.
-    pub frame: &'a [u8],
+    pub(crate) frame: &'a [u8],
     ghost bounded: { IfSome clock.now (λ c. seconds_of c <ℤ pos (2 ^ 65)) } by { Prim.hlevel props },
 }

@@ -32,7 +32,7 @@ use std::marker::Model;
 
 /// What is counted of the packets of a run.
 #[derive(Drop)]
-pub struct Tally {
+pub(crate) struct Tally {
     place: u64,
     classes: ClassCounts,
     joined: u64,
@@ -132,7 +132,7 @@ fn put_fragment(
 
 impl Tally {
     /// Nothing was taken.
-    pub fn new(alloc: Global) -> Tally
+    pub(crate) fn new(alloc: Global) -> Tally
         ensures stands { (next : Option Taken) → Stands result [] next }
     {
         Tally {
@@ -277,7 +277,11 @@ impl Tally {
     /// growth was refused. Both leave the counts as they were, and the same call may be made again; a datagram that the packet joined is kept
     /// for it.
     #[inline(always)]
-    pub fn take(&mut self, packet: RunPacket<'_>, time: Option<Stamp>) -> Result<(), TalksFault>
+    pub(crate) fn take(
+        &mut self,
+        packet: RunPacket<'_>,
+        time: Option<Stamp>,
+    ) -> Result<(), TalksFault>
         requires time { time ≡ meta_time packet.meta.now }
         requires few { self.old.place < 2 ^ 62 }
         ensures stands { OnOk result (Looks self.old (taken_of packet.entry) false self.new) }
@@ -313,7 +317,7 @@ impl Tally {
 
     /// Writes the lines of the classes, of the joined datagrams and of the conversations: `frames ..`,
     /// `joined J given-up G`, `talks C` and a line for each conversation. After `Write` a prefix of them is written.
-    pub fn put_lines<W: Sink>(&self, writer: &mut W) -> Result<(), Fault>
+    pub(crate) fn put_lines<W: Sink>(&self, writer: &mut W) -> Result<(), Fault>
         ensures text { IsTrue (W.tells_held writer.old)
             → Prints (tally_text self.now) None (W.held writer.old) result (W.held writer.new) }
         ensures writer { WriterKeeps (writer_of W.Sink writer.old) (is_write result) (writer_of W.Sink writer.new) }
@@ -324,7 +328,7 @@ impl Tally {
     }
 
     /// How many groups of fragments are held: the open ones, and a joined datagram that waits. At most 1,024.
-    pub fn groups(&self) -> usize
+    pub(crate) fn groups(&self) -> usize
         ensures value { result ≡ length self.now.joiner.groups + one_if self.now.waiting }
         ensures bound { result ≤ 1024 }
     {
@@ -332,7 +336,7 @@ impl Tally {
     }
 
     /// The bytes of the largest of them: at most 65,520.
-    pub fn group_bytes(&self) -> usize
+    pub(crate) fn group_bytes(&self) -> usize
         ensures value { result ≡ max (most_bytes self.now.joiner.groups) (waiting_bytes self.now.waiting) }
         ensures bound { result ≤ 65520 }
     {
@@ -340,7 +344,7 @@ impl Tally {
     }
 
     /// How many conversations there are: at most 1,048,576.
-    pub fn talks(&self) -> usize
+    pub(crate) fn talks(&self) -> usize
         ensures value { result ≡ length self.now.talks.rows }
         ensures bound { result ≤ 1048576 }
     {

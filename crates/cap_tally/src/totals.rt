@@ -15,7 +15,7 @@ use std::marker::Model;
 
 /// Running counts of the packets of a run: of each of its at most 32 files, and of all.
 #[derive(Drop)]
-pub struct Totals {
+pub(crate) struct Totals {
     files: ArrayVec<Counts, 32>,
     packets: u64,
     bytes: u128,
@@ -66,7 +66,7 @@ fn one_if(is_so: bool) -> u64
 
 impl Totals {
     /// The counts of a run of that many files, at most 32, of which nothing was taken.
-    pub fn new(files: u32) -> Totals
+    pub(crate) fn new(files: u32) -> Totals
         requires { files ≤ 32 }
         ensures stands { TotalsStand result [] }
         ensures files { length result.files ≡ files }
@@ -81,7 +81,7 @@ impl Totals {
 
     /// Takes the next packet of the run, which has that time and those captured bytes.
     #[inline(always)]
-    pub fn take(&mut self, time: Option<Stamp>, meta: &Meta, frame: &[u8])
+    pub(crate) fn take(&mut self, time: Option<Stamp>, meta: &Meta, frame: &[u8])
         requires time { time ≡ meta_time meta.now }
         requires first { 1 ≤ meta.now.file }
         requires last { meta.now.file ≤ length self.old.files }
@@ -103,7 +103,7 @@ impl Totals {
     }
 
     /// What is counted of each file, by number: of at most 32.
-    pub fn files(&self) -> &[Counts]
+    pub(crate) fn files(&self) -> &[Counts]
         ensures files { result.now ≡ self.now.files }
         ensures few { length result.now ≤ 32 }
     {
@@ -111,21 +111,21 @@ impl Totals {
     }
 
     /// How many packets were taken.
-    pub fn packets(&self) -> u64
+    pub(crate) fn packets(&self) -> u64
         ensures { result ≡ self.now.packets }
     {
         self.packets
     }
 
     /// The sum of their original lengths, in bytes.
-    pub fn bytes(&self) -> u128
+    pub(crate) fn bytes(&self) -> u128
         ensures { result ≡ self.now.bytes }
     {
         self.bytes
     }
 
     /// How many of them had more bytes than were captured.
-    pub fn truncated(&self) -> u64
+    pub(crate) fn truncated(&self) -> u64
         ensures { result ≡ self.now.truncated }
     {
         self.truncated

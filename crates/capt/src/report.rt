@@ -1,4 +1,4 @@
 //! What files hold, and the conversations in them.
 
-pub use cap_table::{Held, Step, Table};
 pub use cap_talks::{file_lines, report};
+pub use cap_tally::{Held, Step, Table};

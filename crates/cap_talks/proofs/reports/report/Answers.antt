@@ -5,7 +5,7 @@ use Rattle.std.proofs.lemmas.Result.{err_from_is_err_and}
 use Rattle.cap_order.specs.Parts.{feed_of}
 use Rattle.cap_merge.specs.Readers.{reader_of}
 use Rattle.cap_order.specs.View.{parts_of}
-use Rattle.cap_table.specs.TableView.{table_of}
+use Rattle.cap_tally.specs.TableView.{table_of}
 use Rattle.cap_talks.proofs.Headline.{Begins, tells-report, tells-nothing, fails-of, fails-none, writer-same}
 use Rattle.cap_talks.proofs.reports.report.Goals as goal
 

@@ -1,7 +1,7 @@
 use Rattle.std.proofs.Common.{ap, arith, rules}
 use Rattle.cap_order.specs.MergedLaws.{merged-is-feed}
 use Rattle.cap_feed.specs.declared.feeds.FeedHeld.{FeedHeld}
-use Rattle.cap_table.proofs.tables.Table.held.Goals as goal
+use Rattle.cap_tally.proofs.tables.Table.held.Goals as goal
 
 pub returns-clause-window : goal.returns-clause-window
 returns-clause-window g c =

@@ -1,7 +1,7 @@
 -- What contracts see of a `Table`.
 use Rattle.cap_order.specs.View.{parts_of}
-use Rattle.cap_table.specs.Stepping.{TableState}
-use Rattle.cap_table.specs.declared.tables.Table.{Table}
+use Rattle.cap_tally.specs.Stepping.{TableState}
+use Rattle.cap_tally.specs.declared.tables.Table.{Table}
 
 -- its feeds with what is known of each, what is counted, and whether the feeds are at their end
 abbrev pub table_of : {F : Type 0} {g : _} → Table F g → TableState

@@ -16,7 +16,7 @@ use Rattle.cap_feed.specs.declared.feeds.Head.{Head}
 use Rattle.cap_feed.specs.declared.feeds.Head.TheVariants as heads
 use Rattle.cap_feed.specs.declared.packets.Meta.{Meta}
 use Rattle.cap_time.specs.declared.stamps.Stamp.{Stamp}
-use Rattle.cap_table.specs.Stepping.{next_by, next_taken, TableStands, Steps}
+use Rattle.cap_tally.specs.Stepping.{next_by, next_taken, TableStands, Steps}
 use Rattle.cap_tally.specs.Taken.{Taken}
 use Rattle.cap_tally.specs.Totals.{TotalsState}
 use Rattle.cap_tally.specs.Tallies.{TallyState, Joins, Stands}

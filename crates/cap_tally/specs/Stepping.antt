@@ -15,8 +15,8 @@ use Rattle.cap_tally.specs.CountedUnits.{refusal_at}
 use Rattle.cap_tally.specs.Taken.{Taken}
 use Rattle.cap_tally.specs.Tallies.{TallyState, Stands}
 use Rattle.cap_tally.specs.Totals.{TotalsState, TotalsStand}
-use Rattle.cap_table.specs.declared.tables.Step.{Step}
-use Rattle.cap_table.specs.declared.tables.Step.TheVariants as steps
+use Rattle.cap_tally.specs.declared.tables.Step.{Step}
+use Rattle.cap_tally.specs.declared.tables.Step.TheVariants as steps
 
 -- the packet that is known to come next, with its clock
 abbrev pub next_by : Option Head → Option Stamp → List ℕ → Option Taken

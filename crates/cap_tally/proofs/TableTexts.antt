@@ -12,7 +12,7 @@ use Rattle.cap_rows.specs.Lines.{talk_texts, talks_text}
 use Rattle.cap_tally.specs.Tallies.{TallyState, Stands, tally_text}
 use Rattle.cap_tally.specs.Totals.{TotalsState, TotalsStand}
 use Rattle.cap_counts.specs.declared.files.Counted.{Counted}
-use Rattle.cap_table.proofs.TableLines.{ended-length, lines-counted}
+use Rattle.cap_tally.proofs.TableLines.{ended-length, lines-counted}
 use Rattle.cap_tally.proofs.Waiting.{given-up}
 
 -- the lines of the files

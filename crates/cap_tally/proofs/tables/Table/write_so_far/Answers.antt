@@ -8,11 +8,11 @@ use Rattle.cap_order.specs.View.{parts_of}
 use Rattle.cap_counts.specs.Lines.{files_text}
 use Rattle.cap_counts.specs.Lines.{ended_from, counted_texts}
 use Rattle.cap_tally.specs.TakenText.{total_text}
-use Rattle.cap_table.specs.Stepping.{next_taken}
+use Rattle.cap_tally.specs.Stepping.{next_taken}
 use Rattle.cap_tally.specs.Tallies.{tally_text}
-use Rattle.cap_table.proofs.TableTexts.{text-is}
+use Rattle.cap_tally.proofs.TableTexts.{text-is}
 use Rattle.cap_tally.proofs.Written.{prints-first}
-use Rattle.cap_table.proofs.tables.Table.write_so_far.Goals as goal
+use Rattle.cap_tally.proofs.tables.Table.write_so_far.Goals as goal
 
 pub returns-in_err-put_files-clause-text : goal.returns-in_err-put_files-clause-text
 returns-in_err-put_files-clause-text g c = λ xs stands w.

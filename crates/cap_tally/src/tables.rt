@@ -6,22 +6,25 @@ ghost use Rattle.cap_bytes.specs.Printing.{Prints, is_write};
 ghost use Rattle.cap_order.specs.Parts.{feed_of, is_end};
 ghost use Rattle.cap_order.specs.View.{parts_of};
 ghost use Rattle.cap_feed.specs.Feed.{HasFile};
-ghost use Rattle.cap_table.specs.Props.{IsNumbered-prop};
+ghost use Rattle.cap_tally.specs.Props.{IsNumbered-prop};
 ghost use Rattle.cap_counts.specs.Lines.{ending_at};
 ghost use Rattle.cap_counts.specs.Lines.{ended_from};
-ghost use Rattle.cap_table.specs.Holding.{held_of};
-ghost use Rattle.cap_table.specs.Stepping.{TableStands, StepKeeps, Steps, AnswersAgain, endings_so_far};
+ghost use Rattle.cap_tally.specs.Holding.{held_of};
+ghost use Rattle.cap_tally.specs.Stepping.{TableStands, StepKeeps, Steps, AnswersAgain, endings_so_far};
 ghost use Rattle.cap_tally.specs.CountedUnits.{refusal_at};
 ghost use Rattle.cap_tally.specs.TakenText.{text_of};
 ghost use Rattle.cap_tally.specs.Taken.{Taken};
 
+use crate::report_lines::total_line;
+use crate::run_packets::RunPacket;
+use crate::tallies::Tally;
+use crate::totals::Totals;
 use arrayvec::ArrayVec;
 use cap_bytes::{Fault, Refusal, Rule, Sink, put_all};
 use cap_counts::{Counted, Counts, put_files};
 use cap_feed::{Ending, Meta, PacketFeed};
 use cap_order::Merged;
 use cap_rows::TalksFault;
-use cap_tally::{RunPacket, Tally, Totals, total_line};
 use std::alloc::Global;
 
 /// What a step did.
@@ -74,7 +77,7 @@ fn talk_limit(meta: &Meta) -> Refusal
 }
 
 impl<F: PacketFeed> Table<F> {
-    ghost use Rattle.cap_table.specs.TableView.{table_of};
+    ghost use Rattle.cap_tally.specs.TableView.{table_of};
 
     /// The table of a merge of files, of which it has taken no packet yet.
     pub fn new(alloc: Global, merged: Merged<F>) -> Table<F>

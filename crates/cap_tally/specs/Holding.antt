@@ -2,9 +2,9 @@
 use Rattle.std.specs.Prelude.{◌+◌, length, max}
 use Rattle.cap_join.specs.Joiners.{most_bytes}
 use Rattle.cap_order.specs.Parts.{feed_of}
-use Rattle.cap_table.specs.Stepping.{TableState}
+use Rattle.cap_tally.specs.Stepping.{TableState}
 use Rattle.cap_tally.specs.Tallies.{one_if, waiting_bytes}
-use Rattle.cap_table.specs.declared.tables.Held.{Held}
+use Rattle.cap_tally.specs.declared.tables.Held.{Held}
 
 -- The largest window, and the most interfaces, of any file; the open groups with a joined datagram that waits, the largest of these
 -- and the conversations.

@@ -5,13 +5,13 @@ use Rattle.cap_order.specs.Parts.{feed_of}
 use Rattle.cap_order.specs.View.{parts_of}
 use Rattle.cap_feed.specs.declared.feeds.FeedHeld.{FeedHeld}
 use Rattle.cap_tally.specs.Looking.{taken}
-use Rattle.cap_table.specs.Stepping.{next_taken, clocked}
+use Rattle.cap_tally.specs.Stepping.{next_taken, clocked}
 use Rattle.cap_tally.specs.Taken.{Taken}
 use Rattle.cap_tally.specs.Tallies.{LimitBy, Stands}
 use Rattle.cap_tally.specs.CountedUnits.{is_limit_at}
-use Rattle.cap_table.proofs.Stepping.{known-packet, known-end, faulted, stands-asked, next-is, first-asked, run-packet, run-end, of-file, is-left, is-packet}
+use Rattle.cap_tally.proofs.Stepping.{known-packet, known-end, faulted, stands-asked, next-is, first-asked, run-packet, run-end, of-file, is-left, is-packet}
 use Rattle.cap_order.proofs.Numbers.{numbers-within}
-use Rattle.cap_table.proofs.tables.Table.step.Goals as goal
+use Rattle.cap_tally.proofs.tables.Table.step.Goals as goal
 
 pub returns-in_err-has_packet-clause-step : goal.returns-in_err-has_packet-clause-step
 returns-in_err-has_packet-clause-step g c =

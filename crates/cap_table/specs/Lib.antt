@@ -1,4 +1,0 @@
-pub mod Stepping
-pub mod TableView
-pub mod Holding
-pub mod Props
