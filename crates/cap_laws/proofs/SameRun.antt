@@ -11,7 +11,7 @@ use Rattle.cap_order.specs.Parts.{item_time, is_refusal}
 use Rattle.cap_order.specs.Run.{Clocked, opened, run}
 use Rattle.cap_feed.specs.Feed.{Item}
 use Rattle.cap_time.specs.declared.stamps.Stamp.{Stamp}
-use Rattle.cap_convert.specs.Numbering.{Origin, numbered, refusal_in}
+use Rattle.cap_write.specs.Numbering.{Origin, numbered, refusal_in}
 use Rattle.cap_laws.proofs.Alike.{AlikeItems, RunsAlike, same-report}
 use Rattle.cap_laws.proofs.Twins.{TwinItems, twins}
 use Rattle.cap_laws.specs.Reports.{SameReport}

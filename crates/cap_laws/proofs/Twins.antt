@@ -6,7 +6,7 @@ use Rattle.cap_bytes.specs.declared.faults.Refusal.{Refusal}
 use Rattle.cap_bytes.specs.declared.faults.Rule.TheVariants.{NoTime, InterfaceLimit}
 use Rattle.cap_feed.specs.Feed.{Item, packet, refused}
 use Rattle.cap_feed.specs.declared.packets.Meta.{Meta}
-use Rattle.cap_convert.specs.Numbering.{Origin, with_origin, is_full, write_fault, numbered, numbered_of, refusal_in}
+use Rattle.cap_write.specs.Numbering.{Origin, with_origin, is_full, write_fault, numbered, numbered_of, refusal_in}
 
 -- Two packets have the same interface, units, lengths and bytes.
 pub record IsTwin (m n : Meta) (f g : List ℕ) : Type 0 where

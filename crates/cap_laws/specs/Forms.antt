@@ -17,7 +17,7 @@ use Rattle.cap_tally.specs.TakenText.{body_text, bytes_of, truncated_of, total_t
 use Rattle.cap_rows.specs.Lines.{talk_texts, talks_text}
 use Rattle.cap_tally.specs.Taken.{Taken}
 use Rattle.cap_rows.specs.Talks.{Talk, rows_of}
-use Rattle.cap_convert.specs.Pcap.{pcap_bytes, pcap_refusal}
+use Rattle.cap_write.specs.Pcap.{pcap_bytes, pcap_refusal}
 use Rattle.cap_laws.specs.Reports.{refused_at}
 
 -- Two rows of conversations have the same protocol and ends, the same counts and places, and the same times, maybe in another form.

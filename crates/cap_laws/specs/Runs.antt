@@ -12,7 +12,7 @@ use Rattle.cap_feed.specs.Feed.{Item, packet, refused}
 use Rattle.cap_source.specs.Items.{file_first, file_items}
 use Rattle.cap_feed.specs.declared.packets.Meta.{Meta}
 use Rattle.cap_time.specs.declared.stamps.Stamp.{Stamp}
-use Rattle.cap_convert.specs.Texts.{merged_bytes, merged_refusal, pcapng_bytes, pcapng_refusal}
+use Rattle.cap_write.specs.Texts.{merged_bytes, merged_refusal, pcapng_bytes, pcapng_refusal}
 
 -- Two packets, with their clocks, have equal clocks by the order, and the same interface, units, lengths and bytes.
 pub record IsSameAtClock (clock clock_again : Option Stamp) (meta again : Meta) (bytes bytes_again : List ℕ) : Type 0 where

@@ -17,13 +17,13 @@ use Rattle.cap_join.specs.declared.datagrams.Stamped.{Stamped}
 use Rattle.cap_feed.specs.Feed.{Item, packet}
 use Rattle.cap_feed.specs.declared.packets.Meta.{Meta}
 use Rattle.cap_time.specs.declared.stamps.Stamp.{Stamp}
-use Rattle.cap_convert.proofs.Feeding.{plan_of-is, plan_of-next, plan_of-refused}
-use Rattle.cap_convert.proofs.Written.{Prints-untimed}
-use Rattle.cap_convert.specs.Interfaces.{HasUnits}
+use Rattle.cap_write.proofs.Feeding.{plan_of-is, plan_of-next, plan_of-refused}
+use Rattle.cap_write.proofs.Written.{Prints-untimed}
+use Rattle.cap_write.specs.Interfaces.{HasUnits}
 use Rattle.cap_write.specs.Datagrams.{IsFilled, answered, origins_behind}
 use Rattle.cap_write.specs.Joined.{Complete, joined_of, completed_in, completed, datagram_meta, items_of_packet}
-use Rattle.cap_convert.specs.Numbering.{Origin, with_origin, write_fault, refusal_by, refusal_in, numbered_of}
-use Rattle.cap_convert.specs.Texts.{text_behind, one_bytes, text_or, numbered_bytes}
+use Rattle.cap_write.specs.Numbering.{Origin, with_origin, write_fault, refusal_by, refusal_in, numbered_of}
+use Rattle.cap_write.specs.Texts.{text_behind, one_bytes, text_or, numbered_bytes}
 
 answered-pieces : (ps : List Piece) (arrived : Arrived) → IsFragmentOf ps arrived → answered arrived ≡ joined_of ps
 unfolding joined_of

@@ -18,11 +18,11 @@ use Rattle.cap_feed.specs.Feed.{Feed, Item, packet, refused, Keeps, Passes}
 use Rattle.cap_feed.specs.Walk.{GivesPacket, ShowsItem}
 use Rattle.cap_feed.specs.declared.packets.Meta.{Meta}
 use Rattle.cap_time.specs.declared.stamps.Stamp.{Stamp}
-use Rattle.cap_convert.proofs.Feeding.{plan_of, plan_of-is, plan_of-next, plan_of-refused}
+use Rattle.cap_write.proofs.Feeding.{plan_of, plan_of-is, plan_of-next, plan_of-refused}
 use Rattle.cap_write.specs.Datagrams.{origins_behind}
 use Rattle.cap_write.specs.Joined.{items_of_packet, events_after, joined_items}
-use Rattle.cap_convert.specs.Numbering.{Origin, with_origin, write_fault, refusal_at, refusal_in, numbered}
-use Rattle.cap_convert.specs.Texts.{text_behind, packets_bytes, one_bytes}
+use Rattle.cap_write.specs.Numbering.{Origin, with_origin, write_fault, refusal_at, refusal_in, numbered}
+use Rattle.cap_write.specs.Texts.{text_behind, packets_bytes, one_bytes}
 
 none-some : (r : Refusal) → None ≡ Some r → ⊥
 none-some r e = cc

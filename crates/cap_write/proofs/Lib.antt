@@ -1,4 +1,9 @@
 mod Completed
+pub mod Feeding
 mod Joining
 mod Lengths
 mod Merging
+mod Numbers
+pub mod Places
+pub mod Records
+pub mod Written

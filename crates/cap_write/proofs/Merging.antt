@@ -12,7 +12,7 @@ use Rattle.cap_merge.specs.Readers.{Reader, IsUnreadRun}
 use Rattle.cap_write.specs.JoinText.{join_text, join_refusal}
 use Rattle.cap_write.specs.MergeText.{merge_text, merge_refusal}
 use Rattle.cap_write.specs.Joined.{joined_bytes, joined_refusal}
-use Rattle.cap_convert.specs.Texts.{merged_bytes, merged_refusal}
+use Rattle.cap_write.specs.Texts.{merged_bytes, merged_refusal}
 
 -- the packets of a merge, written
 pub Prints-merged : {A : Type 0} (reader : A → Reader) (tail : Tail) (order : Order) (sources : List A) (ps : List Part)

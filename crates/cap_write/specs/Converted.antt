@@ -6,8 +6,8 @@ use Rattle.cap_numbers.specs.declared.numbers.Order.{Order}
 use Rattle.cap_source.specs.Items.{file_first, file_items}
 use Rattle.cap_feed.specs.declared.packets.Format.{Format}
 use Rattle.cap_feed.specs.declared.packets.Format.TheVariants.{Pcap, Pcapng}
-use Rattle.cap_convert.specs.Pcap.{pcap_bytes, pcap_refusal}
-use Rattle.cap_convert.specs.Texts.{pcapng_bytes, pcapng_refusal}
+use Rattle.cap_write.specs.Pcap.{pcap_bytes, pcap_refusal}
+use Rattle.cap_write.specs.Texts.{pcapng_bytes, pcapng_refusal}
 
 -- what is written in that format and order of a file with those bytes
 abbrev pub convert_text : Format → Order → Tail → List ℕ → List ℕ

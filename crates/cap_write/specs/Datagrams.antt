@@ -6,7 +6,7 @@ use Rattle.cap_join.specs.declared.arrivals.Arrived.{Arrived}
 use Rattle.cap_join.specs.declared.arrivals.Arrived.TheVariants as as_
 use Rattle.cap_feed.specs.Feed.{Item, packet, refused}
 use Rattle.cap_write.specs.Joined.{Complete, complete_of, datagram_bytes}
-use Rattle.cap_convert.specs.Numbering.{Origin, with_origin}
+use Rattle.cap_write.specs.Numbering.{Origin, with_origin}
 
 -- A buffer has the bytes of the datagram, if there is one.
 abbrev pub IsFilled : Option Complete → Bool → List ℕ → Type 0

@@ -23,7 +23,7 @@ use Rattle.cap_feed.specs.Feed.{Item, packet, refused}
 use Rattle.cap_feed.specs.declared.packets.Meta.{Meta}
 use Rattle.cap_time.specs.declared.resolutions.Interface.{Interface}
 use Rattle.cap_time.specs.declared.stamps.Stamp.{Stamp}
-use Rattle.cap_convert.specs.Texts.{merged_bytes, merged_refusal}
+use Rattle.cap_write.specs.Texts.{merged_bytes, merged_refusal}
 
 -- A datagram with all of its data.
 pub record Complete : Type 0 where

@@ -4,7 +4,7 @@ use Rattle.cap_bytes.specs.declared.faults.Refusal.{Refusal}
 use Rattle.cap_bytes.specs.declared.faults.Tail.{Tail}
 use Rattle.cap_numbers.specs.declared.numbers.Order.{Order}
 use Rattle.cap_merge.specs.Files.{run_of_files}
-use Rattle.cap_convert.specs.Texts.{merged_bytes, merged_refusal}
+use Rattle.cap_write.specs.Texts.{merged_bytes, merged_refusal}
 
 -- what is written of files of those bytes in the order of time, and the refusal that is then answered, if there is one
 abbrev pub merge_text : Order → Tail → List (List ℕ) → List ℕ

@@ -138,7 +138,7 @@ fn take_ipv4(joining: &mut Joining, run: &PlacedPacket<'_>, bytes: &[u8]) -> Res
 /// is one: a whole datagram, or one whose last missing fragment this is, if all of its data was captured and has
 /// the form of its protocol. `Memory` comes if a growth was refused.
 #[tactic(auto, unfolding(crate::specs::Joined::completed, crate::specs::Joined::events_after))]
-pub fn take_packet(joining: &mut Joining, run: &PlacedPacket<'_>) -> Result<bool, Fault>
+pub(crate) fn take_packet(joining: &mut Joining, run: &PlacedPacket<'_>) -> Result<bool, Fault>
     requires stands { Stands joining.old.joiner }
     requires place { joining.old.joiner.next ≤ run.now.place }
     ensures filled { IfOk result (λ some. (events : List Event) → StandsFor joining.old.joiner events →

@@ -2,14 +2,16 @@
 ghost use Rattle.std.specs.Prelude.{IsTrue};
 ghost use Rattle.cap_bytes.specs.Device.{WriterKeeps, writer_of};
 ghost use Rattle.cap_bytes.specs.Printing.{Prints, is_write};
-ghost use Rattle.cap_convert.specs.Pcap.{pcap_bytes, pcap_refusal};
-ghost use Rattle.cap_convert.specs.Texts.{pcapng_bytes, pcapng_refusal};
+ghost use Rattle.cap_write.specs.Pcap.{pcap_bytes, pcap_refusal};
+ghost use Rattle.cap_write.specs.Texts.{pcapng_bytes, pcapng_refusal};
 ghost use Rattle.cap_feed.specs.Feed.{Keeps};
 ghost use Rattle.cap_feed.specs.Walk.{Walks};
 ghost use Rattle.cap_source.specs.Captures.{feed_of, number_of, first_of};
 
+use crate::interfaces::FileStart;
+use crate::pcap::put_pcap;
+use crate::pcapng::put_pcapng;
 use cap_bytes::{Fault, Sink, Source};
-use cap_convert::{FileStart, put_pcap, put_pcapng};
 use cap_feed::PacketFeed;
 use cap_numbers::Order;
 use cap_source::Capture;

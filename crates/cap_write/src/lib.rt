@@ -1,12 +1,16 @@
-//! Written files: one capture file in either format, the packets of several in one order, or the datagrams of these; exactly as they
-//! were read, or a refusal.
+//! Written files: the packets of a feed in either format, one capture file, the packets of several in one order, or the datagrams of
+//! these; exactly as they were read, or a refusal.
 #![tactic(auto)]
 
 mod commands;
 mod datagrams;
 mod files;
+mod interfaces;
 mod joined;
 mod merged;
+mod packets;
+mod pcap;
+mod pcapng;
 mod placed_packets;
 
 pub use crate::commands::{Encoding, convert_to, join_to, merge_to};

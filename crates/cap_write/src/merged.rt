@@ -4,11 +4,12 @@ ghost use Rattle.cap_bytes.specs.Device.{WriterKeeps, writer_of};
 ghost use Rattle.cap_bytes.specs.Printing.{Prints, is_write};
 ghost use Rattle.cap_feed.specs.Feed.{Keeps};
 ghost use Rattle.cap_feed.specs.Walk.{Walks};
-ghost use Rattle.cap_convert.specs.Texts.{merged_bytes, merged_refusal};
+ghost use Rattle.cap_write.specs.Texts.{merged_bytes, merged_refusal};
 
+use crate::interfaces::Origins;
+use crate::packets::put_packets;
 use cap_blocks::put_section;
 use cap_bytes::{Fault, Sink};
-use cap_convert::{Origins, put_packets};
 use cap_feed::PacketFeed;
 use cap_numbers::Order;
 use std::alloc::Global;

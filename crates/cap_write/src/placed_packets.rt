@@ -9,7 +9,7 @@ use cap_time::Stamp;
 
 /// A packet of a run.
 #[derive(Clone, Copy)]
-pub struct PlacedPacket<'a> {
+pub(crate) struct PlacedPacket<'a> {
     /// Its place in the run, from 0.
     pub place: u64,
     /// Its clock.
@@ -24,7 +24,7 @@ pub struct PlacedPacket<'a> {
 
 /// A joiner, and room for a datagram that it gives.
 #[derive(Drop)]
-pub struct Joining {
+pub(crate) struct Joining {
     /// The joiner.
     pub joiner: Joiner,
     /// The bytes of the datagram that was given last.

@@ -22,8 +22,8 @@ use Rattle.cap_source.specs.Items.{Progress, after, behind, items_at, items_in, 
 use Rattle.cap_source.specs.declared.contents.Content.{Content}
 use Rattle.cap_source.specs.declared.contents.Content.TheVariants as contents
 use Rattle.cap_time.specs.declared.resolutions.Interface.{Interface}
-use Rattle.cap_convert.specs.Numbering.{Numbered}
-use Rattle.cap_convert.specs.Texts.{packet_part, packets_bytes}
+use Rattle.cap_write.specs.Numbering.{Numbered}
+use Rattle.cap_write.specs.Texts.{packet_part, packets_bytes}
 use Rattle.cap_write_laws.proofs.Back.{packet_of, content_in-interface, content_in-packet}
 use Rattle.cap_write_laws.specs.Laws.{Fits, AllFit, meta_again, read_items, described, all_described, IsNumbered}
 

@@ -21,7 +21,7 @@ use Rattle.cap_source.specs.declared.contents.Packet.{Packet}
 use Rattle.cap_time.specs.Resolution.{code_of}
 use Rattle.cap_time.specs.declared.resolutions.Interface.{Interface}
 use Rattle.cap_time.specs.declared.resolutions.Resolution.{Resolution}
-use Rattle.cap_convert.specs.Numbering.{Numbered}
+use Rattle.cap_write.specs.Numbering.{Numbered}
 use Rattle.cap_write_laws.specs.Laws.{Fits}
 
 resolution_of-code : (r : Resolution) → resolution_of (code_of r) ≡ Some r

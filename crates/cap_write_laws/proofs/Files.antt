@@ -17,8 +17,8 @@ use Rattle.cap_source.specs.Items.{fresh, is_pcapng, items_in, first_in, items_f
 use Rattle.cap_pcap.specs.Split as records
 use Rattle.cap_source.specs.declared.contents.Content.TheVariants as contents
 use Rattle.cap_time.specs.declared.resolutions.Interface.{Interface}
-use Rattle.cap_convert.specs.Numbering.{Numbered}
-use Rattle.cap_convert.specs.Texts.{front_bytes, packets_bytes}
+use Rattle.cap_write.specs.Numbering.{Numbered}
+use Rattle.cap_write.specs.Texts.{front_bytes, packets_bytes}
 use Rattle.std.specs.Prelude.{FitsSigned}
 use Rattle.std.specs.Int.{w64}
 use Rattle.cap_write_laws.proofs.Again.{reached, items_in-given, first_in-given, items_in-interface, first_in-interface, items_in-written, first_in-written}

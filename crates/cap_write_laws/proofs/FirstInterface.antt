@@ -21,7 +21,7 @@ use Rattle.cap_source.specs.Items.{Progress, fresh, behind, first_or, first_in, 
 use Rattle.cap_source.specs.declared.contents.Content.{Content}
 use Rattle.cap_source.specs.declared.contents.Packet.{Packet}
 use Rattle.cap_time.specs.declared.resolutions.Interface.{Interface}
-use Rattle.cap_convert.specs.Numbering.{numbered}
+use Rattle.cap_write.specs.Numbering.{numbered}
 use Rattle.cap_write_laws.proofs.Instances.{HasNumber, IsAny, content-of}
 
 -- A packet of instance 0 has that interface.

@@ -4,7 +4,7 @@ use Rattle.std.specs.List.{AllByRecursion}
 use Rattle.std.specs.Prelude.{map}
 use Rattle.cap_feed.specs.Feed.{Item, packet}
 use Rattle.cap_source.specs.Fields.{HasFrame}
-use Rattle.cap_convert.specs.Numbering.{Origin, with_origin, numbered}
+use Rattle.cap_write.specs.Numbering.{Origin, with_origin, numbered}
 use Rattle.cap_write_laws.specs.Laws.{measured}
 
 -- a packet with its captured bytes is read again as it was

@@ -6,8 +6,8 @@ use Rattle.cap_bytes.specs.declared.faults.Rule.{Rule}
 use Rattle.cap_feed.specs.Feed.{Item, packet}
 use Rattle.cap_feed.specs.declared.packets.Meta.{Meta}
 use Rattle.cap_time.specs.declared.resolutions.Interface.{Interface}
-use Rattle.cap_convert.proofs.Places.{position_or_len-none, position_or_len-some}
-use Rattle.cap_convert.specs.Numbering.{Origin, origin_of, is_origin, is_used, number_of, with_origin, is_full, write_fault, numbered_of, numbered_or, numbered}
+use Rattle.cap_write.proofs.Places.{position_or_len-none, position_or_len-some}
+use Rattle.cap_write.specs.Numbering.{Origin, origin_of, is_origin, is_used, number_of, with_origin, is_full, write_fault, numbered_of, numbered_or, numbered}
 use Rattle.cap_write_laws.specs.Laws.{AllFit, AllHave, IsNumbered, described, all_described}
 
 both : (x y : Bool) → (x && y) ≡ true → (x ≡ true) × (y ≡ true)

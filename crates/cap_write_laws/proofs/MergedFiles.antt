@@ -11,7 +11,7 @@ use Rattle.cap_feed.specs.Feed.{Item, packet, refused}
 use Rattle.cap_source.specs.Fields.{HasFrame, ItemFits}
 use Rattle.cap_source.specs.Items.{file_items}
 use Rattle.cap_time.specs.declared.resolutions.Interface.{Interface}
-use Rattle.cap_convert.specs.Numbering.{Origin}
+use Rattle.cap_write.specs.Numbering.{Origin}
 use Rattle.cap_merge.specs.Files.{items_of_files, run_of_files}
 use Rattle.cap_write_laws.proofs.Alike.{merge-all}
 use Rattle.cap_write_laws.proofs.Instances.{one_interface-law}

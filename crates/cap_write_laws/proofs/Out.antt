@@ -14,9 +14,9 @@ use Rattle.cap_source.specs.Items.{pcap_items, interface_of}
 use Rattle.cap_feed.specs.declared.packets.Meta.{Meta}
 use Rattle.cap_time.specs.Unit.{in_second}
 use Rattle.cap_time.specs.declared.stamps.Unit.{Unit as Fraction}
-use Rattle.cap_convert.specs.Numbering.{refusal_at, refusal_or}
-use Rattle.cap_convert.specs.Pcap.{record_fault, packet_record, records_bytes, records_refusal}
-use Rattle.cap_convert.specs.Texts.{interface_part, packet_part, count_after, text_or}
+use Rattle.cap_write.specs.Numbering.{refusal_at, refusal_or}
+use Rattle.cap_write.specs.Pcap.{record_fault, packet_record, records_bytes, records_refusal}
+use Rattle.cap_write.specs.Texts.{interface_part, packet_part, count_after, text_or}
 use Rattle.cap_write_laws.proofs.Packed.{number_one, number_all, keep_all}
 use Rattle.cap_write_laws.proofs.Trips.{units_of-unit, fraction_of-header, whole_time-header, in_range-pos}
 use Rattle.cap_write_laws.specs.Laws.{kept, record_form, records_form, is_late, timely, late_in, read_items, meta_again}

@@ -29,9 +29,9 @@ use Rattle.cap_time.specs.Unit.{in_second}
 use Rattle.cap_time.specs.declared.resolutions.Interface.{Interface}
 use Rattle.cap_time.specs.declared.stamps.Stamp.{Stamp}
 use Rattle.cap_time.specs.declared.stamps.Unit.{Unit as Fraction}
-use Rattle.cap_convert.proofs.Records.{fault_by}
-use Rattle.cap_convert.specs.Pcap.{fraction_of, header_of, whole_time, time_fault, record_fault, time_in, written_time, time_bytes, packet_record, records_bytes, records_refusal, bare_refusal, pcap_bytes, pcap_refusal}
-use Rattle.cap_convert.specs.Texts.{text_or}
+use Rattle.cap_write.proofs.Records.{fault_by}
+use Rattle.cap_write.specs.Pcap.{fraction_of, header_of, whole_time, time_fault, record_fault, time_in, written_time, time_bytes, packet_record, records_bytes, records_refusal, bare_refusal, pcap_bytes, pcap_refusal}
+use Rattle.cap_write.specs.Texts.{text_or}
 use Rattle.cap_write_laws.proofs.FirstInterface.{first-of}
 use Rattle.cap_write_laws.proofs.RoundTrip.{first-header, items-written}
 use Rattle.cap_write_laws.proofs.Trips.{units_of-unit}

@@ -12,8 +12,8 @@ use Rattle.cap_feed.specs.Feed.{Item, packet, refusal_of}
 use Rattle.cap_source.specs.Fields.{ItemFits}
 use Rattle.cap_source.specs.Items.{file_items, file_first, first_in}
 use Rattle.cap_time.specs.declared.resolutions.Interface.{Interface}
-use Rattle.cap_convert.specs.Numbering.{Origin, numbered, refusal_in}
-use Rattle.cap_convert.specs.Texts.{first_origins, packets_bytes, pcapng_bytes, merged_bytes}
+use Rattle.cap_write.specs.Numbering.{Origin, numbered, refusal_in}
+use Rattle.cap_write.specs.Texts.{first_origins, packets_bytes, pcapng_bytes, merged_bytes}
 use Rattle.cap_write_laws.proofs.Again.{reached}
 use Rattle.cap_write_laws.proofs.Files.{pcapng-again, first-behind_section}
 use Rattle.cap_write_laws.proofs.FirstInterface.{IsFirst, first-of, first-none}

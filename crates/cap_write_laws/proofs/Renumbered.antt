@@ -11,11 +11,11 @@ use Rattle.cap_numbers.specs.declared.numbers.Order.{Order}
 use Rattle.cap_feed.specs.Feed.{Item, packet, refused}
 use Rattle.cap_source.specs.Items.{file_items}
 use Rattle.cap_feed.specs.declared.packets.Meta.{Meta}
-use Rattle.cap_convert.proofs.Feeding.{count_after-is}
-use Rattle.cap_convert.proofs.Places.{position_or_len-none, position_or_len-some}
+use Rattle.cap_write.proofs.Feeding.{count_after-is}
+use Rattle.cap_write.proofs.Places.{position_or_len-none, position_or_len-some}
 use Rattle.cap_feed.specs.Feed.{refusal_of}
-use Rattle.cap_convert.specs.Numbering.{Origin, origin_of, is_origin, is_used, number_of, with_origin, write_fault, Numbered, numbered_of, numbered_or, numbered, refusal_or, refusal_in}
-use Rattle.cap_convert.specs.Texts.{interface_part, packet_part, count_after, merged_bytes}
+use Rattle.cap_write.specs.Numbering.{Origin, origin_of, is_origin, is_used, number_of, with_origin, write_fault, Numbered, numbered_of, numbered_or, numbered, refusal_or, refusal_in}
+use Rattle.cap_write.specs.Texts.{interface_part, packet_part, count_after, merged_bytes}
 use Rattle.cap_write_laws.proofs.Files.{merged-again}
 use Rattle.cap_write_laws.proofs.MergedAgain.{room_left, IsNumbered-given, AllFit-given, all_described-given}
 use Rattle.cap_write_laws.specs.Laws.{read_items, meta_again, instances, numbers, measured, MergedAgain}

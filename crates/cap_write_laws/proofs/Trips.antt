@@ -11,7 +11,7 @@ use Rattle.cap_time.specs.Resolution.{units_of}
 use Rattle.cap_time.proofs.StampForms.{whole_of-stamp_in}
 use Rattle.cap_time.specs.Unit.{in_second}
 use Rattle.cap_time.specs.declared.stamps.Unit.{Unit as Fraction}
-use Rattle.cap_convert.specs.Pcap.{fraction_of, whole_time, is_in_range}
+use Rattle.cap_write.specs.Pcap.{fraction_of, whole_time, is_in_range}
 
 -- a pcap file's interface counts in the fraction of its header, in which it is written again
 pub units_of-unit : (unit : Fraction) → units_of (resolution_of_unit unit) ≡ in_second unit

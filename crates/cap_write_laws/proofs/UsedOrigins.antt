@@ -6,7 +6,7 @@ use Rattle.std.proofs.lemmas.Bool.{true≢false}
 use Rattle.std.proofs.lemmas.Bool.Decides.{nat_tests}
 use Rattle.cap_feed.specs.Feed.{Item, packet, refused}
 use Rattle.cap_feed.specs.declared.packets.Meta.{Meta}
-use Rattle.cap_convert.specs.Numbering.{Origin, origin_of, is_origin, is_used, number_of, with_origin}
+use Rattle.cap_write.specs.Numbering.{Origin, origin_of, is_origin, is_used, number_of, with_origin}
 use Rattle.cap_write_laws.proofs.Renaming.{IsOneToOne}
 
 -- ---- origins

@@ -18,11 +18,11 @@ use Rattle.cap_time.specs.declared.resolutions.Interface.{Interface}
 use Rattle.cap_time.specs.Stamp.{seconds_of, stamp_in}
 use Rattle.cap_time.specs.Unit.{in_second}
 use Rattle.cap_time.specs.declared.stamps.Unit.{Unit as Fraction}
-use Rattle.cap_convert.specs.Numbering.{Origin, origin_of, Numbered, numbered_of, numbered, refusal_in, refusal_at}
-use Rattle.cap_convert.specs.Pcap.{fraction_of, pcap_bytes, pcap_refusal}
+use Rattle.cap_write.specs.Numbering.{Origin, origin_of, Numbered, numbered_of, numbered, refusal_in, refusal_at}
+use Rattle.cap_write.specs.Pcap.{fraction_of, pcap_bytes, pcap_refusal}
 use Rattle.cap_time.specs.Clock.{clock_cmp}
 use Rattle.cap_feed.specs.Times.{meta_time}
-use Rattle.cap_convert.specs.Texts.{interface_part, packet_part, count_after, first_origins, pcapng_bytes, pcapng_refusal, merged_bytes}
+use Rattle.cap_write.specs.Texts.{interface_part, packet_part, count_after, first_origins, pcapng_bytes, pcapng_refusal, merged_bytes}
 
 -- The fields of a packet and of its interface fit in their widths, and that many bytes may be captured.
 pub record Fits (n : Numbered) : Type 0 where

@@ -12,8 +12,8 @@ use Rattle.cap_source.specs.Items.{file_items}
 use Rattle.cap_feed.specs.declared.packets.Format.TheVariants.{Pcapng}
 use Rattle.cap_feed.specs.declared.packets.Meta.{Meta}
 use Rattle.cap_time.specs.Clock.{clock_cmp, greatest}
-use Rattle.cap_convert.specs.Numbering.{Numbered, numbered, refusal_in}
-use Rattle.cap_convert.specs.Texts.{merged_bytes}
+use Rattle.cap_write.specs.Numbering.{Numbered, numbered, refusal_in}
+use Rattle.cap_write.specs.Texts.{merged_bytes}
 use Rattle.cap_merge.specs.Files.{run_of_files, run_of_lists}
 use Rattle.cap_order.specs.Run.{Clocked, opened, run}
 use Rattle.cap_order.specs.Parts.{item_time, is_refusal}

@@ -5,7 +5,7 @@ use Rattle.cap_join.specs.Joiners.{StandsFor}
 use Rattle.cap_write.proofs.Completed.{Prints-no-time, items-filled, Prints-datagram, named-datagram, items-none, Prints-none, named-none, OnOk-map}
 use Rattle.cap_write.specs.Datagrams.{origins_behind}
 use Rattle.cap_write.specs.PlacedPackets.{items_in}
-use Rattle.cap_convert.specs.Numbering.{with_origin, write_fault, refusal_in}
+use Rattle.cap_write.specs.Numbering.{with_origin, write_fault, refusal_in}
 use Rattle.cap_write.proofs.joined.put_completed.Goals as goal
 
 pub returns-in_err-units_of-clause-text : goal.returns-in_err-units_of-clause-text

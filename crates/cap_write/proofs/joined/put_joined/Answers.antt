@@ -6,7 +6,7 @@ use Rattle.cap_order.specs.View.{parts_of}
 use Rattle.cap_feed.proofs.Onward.{Keeps-trans}
 use Rattle.cap_feed.specs.Walk.{ShowsItem}
 use Rattle.cap_feed.proofs.Walking.{Prints-fault, Prints-end}
-use Rattle.cap_convert.proofs.Feeding.{plan_of, plan_of-is}
+use Rattle.cap_write.proofs.Feeding.{plan_of, plan_of-is}
 use Rattle.cap_write.proofs.Joining.{Joining-more, Joining-part, feeding, shows-fault, shows-end, place-small}
 use Rattle.cap_write.proofs.joined.put_joined.Goals as goal
 

@@ -1,5 +1,0 @@
-pub mod Feeding
-mod Numbers
-pub mod Places
-pub mod Records
-pub mod Written

@@ -1,5 +1,0 @@
-pub mod Interfaces
-pub mod Numbering
-pub mod Pcap
-pub mod Texts
-pub mod Times

@@ -1,0 +1,83 @@
+use Rattle.std.proofs.Common.{arith, Some, None, Ok, drop, rules}
+use Rattle.std.proofs.lemmas.Result.{err_from_is_err_and}
+use Rattle.cap_feed.proofs.Onward.{Went-more}
+use Rattle.cap_feed.proofs.Walking.{Walking-more, Prints-fault, Prints-end}
+use Rattle.cap_feed.specs.Walk.{ShowsItem}
+use Rattle.cap_write.proofs.Records.{plan_of, plan_of-is, plan_of-next, plan_of-refused}
+use Rattle.cap_write.proofs.Written.{Prints-one}
+use Rattle.cap_write.specs.Pcap.{record_fault, packet_record}
+use Rattle.cap_write.specs.Texts.{text_or}
+use Rattle.cap_write.proofs.pcap.put_records.Goals as goal
+
+pub returns-in_err-meta-clause-text : goal.returns-in_err-meta-clause-text
+returns-in_err-meta-clause-text g c = λ t w.
+    let p = err_from_is_err_and c.from_residual.result c.from_residual.ensures.1 in
+    let i = c.loop-meta.invariant.walk in
+    let first = c.args.first.now in
+    rw (p.1, p.2) (Prints-fault (plan_of c.args.order first) c.in_err-meta.field-0.0 _ _ _ _
+    (g.F.PacketFeed.feed c.loop-meta.feed) (g.F.PacketFeed.feed c.next_packet.new.feed) (plan_of-is c.args.order first) (i.text t) w (i.refusal_same t)
+    (c.in_err-meta.ensures.items (i.told t)))
+
+pub returns-in_err-put_one-clause-text : goal.returns-in_err-put_one-clause-text
+returns-in_err-put_one-clause-text g c = λ t w.
+    let p = err_from_is_err_and c.from_residual-in_err-put_one.result c.from_residual-in_err-put_one.ensures.1 in
+    let i = c.loop-meta.invariant.walk in
+    let mid = g.F.PacketFeed.feed c.loop-meta.feed in
+    let shown = g.F.PacketFeed.feed c.next_packet.new.feed in
+    let shows : ShowsItem mid (Ok (Some c.in-Some.meta)) shown = rw c.in-Some.is at (c.in_ok-meta.ensures.items (i.told t)) in
+    let meta = c.in-Some.meta in
+    let first = c.args.first.now in
+    rw (p.1, p.2)
+    (Prints-one (plan_of c.args.order first) (plan_of c.args.order first) c.in_err-put_one.field-0.0 _ _ _ _ _
+    meta shown.frame c.frame.result.now (packet_record c.args.order first meta) (record_fault first meta) mid.items (drop 1 mid.items)
+    (plan_of-refused c.args.order first meta shown.frame) (plan_of-next c.args.order first meta shown.frame) shows.1 c.frame.ensures.frame
+    (i.text t) w (i.refusal_same t) (c.in_err-put_one.ensures.text (i.writer_told w)))
+
+pub loop-meta-preserved : goal.loop-meta-preserved
+loop-meta-preserved g c =
+    let j = c.loop-meta.invariant in
+    let i = j.walk in
+    let mid = g.F.PacketFeed.feed c.loop-meta.feed in
+    let shown = g.F.PacketFeed.feed c.next_packet.new.feed in
+    let first = c.args.first.now in
+    let meta = c.in-Some.meta in
+    let e = c.in_ok-put_one.ensures in
+    let line = text_or (record_fault first meta) (packet_record c.args.order first meta shown.frame) in
+    record {
+      went =
+          Went-more (g.F.PacketFeed.feed c.args.feed.now) mid shown (g.F.PacketFeed.feed c.pass.new.self) meta j.went
+          (rw c.in-Some.is at c.in_ok-meta.ensures.answer) c.in_ok-meta.ensures.keeps c.pass.ensures.passes c.pass.ensures.keeps;
+      walk =
+          Walking-more _ _ _ _ mid shown (g.F.PacketFeed.feed c.pass.new.self) _ _ _ _ _ _ meta line
+          i c.in_ok-meta.ensures.keeps (λ t. rw c.in-Some.is at (c.in_ok-meta.ensures.items t))
+          c.pass.ensures.keeps c.pass.ensures.passes.items (plan_of-next c.args.order first meta shown.frame e.whole)
+          (λ w. (rw c.frame.ensures.frame at (e.text w)).1)
+          e.writer.told e.writer.cannot (search rules);
+    }
+
+pub returns-clause-text : goal.returns-clause-text
+returns-clause-text g c = λ t w.
+    let i = c.loop-meta.invariant.walk in
+    let mid = g.F.PacketFeed.feed c.loop-meta.feed in
+    let shown = g.F.PacketFeed.feed c.next_packet.new.feed in
+    let first = c.args.first.now in
+    let shows : ShowsItem mid (Ok None) shown = rw c.in_default.is at (c.in_ok-meta.ensures.items (i.told t)) in
+    Prints-end (plan_of c.args.order first) _ _ _ _ mid shown (plan_of-is c.args.order first) (i.text t) w (i.refusal_same t) shows
+
+pub returns-in_err-meta-clause-walks : goal.returns-in_err-meta-clause-walks
+returns-in_err-meta-clause-walks g c = grind arith
+
+pub returns-in_err-meta-clause-keeps : goal.returns-in_err-meta-clause-keeps
+returns-in_err-meta-clause-keeps g c = grind arith
+
+pub returns-in_err-put_one-clause-walks : goal.returns-in_err-put_one-clause-walks
+returns-in_err-put_one-clause-walks g c = grind arith
+
+pub returns-in_err-put_one-clause-keeps : goal.returns-in_err-put_one-clause-keeps
+returns-in_err-put_one-clause-keeps g c = grind arith
+
+pub returns-clause-walks : goal.returns-clause-walks
+returns-clause-walks g c = grind arith
+
+pub returns-clause-keeps : goal.returns-clause-keeps
+returns-clause-keeps g c = grind arith
