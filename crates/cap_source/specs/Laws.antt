@@ -3,7 +3,7 @@ use Rattle.std.proofs.Common.{◌≡◌, ◌≤◌, ◌+◌, ◌^◌, ℕ, false
 use Rattle.std.proofs.lemmas.List.{length-take-le}
 use Rattle.std.proofs.lemmas.Bool.Decides.{nat_tests}
 use Rattle.cap_feed.specs.Feed.{HasFile, Leads, IfPacket, IsPacketOf, IsRefusedOf, IsFeed}
-use Rattle.cap_source.specs.FileState.{FileState, feed_of, items_by, end_of, size_of, captured_of, behind_of, file_of, part_of, frame_of, head_by, is_whole, break_at}
+use Rattle.cap_source.specs.FileState.{FileState, IsSound, feed_of, items_by, end_of, size_of, captured_of, behind_of, file_of, part_of, frame_of, head_by, is_whole, break_at}
 use Rattle.cap_source.specs.declared.readers.Next.{Next}
 use Rattle.cap_source.specs.declared.readers.Next.TheVariants as nexts
 
@@ -49,14 +49,13 @@ whole None file broken is = tt
 whole (Some next) file None is = refl
 whole (Some next) file (Some first) is = absurd (let e : false ≡ true = is in cc)
 
-pub captures_lawful : (state : FileState) (next : Option Next) → IsTrue (is_whole next state.broken) → file_of next state.file ≡ state.file → end_of next ≤ size_of state.lent → captured_of next ≤ 262144
-    → behind_of next ≤ state.offset → state.offset ≤ 2 ^ 40 → state.held ≤ 524288 → state.interfaces ≤ 1024 → IsFeed (feed_of state next)
-captures_lawful state next unbroken own lent captured behind limit held interfaces = record {
+pub captures_lawful : (state : FileState) (next : Option Next) → IsSound state next → IsFeed (feed_of state next)
+captures_lawful state next sound = record {
   leads = λ t. leads next (frame_of next state.lent) state.items;
-  packet = packet state next own lent captured behind limit;
-  refusal = refusal state next own;
-  whole = whole next state.file state.broken unbroken;
+  packet = packet state next sound.is.file sound.is.lent sound.is.captured sound.is.behind sound.limit;
+  refusal = refusal state next sound.is.file;
+  whole = whole next state.file state.broken sound.whole;
   most = omega arith;
-  window = held;
-  interfaces = interfaces;
+  window = sound.held;
+  interfaces = sound.interfaces;
 }

@@ -1,8 +1,9 @@
 //! The packets of one capture file.
-ghost use Rattle.std.specs.Prelude.{◌≡◌, ◌≤◌, ◌^◌, [], ◌∷◌, ℕ, None, IsTrue};
+ghost use Rattle.std.specs.Prelude.{◌≡◌, [], ◌∷◌, ℕ, None, IsTrue};
+ghost use Rattle.std.proofs.Props.{props};
 ghost use Rattle.cap_feed.specs.Feed.{Keeps};
 ghost use Rattle.cap_source.specs.Items.{file_items, file_ending, file_first};
-ghost use Rattle.cap_source.specs.FileState.{feed_of, GivesFirst, KeepsFirst, end_of, size_of, captured_of, behind_of, file_of, is_free, is_whole};
+ghost use Rattle.cap_source.specs.FileState.{feed_of, GivesFirst, KeepsFirst, IsSound};
 ghost use Rattle.cap_source.specs.Laws.{captures_lawful};
 ghost use Rattle.cap_source.specs.Reached.{progress_of};
 ghost use Rattle.cap_source.specs.Readers.{state_of, is_there, reader_room};
@@ -25,17 +26,8 @@ pub struct Capture<R: Source> {
     // what comes next, once it was asked for
     next: Known,
     ghost there: { IsTrue (is_there reader) },
-    ghost free: { IsTrue (is_free next (state_of reader (progress_of reached)).stops) },
-    ghost whole: { IsTrue (is_whole next (state_of reader (progress_of reached)).broken) },
     ghost room: { IsTrue (reader_room reader reached) },
-    ghost own: { file_of next (state_of reader (progress_of reached)).file ≡ (state_of reader (progress_of reached)).file },
-    ghost lent: { end_of next ≤ size_of (state_of reader (progress_of reached)).lent },
-    ghost captured: { captured_of next ≤ 262144 },
-    ghost behind: { behind_of next ≤ (state_of reader (progress_of reached)).offset },
-    ghost limit: { (state_of reader (progress_of reached)).offset ≤ 2 ^ 40 },
-    ghost held: { (state_of reader (progress_of reached)).held ≤ 524288 },
-    ghost interfaces: { (state_of reader (progress_of reached)).interfaces ≤ 1024 },
-    ghost counted: { (state_of reader (progress_of reached)).counted ≤ (state_of reader (progress_of reached)).offset },
+    ghost sound: { IsSound (state_of reader (progress_of reached)) next } by { Prim.hlevel props },
 }
 
 impl<R: Source> Capture<R> {
@@ -136,6 +128,5 @@ impl<R: Source> PacketFeed for Capture<R> {
         }
     }
 
-    ghost lawful = { λ c. captures_lawful (state_of c.reader (progress_of c.reached)) c.next
-        c.whole c.own c.lent c.captured c.behind c.limit c.held c.interfaces };
+    ghost lawful = { λ c. captures_lawful (state_of c.reader (progress_of c.reached)) c.next c.sound };
 }
