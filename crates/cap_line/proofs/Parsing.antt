@@ -1,6 +1,6 @@
 -- From clap's answer to capt's.
 use Rattle.std.proofs.Common.{◌≡◌, ◌⊎◌, List, [], Option, Some, None, Result, Ok, Err, IfOk, IfSome, IsSome, true, false, refl, sym, subst, inl, inr, arith}
-use Rattle.clap.specs.Words.{AddsArg, App, Rule, Text, Row, IsAmong, app_of, fault_of, is_simple, is_simple_and_free, new_app, subcommand_of, with_rule, with_subcommand}
+use Rattle.clap.specs.Words.{AddsArg, App, Rule, Text, Row, IsAmong, app_of, fault_of, is_simple, is_simple_and_free, subcommand_of, with_rule, with_subcommand}
 use Rattle.clap.proofs.OnLiterals.{clap_on_literals}
 use Rattle.clap.specs.declared.error.kind.ErrorKind.{ErrorKind}
 use Rattle.clap.specs.declared.error.kind.ErrorKind.TheVariants as kind
@@ -9,7 +9,7 @@ use Rattle.std.proofs.lemmas.Result.{IfOk-weaker}
 use Rattle.clap.specs.declared.builder.arg.Arg.{Arg}
 use Rattle.clap.specs.declared.builder.command.Command.{Command}
 use Rattle.clap.specs.declared.builder.command.Command.TheViews.{out-Command}
-use Rattle.cap_line.specs.Command.{AddsMade, IsCapt, IsConvert, IsJoin, IsMerge, IsOrderRule, IsWriting, allow_cut_rule, out_rule, printing_app}
+use Rattle.cap_line.specs.Command.{AddsMade, AddsRule, IsCapt, IsConvert, IsJoin, IsMerge, printing_app}
 use Rattle.cap_line.specs.CommandLine.{Parses, IsJobOf, IsRefused, fault_by}
 use Rattle.cap_jobs.specs.Jobs.{IsWhole}
 use Rattle.cap_jobs.specs.declared.jobs.Job.{Job}
@@ -83,40 +83,63 @@ pub AddsArg-local : (old : Command) (arg : Arg) (new : Command) → AddsArg old 
     → arg.global ≡ false → (out-Command new).has_globals ≡ false
 AddsArg-local old arg new added old_local local = rw (added.globals, old_local, local)
 
--- the subcommands that write have `--allow-cut`, `--order` and `-o`
-pub IsWriting-by : (name : Text) (new mid most all : App) (flag order out : Rule) → new ≡ new_app name
-    → flag ≡ allow_cut_rule → mid ≡ with_rule new flag
-    → IsOrderRule order → most ≡ with_rule mid order
-    → out ≡ out_rule → all ≡ with_rule most out → IsWriting name all
-IsWriting-by name new mid most all flag order out new_is flag_is mid_is (orders, orders_are, order_is) most_is out_is all_is = record {
-  orders = orders;
-  orders_are = orders_are;
-  app_is = cc;
-}
+-- what a command with one more argument is
+pub AddsRule-weaker : (P Q : App → Type 0) (made all : Result Command AllocError) (rule : Rule) → IfOk made (λ c. P (app_of c))
+    → ((app : App) → P app → Q (with_rule app rule)) → IfOk all (λ c. AddsRule made rule (app_of c)) → IfOk all (λ c. Q (app_of c))
+AddsRule-weaker P Q (Ok old) all rule is step = IfOk-weaker all _ _ (λ c added. subst Q (sym added) (step (app_of old) is))
+AddsRule-weaker P Q (Err e) all rule is step = IfOk-weaker all _ _ (λ c added. absurd added)
 
--- a command with a subcommand that was made, both known
-AddsMade-is : (made : Result Command AllocError) (old new before sub : App) → old ≡ before → IfOk made (λ c. app_of c ≡ sub)
-    → AddsMade old made new → new ≡ with_subcommand before sub.top
-AddsMade-is (Ok c) old new before sub old_is sub_is added = grind arith
-AddsMade-is (Err e) old new before sub old_is sub_is added = absurd added
+-- a command with one more argument, both known
+pub AddsRule-is : (made all : Result Command AllocError) (rule known : Rule) (before : App) → IfOk made (λ c. app_of c ≡ before)
+    → rule ≡ known → IfOk all (λ c. AddsRule made rule (app_of c)) → IfOk all (λ c. app_of c ≡ with_rule before known)
+AddsRule-is made all rule known before is rule_is =
+    AddsRule-weaker (λ app. app ≡ before) (λ app. app ≡ with_rule before known) made all rule is (λ app e. rw (e, rule_is) refl)
 
--- a command with two subcommands that were made, all known
-pub Adds-both : (first second all : Result Command AllocError) (old mid before a b : App) → old ≡ before
-    → IfOk first (λ c. app_of c ≡ a) → AddsMade old first mid
-    → IfOk second (λ c. app_of c ≡ b) → IfOk all (λ c. AddsMade mid second (app_of c))
-    → IfOk all (λ c. app_of c ≡ with_subcommand (with_subcommand before a.top) b.top)
-Adds-both first second all old mid before a b is first_is first_added second_is =
-    IfOk-weaker all _ _
-    (λ c added. AddsMade-is second mid (app_of c) (with_subcommand before a.top) b (AddsMade-is first old mid before a is first_is first_added) second_is added)
+-- what a command with one more subcommand is
+pub AddsMade-weaker : (P S Q : App → Type 0) (made sub all : Result Command AllocError) → IfOk made (λ c. P (app_of c))
+    → IfOk sub (λ c. S (app_of c)) → ((app s : App) → P app → S s → Q (with_subcommand app s.top))
+    → IfOk all (λ c. AddsMade made sub (app_of c)) → IfOk all (λ c. Q (app_of c))
+AddsMade-weaker P S Q (Ok old) (Ok s) all is sub_is step =
+    IfOk-weaker all _ _ (λ c added. subst Q (sym added) (step (app_of old) (app_of s) is sub_is))
+AddsMade-weaker P S Q (Ok old) (Err e) all is sub_is step = IfOk-weaker all _ _ (λ c added. absurd added)
+AddsMade-weaker P S Q (Err e) sub all is sub_is step = IfOk-weaker all _ _ (λ c added. absurd added)
+
+-- a command with one more subcommand, both known
+pub AddsMade-is : (made sub all : Result Command AllocError) (before known : App) → IfOk made (λ c. app_of c ≡ before)
+    → IfOk sub (λ c. app_of c ≡ known) → IfOk all (λ c. AddsMade made sub (app_of c))
+    → IfOk all (λ c. app_of c ≡ with_subcommand before known.top)
+AddsMade-is made sub all before known is sub_is =
+    AddsMade-weaker (λ app. app ≡ before) (λ s. s ≡ known) (λ app. app ≡ with_subcommand before known.top) made sub all is sub_is
+    (λ app s e f. rw (e, f) refl)
+
+-- what prints with `convert` added, and with `merge` too
+abbrev HasConvert : App → Type 0
+HasConvert app = (convert : App) × IsConvert convert × (app ≡ with_subcommand printing_app convert.top)
+
+abbrev HasMerge : App → Type 0
+HasMerge app = (old : App) × (merge : App) × HasConvert old × IsMerge merge × (app ≡ with_subcommand old merge.top)
 
 -- capt is what prints, with `convert`, `merge` and `join` added
-pub IsCapt-added : (convert merge join : Result Command AllocError) (printing mid most all : App) → printing ≡ printing_app
-    → IfOk convert (λ c. IsConvert (app_of c)) → AddsMade printing convert mid
-    → IfOk merge (λ c. IsMerge (app_of c)) → AddsMade mid merge most
-    → IfOk join (λ c. IsJoin (app_of c)) → AddsMade most join all
-    → IsCapt all
-IsCapt-added (Ok convert) (Ok merge) (Ok join) printing mid most all is is_convert convert_added is_merge merge_added is_join join_added = grind arith
-IsCapt-added convert merge join printing mid most all is is_convert convert_added is_merge merge_added is_join join_added = grind arith
+pub IsCapt-added : (printing convert merge join mid most all : Result Command AllocError)
+    → IfOk printing (λ c. app_of c ≡ printing_app) → IfOk convert (λ c. IsConvert (app_of c))
+    → IfOk merge (λ c. IsMerge (app_of c)) → IfOk join (λ c. IsJoin (app_of c))
+    → IfOk mid (λ c. AddsMade printing convert (app_of c)) → IfOk most (λ c. AddsMade mid merge (app_of c))
+    → IfOk all (λ c. AddsMade most join (app_of c)) → IfOk all (λ c. IsCapt (app_of c))
+IsCapt-added printing convert merge join mid most all is is_convert is_merge is_join mid_is most_is all_is =
+    let first = AddsMade-weaker (λ app. app ≡ printing_app) IsConvert HasConvert printing convert mid is is_convert
+    (λ app s e s_is. (s, s_is, rw e refl)) mid_is in
+    let second = AddsMade-weaker HasConvert IsMerge HasMerge mid merge most first is_merge (λ app s e s_is. (app, s, e, s_is, refl)) most_is in
+    AddsMade-weaker HasMerge IsJoin IsCapt most join all second is_join
+    (λ app s e s_is. record {
+      convert = e.2.0;
+      merge = e.1;
+      join = s;
+      is_convert = e.2.1;
+      is_merge = e.3;
+      is_join = s_is;
+      app_is = rw (e.4, e.2.2) refl;
+    })
+    all_is
 
 -- clap has said why it gives no matches
 pub IsRefused-said : {A : Type 0} (words : List Text) (app : App) (k : ErrorKind) (said : Option A) → IsCapt app → Errs words app k

@@ -20,17 +20,20 @@ AreNames names texts = map (λ name. name.now) names.now ≡ texts
 abbrev pub allow_cut_rule : Rule
 allow_cut_rule = record (new_rule (codes "allow-cut")) { long = Some (codes "allow-cut"); action = Some SetTrue }
 
--- the option `--order`, which takes one of those names
+-- the option of that name, which takes one of those names
+abbrev pub choice_rule : Text → Names → Rule
+choice_rule option names = record (new_rule option) { long = Some option; value_names = 1; parser = Some (parser.Names names) }
+
+-- the option `--order`
 abbrev pub order_rule : Names → Rule
-order_rule names = record (new_rule (codes "order")) { long = Some (codes "order"); value_names = 1; parser = Some (parser.Names names) }
+order_rule names = choice_rule (codes "order") names
 
 abbrev pub IsOrderRule : Rule → Type 0
 IsOrderRule rule = (names : Names) × AreNames names (codes "big" ∷ codes "little" ∷ []) × (rule ≡ order_rule names)
 
--- the option `--to`, which is required and takes one of those names
+-- the option `--to`, which is required
 abbrev pub to_rule : Names → Rule
-to_rule names =
-    record (new_rule (codes "to")) { long = Some (codes "to"); value_names = 1; parser = Some (parser.Names names); required = true }
+to_rule names = record (choice_rule (codes "to") names) { required = true }
 
 abbrev pub IsToRule : Rule → Type 0
 IsToRule rule = (names : Names) × AreNames names (codes "pcap" ∷ codes "pcapng" ∷ []) × (rule ≡ to_rule names)
@@ -51,33 +54,29 @@ files_rule =
       range = Some (record { start_inclusive = 1; end_inclusive = usize_max });
     }
 
--- the subcommand of that name with `[--allow-cut] FILE`
-abbrev pub capture_app : Text → App
-capture_app name = with_rule (with_rule (new_app name) allow_cut_rule) file_rule
+-- the subcommand of that name with `[--allow-cut]`, before its other arguments
+abbrev pub reading_app : Text → App
+reading_app name = with_rule (new_app name) allow_cut_rule
 
 -- `list [--allow-cut] FILE`
 abbrev pub list_app : App
-list_app = capture_app (codes "list")
+list_app = with_rule (reading_app (codes "list")) file_rule
 
 -- `blocks [--allow-cut] FILE`
 abbrev pub blocks_app : App
-blocks_app = capture_app (codes "blocks")
-
--- the subcommand of that name with `[--allow-cut] FILE..`
-abbrev pub captures_app : Text → App
-captures_app name = with_rule (with_rule (new_app name) allow_cut_rule) files_rule
+blocks_app = with_rule (reading_app (codes "blocks")) file_rule
 
 -- `info [--allow-cut] FILE..`
 abbrev pub info_app : App
-info_app = captures_app (codes "info")
+info_app = with_rule (reading_app (codes "info")) files_rule
 
 -- `report [--allow-cut] FILE..`
 abbrev pub report_app : App
-report_app = captures_app (codes "report")
+report_app = with_rule (reading_app (codes "report")) files_rule
 
 -- the subcommand of that name with `[--allow-cut] [--order ORDER] -o OUT`, before its files
 abbrev pub writing_app : Text → Names → App
-writing_app name orders = with_rule (with_rule (with_rule (new_app name) allow_cut_rule) (order_rule orders)) out_rule
+writing_app name orders = with_rule (with_rule (reading_app name) (order_rule orders)) out_rule
 
 pub record IsWriting (name : Text) (app : App) : Type 0 where
   pub orders : Names
@@ -113,9 +112,13 @@ pub record IsJoin (app : App) : Type 0 where
   pub orders_are : AreNames orders (codes "big" ∷ codes "little" ∷ [])
   pub app_is : app ≡ join_app orders
 
--- `new` is `old` with the subcommand that was made
-abbrev pub AddsMade : App → Result Command AllocError → App → Type 0
-AddsMade old made new = IsOkAnd made (λ sub. new ≡ with_subcommand old (app_of sub).top)
+-- `new` is the command, which was made, with that argument
+abbrev pub AddsRule : Result Command AllocError → Rule → App → Type 0
+AddsRule made rule new = IsOkAnd made (λ old. new ≡ with_rule (app_of old) rule)
+
+-- `new` is the command with that subcommand, both of which were made
+abbrev pub AddsMade : Result Command AllocError → Result Command AllocError → App → Type 0
+AddsMade made sub new = IsOkAnd made (λ old. IsOkAnd sub (λ s. new ≡ with_subcommand (app_of old) (app_of s).top))
 
 -- `capt` without its subcommands: one is required, and `help` is none; it has a version
 abbrev pub capt_alone : App

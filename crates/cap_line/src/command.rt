@@ -1,8 +1,8 @@
 //! The command line as clap reads it: one small function for each argument and each subcommand.
-ghost use Rattle.std.specs.Prelude.{◌≡◌, false, IfOk};
+ghost use Rattle.std.specs.Prelude.{◌≡◌, false, IfOk, IsOkAnd};
 ghost use Rattle.clap.specs.Words.{app_of, rule_of};
 ghost use Rattle.clap.specs.declared.builder.command.Command.TheViews.{out-Command as fields_of};
-ghost use Rattle.cap_line.specs.Command.{AddsMade, IsCapt, IsConvert, IsJoin, IsMerge, IsOrderRule, IsToRule, IsWriting, allow_cut_rule, blocks_app, capt_alone, capture_app, captures_app, file_rule, files_rule, info_app, list_app, listing_app, out_rule, printing_app, report_app};
+ghost use Rattle.cap_line.specs.Command.{AddsMade, AddsRule, IsCapt, IsConvert, IsJoin, IsMerge, IsOrderRule, IsToRule, IsWriting, allow_cut_rule, blocks_app, capt_alone, choice_rule, file_rule, files_rule, info_app, list_app, listing_app, out_rule, printing_app, reading_app, report_app};
 
 use crate::texts;
 use cap_jobs::USAGE;
@@ -35,37 +35,30 @@ fn file<'a>(alloc: Global) -> Arg<'a>
         .help(texts::FILE_HELP)
 }
 
-// A subcommand with `[--allow-cut] FILE`
-fn capture_command<'a>(
+// `FILE..`
+fn files<'a>(alloc: Global) -> Arg<'a>
+    ensures rule { rule_of result ≡ files_rule }
+    ensures local { result.global ≡ false }
+{
+    file(alloc).num_args(1..).help(texts::FILES_HELP)
+}
+
+// The option of that name, which takes one of those names
+fn choice<'a>(
     alloc: Global,
-    name: &'a str,
-    about: &'a str,
+    option: &'a str,
+    names: &'a [&'a str],
+    value_name: &'a str,
     help: &'a str,
-) -> Result<Command<'a>, AllocError>
-    ensures app { IfOk result (λ c. app_of c ≡ capture_app name.entry.now) }
-    ensures local { IfOk result (λ c. (fields_of c).has_globals ≡ false) }
+) -> Arg<'a>
+    ensures rule { rule_of result ≡ choice_rule option.entry.now names.entry }
+    ensures local { result.global ≡ false }
 {
-    Command::new(alloc, name)
-        .about(about)
-        .after_help(help)
-        .arg(allow_cut(alloc))?
-        .arg(file(alloc))
-}
-
-// `list`
-fn list<'a>(alloc: Global) -> Result<Command<'a>, AllocError>
-    ensures app { IfOk result (λ c. app_of c ≡ list_app) }
-    ensures local { IfOk result (λ c. (fields_of c).has_globals ≡ false) }
-{
-    capture_command(alloc, "list", texts::LIST_ABOUT, texts::LIST_HELP)
-}
-
-// `blocks`
-fn blocks<'a>(alloc: Global) -> Result<Command<'a>, AllocError>
-    ensures app { IfOk result (λ c. app_of c ≡ blocks_app) }
-    ensures local { IfOk result (λ c. (fields_of c).has_globals ≡ false) }
-{
-    capture_command(alloc, "blocks", texts::BLOCKS_ABOUT, texts::BLOCKS_HELP)
+    Arg::new(alloc, option)
+        .long(option)
+        .value_parser(names)
+        .value_name(value_name)
+        .help(help)
 }
 
 // `--order`
@@ -73,11 +66,13 @@ fn order<'a>(alloc: Global) -> Arg<'a>
     ensures rule { IsOrderRule (rule_of result) }
     ensures local { result.global ≡ false }
 {
-    Arg::new(alloc, "order")
-        .long("order")
-        .value_parser(ORDERS.as_slice())
-        .value_name("ORDER")
-        .help(texts::ORDER_HELP)
+    choice(
+        alloc,
+        "order",
+        ORDERS.as_slice(),
+        "ORDER",
+        texts::ORDER_HELP,
+    )
 }
 
 // `--to`
@@ -85,12 +80,7 @@ fn to<'a>(alloc: Global) -> Arg<'a>
     ensures rule { IsToRule (rule_of result) }
     ensures local { result.global ≡ false }
 {
-    Arg::new(alloc, "to")
-        .long("to")
-        .value_parser(FORMATS.as_slice())
-        .required(true)
-        .value_name("FORMAT")
-        .help(texts::TO_HELP)
+    choice(alloc, "to", FORMATS.as_slice(), "FORMAT", texts::TO_HELP).required(true)
 }
 
 // `-o`
@@ -105,52 +95,61 @@ fn out<'a>(alloc: Global) -> Arg<'a>
         .help(texts::OUT_HELP)
 }
 
-// `FILE..`
-fn files<'a>(alloc: Global) -> Arg<'a>
-    ensures rule { rule_of result ≡ files_rule }
-    ensures local { result.global ≡ false }
-{
-    Arg::new(alloc, "FILE")
-        .required(true)
-        .num_args(1..)
-        .help(texts::FILES_HELP)
-}
-
-// A subcommand with `[--allow-cut] FILE..`
-fn captures_command<'a>(
+// A subcommand with `[--allow-cut]`, which each of them has
+fn reading<'a>(
     alloc: Global,
     name: &'a str,
     about: &'a str,
     help: &'a str,
 ) -> Result<Command<'a>, AllocError>
-    ensures app { IfOk result (λ c. app_of c ≡ captures_app name.entry.now) }
+    ensures app { IfOk result (λ c. app_of c ≡ reading_app name.entry.now) }
     ensures local { IfOk result (λ c. (fields_of c).has_globals ≡ false) }
 {
     Command::new(alloc, name)
         .about(about)
         .after_help(help)
-        .arg(allow_cut(alloc))?
-        .arg(files(alloc))
+        .arg(allow_cut(alloc))
 }
 
-// `info`
-fn info<'a>(alloc: Global) -> Result<Command<'a>, AllocError>
-    ensures app { IfOk result (λ c. app_of c ≡ info_app) }
+// What `make` makes of both, if they were made
+fn both<A: Drop, B: Drop, C, F: FnOnce(A, B) -> Result<C, AllocError>>(
+    first: Result<A, AllocError>,
+    second: Result<B, AllocError>,
+    make: F,
+) -> Result<C, AllocError>
+    requires { F.IsAlwaysCallable make }
+    ensures { IfOk result (λ c. IsOkAnd first (λ a. IsOkAnd second (λ b. F.post make a b result))) }
+{
+    make(first?, second?)
+}
+
+// The command with that argument, if it was made. None of its arguments holds for commands below it.
+fn with_argument<'a>(
+    command: Result<Command<'a>, AllocError>,
+    argument: Arg<'a>,
+) -> Result<Command<'a>, AllocError>
+    requires made_local { IfOk command (λ c. (fields_of c).has_globals ≡ false) }
+    requires local { argument.global ≡ false }
+    ensures app { IfOk result (λ c. AddsRule command.entry (rule_of argument.entry) (app_of c)) }
     ensures local { IfOk result (λ c. (fields_of c).has_globals ≡ false) }
 {
-    captures_command(alloc, "info", texts::INFO_ABOUT, texts::INFO_HELP)
+    both(command, Ok(argument), Command::arg)
 }
 
-// `report`
-fn report<'a>(alloc: Global) -> Result<Command<'a>, AllocError>
-    ensures app { IfOk result (λ c. app_of c ≡ report_app) }
-    ensures local { IfOk result (λ c. (fields_of c).has_globals ≡ false) }
+// The command with that subcommand, if both were made. No argument of the subcommand holds for commands
+// below it.
+fn with_subcommand<'a>(
+    command: Result<Command<'a>, AllocError>,
+    subcommand: Result<Command<'a>, AllocError>,
+) -> Result<Command<'a>, AllocError>
+    requires local { IfOk subcommand (λ s. (fields_of s).has_globals ≡ false) }
+    ensures { IfOk result (λ c. AddsMade command.entry subcommand.entry (app_of c)) }
 {
-    captures_command(alloc, "report", texts::REPORT_ABOUT, texts::REPORT_HELP)
+    both(command, subcommand, Command::subcommand)
 }
 
-// A subcommand with `[--allow-cut] [--order ORDER] -o OUT`, without its files
-fn writing_command<'a>(
+// A subcommand with `[--allow-cut] [--order ORDER] -o OUT`, before its other arguments
+fn writing<'a>(
     alloc: Global,
     name: &'a str,
     about: &'a str,
@@ -159,12 +158,52 @@ fn writing_command<'a>(
     ensures app { IfOk result (λ c. IsWriting name.entry.now (app_of c)) }
     ensures local { IfOk result (λ c. (fields_of c).has_globals ≡ false) }
 {
-    Command::new(alloc, name)
-        .about(about)
-        .after_help(help)
-        .arg(allow_cut(alloc))?
-        .arg(order(alloc))?
-        .arg(out(alloc))
+    let before = reading(alloc, name, about, help);
+    with_argument(with_argument(before, order(alloc)), out(alloc))
+}
+
+// `list`
+fn list<'a>(alloc: Global) -> Result<Command<'a>, AllocError>
+    ensures app { IfOk result (λ c. app_of c ≡ list_app) }
+    ensures local { IfOk result (λ c. (fields_of c).has_globals ≡ false) }
+{
+    with_argument(
+        reading(alloc, "list", texts::LIST_ABOUT, texts::LIST_HELP),
+        file(alloc),
+    )
+}
+
+// `blocks`
+fn blocks<'a>(alloc: Global) -> Result<Command<'a>, AllocError>
+    ensures app { IfOk result (λ c. app_of c ≡ blocks_app) }
+    ensures local { IfOk result (λ c. (fields_of c).has_globals ≡ false) }
+{
+    with_argument(
+        reading(alloc, "blocks", texts::BLOCKS_ABOUT, texts::BLOCKS_HELP),
+        file(alloc),
+    )
+}
+
+// `info`
+fn info<'a>(alloc: Global) -> Result<Command<'a>, AllocError>
+    ensures app { IfOk result (λ c. app_of c ≡ info_app) }
+    ensures local { IfOk result (λ c. (fields_of c).has_globals ≡ false) }
+{
+    with_argument(
+        reading(alloc, "info", texts::INFO_ABOUT, texts::INFO_HELP),
+        files(alloc),
+    )
+}
+
+// `report`
+fn report<'a>(alloc: Global) -> Result<Command<'a>, AllocError>
+    ensures app { IfOk result (λ c. app_of c ≡ report_app) }
+    ensures local { IfOk result (λ c. (fields_of c).has_globals ≡ false) }
+{
+    with_argument(
+        reading(alloc, "report", texts::REPORT_ABOUT, texts::REPORT_HELP),
+        files(alloc),
+    )
 }
 
 // `convert`
@@ -172,9 +211,8 @@ fn convert<'a>(alloc: Global) -> Result<Command<'a>, AllocError>
     ensures app { IfOk result (λ c. IsConvert (app_of c)) }
     ensures local { IfOk result (λ c. (fields_of c).has_globals ≡ false) }
 {
-    writing_command(alloc, "convert", texts::CONVERT_ABOUT, texts::CONVERT_HELP)?
-        .arg(to(alloc))?
-        .arg(file(alloc))
+    let before = writing(alloc, "convert", texts::CONVERT_ABOUT, texts::CONVERT_HELP);
+    with_argument(with_argument(before, to(alloc)), file(alloc))
 }
 
 // `merge`
@@ -182,7 +220,10 @@ fn merge<'a>(alloc: Global) -> Result<Command<'a>, AllocError>
     ensures app { IfOk result (λ c. IsMerge (app_of c)) }
     ensures local { IfOk result (λ c. (fields_of c).has_globals ≡ false) }
 {
-    writing_command(alloc, "merge", texts::MERGE_ABOUT, texts::MERGE_HELP)?.arg(files(alloc))
+    with_argument(
+        writing(alloc, "merge", texts::MERGE_ABOUT, texts::MERGE_HELP),
+        files(alloc),
+    )
 }
 
 // `join`
@@ -190,13 +231,15 @@ fn join<'a>(alloc: Global) -> Result<Command<'a>, AllocError>
     ensures app { IfOk result (λ c. IsJoin (app_of c)) }
     ensures local { IfOk result (λ c. (fields_of c).has_globals ≡ false) }
 {
-    writing_command(alloc, "join", texts::JOIN_ABOUT, texts::JOIN_HELP)?.arg(files(alloc))
+    with_argument(
+        writing(alloc, "join", texts::JOIN_ABOUT, texts::JOIN_HELP),
+        files(alloc),
+    )
 }
 
 // `capt` without its subcommands
 fn capt_itself<'a>(alloc: Global) -> Command<'a>
-    ensures app { app_of result ≡ capt_alone }
-    ensures local { (fields_of result).has_globals ≡ false }
+    ensures { app_of result ≡ capt_alone }
 {
     Command::new(alloc, "capt")
         .version(texts::VERSION)
@@ -205,35 +248,19 @@ fn capt_itself<'a>(alloc: Global) -> Command<'a>
         .disable_help_subcommand(true)
 }
 
-// The command with that subcommand, if it was made. No argument of either holds for the commands below it.
-fn with_subcommand<'a>(
-    command: Command<'a>,
-    subcommand: Result<Command<'a>, AllocError>,
-) -> Result<Command<'a>, AllocError>
-    requires local { (fields_of command).has_globals ≡ false }
-    requires made_local { IfOk subcommand (λ s. (fields_of s).has_globals ≡ false) }
-    ensures app { IfOk result (λ c. AddsMade (app_of command.entry) subcommand.entry (app_of c)) }
-    ensures local { IfOk result (λ c. (fields_of c).has_globals ≡ false) }
-{
-    command.subcommand(subcommand?)
-}
-
 // `capt` with the subcommands that print one capture
 fn listing<'a>(alloc: Global) -> Result<Command<'a>, AllocError>
-    ensures app { IfOk result (λ c. app_of c ≡ listing_app) }
-    ensures local { IfOk result (λ c. (fields_of c).has_globals ≡ false) }
+    ensures { IfOk result (λ c. app_of c ≡ listing_app) }
 {
-    let capt = with_subcommand(capt_itself(alloc), list(alloc))?;
+    let capt = with_subcommand(Ok(capt_itself(alloc)), list(alloc));
     with_subcommand(capt, blocks(alloc))
 }
 
 // `capt` with the subcommands that print
 fn printing<'a>(alloc: Global) -> Result<Command<'a>, AllocError>
-    ensures app { IfOk result (λ c. app_of c ≡ printing_app) }
-    ensures local { IfOk result (λ c. (fields_of c).has_globals ≡ false) }
+    ensures { IfOk result (λ c. app_of c ≡ printing_app) }
 {
-    let capt = listing(alloc)?;
-    let capt = with_subcommand(capt, info(alloc))?;
+    let capt = with_subcommand(listing(alloc), info(alloc));
     with_subcommand(capt, report(alloc))
 }
 
@@ -241,8 +268,7 @@ fn printing<'a>(alloc: Global) -> Result<Command<'a>, AllocError>
 pub fn capt<'a>(alloc: Global) -> Result<Command<'a>, AllocError>
     ensures { IfOk result (λ c. IsCapt (app_of c)) }
 {
-    let capt = printing(alloc)?;
-    let capt = with_subcommand(capt, convert(alloc))?;
-    let capt = with_subcommand(capt, merge(alloc))?;
+    let capt = with_subcommand(printing(alloc), convert(alloc));
+    let capt = with_subcommand(capt, merge(alloc));
     with_subcommand(capt, join(alloc))
 }

@@ -1,8 +1,24 @@
-use Rattle.std.proofs.lemmas.Result.{IfOk-weaker}
-use Rattle.cap_line.proofs.Parsing.{AddsArg-local}
+use Rattle.std.proofs.Common.{◌≡◌, codes, refl}
+use Rattle.clap.specs.Words.{App, with_rule}
+use Rattle.cap_line.specs.Command.{IsConvert, IsWriting, Names, to_rule}
+use Rattle.cap_line.proofs.Parsing.{AddsRule-weaker}
 use Rattle.cap_line.proofs.command.convert.Goals as goal
 
-pub returns-clause-local : goal.returns-clause-local
-returns-clause-local c =
-    let first = AddsArg-local _ _ c.in_ok-arg.field-0 c.in_ok-arg.ensures c.in_ok-writing_command.ensures.local c.to.ensures.local in
-    IfOk-weaker c.arg-2.result _ _ (λ r added. AddsArg-local _ _ r added first c.file.ensures.local) c.arg-2.ensures
+-- `convert` before its files
+abbrev HasFormats : Names → App → Type 0
+HasFormats formats app = (old : App) × IsWriting (codes "convert") old × (app ≡ with_rule old (to_rule formats))
+
+pub returns-clause-app : goal.returns-clause-app
+returns-clause-app c =
+    let formats = c.to.ensures.rule in
+    let before = AddsRule-weaker (IsWriting (codes "convert")) (HasFormats formats.0) c.writing-before.result c.with_argument.result _ c.writing-before.ensures.app
+    (λ app is. (app, is, rw formats.2 refl)) c.with_argument.ensures.app in
+    AddsRule-weaker (HasFormats formats.0) IsConvert c.with_argument.result c.with_argument-2.result _ before
+    (λ app is. record {
+      orders = is.1.orders;
+      orders_are = is.1.orders_are;
+      formats = formats.0;
+      formats_are = formats.1;
+      app_is = rw (is.2, is.1.app_is, c.file.ensures.rule) refl;
+    })
+    c.with_argument-2.ensures.app

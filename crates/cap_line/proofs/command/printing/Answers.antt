@@ -1,8 +1,9 @@
 use Rattle.cap_line.specs.Command.{info_app, listing_app, report_app}
-use Rattle.cap_line.proofs.Parsing.{Adds-both}
+use Rattle.cap_line.proofs.Parsing.{AddsMade-is}
 use Rattle.cap_line.proofs.command.printing.Goals as goal
 
-pub returns-clause-app : goal.returns-clause-app
-returns-clause-app c =
-    Adds-both c.info.result c.report.result c.with_subcommand-2.result _ _ listing_app info_app report_app
-    c.in_ok-capt.ensures.app c.info.ensures.app c.in_ok-capt-2.ensures.app c.report.ensures.app c.with_subcommand-2.ensures.app
+pub returns : goal.returns
+returns c =
+    let first = AddsMade-is c.listing.result c.info.result c.with_subcommand-capt.result listing_app info_app c.listing.ensures c.info.ensures.app
+    c.with_subcommand-capt.ensures in
+    AddsMade-is c.with_subcommand-capt.result c.report.result c.with_subcommand.result _ report_app first c.report.ensures.app c.with_subcommand.ensures
