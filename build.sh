@@ -11,7 +11,8 @@ program=cap_tool
 first='cap_bytes cap_source cap_rows cap_merge cap_tally cap_write cap_talks'
 # those beside which processors would be idle, at the beginning and at the end, and how many processes each gets
 declare -A processes=([cap_bytes]=2 [cap_write]=4 [cap_tasks]=4 [cap_tool]=4)
-kit=$(dirname "$(rt doc)")
+kit=$(rt doc)
+kit=${kit%/*}
 
 # prove CRATE LIBRARY..: proves a crate and builds it, and tells how many functions it has, or why it isn't proved
 prove() {
