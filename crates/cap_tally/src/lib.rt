@@ -10,4 +10,5 @@ mod tables;
 mod tallies;
 mod totals;
 
+pub use crate::classes::Class;
 pub use crate::tables::{Held, Step, Table};
