@@ -5,7 +5,8 @@
 # other thread does nothing, and up to twice as large if it is busy. On an Intel Xeon it is 0.63 if nothing else runs there (ten operations, four
 # at a time, beside four steps), and 0.95 to 1.3 if much does.
 #
-# Use: bench/quiet.sh [LINES]     (a line takes some two seconds; run it before and after what is to be timed, beside nothing else)
+# Use: bench/quiet.sh [LINES]     (a line takes some two seconds; run it before and after what is to be timed, beside nothing else; it
+# wants a C compiler)
 set -eu
 lines=${1:-3}
 work=$(mktemp -d "${TMPDIR:-/tmp}/capt-quiet.XXXXXX")
