@@ -2,69 +2,112 @@
 # Proves every crate that the program stands on, from nothing, builds it as ./capt, and shows its help. The status is 0 if all
 # was proved.
 #
-# Each crate is proved by one `rattle build`, over the statements of those below it, once they are built; make sees to that, a crate
-# a processor. What `rt ci` does beside it is the gate's: the tests, the must-fail edits, a second compiler.
+# Each crate is proved by one `rattle build`, over the statements of those below it, once they are built: as many crates at once as
+# there are processors, and a crate by more processes than one if fewer crates can be proved than processors are idle. What `rt ci`
+# does beside it is the gate's: the tests, the must-fail edits, a second compiler.
 set -euo pipefail
 cd "$(dirname "$0")"
 program=cap_tool
-# the crates for which others wait longest, which begin before others that could
-first='cap_bytes cap_source cap_rows cap_merge cap_tally cap_write cap_talks'
-# those beside which processors would be idle, at the beginning and at the end, and how many processes each gets
-declare -A processes=([cap_bytes]=2 [cap_write]=4 [cap_tasks]=4 [cap_tool]=4)
+# the crates for which others wait longest: they, and those that they stand on, begin before others that could
+first='cap_feed cap_blocks cap_write'
+# the longest of these, and how many processes they get even if no processor is idle; and the most that a crate gets
+declare -A least=([cap_tally]=2 [cap_write]=3)
+most=4
 kit=$(rt doc)
 kit=${kit%/*}
 
-# prove CRATE LIBRARY..: proves a crate and builds it, and tells how many functions it has, or why it isn't proved
-prove() {
+# a line of crates.txt names a crate and its libraries, some of which are crates here
+declare -A libraries state
+while IFS=': ' read -r crate names; do
+    if [[ $crate == cap* ]]; then libraries[$crate]=$names; fi
+done < crates.txt
+
+# want CRATE: it is to be proved, and so is all that it stands on
+order=()
+want() {
+    local library
+    if [ -z "${libraries[$1]+here}" ] || [ -n "${state[$1]-}" ]; then return; fi
+    state[$1]=waiting
+    for library in ${libraries[$1]}; do want "$library"; done
+    order+=("$1")
+}
+for crate in $first $program; do want "$crate"; done
+
+# can_begin CRATE: each crate that it stands on is proved
+can_begin() {
+    local library
+    for library in ${libraries[$1]}; do
+        if [ "${state[$library]-proved}" != proved ]; then return 1; fi
+    done
+}
+
+# begin CRATE PROCESSES: begins its proof, which tells its end
+begin() {
     local crate=$1 library words=()
-    shift
-    for library in std "$@"; do
+    for library in std ${libraries[$crate]}; do
         if [ -d "crates/$library" ]; then
             words+=(--extern "$library=$room/$library.rlib")
         else
             words+=(--extern "$library=$kit/rlibs/$library.rlib")
         fi
     done
-    words+=(-L "dependency=$room" -L "dependency=$kit/rlibs" --links "$crate=" --jobs "${processes[$crate]:-1}")
+    words+=(-L "dependency=$room" -L "dependency=$kit/rlibs" --links "$crate=" --jobs "$2")
     words+=(--antt-project "$kit/rattle/logic/antt-project.json" --logic-built "$kit/logic_built")
     if [ "$crate" = "$program" ]; then
         words+=(src/main.rt --toolchain "$kit/toolchain" -o "$room/$crate.o")
     else
         words+=(src/lib.rt --statements -o "$room/$crate.rlib")
     fi
-    if ! (cd "crates/$crate" && "$kit/bin/rattle" build --crate-name "$crate" "${words[@]}") > "$room/$crate.said" 2>&1; then
-        cat "$room/$crate.said"
-        echo "$crate: not proved"
-        return 1
-    fi
-    echo "$crate: proved, $(grep -o 'functions=[0-9]*' "$room/$crate.said" | cut -d= -f2) functions"
+    (
+        cd "crates/$crate"
+        status=0
+        SECONDS=0
+        "$kit/bin/rattle" build --crate-name "$crate" "${words[@]}" < /dev/null > "$room/$crate.said" 2>&1 || status=$?
+        echo "$crate $2 $SECONDS $status" >&"$ended"
+    ) &
+    running[$crate]=$!
+    state[$crate]=running
+    idle=$((idle - $2))
 }
 
-# make calls this script for each crate
-if [ "${1-}" = --prove ]; then
-    shift
-    prove "$@"
-    exit
-fi
+# each proof is a process group of its own, so that none goes on if this ends
+set -m
 room=$(mktemp -d)
-export room
-trap 'rm -rf "$room"' EXIT
+declare -A running=()
+stop() {
+    local group
+    disown -a
+    for group in "${running[@]}"; do kill -- "-$group" 2> /dev/null || true; done
+    rm -rf "$room"
+}
+trap stop EXIT
+mkfifo "$room/ended"
+exec {ended}<> "$room/ended"
 
-# a line of crates.txt names a crate and its libraries, of which those are waited for that are crates here
-awk -F'[: ]+' '!/^#/ { name[NR] = $1; is_crate[$1] = 1; line[NR] = $0 }
-    END {
-        for (at in name) {
-            count = split(line[at], word, /[: ]+/)
-            below = libraries = ""
-            for (i = 2; i <= count; i++) {
-                libraries = libraries " " word[i]
-                if (word[i] in is_crate) below = below " " word[i]
-            }
-            printf "%s:%s\n\t@./build.sh --prove %s%s\n", name[at], below, name[at], libraries
-        }
-    }' crates.txt > "$room/rules"
-# shellcheck disable=SC2086 # (words)
-make --no-print-directory --jobs "$(nproc)" --file "$room/rules" $first "$program"
+processors=$(nproc)
+idle=$processors
+until [ "${state[$program]}" = proved ]; do
+    ready=()
+    for crate in "${order[@]}"; do
+        if [ "${state[$crate]}" = waiting ] && can_begin "$crate"; then ready+=("$crate"); fi
+    done
+    for ((at = 0; at < ${#ready[@]} && ${#running[@]} < processors; at++)); do
+        crate=${ready[at]}
+        wanted=${least[$crate]-1}
+        spare=$((idle - (${#ready[@]} - at - 1)))
+        begin "$crate" $((spare < wanted ? wanted : spare > most ? most : spare))
+    done
+    read -r crate processes seconds status <&"$ended"
+    unset "running[$crate]"
+    if [ "$status" != 0 ]; then
+        cat "$room/$crate.said"
+        echo "$crate: not proved"
+        exit 1
+    fi
+    echo "$crate: proved, $(grep -o 'functions=[0-9]*' "$room/$crate.said" | cut -d= -f2) functions, $seconds seconds"
+    state[$crate]=proved
+    idle=$((idle + processes))
+done
 
 mkdir -p "crates/$program/out"
 "$kit/bin/rattle-link" --target x86_64-unknown-linux-gnu --toolchain "$kit/toolchain" -o "crates/$program/out/$program" \
