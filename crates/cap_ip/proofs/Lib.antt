@@ -1,3 +1,5 @@
 pub mod Shapes
 pub mod OnesSum
 pub mod ChecksumLaw
+pub mod TagSteps
+pub mod TagsLaw

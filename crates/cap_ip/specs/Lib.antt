@@ -5,3 +5,7 @@ pub mod Read
 pub mod Transport
 pub mod Checksum
 pub mod Written
+pub mod Seen
+pub mod Tags
+pub mod Links
+pub mod Tagged

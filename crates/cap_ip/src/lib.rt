@@ -1,14 +1,20 @@
-//! IPv4 headers, read and written, the ports after them, and the header checksum.
+//! What a captured frame carries, by its link header and its tags: an IPv4 packet's bytes, or why there are none; and IPv4
+//! headers, read and written, the ports after them, and the header checksum.
 #![tactic(auto)]
 
 mod checksums;
 mod fields;
 mod headers;
+mod links;
+mod networks;
 mod ports;
+mod tags;
 mod transports;
 mod written;
 
 pub use crate::checksums::{checksum_law, header_checksum};
 pub use crate::headers::{Fragment, Header, HeaderOr, Key};
+pub use crate::links::{network, tags_law};
+pub use crate::networks::Network;
 pub use crate::ports::transport;
 pub use crate::transports::Transport;

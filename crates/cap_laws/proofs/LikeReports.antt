@@ -14,7 +14,7 @@ use Rattle.cap_join.specs.Fragments.{Piece, piece_of}
 use Rattle.cap_join.specs.History.{Event, joined_pieces, state_of}
 use Rattle.cap_join.specs.Joiners.{open_limit}
 use Rattle.cap_join.specs.declared.datagrams.Stamped.{Stamped}
-use Rattle.cap_link.specs.Seen.{Carried, ipv4, other_link, not_ipv4, short, cut as ends}
+use Rattle.cap_ip.specs.Seen.{Carried, ipv4, other_link, not_ipv4, short, cut as ends}
 use Rattle.cap_feed.specs.Times.{meta_time}
 use Rattle.cap_order.specs.Run.{Clocked}
 use Rattle.cap_feed.specs.Feed.{Item, packet, refused}
@@ -22,11 +22,11 @@ use Rattle.cap_tally.specs.Classes.{class_by, class_in, class_of, classes, class
 use Rattle.cap_tally.specs.CountedUnits.{unit_by, unit_at, listed, units_of, is_limit_at, counted_in}
 use Rattle.cap_talks.specs.ReportText.{with_item, taken_after, refusal_here}
 use Rattle.cap_tally.specs.TakenText.{body_text, bytes_of, truncated_of}
-use Rattle.cap_rows.specs.Rows.{is_refused, talk_limit}
+use Rattle.cap_tally.specs.Rows.{is_refused, talk_limit}
 use Rattle.cap_tally.specs.Taken.{Taken, Look, plain, datagram, fragment, look_at, look, events_with, events_of}
-use Rattle.cap_rows.specs.Talks.{key_of, rows_of}
+use Rattle.cap_tally.specs.Talks.{key_of, rows_of}
 use Rattle.cap_tally.specs.declared.classes.Class.TheVariants as class
-use Rattle.cap_rows.specs.declared.units.CountedUnit.{CountedUnit}
+use Rattle.cap_tally.specs.declared.units.CountedUnit.{CountedUnit}
 use Rattle.cap_time.specs.declared.stamps.Stamp.{Stamp}
 use Rattle.cap_laws.proofs.LikePieces.{IsLike, IsLikeFrame, Like, LikeEvent, data-like, events-groups, header-like, pieces-alike, place-like}
 use Rattle.cap_laws.proofs.LikeUnits.{LikeUnit, LikeUnits, first_unit-like, key-like, refused-like, rows-like}

@@ -1,22 +1,45 @@
 -- The clocks that the feeds of a merge have reached have seconds below 2^65.
-use Rattle.std.proofs.Common.{◌≡◌, ℕ, suc, true, List, ◌∷◌, length, ◌<◌, Some, arith, ap, ◌∙◌, sym, inl, inr, Option, IfSome, Result, pos, ◌^◌}
-use Rattle.std.specs.Prelude.{◌<ℤ◌, replicate, map}
+use Rattle.std.proofs.Common.{◌≡◌, ℕ, suc, true, false, IsTrue, List, ◌∷◌, length, ◌<◌, Some, None, arith, ap, ◌∙◌, sym, inl, inr, Option, IfSome, Result, pos, ◌^◌}
+use Rattle.std.specs.Prelude.{◌<ℤ◌, replicate, map, is_some}
 use Rattle.std.specs.List.{list_all}
 use Rattle.std.proofs.lemmas.List.{length-map}
 use Rattle.cap_bytes.specs.declared.faults.Fault.{Fault}
-use Rattle.cap_feed.specs.Feed.{Feed}
+use Rattle.cap_feed.specs.Feed.{Feed, Keeps, SameItems, Knows}
+use Rattle.cap_feed.specs.declared.feeds.Head.TheVariants as heads
+use Rattle.cap_feed.specs.declared.packets.Meta.{Meta}
+use Rattle.cap_feed.specs.Times.{meta_time}
 use Rattle.cap_time.specs.Stamp.{seconds_of}
 use Rattle.cap_time.specs.Clock.{later}
 use Rattle.cap_time.specs.declared.stamps.Stamp.{Stamp}
+use Rattle.cap_order.specs.declared.lanes.Coming.{Coming}
+use Rattle.cap_order.specs.declared.lanes.Coming.TheVariants as comings
 use Rattle.cap_order.specs.declared.lanes.Lane.{Lane}
 use Rattle.cap_order.specs.First.{fresh_lane, lane_at, first_place}
-use Rattle.cap_order.specs.Parts.{Part, parts, turns, is_bounded, AreBounded}
+use Rattle.cap_order.specs.Parts.{Part, part, parts, turns, is_bounded, AreBounded}
 use Rattle.cap_order.proofs.Placing.{place_within}
-use Rattle.cap_order.specs.Merge.{LearnsAll, StopsAt, AsksAll, PassesAt}
+use Rattle.cap_order.specs.Merge.{LearnsBy, LearnsAll, StopsAt, AsksAll, PassesAt}
 
 -- a clock that moves to a time is within them if both are
-pub later_bounded : (clock time : Option Stamp) → IfSome time (λ t. seconds_of t <ℤ pos (2 ^ 65)) → is_bounded clock ≡ true → is_bounded (later clock time) ≡ true
+later_bounded : (clock time : Option Stamp) → IfSome time (λ t. seconds_of t <ℤ pos (2 ^ 65)) → is_bounded clock ≡ true → is_bounded (later clock time) ≡ true
 later_bounded clock time h k = grind arith
+
+-- A feed tells that a packet comes next, and the clock moves to its time.
+pub learns-packet : (clock : Option Stamp) (next : Option Coming) (time : Option Stamp) (old new : Feed) (meta : Meta) (reached : Option Stamp)
+    → is_some next ≡ false → (m : Meta) × Knows old (heads.Packet m) new → new.known ≡ Some (heads.Packet meta) → reached ≡ later clock time
+    → time ≡ meta_time meta → IfSome time (λ t. seconds_of t <ℤ pos (2 ^ 65)) → Keeps old new → (IsTrue old.told → SameItems old new)
+    → LearnsBy (part (record { clock = clock; next = next }) old).lane.head (part (record { clock = clock; next = next }) old)
+    (part (record { clock = reached; next = Some comings.Packet }) new)
+learns-packet clock None time old new meta reached free (m, knows) known is at within keeps items = (
+  heads.Packet m,
+  record {
+    lane = cc (knows.known);
+    bounded = λ h. rw is (later_bounded clock time within h);
+    knows = knows;
+    keeps = keeps;
+    items = items;
+  },
+)
+learns-packet clock (Some coming) time old new meta reached free found known is at within keeps items = cc
 
 all_learned : (ps qs : List Part) → LearnsAll ps qs → AreBounded ps → AreBounded qs
 all_learned (p ∷ ps) (q ∷ qs) l h = grind (arith, all_learned ps qs l.1)

@@ -109,7 +109,6 @@ fn stop(lane: &mut Lane, fault: Fault) -> Result<(), Fault>
 
 // Asks a feed what comes next, which isn't known. It isn't inlined: where packets are at hand it is never called, and its answer would take
 // room at each of them.
-#[tactic(auto, using(crate::proofs::Bounds::later_bounded))]
 #[inline(never)]
 fn learn<F: PacketFeed>(lane: &mut Lane, feed: &mut F) -> Result<(), Fault>
     requires { lane.old.next ≡ None }
@@ -171,7 +170,6 @@ fn ask_at<F: PacketFeed>(lanes: &mut [Lane], feeds: &mut [F], place: usize) -> R
 }
 
 // Asks a feed whether it has a packet at hand, unless it is known what comes next. If so the packet is known then.
-#[tactic(auto, using(crate::proofs::Bounds::later_bounded))]
 #[inline(always)]
 fn show<F: PacketFeed>(lane: &mut Lane, feed: &mut F) -> bool
     requires { Matches lane.old (F.feed feed.old) }

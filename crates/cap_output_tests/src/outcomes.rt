@@ -3,7 +3,7 @@
 use crate::checks::same;
 use cap_bytes::{Fault, Refusal, Room, Rule};
 use cap_jobs::{LineFault, USAGE};
-use cap_outcomes::{Outcome, end_of, outcome_line, status_of, tell};
+use cap_run::{Outcome, end_of, outcome_line, status_of, tell};
 use std::alloc::Global;
 use std::io;
 use std::io::{BufWriter, Write};

@@ -2,7 +2,7 @@
 
 use crate::checks::{holds, same};
 use cap_bytes::{Device, Pieces, Room, Sink, Source};
-use cap_outcomes::{Progress, Watched, progress_line};
+use cap_run::{Progress, Watched, progress_line};
 
 #[test]
 fn a_line_tells_bytes_rate_and_time_left(rt: HostRuntime) {

@@ -45,16 +45,17 @@ HasHeader-seen w v u tail header s p =
       };
     }
 
--- a record is shown already, after the one that was given last
-pub GivesRecord-shown : (header : PcapHeader) (w u : WindowState) (tail : Tail) (known : Option PcapHeader) (captured : Option ℕ) (stop : Option Stop) (r : Record)
-    → stop ≡ None → size_of captured ≤ length w.shown → Passes (size_of captured) w u → SeesRecord header tail r u u
-    → GivesRecord header (state_of w tail known captured stop) r (state_of u tail known (Some r.captured) stop)
-GivesRecord-shown header w u tail known captured stop r free within p s = record {
-  gives = Gives-seen (state_of w tail known captured stop) u u (Stands-passed w u tail known (size_of captured) (frame_of captured w.shown) stop free within p)
-      known (16 + r.captured) (16 + r.captured) (frame_of (Some r.captured) u.shown) s.shows.goes refl (λ t. refl);
+-- a record is seen after the one that was given last
+pub GivesRecord-seen : (header : PcapHeader) (w u v : WindowState) (tail : Tail) (known : Option PcapHeader) (captured : Option ℕ) (stop : Option Stop) (r : Record)
+    → stop ≡ None → size_of captured ≤ length w.shown → Passes (size_of captured) w u → SeesRecord header tail r u v
+    → GivesRecord header (state_of w tail known captured stop) r (state_of v tail known (Some r.captured) stop)
+GivesRecord-seen header w u v tail known captured stop r free within p s = record {
+  gives = Gives-seen (state_of w tail known captured stop) u v (Stands-passed w u tail known (size_of captured) (frame_of captured w.shown) stop free within p)
+      known (16 + r.captured) (16 + r.captured) (frame_of (Some r.captured) v.shown) s.shows.goes (ap (λ n. n + (16 + r.captured)) s.shows.offset)
+      (λ t. ap (drop (16 + r.captured)) (s.shows.coming_same t));
   offset = s.offset ∙ p.offset;
   captured = s.captured;
-  frame = length-take-le r.captured (drop 16 u.shown) (omega (arith, s.size, length-drop 16 u.shown));
+  frame = length-take-le r.captured (drop 16 v.shown) (omega (arith, s.size, length-drop 16 v.shown));
   none = λ t. grind (arith, coming-passed);
   spelled = λ t. grind (arith, coming-passed, take-append-le);
 }

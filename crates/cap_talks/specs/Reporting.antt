@@ -1,10 +1,11 @@
 -- What taking all packets of a run answers.
-use Rattle.std.specs.Prelude.{◌≡◌, ℕ, [], true, IsTrue, Some, None, Result, Ok, Err, ⊤, length}
+use Rattle.std.specs.Prelude.{◌≡◌, ℕ, List, [], true, IsTrue, Some, None, Result, Ok, Err, ⊤, length}
 use Rattle.cap_bytes.specs.declared.faults.Fault.{Fault}
 use Rattle.cap_bytes.specs.declared.faults.Fault.TheVariants.{Refused, Read, Write, Memory}
-use Rattle.cap_order.specs.Parts.{feed_of, run_of}
+use Rattle.cap_order.specs.Parts.{Part, feed_of, run_of}
 use Rattle.cap_feed.specs.declared.feeds.Head.TheVariants as heads
-use Rattle.cap_talks.specs.ReportText.{taken_after, refusal_after}
+use Rattle.cap_talks.specs.ReportText.{taken_after, refusal_after, report_text, report_refusal}
+use Rattle.cap_talks.specs.Telling.{Tells}
 use Rattle.cap_tally.specs.Stepping.{TableState, TableStands}
 
 -- All packets of a run that isn't refused were taken, by a table that stood for none.
@@ -23,3 +24,8 @@ TakesAll old (Err (Refused refusal)) new =
 TakesAll old (Err (Read file offset)) new = ⊤
 TakesAll old (Err Write) new = ⊥
 TakesAll old (Err Memory) new = ⊤
+
+-- The report of the run of that many files is told.
+abbrev pub TellsReport : ℕ → List Part → List ℕ → Result (Unit {0}) Fault → List ℕ → Type 0
+TellsReport count ps held result new =
+    Tells (report_text count (feed_of ps).endings (run_of ps)) (report_refusal (run_of ps)) held result new

@@ -1,21 +1,24 @@
 //! The report over capture files.
-ghost use Rattle.std.specs.Prelude.{◌≤◌, IsTrue, length, map, vec_len};
+ghost use Rattle.std.specs.Prelude.{◌≤◌, [], IsTrue, length, map, vec_len};
 ghost use Rattle.std.specs.List.{list_all, list_any};
 ghost use Rattle.cap_bytes.specs.Device.{WriterKeeps, writer_of};
 ghost use Rattle.cap_bytes.specs.Printing.{is_write};
 ghost use Rattle.cap_merge.specs.Files.{clocked_run, endings_of_files};
 ghost use Rattle.cap_order.specs.Parts.{feed_of};
+ghost use Rattle.cap_order.specs.View.{parts_of};
 ghost use Rattle.cap_source.specs.ReadFaults.{FailsOf};
+ghost use Rattle.cap_feed.specs.Feed.{Feed};
 ghost use Rattle.cap_feed.specs.Walk.{Walks};
-ghost use Rattle.cap_talks.specs.Reporting.{TakesAll};
+ghost use Rattle.cap_talks.specs.Reporting.{TakesAll, TellsReport};
 ghost use Rattle.cap_talks.specs.ReportText.{report_text, report_refusal};
-ghost use Rattle.cap_tally.specs.Stepping.{IsMore};
+ghost use Rattle.cap_tally.specs.Stepping.{IsMore, TableStands};
 ghost use Rattle.cap_tally.specs.TableView.{table_of};
 ghost use Rattle.cap_talks.specs.Telling.{Tells};
 
 use cap_bytes::{Fault, Sink, Source, Tail};
 use cap_feed::PacketFeed;
 use cap_merge::merge_files;
+use cap_order::Merged;
 use cap_tally::{Step, Table};
 use std::alloc::Global;
 
@@ -36,6 +39,33 @@ fn take_all<F: PacketFeed>(table: &mut Table<F>) -> Result<(), Fault>
 {
     while is_more(table.step()?) {}
     Ok(())
+}
+
+// Takes all packets of a table that has taken none, and writes the report over them.
+fn report_table<F: PacketFeed, W: Sink>(table: &mut Table<F>, writer: &mut W) -> Result<(), Fault>
+    requires stands { TableStands (table_of table.old) [] }
+    ensures text { IsTrue (feed_of (table_of table.old).parts).told → IsTrue (W.tells_held writer.old)
+        → TellsReport (length (table_of table.old).totals.files) (table_of table.old).parts (W.held writer.old) result (W.held writer.new) }
+    ensures writer { WriterKeeps (writer_of W.Sink writer.old) (is_write result) (writer_of W.Sink writer.new) }
+    ensures walks { Walks (feed_of (table_of table.old).parts) result (feed_of (table_of table.new).parts) }
+{
+    take_all(table)?;
+    table.write_so_far(writer)
+}
+
+// Writes the report over the packets of a merge.
+fn report_merged<F: PacketFeed, W: Sink>(
+    alloc: Global,
+    merged: Merged<F>,
+    writer: &mut W,
+) -> Result<(), Fault>
+    ensures text { IsTrue (feed_of (parts_of merged)).told → IsTrue (W.tells_held writer.old)
+        → TellsReport (length (feed_of (parts_of merged)).files) (parts_of merged) (W.held writer.old) result (W.held writer.new) }
+    ensures writer { WriterKeeps (writer_of W.Sink writer.old) (is_write result) (writer_of W.Sink writer.new) }
+    ensures walks { (new : Feed) × Walks (feed_of (parts_of merged)) result new }
+{
+    let mut table = Table::new(alloc, merged);
+    report_table(&mut table, writer)
 }
 
 /// Writes the report over 1 to 32 capture files, each of either format: a line for each file, the totals, how
@@ -63,7 +93,5 @@ pub fn report<R: Source, W: Sink>(
     ensures read { FailsOf (vec_len sources) (list_any R.can_fail sources.items) result }
 {
     let merged = merge_files(alloc, sources, tail)?;
-    let mut table = Table::new(alloc, merged);
-    take_all(&mut table)?;
-    table.write_so_far(writer)
+    report_merged(alloc, merged, writer)
 }

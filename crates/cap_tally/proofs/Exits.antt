@@ -14,10 +14,10 @@ use Rattle.cap_join.specs.declared.datagrams.Put.TheVariants as puts
 use Rattle.cap_join.specs.Joiners as joiners
 use Rattle.cap_join.specs.declared.datagrams.Datagram.{Datagram}
 use Rattle.cap_join.specs.declared.datagrams.Stamped.{Stamped}
-use Rattle.cap_rows.specs.Rows.{TalksState, frames_in, bytes_in, is_refused, talk_limit}
-use Rattle.cap_rows.specs.Rows as talks
-use Rattle.cap_rows.specs.Talks.{frames_of, bytes_of, key_of, rows_of}
-use Rattle.cap_rows.specs.declared.units.CountedUnit.{CountedUnit}
+use Rattle.cap_tally.specs.Rows.{TalksState, frames_in, bytes_in, is_refused, talk_limit}
+use Rattle.cap_tally.specs.Rows as talks
+use Rattle.cap_tally.specs.Talks.{frames_of, bytes_of, key_of, rows_of}
+use Rattle.cap_tally.specs.declared.units.CountedUnit.{CountedUnit}
 use Rattle.cap_tally.proofs.Frames.{frames-counted}
 use Rattle.cap_tally.proofs.Steps.{one-class}
 use Rattle.cap_tally.proofs.Tallying.{unit-waiting, enough-waiting, Stands-joined, state, unit-is, Stands-plain, Stands-datagram, Stands-kept, Stands-waiting}
@@ -26,7 +26,7 @@ use Rattle.cap_join.specs.Completed.{if_complete, completed_of}
 use Rattle.cap_tally.specs.Classes.{class_of, sum_of}
 use Rattle.cap_tally.specs.Taken.{Taken, plain, datagram, fragment, look, stamped_of, events_of}
 use Rattle.std.specs.Prelude.{Err}
-use Rattle.cap_rows.specs.declared.talks.TalksFault.{TalksFault}
+use Rattle.cap_tally.specs.declared.talks.TalksFault.{TalksFault}
 use Rattle.cap_tally.specs.Tallies.{LimitBy, TallyState, Stands, IsSoundTally, Fits, Looks, one_if, counted_one, with_frames, with_group}
 use Rattle.cap_tally.specs.CountedUnits.{counted_in, first_unit, whole_unit, unit_at, listed, units_of, is_limit_at}
 use Rattle.cap_tally.specs.declared.classes.Class.{Class}

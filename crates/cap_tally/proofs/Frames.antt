@@ -8,8 +8,8 @@ use Rattle.cap_join.specs.Fragments.{Piece}
 use Rattle.cap_join.specs.History.{joined_pieces, state_of}
 use Rattle.cap_join.specs.Joiners.{open_limit}
 use Rattle.cap_join.specs.declared.datagrams.Stamped.{Stamped}
-use Rattle.cap_rows.specs.Talks.{frames_of}
-use Rattle.cap_rows.specs.declared.units.CountedUnit.{CountedUnit}
+use Rattle.cap_tally.specs.Talks.{frames_of}
+use Rattle.cap_tally.specs.declared.units.CountedUnit.{CountedUnit}
 use Rattle.cap_tally.proofs.Recount.{some_of}
 use Rattle.cap_tally.proofs.Steps.{classes-plain, classes-datagram, classes-kept, classes-completed}
 use Rattle.cap_tally.specs.Classes.{class_of, classes, group_class, times}

@@ -1,3 +1,15 @@
+pub mod FrameOrder
+pub mod FrameLaws
+pub mod Talking
+pub mod RowSums
+pub mod KeyLaws
+pub mod SumLaws
+pub mod TalkPrinting
+pub mod RowOrder
+pub mod Packing
+pub mod Times
+pub mod Counting
+pub mod FilePrinting
 pub mod Recount
 pub mod Steps
 pub mod Frames

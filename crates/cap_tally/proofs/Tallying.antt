@@ -11,8 +11,8 @@ use Rattle.cap_join.specs.History.{arrives, flushes, joined_pieces, state_of}
 use Rattle.cap_join.specs.Joiners.{JoinerState, open_limit}
 use Rattle.cap_join.specs.Joiners as joiners
 use Rattle.cap_join.specs.declared.datagrams.Datagram.{Datagram}
-use Rattle.cap_rows.specs.Rows.{TalksState, is_refused, talk_limit}
-use Rattle.cap_rows.specs.Rows as talks
+use Rattle.cap_tally.specs.Rows.{TalksState, is_refused, talk_limit}
+use Rattle.cap_tally.specs.Rows as talks
 use Rattle.cap_tally.proofs.Recount.{some_of}
 use Rattle.cap_tally.proofs.Steps.{classes-plain, classes-datagram, classes-kept, classes-completed}
 use Rattle.cap_tally.specs.Adding.{datagram_unit, datagram_class}

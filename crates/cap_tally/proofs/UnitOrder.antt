@@ -7,9 +7,9 @@ use Rattle.cap_join.specs.Frames.{earlier, later, timed, first_frame, last_frame
 use Rattle.cap_join.specs.Groups.{IsDatagramOf}
 use Rattle.cap_join.specs.declared.datagrams.Datagram.{Datagram}
 use Rattle.cap_join.specs.declared.datagrams.Stamped.{Stamped}
-use Rattle.cap_rows.specs.Rows.{are_in_order, IsUnitInOrder}
-use Rattle.cap_rows.specs.declared.units.End.{End}
-use Rattle.cap_rows.specs.declared.units.TimedFrame.{TimedFrame}
+use Rattle.cap_tally.specs.Rows.{are_in_order, IsUnitInOrder}
+use Rattle.cap_tally.specs.declared.units.End.{End}
+use Rattle.cap_tally.specs.declared.units.TimedFrame.{TimedFrame}
 use Rattle.cap_time.specs.Stamp.{stamp_cmp}
 use Rattle.cap_time.specs.StampLaws.{stamp_cmp_total}
 use Rattle.cap_time.specs.declared.stamps.Stamp.{Stamp}

@@ -3,10 +3,10 @@ use Rattle.std.specs.Prelude.{List, Bool, false, length, Option}
 use Rattle.std.specs.Option.{option_map, option_map_or}
 use Rattle.cap_ip.specs.Transport.{transport_of}
 use Rattle.cap_join.specs.declared.datagrams.Datagram.{Datagram}
-use Rattle.cap_rows.specs.Rows.{is_refused, talk_limit}
-use Rattle.cap_rows.specs.Talks.{Talk, key_of}
-use Rattle.cap_rows.specs.Units.{ends_of}
-use Rattle.cap_rows.specs.declared.units.CountedUnit.{CountedUnit}
+use Rattle.cap_tally.specs.Rows.{is_refused, talk_limit}
+use Rattle.cap_tally.specs.Talks.{Talk, key_of}
+use Rattle.cap_tally.specs.Units.{ends_of}
+use Rattle.cap_tally.specs.declared.units.CountedUnit.{CountedUnit}
 use Rattle.cap_tally.specs.Classes.{class_of}
 use Rattle.cap_tally.specs.CountedUnits.{timed_frame, unit_of}
 use Rattle.cap_tally.specs.declared.classes.Class.{Class}

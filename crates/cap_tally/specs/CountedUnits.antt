@@ -13,12 +13,12 @@ use Rattle.cap_join.specs.Frames.{original_bytes, first_frame, last_frame}
 use Rattle.cap_join.specs.History.{Event, joined_pieces, state_of}
 use Rattle.cap_join.specs.Joiners.{open_limit}
 use Rattle.cap_join.specs.declared.datagrams.Stamped.{Stamped}
-use Rattle.cap_rows.specs.Rows.{is_refused, talk_limit}
-use Rattle.cap_rows.specs.Talks.{key_of, rows_of}
-use Rattle.cap_rows.specs.Units.{ends_of}
-use Rattle.cap_rows.specs.declared.units.CountedUnit.{CountedUnit}
-use Rattle.cap_rows.specs.declared.units.End.{End}
-use Rattle.cap_rows.specs.declared.units.TimedFrame.{TimedFrame}
+use Rattle.cap_tally.specs.Rows.{is_refused, talk_limit}
+use Rattle.cap_tally.specs.Talks.{key_of, rows_of}
+use Rattle.cap_tally.specs.Units.{ends_of}
+use Rattle.cap_tally.specs.declared.units.CountedUnit.{CountedUnit}
+use Rattle.cap_tally.specs.declared.units.End.{End}
+use Rattle.cap_tally.specs.declared.units.TimedFrame.{TimedFrame}
 use Rattle.cap_time.specs.declared.stamps.Stamp.{Stamp}
 use Rattle.cap_tally.specs.Classes.{group_class, groups_of, is_class}
 use Rattle.cap_join.specs.Completed.{if_complete}

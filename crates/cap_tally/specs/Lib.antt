@@ -1,3 +1,14 @@
+pub mod Talks
+pub mod Units
+pub mod Keys
+pub mod Packed
+pub mod Rows
+pub mod TalksView
+pub mod TalkLines
+pub mod Laws
+pub mod Worked
+pub mod Counting
+pub mod FileLines
 pub mod Taken
 pub mod Classes
 pub mod CountedUnits

@@ -8,18 +8,18 @@ use Rattle.cap_join.specs.Joiners.{JoinerState, open_limit}
 use Rattle.cap_join.specs.Joiners as joiners
 use Rattle.cap_join.specs.declared.datagrams.Datagram.{Datagram}
 use Rattle.cap_join.specs.Fitting.{FitsDatagram}
-use Rattle.cap_rows.specs.Rows.{TalksState, frames_in, bytes_in}
-use Rattle.cap_rows.specs.Rows as talks
+use Rattle.cap_tally.specs.Rows.{TalksState, frames_in, bytes_in}
+use Rattle.cap_tally.specs.Rows as talks
 use Rattle.cap_tally.specs.Classes.{classes, counts_of, is_class}
 use Rattle.cap_tally.specs.TakenText.{frames_text, joined_text}
-use Rattle.cap_rows.specs.Lines.{talk_texts, talks_text}
+use Rattle.cap_tally.specs.TalkLines.{talk_texts, talks_text}
 use Rattle.cap_tally.specs.Taken.{Taken, fragment, look, events_of}
 use Rattle.cap_tally.specs.CountedUnits.{units_of, joined_in, is_limit_at}
 use Rattle.cap_tally.specs.declared.classes.Class.{Class}
 use Rattle.cap_tally.specs.declared.classes.Class.TheVariants as class
 use Rattle.cap_tally.specs.declared.classes.ClassCounts.{ClassCounts}
-use Rattle.cap_rows.specs.declared.talks.TalksFault.{TalksFault}
-use Rattle.cap_rows.specs.declared.talks.TalksFault.TheVariants as faults
+use Rattle.cap_tally.specs.declared.talks.TalksFault.{TalksFault}
+use Rattle.cap_tally.specs.declared.talks.TalksFault.TheVariants as faults
 
 -- How many packets were taken, how many of each class there are, how many joined datagrams count, the conversations, the joiner, and
 -- a joined datagram that waits for its conversation.

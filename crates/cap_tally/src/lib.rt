@@ -1,14 +1,29 @@
-//! The table of a report: what is counted of the packets of a run, one by one, and step by step of a merge of files.
+//! The table of a report: what is counted of the packets of a run, one by one, and step by step of a merge of files; the row of
+//! each conversation; and the lines of files that were counted.
 #![tactic(auto)]
 
 mod adding;
 mod classes;
+mod counts;
+mod file_lines;
+mod files;
+mod keys;
+mod laws;
 mod looks;
 mod report_lines;
+mod rows;
 mod run_packets;
 mod tables;
+mod talk_lines;
+mod talks;
 mod tallies;
 mod totals;
+mod units;
 
 pub use crate::classes::Class;
+pub use crate::counts::Counts;
+pub use crate::files::{Counted, put_files};
+pub use crate::laws::{talk_laws, worked_talks};
+pub use crate::rows::{TalkKey, TalkRow};
 pub use crate::tables::{Held, Step, Table};
+pub use crate::units::{CountedUnit, End, TimedFrame};

@@ -8,8 +8,7 @@ ghost use Rattle.cap_tally.specs.Taken.{look_in, look, stamped_of};
 
 use crate::classes::Class;
 use cap_feed::Meta;
-use cap_ip::{Header, HeaderOr};
-use cap_link::{Network, network};
+use cap_ip::{Header, HeaderOr, Network, network};
 
 /// What a packet is by itself.
 #[derive(Clone, Copy)]

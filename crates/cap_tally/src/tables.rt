@@ -7,24 +7,24 @@ ghost use Rattle.cap_order.specs.Parts.{feed_of, is_end};
 ghost use Rattle.cap_order.specs.View.{parts_of};
 ghost use Rattle.cap_feed.specs.Feed.{HasFile};
 ghost use Rattle.cap_tally.specs.Props.{IsNumbered-prop};
-ghost use Rattle.cap_counts.specs.Lines.{ending_at};
-ghost use Rattle.cap_counts.specs.Lines.{ended_from};
+ghost use Rattle.cap_tally.specs.FileLines.{ended_from, ending_at};
 ghost use Rattle.cap_tally.specs.Holding.{held_of};
 ghost use Rattle.cap_tally.specs.Stepping.{TableStands, StepKeeps, Steps, AnswersAgain, endings_so_far};
 ghost use Rattle.cap_tally.specs.CountedUnits.{refusal_at};
 ghost use Rattle.cap_tally.specs.TakenText.{text_of};
 ghost use Rattle.cap_tally.specs.Taken.{Taken};
 
+use crate::counts::Counts;
+use crate::files::{Counted, put_files};
 use crate::report_lines::total_line;
 use crate::run_packets::RunPacket;
+use crate::talks::TalksFault;
 use crate::tallies::Tally;
 use crate::totals::Totals;
 use arrayvec::ArrayVec;
 use cap_bytes::{Fault, Refusal, Rule, Sink, put_all};
-use cap_counts::{Counted, Counts, put_files};
 use cap_feed::{Ending, Meta, PacketFeed};
 use cap_order::Merged;
-use cap_rows::TalksFault;
 use std::alloc::Global;
 
 /// What a step did.

@@ -7,8 +7,10 @@ ghost use Rattle.cap_jobs.specs.Jobs.{IsWhole};
 use cap_bytes::{Fault, Source, Tracked, put_all};
 use cap_jobs::{Job, LineFault, NOT_UTF_8, USAGE};
 use cap_line::{message, parse};
-use cap_outcomes::{Outcome, Progress, Watched, end_of, status_of, tell};
-use cap_streams::{Output, create_output, hint, open_all, watch_all};
+use cap_run::{
+    Outcome, Output, Progress, Watched, create_output, end_of, hint, open_all, status_of, tell,
+    watch_all,
+};
 use cap_tasks::job_to;
 use std::alloc::Global;
 use std::env;

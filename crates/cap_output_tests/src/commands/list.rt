@@ -5,7 +5,7 @@ use crate::checks::{holds, same};
 use crate::commands::refused;
 use cap_bytes::{Fault, Pieces, Room, Rule, Tail};
 use cap_lists::list_to;
-use cap_outcomes::{Outcome, outcome_line, status_of};
+use cap_run::{Outcome, outcome_line, status_of};
 use std::alloc::Global;
 use std::test::Fail;
 

@@ -1,6 +1,6 @@
 use Rattle.std.proofs.Common.{rules, arith}
 use Rattle.cap_pcap.specs.Parsing.{SeesRecord}
-use Rattle.cap_pcap.proofs.Reading.{GivesRecord-shown}
+use Rattle.cap_pcap.proofs.Reading.{GivesRecord-seen}
 use Rattle.cap_pcap.proofs.readers.PcapReader.read_shown.Goals as goal
 
 pub invariant_of-self : goal.invariant_of-self
@@ -12,7 +12,7 @@ pub returns-in-Some-clause-answer : goal.returns-in-Some-clause-answer
 returns-in-Some-clause-answer g c =
     let i = c.self.inside in
     rw (← c.self.view_is)
-    (GivesRecord-shown c.args.header i.window c.take_shown.new.window i.tail i.header i.captured i.stop c.in-Some.record
+    (GivesRecord-seen c.args.header i.window c.take_shown.new.window c.take_shown.new.window i.tail i.header i.captured i.stop c.in-Some.record
     (grind arith) c.self.invariant.within (rw c.size_given.ensures at c.in-Some.ensures.passes) (c.in-Some.ensures.sees i.tail))
 
 pub returns-in-Some-clause-keeps : goal.returns-in-Some-clause-keeps

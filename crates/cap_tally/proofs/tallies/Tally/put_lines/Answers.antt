@@ -4,7 +4,7 @@ use Rattle.cap_bytes.proofs.Putting.{Prints-behind}
 use Rattle.cap_bytes.specs.Printing.{Prints}
 use Rattle.cap_tally.specs.TakenText.{frames_text, joined_text}
 use Rattle.cap_tally.specs.Tallies.{TallyState, tally_text}
-use Rattle.cap_rows.specs.Lines.{talk_texts, talks_text}
+use Rattle.cap_tally.specs.TalkLines.{talk_texts, talks_text}
 use Rattle.cap_tally.proofs.Written.{prints-first}
 use Rattle.cap_tally.proofs.tallies.Tally.put_lines.Goals as goal
 

@@ -3,7 +3,7 @@ use Rattle.std.specs.Prelude.{OnOk, Result, Ok, Option}
 use Rattle.cap_tally.specs.Taken.{Taken}
 use Rattle.cap_tally.specs.Tallies.{TallyState, Stands, Looks}
 use Rattle.cap_tally.specs.CountedUnits.{is_limit_at}
-use Rattle.cap_rows.specs.declared.talks.TalksFault.{TalksFault}
+use Rattle.cap_tally.specs.declared.talks.TalksFault.{TalksFault}
 use Rattle.cap_tally.proofs.tallies.Tally.take.Goals as goal
 
 -- a datagram that waited, of the packet

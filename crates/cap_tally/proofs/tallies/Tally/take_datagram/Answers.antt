@@ -5,9 +5,9 @@ use Rattle.cap_ip.specs.declared.headers.Key.{Key}
 use Rattle.cap_join.specs.History.{flushes}
 use Rattle.cap_join.specs.Joiners.{IsAnswer, open_limit}
 use Rattle.cap_join.specs.Joiners as joiners
-use Rattle.cap_rows.specs.Rows.{StandsFor}
-use Rattle.cap_rows.specs.Talks.{frames_of, bytes_of}
-use Rattle.cap_rows.proofs.SumLaws.{sum_law}
+use Rattle.cap_tally.specs.Rows.{StandsFor}
+use Rattle.cap_tally.specs.Talks.{frames_of, bytes_of}
+use Rattle.cap_tally.proofs.SumLaws.{sum_law}
 use Rattle.cap_tally.specs.Adding.{is_over}
 use Rattle.cap_tally.specs.Classes.{class_of}
 use Rattle.cap_tally.specs.Looking.{taken_of}

@@ -1,8 +1,8 @@
 use Rattle.std.proofs.Common.{rules, ◌≤◌, ◌++◌, sym, ap, ◌∙◌, subst, arith}
 use Rattle.std.proofs.lemmas.Result.{err_from_is_err_and}
-use Rattle.cap_rows.specs.Rows.{StandsFor}
-use Rattle.cap_rows.specs.Talks.{frames_of, bytes_of}
-use Rattle.cap_rows.proofs.SumLaws.{sum_law}
+use Rattle.cap_tally.specs.Rows.{StandsFor}
+use Rattle.cap_tally.specs.Talks.{frames_of, bytes_of}
+use Rattle.cap_tally.proofs.SumLaws.{sum_law}
 use Rattle.cap_tally.specs.Adding.{is_over}
 use Rattle.cap_tally.specs.Tallies.{TallyState, Fits, counted_one, with_group}
 use Rattle.cap_tally.specs.TallyView.{tally_view}

@@ -1,0 +1,9 @@
+use Rattle.std.proofs.Common.{◌≡◌, length}
+use Rattle.cap_ip.specs.Tags.{carried}
+use Rattle.cap_ip.proofs.tags.carried.Given as goal
+
+abbrev pub invariant-tags : goal.invariant-tags
+invariant-tags l = carried l.whole l.next l.rest ≡ carried l.whole l.kind l.bytes
+
+abbrev pub decreases-tags : goal.decreases-tags
+decreases-tags l = length l.rest

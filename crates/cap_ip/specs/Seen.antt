@@ -1,0 +1,19 @@
+-- What a frame carries, as a value of its own: the same for equal bytes, wherever they lie.
+use Rattle.std.specs.Prelude.{ℕ, List}
+use Rattle.cap_ip.specs.declared.networks.Network.{Network}
+use Rattle.cap_ip.specs.declared.networks.Network.TheVariants as variant
+
+pub data Carried : Type 0 where
+  ipv4 : List ℕ → Carried
+  other_link : Carried
+  not_ipv4 : Carried
+  short : Carried
+  cut : Carried
+
+-- the value of an answer
+abbrev pub seen : Network → Carried
+seen (variant.Ipv4 bytes) = Carried.ipv4 bytes.now
+seen variant.OtherLink = Carried.other_link
+seen variant.NotIpv4 = Carried.not_ipv4
+seen variant.Short = Carried.short
+seen variant.Cut = Carried.cut

@@ -1,2 +1,0 @@
-pub mod TagSteps
-pub mod TagsLaw

@@ -1,4 +1,0 @@
-pub mod Seen
-pub mod Tags
-pub mod Links
-pub mod Tagged

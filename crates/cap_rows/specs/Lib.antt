@@ -1,9 +1,0 @@
-pub mod Talks
-pub mod Units
-pub mod Keys
-pub mod Packed
-pub mod Rows
-pub mod View
-pub mod Lines
-pub mod Laws
-pub mod Worked

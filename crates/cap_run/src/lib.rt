@@ -1,0 +1,17 @@
+//! A run of the program: its files and standard streams, what is shown of it while it lasts, how it ends, and what a terminal
+//! shows beside a fault.
+#![tactic(auto)]
+
+mod hints;
+mod outcomes;
+mod progress;
+mod regular;
+mod streams;
+mod watched;
+
+pub use crate::hints::hint;
+pub use crate::outcomes::{Outcome, end_of, outcome_line, status_of, tell};
+pub use crate::progress::{Progress, progress_line};
+pub use crate::regular::{FileId, Regular};
+pub use crate::streams::{Input, Inputs, Output, create_output, open_all, watch_all};
+pub use crate::watched::Watched;

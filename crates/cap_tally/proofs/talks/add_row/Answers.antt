@@ -1,0 +1,16 @@
+use Rattle.std.proofs.Common.{ap, ◌∙◌}
+use Rattle.indexmap.specs.IndexMap.{insert_entry}
+use Rattle.cap_tally.specs.Packed.{unpacked, unpacked_talks}
+use Rattle.cap_tally.specs.Rows.{with_share}
+use Rattle.cap_tally.specs.Talks.{same_talk}
+use Rattle.cap_tally.proofs.Packing.{row-put, keys-put}
+use Rattle.cap_tally.proofs.talks.add_row.Goals as goal
+
+pub returns-in-Ok-clause-entries : goal.returns-in-Ok-clause-entries
+returns-in-Ok-clause-entries c =
+    row-put c.args.key c.args.rows.now.entries c.insert.new.self.entries c.take.new.self c.requires.key c.in-Ok.ensures.entries
+    ∙ ap (insert_entry same_talk (unpacked_talks c.args.rows.now.entries) (unpacked c.args.key)) (c.take.ensures ∙ ap (λ w. with_share w c.args.share) c.new-row.ensures)
+
+pub returns-in-Ok-clause-keys : goal.returns-in-Ok-clause-keys
+returns-in-Ok-clause-keys c =
+    keys-put c.args.key c.args.rows.now.entries c.insert.new.self.entries c.take.new.self c.requires.key c.in-Ok.ensures.entries c.requires.keys
