@@ -188,7 +188,7 @@ impl<F: PacketFeed> PacketFeed for Merged<F> {
 
     ghost feed = { λ m. feed_of (parts_of m) };
 
-    ghost lawful = { λ m. merged-is-feed F.feed F.lawful m.lanes.items m.feeds.items m.alike m.numbered m.reached };
+    ghost lawful = { λ m. merged-is-feed m F.lawful };
 
     fn head(&mut self) -> Result<Head, Fault>
         ensures answer { GivesHead (feed_of (parts_of self.old)) result

@@ -24,7 +24,7 @@ returns-in_err-meta-clause-text g c = λ t w.
 pub invariant_of-run-clause-last : goal.invariant_of-run-clause-last
 invariant_of-run-clause-last g c =
     let m = c.args.merged.now in
-    let law = merged-is-feed g.F.PacketFeed.feed g.met.F.PacketFeed.lawful m.lanes.items m.feeds.items m.alike m.numbered m.reached in
+    let law = merged-is-feed m g.met.F.PacketFeed.lawful in
     place-small c.loop-joining.place (feed_of (parts_of c.loop-joining.merged)).left (feed_of (parts_of m)).left _ c.loop-joining.invariant.places law.most
     (omega (arith, c.files.ensures.files, c.files.ensures.most))
 

@@ -6,13 +6,13 @@ use Rattle.cap_tally.proofs.tables.Table.held.Goals as goal
 pub returns-clause-window : goal.returns-clause-window
 returns-clause-window g c =
     let m = c.args.self.now.merged in
-    let law = merged-is-feed g.F.PacketFeed.feed g.met.F.PacketFeed.lawful m.lanes.items m.feeds.items m.alike m.numbered m.reached in
+    let law = merged-is-feed m g.met.F.PacketFeed.lawful in
     omega (arith, ap (λ (h : FeedHeld). h.window) c.feed_held-feed.ensures.held, law.window)
 
 pub returns-clause-interfaces : goal.returns-clause-interfaces
 returns-clause-interfaces g c =
     let m = c.args.self.now.merged in
-    let law = merged-is-feed g.F.PacketFeed.feed g.met.F.PacketFeed.lawful m.lanes.items m.feeds.items m.alike m.numbered m.reached in
+    let law = merged-is-feed m g.met.F.PacketFeed.lawful in
     omega (arith, ap (λ (h : FeedHeld). h.interfaces) c.feed_held-feed.ensures.held, law.interfaces)
 
 pub returns-clause-value : goal.returns-clause-value

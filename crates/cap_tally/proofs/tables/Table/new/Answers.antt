@@ -8,7 +8,7 @@ use Rattle.cap_tally.proofs.tables.Table.new.Goals as goal
 pub invariant_of-result : goal.invariant_of-result
 invariant_of-result g c =
     let m = c.args.merged in
-    let law = merged-is-feed g.F.PacketFeed.feed g.met.F.PacketFeed.lawful m.lanes.items m.feeds.items m.alike m.numbered m.reached in
+    let law = merged-is-feed m g.met.F.PacketFeed.lawful in
     record {
       numbered = c.files.ensures.numbered ∙ ap (range_with_len 1) (sym c.new-totals.ensures.files);
       finished = refl;

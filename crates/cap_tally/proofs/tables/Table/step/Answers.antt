@@ -18,7 +18,7 @@ returns-in_err-has_packet-clause-step g c =
     let m = c.has_packet.new.self in
     let p = parts_of c.args.self.now.merged in
     let q = parts_of m in
-    let law = merged-is-feed g.F.PacketFeed.feed g.met.F.PacketFeed.lawful m.lanes.items m.feeds.items m.alike m.numbered m.reached in
+    let law = merged-is-feed m g.met.F.PacketFeed.lawful in
     let e = c.in_err-has_packet.ensures in
     let t = c.args.self.now in
     let is = err_from_is_err_and c.from_residual.result c.from_residual.ensures.1 in
@@ -31,7 +31,7 @@ returns-then-not-branch-clause-step g c =
     let q = parts_of m in
     let e = c.in_ok-has_packet.ensures in
     let known = known-end (feed_of p) (feed_of q) c.in_ok-has_packet.field-0 c.if-not-branch.true e.answer in
-    let law = merged-is-feed g.F.PacketFeed.feed g.met.F.PacketFeed.lawful m.lanes.items m.feeds.items m.alike m.numbered m.reached in
+    let law = merged-is-feed m g.met.F.PacketFeed.lawful in
     record {
       known = known.known;
       run = λ t. sym (e.run t) ∙ run-end q law (e.keeps.told t) known.known;
@@ -50,7 +50,7 @@ take-requires-in-Ok-clause-first g c =
     let e = c.in_ok-has_packet.ensures in
     let meta = c.next_packet-next.result.meta.now in
     let known = known-packet (feed_of p) (feed_of q) c.in_ok-has_packet.field-0 meta c.if-not-branch.false e.answer c.next_packet-next.ensures.packet in
-    let law = merged-is-feed g.F.PacketFeed.feed g.met.F.PacketFeed.lawful m.lanes.items m.feeds.items m.alike m.numbered m.reached in
+    let law = merged-is-feed m g.met.F.PacketFeed.lawful in
     let t = c.args.self.now in
     (numbers-within 1 (length t.totals.files) meta.file
     (of-file (feed_of q) meta (length t.totals.files) law known.known (e.keeps.files ∙ t.numbered))).0
@@ -63,7 +63,7 @@ take-requires-in-Ok-clause-last g c =
     let e = c.in_ok-has_packet.ensures in
     let meta = c.next_packet-next.result.meta.now in
     let known = known-packet (feed_of p) (feed_of q) c.in_ok-has_packet.field-0 meta c.if-not-branch.false e.answer c.next_packet-next.ensures.packet in
-    let law = merged-is-feed g.F.PacketFeed.feed g.met.F.PacketFeed.lawful m.lanes.items m.feeds.items m.alike m.numbered m.reached in
+    let law = merged-is-feed m g.met.F.PacketFeed.lawful in
     let t = c.args.self.now in
     omega (
       arith,
@@ -79,7 +79,7 @@ take-requires-in-Ok-clause-few g c =
     let e = c.in_ok-has_packet.ensures in
     let meta = c.next_packet-next.result.meta.now in
     let known = known-packet (feed_of p) (feed_of q) c.in_ok-has_packet.field-0 meta c.if-not-branch.false e.answer c.next_packet-next.ensures.packet in
-    let law = merged-is-feed g.F.PacketFeed.feed g.met.F.PacketFeed.lawful m.lanes.items m.feeds.items m.alike m.numbered m.reached in
+    let law = merged-is-feed m g.met.F.PacketFeed.lawful in
     let t = c.args.self.now in
     omega (arith, t.counted, t.places, e.keeps.left, is-left (feed_of q) meta law known.known)
 
@@ -91,7 +91,7 @@ returns-in-Ok-clause-step g c =
     let e = c.in_ok-has_packet.ensures in
     let meta = c.next_packet-next.result.meta.now in
     let known = known-packet (feed_of p) (feed_of q) c.in_ok-has_packet.field-0 meta c.if-not-branch.false e.answer c.next_packet-next.ensures.packet in
-    let law = merged-is-feed g.F.PacketFeed.feed g.met.F.PacketFeed.lawful m.lanes.items m.feeds.items m.alike m.numbered m.reached in
+    let law = merged-is-feed m g.met.F.PacketFeed.lawful in
     let x = taken c.next_packet-next.result.clock.now meta c.next_packet-next.result.frame.now in
     let next = next-is q meta c.next_packet-next.result.clock.now c.next_packet-next.result.frame.now known.known c.next_packet-next.ensures.clock c.next_packet-next.ensures.frame in
     let after = parts_of c.pass.new.self in
@@ -121,7 +121,7 @@ returns-in-Err-Limit-clause-step g c =
     let e = c.in_ok-has_packet.ensures in
     let meta = c.next_packet-next.result.meta.now in
     let known = known-packet (feed_of p) (feed_of q) c.in_ok-has_packet.field-0 meta c.if-not-branch.false e.answer c.next_packet-next.ensures.packet in
-    let law = merged-is-feed g.F.PacketFeed.feed g.met.F.PacketFeed.lawful m.lanes.items m.feeds.items m.alike m.numbered m.reached in
+    let law = merged-is-feed m g.met.F.PacketFeed.lawful in
     let x = taken c.next_packet-next.result.clock.now meta c.next_packet-next.result.frame.now in
     let next = next-is q meta c.next_packet-next.result.clock.now c.next_packet-next.result.frame.now known.known c.next_packet-next.ensures.clock c.next_packet-next.ensures.frame in
     let now = λ (xs : List Taken) (h : Stands c.args.self.now.tally xs (next_taken p)).
@@ -154,7 +154,7 @@ returns-in-Err-Memory-clause-step g c =
     let e = c.in_ok-has_packet.ensures in
     let meta = c.next_packet-next.result.meta.now in
     let known = known-packet (feed_of p) (feed_of q) c.in_ok-has_packet.field-0 meta c.if-not-branch.false e.answer c.next_packet-next.ensures.packet in
-    let law = merged-is-feed g.F.PacketFeed.feed g.met.F.PacketFeed.lawful m.lanes.items m.feeds.items m.alike m.numbered m.reached in
+    let law = merged-is-feed m g.met.F.PacketFeed.lawful in
     let next = next-is q meta c.next_packet-next.result.clock.now c.next_packet-next.result.frame.now known.known c.next_packet-next.ensures.clock c.next_packet-next.ensures.frame in
     record {
       cause = inr (is-packet (feed_of q) meta known.known);
