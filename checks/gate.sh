@@ -2,23 +2,21 @@
 # The gate: `rt ci`, and then the scripts beside this one. Its last line counts both: 'N passed, M failed'. The status is 0
 # if nothing failed.
 #
-# Use: checks/gate.sh     (the scripts take some three minutes; they want a C compiler and Python 3)
+# Use: checks/gate.sh     (the scripts take less than a minute on four processors; they want a C compiler and Python 3)
 set -u
 cd "$(dirname "$0")/.."
+scripts='program.sh stack.sh papers.sh rounds.sh invariance.py hostile.py limits.py faults.py'
 passed=0
 failed=0
-log=$(mktemp)
-trap 'rm -f "$log"' EXIT
+logs=$(mktemp -d)
+trap 'rm -rf "$logs"' EXIT
 
-# counted NAME COMMAND..: runs a command, and adds up what its last line counts; one that counts nothing is one failure
+# counted NAME STATUS: adds up what the last line of a command's log counts; one that counts nothing is one failure
 counted() {
-    local name=$1 status line
-    shift
-    "$@" 2>&1 | tee "$log"
-    status=${PIPESTATUS[0]}
-    line=$(grep -E '^[0-9]+ passed, [0-9]+ failed' "$log" | tail -1)
-    if [ -z "$line" ] || { [ "$status" != 0 ] && [[ $line == *', 0 failed'* ]]; }; then
-        echo "$name: status $status"
+    local line
+    line=$(grep -E '^[0-9]+ passed, [0-9]+ failed' "$logs/$1" | tail -1)
+    if [ -z "$line" ] || { [ "$2" != 0 ] && [[ $line == *', 0 failed'* ]]; }; then
+        echo "$1: status $2"
         failed=$((failed + 1))
     fi
     if [ -n "$line" ]; then
@@ -28,14 +26,20 @@ counted() {
     fi
 }
 
-counted 'rt ci' rt ci
-counted 'checks/program.sh' checks/program.sh
-counted 'checks/stack.sh' checks/stack.sh
-counted 'checks/papers.sh' checks/papers.sh
-counted 'checks/rounds.sh' checks/rounds.sh
-counted 'checks/invariance.py' checks/invariance.py
-counted 'checks/hostile.py' checks/hostile.py
-counted 'checks/limits.py' checks/limits.py
-counted 'checks/faults.py' checks/faults.py
+rt ci 2>&1 | tee "$logs/rt ci"
+counted 'rt ci' "${PIPESTATUS[0]}"
+
+# the scripts wait for each other in nothing, so they run side by side, and each is told in its turn
+declare -A running
+for script in $scripts; do
+    "checks/$script" > "$logs/$script" 2>&1 &
+    running[$script]=$!
+done
+for script in $scripts; do
+    status=0
+    wait "${running[$script]}" || status=$?
+    cat "$logs/$script"
+    counted "$script" "$status"
+done
 echo "$passed passed, $failed failed"
 [ "$failed" = 0 ]

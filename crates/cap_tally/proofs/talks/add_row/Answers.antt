@@ -1,4 +1,4 @@
-use Rattle.std.proofs.Common.{ap, ◌∙◌}
+use Rattle.std.proofs.Common.{ap, rules, ◌∙◌}
 use Rattle.indexmap.specs.IndexMap.{insert_entry}
 use Rattle.cap_tally.specs.Packed.{unpacked, unpacked_talks}
 use Rattle.cap_tally.specs.Rows.{with_share}
@@ -14,3 +14,6 @@ returns-in-Ok-clause-entries c =
 pub returns-in-Ok-clause-keys : goal.returns-in-Ok-clause-keys
 returns-in-Ok-clause-keys c =
     keys-put c.args.key c.args.rows.now.entries c.insert.new.self.entries c.take.new.self c.requires.key c.in-Ok.ensures.entries c.requires.keys
+
+pub returns-in-Ok-clause-limit : goal.returns-in-Ok-clause-limit
+returns-in-Ok-clause-limit c = search rules

@@ -19,3 +19,6 @@ returns-in-Merge-clause-text c = search rules
 
 pub returns-in-Join-clause-text : goal.returns-in-Join-clause-text
 returns-in-Join-clause-text c = search rules
+
+pub returns-in-Convert-clause-text : goal.returns-in-Convert-clause-text
+returns-in-Convert-clause-text c = search rules

@@ -1,4 +1,4 @@
-use Rattle.std.proofs.Common.{map}
+use Rattle.std.proofs.Common.{map, rules}
 use Rattle.std.proofs.lemmas.Result.{err_from_is_err_and}
 use Rattle.cap_order.specs.Parts.{parts}
 use Rattle.cap_order.proofs.Peeking.{stopped-looks}
@@ -13,3 +13,6 @@ returns-in_err-look g c =
     let p = err_from_is_err_and c.from_residual.result c.from_residual.ensures.1 in
     let h = stopped-looks ps qs c.in_err-look.field-0.0 c.in_err-look.ensures.asks in
     rw (p.1, p.2) (record { asks = h.0; next = h.1 })
+
+pub returns-in-Refused-clause-next : goal.returns-in-Refused-clause-next
+returns-in-Refused-clause-next g c = search rules

@@ -1,6 +1,7 @@
 -- A number of 64 bits has at most twenty digits.
-use Rattle.std.proofs.Common.{rules}
+use Rattle.std.proofs.Common.{arith, rules}
 use Rattle.std.proofs.lemmas.Fmt.{length-decimal-le}
+use Rattle.std.proofs.lemmas.Grind.{common_steps}
 use Rattle.cap_print.proofs.lines.Line.put_field.Goals as goal
 
 pub write_digits-self-requires : goal.write_digits-self-requires
@@ -11,3 +12,6 @@ put_text-requires c = search (rules, length-decimal-le 20)
 
 pub returns-clause-room : goal.returns-clause-room
 returns-clause-room c = search (rules, length-decimal-le 20)
+
+pub returns-clause-text : goal.returns-clause-text
+returns-clause-text c = grind (arith, common_steps)

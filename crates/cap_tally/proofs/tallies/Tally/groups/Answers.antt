@@ -1,7 +1,10 @@
-use Rattle.std.proofs.Common.{arith}
+use Rattle.std.proofs.Common.{arith, rules}
 use Rattle.cap_tally.specs.TallyView.{tally_view}
 use Rattle.cap_tally.proofs.Waiting.{groups-few}
 use Rattle.cap_tally.proofs.tallies.Tally.groups.Goals as goal
 
 pub returns-clause-bound : goal.returns-clause-bound
 returns-clause-bound c = omega (arith, groups-few (tally_view c.self.inside) c.self.invariant, c.open_count.ensures.value, c.waiting_count.ensures)
+
+pub returns-clause-value : goal.returns-clause-value
+returns-clause-value c = search rules

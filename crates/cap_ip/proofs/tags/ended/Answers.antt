@@ -1,0 +1,7 @@
+use Rattle.std.proofs.Common.{rules}
+use Rattle.cap_ip.specs.Tags.{ended}
+use Rattle.cap_ip.proofs.tags.ended.Goals as goal
+
+pub returns-then-whole : goal.returns-then-whole
+unfolding ended
+returns-then-whole c = search rules

@@ -1,0 +1,374 @@
+//! The blocks of whole pcapng files, by one byte a read and by many. The files and what they give are worked out by
+//! hand from draft-ietf-opsawg-pcapng.
+use crate::checks::{holds, same};
+use crate::vectors::{CARRY_PCAPNG, OPTIONS_PCAPNG, refused};
+use cap_blocks::{
+    Block, BlockReader, Options, PacketFields, is_known, is_section, put_interface, put_packet,
+    put_section,
+};
+use cap_bytes::{Device, Fault, Pieces, Room, Rule, Sink, Source, Tail, Window};
+use cap_numbers::Order;
+use cap_time::{Interface, Resolution};
+use std::alloc::{AllocError, Global};
+use std::cmp::{max, min};
+use std::process::Abort;
+use std::test::Fail;
+
+// A little-endian section and a big-endian one, each of 28, 20 and 36 bytes.
+const TWO_SECTIONS: [u8; 168] = [
+    0x0a, 0x0d, 0x0d, 0x0a, 0x1c, 0, 0, 0, 0x4d, 0x3c, 0x2b, 0x1a, 1, 0, 0, 0, //
+    0xff, 0xff, 0xff, 0xff, 0xff, 0xff, 0xff, 0xff, 0x1c, 0, 0, 0, 1, 0, 0, 0, //
+    0x14, 0, 0, 0, 1, 0, 0, 0, 0, 0, 0, 0, 0x14, 0, 0, 0, //
+    6, 0, 0, 0, 0x24, 0, 0, 0, 0, 0, 0, 0, 0, 0, 0, 0, //
+    1, 0, 0, 0, 4, 0, 0, 0, 4, 0, 0, 0, 1, 2, 3, 4, //
+    0x24, 0, 0, 0, 0x0a, 0x0d, 0x0d, 0x0a, 0, 0, 0, 0x1c, 0x1a, 0x2b, 0x3c, 0x4d, //
+    0, 1, 0, 0, 0xff, 0xff, 0xff, 0xff, 0xff, 0xff, 0xff, 0xff, 0, 0, 0, 0x1c, //
+    0, 0, 0, 1, 0, 0, 0, 0x14, 0, 0x65, 0, 0, 0, 0, 0, 0, //
+    0, 0, 0, 0x14, 0, 0, 0, 6, 0, 0, 0, 0x24, 0, 0, 0, 0, //
+    0, 0, 0, 0, 0, 0, 0, 1, 0, 0, 0, 4, 0, 0, 0, 4, //
+    1, 2, 3, 4, 0, 0, 0, 0x24, //
+];
+
+// A big-endian interface of link 101 that counts 1,024ths of a second from second -1 on.
+const OFFSET_INTERFACE: [u8; 44] = [
+    0, 0, 0, 1, 0, 0, 0, 0x2c, 0, 0x65, 0, 0, 0, 0, 0, 0, //
+    0, 9, 0, 1, 0x8a, 0, 0, 0, 0, 0x0e, 0, 8, 0xff, 0xff, 0xff, 0xff, //
+    0xff, 0xff, 0xff, 0xff, 0, 0, 0, 0, 0, 0, 0, 0x2c, //
+];
+
+// A big-endian packet of 5 of 9 bytes on interface 1.
+const PADDED_PACKET: [u8; 40] = [
+    0, 0, 0, 6, 0, 0, 0, 0x28, 0, 0, 0, 1, 1, 2, 3, 4, //
+    5, 6, 7, 8, 0, 0, 0, 5, 0, 0, 0, 9, 1, 2, 3, 4, //
+    5, 0, 0, 0, 0, 0, 0, 0x28, //
+];
+
+const SECTION: u32 = 0x0A0D_0D0A;
+
+fn reader(
+    alloc: Global,
+    bytes: &[u8],
+    piece: usize,
+    tail: Tail,
+) -> Result<BlockReader<Pieces>, AllocError> {
+    let pieces = Pieces::new(bytes.to_vec(alloc)?, max(piece, 1), None);
+    Ok(BlockReader::new(Window::new(alloc, pieces, 7), tail))
+}
+
+fn block(kind: u32, offset: u64, total: u32, order: Order) -> Block {
+    Block {
+        kind,
+        offset,
+        total,
+        order,
+    }
+}
+
+// The fault that ends a file of at most six blocks, or none.
+fn fault_of<R: Source>(reader: &mut BlockReader<R>) -> Option<Fault> {
+    for _ in 0..7 {
+        match reader.next_block() {
+            Ok(Some(_)) => {}
+            Ok(None) => return None,
+            Err(fault) => return Some(fault),
+        }
+    }
+    None
+}
+
+// Next comes that block, or the end.
+fn comes<R: Source>(
+    rt: &impl Abort,
+    reader: &mut BlockReader<R>,
+    block: Option<Block>,
+) -> Result<(), Fault> {
+    same!(rt; reader.next_block()?, block);
+    Ok(())
+}
+
+// Next come these blocks, and then the end, also if it is asked for again.
+fn gives_blocks<R: Source>(
+    rt: &impl Abort,
+    reader: &mut BlockReader<R>,
+    blocks: &[Block],
+) -> Result<(), Fault> {
+    for block in blocks {
+        comes(rt, reader, Some(*block))?;
+    }
+    comes(rt, reader, None)?;
+    comes(rt, reader, None)
+}
+
+// A file has these blocks, by one byte a read and by many, and was cut if that is so.
+fn has_blocks(
+    rt: &impl Abort,
+    alloc: Global,
+    file: &[u8],
+    blocks: &[Block],
+    was_cut: bool,
+) -> Result<(), Fault> {
+    for &piece in &[1, 4_096] {
+        let mut reader = reader(alloc, file, piece, Tail::Accept)?;
+        gives_blocks(rt, &mut reader, blocks)?;
+        same!(rt; reader.was_cut(), was_cut);
+        holds!(rt; !reader.window().failed());
+    }
+    Ok(())
+}
+
+#[test]
+fn always_memory_blocks_in_order(rt: HostRuntime) -> Result<(), Fail> {
+    let (little, big) = (Order::Little, Order::Big);
+    let options = [
+        block(SECTION, 0, 44, little),
+        block(1, 44, 52, little),
+        block(6, 96, 48, little),
+        block(5, 144, 24, little),
+    ];
+    has_blocks(&rt, rt.alloc(), &OPTIONS_PCAPNG, &options, false)?;
+    let cut = OPTIONS_PCAPNG.split_at(167).0;
+    has_blocks(&rt, rt.alloc(), cut, options.split_at(3).0, true)?;
+    let two_sections = [
+        block(SECTION, 0, 28, little),
+        block(1, 28, 20, little),
+        block(6, 48, 36, little),
+        block(SECTION, 84, 28, big),
+        block(1, 112, 20, big),
+        block(6, 132, 36, big),
+    ];
+    has_blocks(&rt, rt.alloc(), &TWO_SECTIONS, &two_sections, false)?;
+    Ok(())
+}
+
+// A block comes, and the window shows more.
+fn gives_block<R: Source>(rt: &impl Abort, reader: &mut BlockReader<R>) -> Result<(), Fault> {
+    holds!(rt; reader.next_block()?.is_some());
+    holds!(rt; reader.window().shows(8));
+    Ok(())
+}
+
+// The window shows a packet after two blocks, and then none.
+fn shows_packet<R: Source>(rt: &impl Abort, reader: &mut BlockReader<R>) -> Result<(), Fault> {
+    same!(rt; reader.take_packet(), None);
+    gives_block(rt, reader)?;
+    gives_block(rt, reader)?;
+    same!(rt; reader.take_packet(), Some(block(6, 96, 48, Order::Little)));
+    same!(rt; reader.take_packet(), None);
+    comes(rt, reader, Some(block(5, 144, 24, Order::Little)))
+}
+
+// The first bytes that are read bring a packet into the window, which shows it after the blocks before it.
+#[test]
+fn always_memory_a_shown_packet(rt: HostRuntime) -> Result<(), Fail> {
+    let mut reader = reader(rt.alloc(), &OPTIONS_PCAPNG, 4_096, Tail::Refuse)?;
+    let shown = shows_packet(&rt, &mut reader);
+    drop(reader);
+    Ok(shown?)
+}
+
+// The bodies of the file's blocks are lent one by one.
+fn lends_bodies<R: Source>(rt: &impl Abort, reader: &mut BlockReader<R>) -> Result<(), Fault> {
+    let mut rest = CARRY_PCAPNG.as_slice();
+    for size in [16, 20, 24] {
+        let Some(block) = reader.next_block()? else {
+            break;
+        };
+        if !is_known(block.kind) || rest.len() < size + 12 {
+            break;
+        }
+        same!(rt; reader.body(), rest.split_at(8).1.split_at(size).0);
+        rest = rest.split_at(size + 12).1;
+    }
+    holds!(rt; rest.is_empty());
+    Ok(())
+}
+
+// The bodies are lent as they stand in the file.
+#[test]
+fn bodies(rt: HostRuntime) -> Result<(), Fail> {
+    holds!(&rt; is_section(&CARRY_PCAPNG));
+    let mut reader = reader(rt.alloc(), &CARRY_PCAPNG, 1, Tail::Refuse)?;
+    let lent = lends_bodies(&rt, &mut reader);
+    drop(reader);
+    Ok(lent?)
+}
+
+// How many bytes of CARRY_PCAPNG come first, what follows them, and where and by which rule that is refused.
+const REFUSED: [(usize, &[u8], u64, Rule); 15] = [
+    (0, &[], 0, Rule::Cut),
+    (0, &[0x0a, 0x0d, 0x0d], 0, Rule::Cut),
+    (0, &[0xd4, 0xc3, 0xb2, 0xa1], 0, Rule::Magic),
+    (4, &[30, 0, 0, 0], 0, Rule::Cut),
+    // neither the order magic nor the length is right
+    (4, &[30, 0, 0, 0, 0, 0, 0, 0], 0, Rule::OrderMagic),
+    (
+        4,
+        &[24, 0, 0, 0, 0x4d, 0x3c, 0x2b, 0x1a],
+        0,
+        Rule::BlockLength,
+    ),
+    (
+        12,
+        &[1, 0, 1, 0, 0, 0, 0, 0, 0, 0, 0, 0, 28, 0, 0, 0],
+        0,
+        Rule::Version,
+    ),
+    (
+        28,
+        &[5, 0, 0, 0, 0, 0, 0, 0, 0, 0, 0, 0],
+        28,
+        Rule::BlockLength,
+    ),
+    (
+        28,
+        &[5, 0, 0, 0, 30, 0, 0, 0, 0, 0, 0, 0],
+        28,
+        Rule::BlockLength,
+    ),
+    (
+        28,
+        &[6, 0, 0, 0, 0xff, 0xff, 0xff, 0xff, 0, 0, 0, 0],
+        28,
+        Rule::BlockLength,
+    ),
+    (
+        28,
+        &[6, 0, 0, 0, 4, 0, 8, 0, 0, 0, 0, 0],
+        28,
+        Rule::BlockLength,
+    ),
+    (
+        28,
+        &[2, 0, 0, 0, 28, 0, 0, 0, 0, 0, 0, 0],
+        28,
+        Rule::BlockLength,
+    ),
+    (
+        28,
+        &[5, 0, 0, 0, 0xfc, 0xff, 0xff, 0xff, 0, 0, 0, 0],
+        28,
+        Rule::Cut,
+    ),
+    (
+        28,
+        &[5, 0, 0, 0, 16, 0, 0, 0, 1, 2, 3, 4, 12, 0, 0, 0],
+        28,
+        Rule::BlockTrailer,
+    ),
+    (
+        28,
+        &[3, 0, 0, 0, 16, 0, 0, 0, 1, 2, 3, 4, 12, 0, 0, 0],
+        28,
+        Rule::BlockTrailer,
+    ),
+];
+
+// The first n bytes of CARRY_PCAPNG, and what follows them.
+fn begun(alloc: Global, n: usize, behind: &[u8]) -> Result<Vec<u8>, AllocError> {
+    let mut bytes = CARRY_PCAPNG.split_at(min(n, 28)).0.to_vec(alloc)?;
+    bytes.extend_from_slice(behind)?;
+    Ok(bytes)
+}
+
+// The fault ends the file, also if it is read again, and nothing was cut.
+fn ends_in<R: Source>(rt: &impl Abort, reader: &mut BlockReader<R>, fault: Fault, n: usize) {
+    same!(rt; fault_of(reader), Some(fault), n);
+    same!(rt; fault_of(reader), Some(fault), n);
+    holds!(rt; !reader.was_cut());
+}
+
+// A file ends in that fault, by one byte a read and by many.
+fn refuses(
+    rt: &impl Abort,
+    alloc: Global,
+    file: &[u8],
+    fault: Fault,
+    n: usize,
+) -> Result<(), AllocError> {
+    for &piece in &[1, 4_096] {
+        let mut reader = reader(alloc, file, piece, Tail::Refuse)?;
+        ends_in(rt, &mut reader, fault, n);
+    }
+    Ok(())
+}
+
+#[test]
+fn refused_blocks(rt: HostRuntime) -> Result<(), Fail> {
+    for &(n, behind, offset, rule) in &REFUSED {
+        let file = begun(rt.alloc(), n, behind)?;
+        refuses(&rt, rt.alloc(), &file, refused(offset, rule), n)?;
+    }
+    Ok(())
+}
+
+fn interface(rt: &impl Abort, link: u16, snaplen: u32, code: u8, offset: i64) -> Interface {
+    Interface {
+        link,
+        snaplen,
+        resolution: Resolution::from_code(code).expect(rt, "a code that is read"),
+        offset,
+    }
+}
+
+// A writer into that many bytes.
+fn room(alloc: Global, size: usize) -> Result<Room, AllocError> {
+    Ok(Room::new(Vec::with_capacity(alloc, size)?))
+}
+
+// Writes what CARRY_PCAPNG has.
+fn put_file<W: Sink>(rt: &impl Abort, writer: &mut W) -> Result<(), Fault> {
+    let interface = interface(rt, 1, 262_144, 6, 0);
+    let fields = PacketFields {
+        interface: 0,
+        units: 2_500_000,
+        original: 4,
+    };
+    put_section(writer, Order::Little)?;
+    put_interface(writer, Order::Little, &interface)?;
+    put_packet(writer, Order::Little, fields, &[1, 2, 3, 4])
+}
+
+// Writes what PADDED_PACKET has.
+fn put_padded<W: Sink>(writer: &mut W) -> Result<(), Fault> {
+    let fields = PacketFields {
+        interface: 1,
+        units: 0x0102_0304_0506_0708,
+        original: 9,
+    };
+    put_packet(writer, Order::Big, fields, &[1, 2, 3, 4, 5])
+}
+
+#[test]
+fn written_blocks(rt: HostRuntime) -> Result<(), Fail> {
+    let mut file = room(rt.alloc(), 96)?;
+    put_file(&rt, &mut file)?;
+    same!(&rt; file.bytes(), CARRY_PCAPNG.as_slice());
+    let mut before = room(rt.alloc(), 44)?;
+    put_interface(&mut before, Order::Big, &interface(&rt, 101, 0, 0x8a, -1))?;
+    same!(&rt; before.bytes(), OFFSET_INTERFACE.as_slice());
+    let mut padded = room(rt.alloc(), 40)?;
+    put_padded(&mut padded)?;
+    same!(&rt; padded.bytes(), PADDED_PACKET.as_slice());
+    Ok(())
+}
+
+// The options of the interface of OPTIONS_PCAPNG come, and then none, also if that is asked again.
+fn gives_three(rt: &impl Abort, options: &mut Options<'_>) {
+    same!(rt; options.next(), Some(Ok((2, b"eth0".as_slice()))));
+    same!(rt; options.next(), Some(Ok((9, [6].as_slice()))));
+    same!(rt; options.next(), Some(Ok((12, b"Linux".as_slice()))));
+    same!(rt; options.next(), None);
+    same!(rt; options.next(), None);
+}
+
+#[test]
+fn options_in_order(rt: HostRuntime) {
+    let (_, behind) = OPTIONS_PCAPNG.split_at(60);
+    let (bytes, _) = behind.split_at(32);
+    gives_three(&rt, &mut Options::new(Order::Little, bytes));
+    let past = [0, 9, 0, 1, 6, 0, 0, 0, 0, 2, 0, 5, 1, 2, 3, 4];
+    let mut options = Options::new(Order::Big, &past);
+    same!(&rt; options.next(), Some(Ok((9, [6].as_slice()))));
+    same!(&rt; options.next(), Some(Err(Rule::OptionEnd)));
+    same!(&rt; options.next(), None);
+}

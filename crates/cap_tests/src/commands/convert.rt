@@ -1,0 +1,168 @@
+//! Files written in either format: values from the formats and from worked captures.
+ghost use Rattle.std.specs.Prelude.{◌≤◌};
+
+use crate::commands::answer_of_file;
+use crate::files::{ask_written, reader_of, room_of};
+use cap_bytes::{Rule, Tail};
+use cap_feed::Format;
+use cap_numbers::Order;
+use cap_write::{Encoding, convert_to};
+use std::alloc::Global;
+use std::process::Abort;
+
+// One record of 1 second and 1,500,000 millionths.
+const CARRY_PCAP: &str = "d4c3b2a1020004000000000000000000000004000100000001000000\
+    60e31600040000000400000001020304";
+
+// The same packet in a section, after an interface in microseconds.
+const CARRY_PCAPNG: &str = "0a0d0d0a1c0000004d3c2b1a01000000ffffffffffffffff1c000000\
+    0100000020000000010000000000040009000100060000000000000020000000\
+    06000000240000000000000000000000a025260004000000040000000102030424000000";
+
+// And back, at 2 seconds and 500,000 millionths.
+const CARRIED_PCAP: &str = "d4c3b2a1020004000000000000000000000004000100000002000000\
+    20a10700040000000400000001020304";
+
+const CARRIED_BIG: &str = "a1b2c3d4000200040000000000000000000400000000000100000002\
+    0007a120000000040000000401020304";
+
+const OBSOLETE_PCAPNG: &str = "0a0d0d0a1c0000004d3c2b1a01000000ffffffffffffffff1c000000\
+    0100000020000000010000000000040009000100060000000000000020000000\
+    02000000240000000000ffff00000000a025260004000000040000000102030424000000";
+
+// A capture with the order, the format, what is written, and how that ends: whole, or where and why it is refused.
+type Row = (
+    &'static str,
+    Order,
+    Format,
+    &'static str,
+    Result<(), (u64, Rule)>,
+);
+
+const WRITTEN: [Row; 13] = [
+    (
+        CARRY_PCAP,
+        Order::Little,
+        Format::Pcapng,
+        CARRY_PCAPNG,
+        Ok(()),
+    ),
+    (
+        OBSOLETE_PCAPNG,
+        Order::Little,
+        Format::Pcapng,
+        CARRY_PCAPNG,
+        Ok(()),
+    ),
+    (
+        CARRY_PCAPNG,
+        Order::Little,
+        Format::Pcap,
+        CARRIED_PCAP,
+        Ok(()),
+    ),
+    (CARRY_PCAPNG, Order::Big, Format::Pcap, CARRIED_BIG, Ok(())),
+    (
+        CARRY_PCAP,
+        Order::Little,
+        Format::Pcap,
+        CARRIED_PCAP,
+        Ok(()),
+    ),
+    // No interface; a second link; a time below 0; a packet without a time, in both formats; 1/1024 of a second; a packet
+    // that is cut; an empty file.
+    (
+        "0a0d0d0a1c0000004d3c2b1a01000000ffffffffffffffff1c000000",
+        Order::Little,
+        Format::Pcap,
+        "",
+        Err((0, Rule::NoInterface)),
+    ),
+    (
+        "0a0d0d0a1c0000004d3c2b1a01000000ffffffffffffffff1c000000\
+        0100000014000000010000000000040014000000\
+        06000000240000000000000000000000a025260004000000040000000102030424000000\
+        0a0d0d0a0000001c1a2b3c4d00010000ffffffffffffffff0000001c\
+        0000000100000014006500000004000000000014\
+        0000000600000024000000000000000000\
+        2625a000000004000000040102030400000024",
+        Order::Little,
+        Format::Pcap,
+        CARRIED_PCAP,
+        Err((132, Rule::LinkMixed)),
+    ),
+    (
+        "0a0d0d0a1c0000004d3c2b1a01000000ffffffffffffffff1c000000\
+        010000002c000000010000000000040009000100060000000e000800ffffffffffffffff000000002c000000\
+        0600000024000000000000000000000020a1070004000000040000000102030424000000",
+        Order::Little,
+        Format::Pcap,
+        "d4c3b2a10200040000000000000000000000040001000000",
+        Err((72, Rule::TimeRange)),
+    ),
+    (
+        "0a0d0d0a1c0000004d3c2b1a01000000ffffffffffffffff1c000000\
+        0100000014000000010000000400000014000000\
+        03000000140000000a0000000102030414000000",
+        Order::Little,
+        Format::Pcap,
+        "d4c3b2a10200040000000000000000000400000001000000",
+        Err((48, Rule::NoTime)),
+    ),
+    (
+        "0a0d0d0a1c0000004d3c2b1a01000000ffffffffffffffff1c000000\
+        0100000014000000010000000400000014000000\
+        03000000140000000a0000000102030414000000",
+        Order::Little,
+        Format::Pcapng,
+        "0a0d0d0a1c0000004d3c2b1a01000000ffffffffffffffff1c000000\
+        0100000020000000010000000400000009000100060000000000000020000000",
+        Err((48, Rule::NoTime)),
+    ),
+    (
+        "0a0d0d0a1c0000004d3c2b1a01000000ffffffffffffffff1c000000\
+        01000000200000000100000000000400090001008a0000000000000020000000\
+        060000002400000000000000000000000100000004000000040000000102030424000000",
+        Order::Little,
+        Format::Pcap,
+        "4d3cb2a10200040000000000000000000000040001000000",
+        Err((60, Rule::Inexact)),
+    ),
+    (
+        "d4c3b2a102000400000000000000000000000400010000000100000060e316000400000004000000010203",
+        Order::Little,
+        Format::Pcapng,
+        "0a0d0d0a1c0000004d3c2b1a01000000ffffffffffffffff1c000000\
+        0100000020000000010000000000040009000100060000000000000020000000",
+        Err((24, Rule::Cut)),
+    ),
+    (
+        "",
+        Order::Little,
+        Format::Pcapng,
+        "0a0d0d0a1c0000004d3c2b1a01000000ffffffffffffffff1c000000",
+        Err((0, Rule::Cut)),
+    ),
+];
+
+// What is written and answered of a capture that is given by `piece` bytes at a time.
+fn converts(rt: &impl Abort, alloc: Global, row: &Row, piece: usize)
+    requires { 1 ≤ piece }
+{
+    let (capture, order, format, wanted, ending) = *row;
+    let encoding = Encoding { format, order };
+    let mut writer = room_of(rt, alloc, 256);
+    let source = reader_of(rt, alloc, &[capture], piece);
+    let answer = convert_to(alloc, source, Tail::Refuse, encoding, &mut writer);
+    let found = (answer, writer.bytes());
+    ask_written(rt, alloc, found, answer_of_file(ending), &[wanted]);
+}
+
+#[test]
+fn always_memory_captures_are_written_in_either_format(rt: HostRuntime) {
+    for row in &WRITTEN {
+        for piece in [1, 4096] {
+            converts(&rt, rt.alloc(), row, piece);
+        }
+    }
+}

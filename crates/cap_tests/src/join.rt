@@ -1,0 +1,449 @@
+//! Fragments of one datagram and of many, made by hand from the fields of their headers.
+ghost use Rattle.std.specs.Prelude.{◌≤◌};
+
+use crate::checks::{holds, same};
+use crate::runs::{DATA, FRAGMENTS, Run};
+use cap_ip::Key;
+use cap_join::{Datagram, JoinFault, Put, places_law, worked_rows};
+use cap_numbers::{Order, put_u16};
+use std::alloc::{AllocError, Global};
+use std::process::Abort;
+use std::test::Fail;
+
+// A fragment's packet: its identification, in blocks of 8 bytes where its data begins, whether more
+// follow, and its data.
+fn packet(
+    alloc: Global,
+    identification: u16,
+    block: u16,
+    more: bool,
+    piece: &[u8],
+) -> Result<Vec<u8>, AllocError> {
+    let flags = block % 0x2000 + u16::from(more) * 0x2000;
+    let total = 20 + piece.len().min(60_000) as u16;
+    let mut head = [
+        0x45, 0, 0, 0, 0, 0, 0, 0, 0x40, 0x11, 0, 0, 10, 0, 0, 1, 10, 0, 0, 2,
+    ];
+    put_u16(Order::Big, &mut head, 2, total);
+    put_u16(Order::Big, &mut head, 4, identification);
+    put_u16(Order::Big, &mut head, 6, flags);
+    let mut packet = head.to_vec(alloc)?;
+    packet.extend_from_slice(piece)?;
+    Ok(packet)
+}
+
+// The key of those packets.
+fn key(identification: u16) -> Key {
+    Key {
+        source: 0x0a00_0001,
+        destination: 0x0a00_0002,
+        protocol: 17,
+        identification,
+    }
+}
+
+// The datagram of an answer.
+fn joined(rt: &impl Abort, answer: Result<Put, JoinFault>) -> Datagram {
+    match answer {
+        Ok(Put::Joined(datagram)) => datagram,
+        Ok(Put::Kept) => panic!(rt; "kept"),
+        Err(fault) => panic!(rt; "{fault:?}"),
+    }
+}
+
+// Whether an answer is that the fragment is kept.
+fn is_kept(answer: Result<Put, JoinFault>) -> bool {
+    matches!(&answer, Ok(Put::Kept))
+}
+
+const SECOND: u64 = 1_000_000;
+
+// The front of a datagram, which says a length of that many bytes.
+fn front(alloc: Global, identification: u16, length: u8) -> Result<Vec<u8>, AllocError> {
+    let data = [0x03, 0xe8, 0x07, 0xd0, 0, length, 0, 0];
+    packet(alloc, identification, 0, true, &data)
+}
+
+// A fragment of datagram 7 is kept, and that many bytes are held then.
+fn keeps(rt: &impl Abort, run: &mut Run, packet: &[u8], held: usize) {
+    holds!(rt; is_kept(run.put(rt, None, packet)));
+    same!(rt; run.joiner.held_bytes(), held);
+}
+
+// All fragments of the map but its front are kept.
+fn keeps_behind(rt: &impl Abort, alloc: Global, run: &mut Run) -> Result<(), AllocError> {
+    let middle = [0xa0, 0xa1, 0xa2, 0xa3, 0xa4, 0xa5, 0xa6, 0xa7];
+    keeps(rt, run, &packet(alloc, 7, 1, true, &middle)?, 16);
+    let short = [0xc0, 0xc1, 0xc2];
+    keeps(rt, run, &packet(alloc, 7, 2, false, &short)?, 24);
+    let last = [0xd0, 0xd1, 0xd2, 0xd3, 0xd4, 0xd5, 0xd6, 0xd7];
+    keeps(rt, run, &packet(alloc, 7, 3, false, &last)?, 32);
+    Ok(())
+}
+
+// The datagram of the map.
+const MAP: [u8; 32] = [
+    0x03, 0xe8, 0x07, 0xd0, 0, 0x20, 0, 0, 0xa0, 0xa1, 0xa2, 0xa3, 0xa4, 0xa5, 0xa6, 0xa7, 0xc0,
+    0xc1, 0xc2, 0, 0, 0, 0, 0, 0xd0, 0xd1, 0xd2, 0xd3, 0xd4, 0xd5, 0xd6, 0xd7,
+];
+
+// A datagram of four frames has that data, and so many bytes in its frames.
+fn has_data(rt: &impl Abort, datagram: &Datagram, data: &[u8], bytes: u128) {
+    holds!(rt; datagram.payload.as_slice() == data);
+    same!(rt; datagram.frames, 4);
+    same!(rt; datagram.bytes, bytes);
+}
+
+// A datagram's frames have no times.
+fn is_untimed(rt: &impl Abort, datagram: &Datagram) {
+    holds!(rt; datagram.first.is_none());
+    holds!(rt; datagram.last.is_none());
+}
+
+// The front joins the map, and nothing is held then.
+fn joins_map(rt: &impl Abort, mut run: Run, front: &[u8]) {
+    same!(rt; run.joiner.open_count(), 1);
+    let datagram = joined(rt, run.put(rt, None, front));
+    has_data(rt, &datagram, &MAP, 28 + 23 + 28 + 28);
+    is_untimed(rt, &datagram);
+    same!(rt; run.joiner.open_count(), 0);
+    same!(rt; run.joiner.held_bytes(), 0);
+}
+
+#[test]
+fn overlap_map(rt: HostRuntime) -> Result<(), Fail> {
+    let front = front(rt.alloc(), 7, 0x20)?;
+    let mut run = Run::new(rt.alloc());
+    keeps_behind(&rt, rt.alloc(), &mut run)?;
+    joins_map(&rt, run, &front);
+    Ok(())
+}
+
+// The first three of the worked fragments are kept, one a second.
+fn keeps_three(rt: &impl Abort, run: &mut Run) {
+    let [last, front, again, _] = &FRAGMENTS;
+    holds!(rt; is_kept(run.put(rt, Some(SECOND), last)));
+    holds!(rt; is_kept(run.put(rt, Some(2 * SECOND), front)));
+    holds!(rt; is_kept(run.put(rt, Some(3 * SECOND), again)));
+}
+
+#[test]
+fn overlapped_fragments(rt: HostRuntime) -> Result<(), Fail> {
+    let mut run = Run::new(rt.alloc());
+    keeps_three(&rt, &mut run);
+    let datagram = joined(&rt, run.put(&rt, Some(4 * SECOND), &FRAGMENTS[3]));
+    has_data(&rt, &datagram, &DATA, 112);
+    same!(&rt; datagram.header.key(), key(7));
+    same!(&rt; datagram.first.map(|frame| frame.place), Some(0));
+    same!(&rt; datagram.last.map(|frame| frame.place), Some(3));
+    Ok(())
+}
+
+// The two fragments of the row: one that ends a datagram of 16 bytes, and its front.
+fn two_fragments(alloc: Global) -> Result<(Vec<u8>, Vec<u8>), AllocError> {
+    Ok((
+        packet(alloc, 9, 1, false, &[0, 1, 2, 3, 4, 5, 6, 7])?,
+        front(alloc, 9, 0x10)?,
+    ))
+}
+
+// Clocks of the two fragments, and whether they are joined: at 30 seconds, past them, and without a first clock.
+const THIRTY_SECONDS: [(Option<u64>, u64, bool); 3] = [
+    (Some(SECOND), 31 * SECOND, true),
+    (Some(SECOND), 31 * SECOND + 1, false),
+    (None, 1_000 * SECOND, true),
+];
+
+// The second fragment joins both, or is kept alone.
+fn joins_or_keeps(rt: &impl Abort, run: &Run, put: Put, is_joined: bool, second: u64) {
+    match put {
+        Put::Joined(datagram) => {
+            same!(rt; datagram.frames, 2);
+            same!(rt; datagram.payload.len(), 16);
+            holds!(rt; is_joined, second);
+        }
+        Put::Kept => {
+            same!(rt; run.joiner.open_count(), 1);
+            same!(rt; run.joiner.held_bytes(), 8);
+            same!(rt; run.joiner.given_up(), 0);
+            holds!(rt; !is_joined, second);
+        }
+    }
+}
+
+// Puts the two fragments at the clocks of a row.
+fn puts_both(
+    rt: &impl Abort,
+    run: &mut Run,
+    last: &[u8],
+    front: &[u8],
+    clocks: (Option<u64>, u64, bool),
+) -> Result<(), JoinFault> {
+    let (first, second, is_joined) = clocks;
+    holds!(rt; is_kept(run.put(rt, first, last)));
+    let put = run.put(rt, Some(second), front)?;
+    joins_or_keeps(rt, run, put, is_joined, second);
+    Ok(())
+}
+
+#[test]
+fn always_memory_thirty_seconds(rt: HostRuntime) -> Result<(), Fail> {
+    let (last, front) = two_fragments(rt.alloc())?;
+    for &clocks in &THIRTY_SECONDS {
+        let mut run = Run::new(rt.alloc());
+        let put = puts_both(&rt, &mut run, &last, &front, clocks);
+        drop(run);
+        put?;
+    }
+    Ok(())
+}
+
+#[test]
+fn a_whole_datagram_flushes(rt: HostRuntime) -> Result<(), Fail> {
+    let (last, front) = two_fragments(rt.alloc())?;
+    let mut run = Run::new(rt.alloc());
+    holds!(&rt; is_kept(run.put(&rt, Some(SECOND), &last)));
+    run.joiner.flush(key(9));
+    same!(&rt; run.joiner.open_count(), 0);
+    holds!(&rt; is_kept(run.put(&rt, Some(3 * SECOND), &front)));
+    run.joiner.flush(key(8));
+    same!(&rt; run.joiner.open_count(), 1);
+    Ok(())
+}
+
+// A run with groups of the identifications from 0 up to a number, all at 1 second.
+fn many_groups(rt: &impl Abort, alloc: Global, count: u16) -> Result<Run, AllocError> {
+    let mut run = Run::new(alloc);
+    for identification in 0..count {
+        let front = front(alloc, identification, 0x10)?;
+        holds!(rt; is_kept(run.put(rt, Some(SECOND), &front)));
+    }
+    Ok(run)
+}
+
+// A fragment is kept at a clock: so many groups were given up then, and so many are open.
+fn keeps_one(rt: &impl Abort, run: &mut Run, clock: u64, next: &[u8], given_up: u64, open: usize) {
+    holds!(rt; is_kept(run.put(rt, Some(clock), next)));
+    same!(rt; run.joiner.given_up(), given_up);
+    same!(rt; run.joiner.open_count(), open);
+}
+
+// With 1,024 groups open, one more gives up the oldest.
+fn gives_up_one(rt: &impl Abort, mut run: Run, next: &[u8]) {
+    same!(rt; run.joiner.open_count(), 1024);
+    same!(rt; run.joiner.given_up(), 0);
+    keeps_one(rt, &mut run, 31 * SECOND, next, 1, 1024);
+}
+
+#[test]
+fn open_limit(rt: HostRuntime) -> Result<(), Fail> {
+    let next = front(rt.alloc(), 1024, 0x10)?;
+    gives_up_one(&rt, many_groups(&rt, rt.alloc(), 1024)?, &next);
+    let mut late = many_groups(&rt, rt.alloc(), 1024)?;
+    keeps_one(&rt, &mut late, 31 * SECOND + 1, &next, 0, 1);
+    Ok(())
+}
+
+// Puts every other one of 8,188 blocks, from the first or the second on, none of which completes the datagram.
+fn put_half(
+    rt: &impl Abort,
+    alloc: Global,
+    run: &mut Run,
+    first: u16,
+    data: &[u8],
+) -> Result<(), AllocError>
+    requires { first ≤ 1 }
+{
+    for pair in 0..4_094 {
+        let piece = packet(alloc, 5, 2 * pair + first, true, data)?;
+        holds!(rt; is_kept(run.put(rt, None, &piece)));
+    }
+    same!(rt; run.joiner.held_bytes(), 65_504);
+    Ok(())
+}
+
+// A datagram of the most bytes and frames has the later bytes of each block.
+fn has_halves(rt: &impl Abort, datagram: &Datagram) {
+    same!(rt; datagram.payload.len(), 65_515);
+    same!(rt; datagram.frames, 8_189);
+    same!(rt; datagram.payload[0], 2);
+    same!(rt; datagram.payload[8], 1);
+    same!(rt; datagram.payload[65_504], 3);
+}
+
+// Puts both halves of the blocks.
+fn put_halves(rt: &impl Abort, alloc: Global, run: &mut Run) -> Result<(), AllocError> {
+    put_half(rt, alloc, run, 1, &[1, 1, 1, 1, 1, 1, 1, 1])?;
+    put_half(rt, alloc, run, 0, &[2, 2, 2, 2, 2, 2, 2, 2])
+}
+
+#[test]
+fn every_other_block(rt: HostRuntime) -> Result<(), Fail> {
+    let end = [3, 3, 3, 3, 3, 3, 3, 3, 3, 3, 3];
+    let last = packet(rt.alloc(), 5, 8_188, false, &end)?;
+    let mut run = Run::new(rt.alloc());
+    put_halves(&rt, rt.alloc(), &mut run)?;
+    has_halves(&rt, &joined(&rt, run.put(&rt, None, &last)));
+    Ok(())
+}
+
+// The last block of 8 bytes that a datagram's data can have whole, in whole blocks.
+const LAST_BLOCK: u16 = 8_188;
+
+// The data of a block: its number, and 6 bytes more.
+fn block_data(block: u16) -> [u8; 8] {
+    let [high, low] = block.to_be_bytes();
+    [high, low, 1, 2, 3, 4, 5, 6]
+}
+
+// A joined datagram has the data of all blocks.
+fn has_all_blocks(rt: &impl Abort, alloc: Global, datagram: &Datagram) -> Result<(), AllocError> {
+    let mut expected = Vec::new(alloc);
+    for block in 0..=LAST_BLOCK {
+        expected.extend_from_slice(&block_data(block))?;
+    }
+    holds!(rt; datagram.payload.as_slice() == expected.as_slice());
+    same!(rt; datagram.frames, 8_189);
+    Ok(())
+}
+
+// Puts a block of a datagram, and whether that completes it: it has the data of all then.
+fn puts_block(rt: &impl Abort, alloc: Global, run: &mut Run, block: u16) -> Result<bool, Fail> {
+    let piece = packet(alloc, 5, block, block != LAST_BLOCK, &block_data(block))?;
+    match run.put(rt, Some(SECOND), &piece)? {
+        Put::Kept => {
+            same!(rt; run.joiner.open_count(), 1);
+            Ok(false)
+        }
+        Put::Joined(datagram) => {
+            has_all_blocks(rt, alloc, &datagram)?;
+            same!(rt; run.joiner.open_count(), 0);
+            Ok(true)
+        }
+    }
+}
+
+// Puts the 8,189 blocks of a datagram in an order: the last of them completes it.
+fn joins_in(rt: &impl Abort, alloc: Global, order: &[u16]) -> Result<(), Fail> {
+    let mut run = Run::new(alloc);
+    let mut done = false;
+    for &block in order {
+        if puts_block(rt, alloc, &mut run, block)? {
+            same!(rt; run.place, 8_189);
+            done = true;
+        }
+    }
+    holds!(rt; done);
+    Ok(())
+}
+
+// The nth block of an order: rising, falling, the even ones and then the odd ones, also falling, and any, by a number. What
+// is above the last block has no place in it.
+fn block_of(order: u8, n: u16, any: u16) -> u16 {
+    let half = LAST_BLOCK / 2;
+    match order {
+        0 => n,
+        1 => LAST_BLOCK.wrapping_sub(n),
+        2 if n > half => (n - half).wrapping_mul(2).wrapping_sub(1),
+        3 if n > half => LAST_BLOCK
+            .wrapping_add(1)
+            .wrapping_sub((n - half).wrapping_mul(2)),
+        2 | 3 => n.wrapping_mul(2),
+        _ => any,
+    }
+}
+
+#[test]
+fn blocks_in_any_order(rt: HostRuntime) -> Result<(), Fail> {
+    for order in 0..5 {
+        // a generator whose period is all of 2^13 numbers
+        let mut number: u32 = 815;
+        let mut blocks = Vec::new(rt.alloc());
+        for n in 0..8_192 {
+            number = number.wrapping_mul(1_397).wrapping_add(4_051) % 8_192;
+            let block = block_of(order, n, number as u16);
+            if block <= LAST_BLOCK {
+                blocks.push(block)?;
+            }
+        }
+        joins_in(&rt, rt.alloc(), &blocks)?;
+    }
+    Ok(())
+}
+
+// The clock of a fragment that begins a datagram, its identification, and how many groups are open after it.
+type Front = (Option<u64>, u16, usize);
+
+// A clock that falls: the second group is too old for the last fragment, and the first isn't.
+const FALLING: [Front; 4] = [
+    (Some(40 * SECOND), 1, 1),
+    (Some(SECOND), 2, 2),
+    (Some(31 * SECOND), 3, 3),
+    (Some(32 * SECOND), 4, 3),
+];
+
+// A group without a clock before groups that grow old one by one.
+const UNTIMED_FIRST: [Front; 5] = [
+    (None, 1, 1),
+    (Some(SECOND), 2, 2),
+    (Some(2 * SECOND), 3, 3),
+    (Some(31 * SECOND + 1), 4, 3),
+    (Some(32 * SECOND + 1), 4, 2),
+];
+
+// Fragments that begin datagrams are kept one by one.
+fn opens(rt: &impl Abort, alloc: Global, fronts: &[Front]) -> Result<(), AllocError> {
+    let mut run = Run::new(alloc);
+    for &(clock, identification, open) in fronts {
+        let front = packet(alloc, identification, 0, true, &block_data(0))?;
+        holds!(rt; is_kept(run.put(rt, clock, &front)), identification);
+        same!(rt; run.joiner.open_count(), open, identification);
+    }
+    Ok(())
+}
+
+#[test]
+fn old_groups_in_any_order_of_clocks(rt: HostRuntime) -> Result<(), Fail> {
+    opens(&rt, rt.alloc(), &FALLING)?;
+    opens(&rt, rt.alloc(), &UNTIMED_FIRST)?;
+    Ok(())
+}
+
+// Puts a packet, and once more if it ran out of memory: the joiner is then as it was.
+fn put_again(rt: &impl Abort, run: &mut Run, clock: u64, packet: &[u8]) -> Result<Put, JoinFault> {
+    let open = run.joiner.open_count();
+    let held = run.joiner.held_bytes();
+    match run.put(rt, Some(clock), packet) {
+        Err(JoinFault::Memory) => {
+            same!(rt; run.joiner.open_count(), open);
+            same!(rt; run.joiner.held_bytes(), held);
+            run.put(rt, Some(clock), packet)
+        }
+        answer => answer,
+    }
+}
+
+#[test]
+fn a_refused_growth_leaves_the_joiner(rt: HostRuntime) -> Result<(), Fail> {
+    let last = [
+        0x45, 0, 0, 28, 0, 9, 0, 1, 0x40, 0x11, 0, 0, 10, 0, 0, 1, 10, 0, 0, 2, 0, 1, 2, 3, 4, 5,
+        6, 7,
+    ];
+    let front = [
+        0x45, 0, 0, 28, 0, 9, 0x20, 0, 0x40, 0x11, 0, 0, 10, 0, 0, 1, 10, 0, 0, 2, 0x03, 0xe8,
+        0x07, 0xd0, 0, 0x10, 0, 0,
+    ];
+    let mut run = Run::new(rt.alloc());
+    holds!(&rt; is_kept(put_again(&rt, &mut run, SECOND, last.as_slice())));
+    same!(&rt; run.joiner.open_count(), 1);
+    let datagram = joined(&rt, put_again(&rt, &mut run, 31 * SECOND, front.as_slice()));
+    same!(&rt; datagram.frames, 2);
+    same!(&rt; datagram.payload.len(), 16);
+    Ok(())
+}
+
+#[test]
+fn laws() {
+    places_law();
+    worked_rows();
+}

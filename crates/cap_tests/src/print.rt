@@ -1,0 +1,44 @@
+//! Lines of numbers and times.
+use crate::checks::same;
+use cap_print::Line;
+use cap_time::{Interface, Resolution, Stamp};
+
+#[test]
+fn a_line_of_numbers(rt: HostRuntime) {
+    let mut line = Line::new();
+    line.put_text(b"\n");
+    line.put_hex(b" data ", &[0x0a, 0xff]);
+    line.put_integer(b" bytes ", 18_446_744_073_709_551_616u128);
+    line.put_field(b"packets ", 3);
+    same!(&rt;
+        line.as_slice(),
+        b"packets 3 bytes 18446744073709551616 data 0aff\n".as_slice()
+    );
+    line.clear();
+    line.put_field(b"", u64::MAX);
+    same!(&rt; line.as_slice(), b"18446744073709551615".as_slice());
+}
+
+#[test]
+fn times_in_their_own_form(rt: HostRuntime) {
+    let mut line = Line::new();
+    line.put_time(b"first ", None);
+    same!(&rt; line.as_slice(), b"first -".as_slice());
+    // a resolution's code, an offset, and units
+    for (code, offset, units, text) in [
+        (6, 0, 2_500_000, b"2+500000/1000000".as_slice()),
+        (9, -5, 2_500_000_000, b"-3+500000000/1000000000"),
+        (0x8a, 0, 1_536, b"1+512/1024"),
+        (0, i64::MAX, u64::MAX, b"27670116110564327422+0/1"),
+    ] {
+        let interface = Interface {
+            link: 1,
+            snaplen: 0,
+            resolution: Resolution::from_code(code).unwrap(),
+            offset,
+        };
+        line.clear();
+        line.put_time(b"", Some(Stamp::new(units, &interface)));
+        same!(&rt; line.as_slice(), text, units);
+    }
+}
