@@ -43,6 +43,8 @@ mod print;
 #[cfg(test)]
 mod progress;
 #[cfg(test)]
+mod readme;
+#[cfg(test)]
 mod report;
 #[cfg(test)]
 mod runs;

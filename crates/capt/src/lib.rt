@@ -7,7 +7,5 @@ pub mod join;
 pub mod order;
 pub mod read;
 pub mod report;
-#[cfg(test)]
-mod tests;
 pub mod time;
 pub mod write;

@@ -1,6 +1,7 @@
 //! The example of the README: the report over a file that is in memory.
-use crate::bytes::{Pieces, Room, Tail};
-use crate::report::report;
+use crate::checks::same;
+use capt::bytes::{Pieces, Room, Tail};
+use capt::report::report;
 use std::test::Fail;
 
 // A pcap file of one packet of 4 bytes, whose fraction of a second carries.
@@ -20,6 +21,6 @@ fn a_report(rt: HostRuntime) -> Result<(), Fail> {
     sources.push(Pieces::new(hex::decode(rt.alloc(), FILE)?, 4_096, None))?;
     let mut text = Room::new(Vec::with_capacity(rt.alloc(), 1_024)?);
     report(rt.alloc(), sources, Tail::Refuse, &mut text)?;
-    assert_eq!(rt; text.bytes(), REPORT.as_bytes());
+    same!(&rt; text.bytes(), REPORT.as_bytes());
     Ok(())
 }
