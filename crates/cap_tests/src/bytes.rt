@@ -344,7 +344,7 @@ fn a_standard_reader_is_read_to_its_end(rt: HostRuntime) -> Result<(), Fail> {
     Ok(())
 }
 
-// Shows so many bytes, also if asked again, and fails to read the next.
+// Shows that many bytes, also if asked again, and fails to read the next.
 fn reads_just<R: Source>(rt: &impl Abort, window: &mut Window<R>, n: usize)
     requires { n ≤ 9 }
 {

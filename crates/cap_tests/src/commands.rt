@@ -1,5 +1,6 @@
 //! What each command writes and answers, over readers and writers in memory.
 mod blocks;
+mod captures;
 mod convert;
 mod jobs;
 mod join;
@@ -43,7 +44,7 @@ pub(crate) fn room_again(rt: &impl Abort, alloc: Global) -> Room {
     Room::new(roomy(rt, alloc, 512))
 }
 
-// That an answer is as with memory after all of the bytes, or `Memory` after a front of them.
+// That an answer is as with memory after all of the bytes, or `Memory` after a prefix of them.
 fn ask_front_of(rt: &impl Abort, answer: Result<(), Fault>, written: &[u8], wanted: &[u8]) {
     let taken = written.len();
     same!(rt; Some(written), wanted.get(..taken));
@@ -54,7 +55,7 @@ fn ask_front_of(rt: &impl Abort, answer: Result<(), Fault>, written: &[u8], want
     }
 }
 
-/// That an answer is as with memory after all that a text in hex says, or `Memory` after a front of it, if at most one growth
+/// That an answer is as with memory after all that a text in hex says, or `Memory` after a prefix of it, if at most one growth
 /// is refused.
 pub(crate) fn ask_front(
     rt: &impl Abort,

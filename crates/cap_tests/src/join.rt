@@ -71,7 +71,7 @@ fn keeps(rt: &impl Abort, run: &mut Run, packet: &[u8], held: usize) {
 }
 
 // All fragments of the map but its front are kept.
-fn keeps_behind(rt: &impl Abort, alloc: Global, run: &mut Run) -> Result<(), AllocError> {
+fn keeps_rest(rt: &impl Abort, alloc: Global, run: &mut Run) -> Result<(), AllocError> {
     let middle = [0xa0, 0xa1, 0xa2, 0xa3, 0xa4, 0xa5, 0xa6, 0xa7];
     keeps(rt, run, &packet(alloc, 7, 1, true, &middle)?, 16);
     let short = [0xc0, 0xc1, 0xc2];
@@ -87,7 +87,7 @@ const MAP: [u8; 32] = [
     0xc1, 0xc2, 0, 0, 0, 0, 0, 0xd0, 0xd1, 0xd2, 0xd3, 0xd4, 0xd5, 0xd6, 0xd7,
 ];
 
-// A datagram of four frames has that data, and so many bytes in its frames.
+// A datagram of four frames has that data, and that many bytes in its frames.
 fn has_data(rt: &impl Abort, datagram: &Datagram, data: &[u8], bytes: u128) {
     holds!(rt; datagram.payload.as_slice() == data);
     same!(rt; datagram.frames, 4);
@@ -114,7 +114,7 @@ fn joins_map(rt: &impl Abort, mut run: Run, front: &[u8]) {
 fn overlap_map(rt: HostRuntime) -> Result<(), Fail> {
     let front = front(rt.alloc(), 7, 0x20)?;
     let mut run = Run::new(rt.alloc());
-    keeps_behind(&rt, rt.alloc(), &mut run)?;
+    keeps_rest(&rt, rt.alloc(), &mut run)?;
     joins_map(&rt, run, &front);
     Ok(())
 }
@@ -221,7 +221,7 @@ fn many_groups(rt: &impl Abort, alloc: Global, count: u16) -> Result<Run, AllocE
     Ok(run)
 }
 
-// A fragment is kept at a clock: so many groups were given up then, and so many are open.
+// A fragment is kept at a clock: that many groups were given up then, and that many are open.
 fn keeps_one(rt: &impl Abort, run: &mut Run, clock: u64, next: &[u8], given_up: u64, open: usize) {
     holds!(rt; is_kept(run.put(rt, Some(clock), next)));
     same!(rt; run.joiner.given_up(), given_up);

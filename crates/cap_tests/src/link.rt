@@ -42,7 +42,7 @@ const REFUSED: [(u16, &[u8], usize, u32, Network); 13] = [
     (276, &COOKED_2_FRAME, 19, 19, Network::Short),
 ];
 
-// A frame carries the packet behind its first bytes, of that length.
+// A frame carries the packet after its first bytes, of that length.
 fn carries(rt: &impl Abort, link: u16, frame: &[u8], original: u32, before: usize, length: usize) {
     let packet = frame.get(before..);
     same!(rt; packet.map(|bytes| bytes.len()), Some(length));

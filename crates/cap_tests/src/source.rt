@@ -1,8 +1,11 @@
 //! The packets of whole files, by one byte a read and by many. The files and what they give are worked out by hand from
 //! draft-ietf-opsawg-pcap and draft-ietf-opsawg-pcapng.
+mod vectors;
+
 ghost use Rattle.std.specs.Prelude.{◌≡◌, [], ◌∷◌, Some, IfOk};
 
 use crate::checks::{holds, same};
+use crate::source::vectors::{BEFORE, BIG_SECTION, OBSOLETE, SHORT_INTERFACE, SIMPLE, TWICE};
 use crate::vectors::{CARRY_PCAP, INTERFACE, OPTIONS_PCAPNG, PACKET, SECTION, last_of};
 use cap_bytes::{Fault, Pieces, Refusal, Rule, Source, Tail};
 use cap_feed::{Ending, Format, Head, Listed, Meta, PacketFeed, next_packet};
@@ -12,39 +15,6 @@ use std::alloc::{AllocError, Global};
 use std::cmp::max;
 use std::process::Abort;
 use std::test::Fail;
-
-// PACKET as an obsolete packet.
-const OBSOLETE: [u8; 36] = [
-    2, 0, 0, 0, 36, 0, 0, 0, 0, 0, 0xff, 0xff, 0, 0, 0, 0, 0xa0, 0x25, 0x26, 0, 4, 0, 0, 0, 4, 0,
-    0, 0, 1, 2, 3, 4, 36, 0, 0, 0,
-];
-
-// Interfaces of an offset of -1 second, and of a resolution whose second option doesn't count.
-const BEFORE: [u8; 32] = [
-    1, 0, 0, 0, 32, 0, 0, 0, 1, 0, 0, 0, 0, 0, 4, 0, 14, 0, 8, 0, //
-    0xff, 0xff, 0xff, 0xff, 0xff, 0xff, 0xff, 0xff, 32, 0, 0, 0,
-];
-
-const TWICE: [u8; 40] = [
-    1, 0, 0, 0, 40, 0, 0, 0, 1, 0, 0, 0, 0, 0, 4, 0, 9, 0, 1, 0, 0x8a, 0, 0, 0, //
-    9, 0, 1, 0, 0x14, 0, 0, 0, 0, 0, 9, 9, 40, 0, 0, 0,
-];
-
-// A big-endian section of an interface and a packet.
-const BIG_SECTION: [u8; 84] = [
-    0x0a, 0x0d, 0x0d, 0x0a, 0, 0, 0, 28, 0x1a, 0x2b, 0x3c, 0x4d, 0, 1, 0, 0, //
-    0xff, 0xff, 0xff, 0xff, 0xff, 0xff, 0xff, 0xff, 0, 0, 0, 28, //
-    0, 0, 0, 1, 0, 0, 0, 20, 0, 101, 0, 0, 0, 0, 0, 0, 0, 0, 0, 20, //
-    0, 0, 0, 6, 0, 0, 0, 36, 0, 0, 0, 0, 0, 0, 0, 0, 0, 0x26, 0x25, 0xa0, //
-    0, 0, 0, 4, 0, 0, 0, 4, 1, 2, 3, 4, 0, 0, 0, 36,
-];
-
-// An interface of snaplen 4, and a simple packet of 10 bytes.
-const SHORT_INTERFACE: [u8; 20] = [1, 0, 0, 0, 20, 0, 0, 0, 1, 0, 0, 0, 4, 0, 0, 0, 20, 0, 0, 0];
-
-const SIMPLE: [u8; 20] = [
-    3, 0, 0, 0, 20, 0, 0, 0, 10, 0, 0, 0, 1, 2, 3, 4, 20, 0, 0, 0,
-];
 
 fn capture(
     alloc: Global,
@@ -265,8 +235,8 @@ fn unknown_trailer(rt: HostRuntime) -> Result<(), Fail> {
     Ok(())
 }
 
-// The packet behind an interface, which stands at a place, has that interface.
-fn takes_behind(
+// The packet after an interface, which stands at a place, has that interface.
+fn takes_after(
     rt: &impl Abort,
     alloc: Global,
     block: &[u8],
@@ -283,9 +253,9 @@ fn takes_behind(
 #[test]
 fn clocks(rt: HostRuntime) -> Result<(), Fail> {
     let before = interface(&rt, 1, 262_144, 6, -1);
-    takes_behind(&rt, rt.alloc(), &BEFORE, 60, before)?;
+    takes_after(&rt, rt.alloc(), &BEFORE, 60, before)?;
     let twice = interface(&rt, 1, 262_144, 0x8a, 0);
-    takes_behind(&rt, rt.alloc(), &TWICE, 68, twice)?;
+    takes_after(&rt, rt.alloc(), &TWICE, 68, twice)?;
     Ok(())
 }
 

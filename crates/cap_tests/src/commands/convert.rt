@@ -2,6 +2,9 @@
 ghost use Rattle.std.specs.Prelude.{◌≤◌};
 
 use crate::commands::answer_of_file;
+use crate::commands::captures::{
+    CARRIED_BIG, CARRIED_PCAP, CARRY_PCAP, CARRY_PCAPNG, OBSOLETE_PCAPNG,
+};
 use crate::files::{ask_written, reader_of, room_of};
 use cap_bytes::{Rule, Tail};
 use cap_feed::Format;
@@ -9,26 +12,6 @@ use cap_numbers::Order;
 use cap_write::{Encoding, convert_to};
 use std::alloc::Global;
 use std::process::Abort;
-
-// One record of 1 second and 1,500,000 millionths.
-const CARRY_PCAP: &str = "d4c3b2a1020004000000000000000000000004000100000001000000\
-    60e31600040000000400000001020304";
-
-// The same packet in a section, after an interface in microseconds.
-const CARRY_PCAPNG: &str = "0a0d0d0a1c0000004d3c2b1a01000000ffffffffffffffff1c000000\
-    0100000020000000010000000000040009000100060000000000000020000000\
-    06000000240000000000000000000000a025260004000000040000000102030424000000";
-
-// And back, at 2 seconds and 500,000 millionths.
-const CARRIED_PCAP: &str = "d4c3b2a1020004000000000000000000000004000100000002000000\
-    20a10700040000000400000001020304";
-
-const CARRIED_BIG: &str = "a1b2c3d4000200040000000000000000000400000000000100000002\
-    0007a120000000040000000401020304";
-
-const OBSOLETE_PCAPNG: &str = "0a0d0d0a1c0000004d3c2b1a01000000ffffffffffffffff1c000000\
-    0100000020000000010000000000040009000100060000000000000020000000\
-    02000000240000000000ffff00000000a025260004000000040000000102030424000000";
 
 // A capture with the order, the format, what is written, and how that ends: whole, or where and why it is refused.
 type Row = (

@@ -1,5 +1,8 @@
 //! Jobs of command lines, over worked captures of the formats.
 use crate::checks::{holds, same};
+use crate::commands::captures::{
+    CARRIED_BIG, CARRIED_PCAP, CARRY_PCAP, CARRY_PCAPNG, SECTION, TWICE,
+};
 use crate::commands::refused;
 use crate::files::{ask_written, readers_of, room_of};
 use cap_bytes::{Fault, Rule, Sink};
@@ -8,33 +11,8 @@ use cap_tasks::job_to;
 use std::alloc::Global;
 use std::process::Abort;
 
-// One record of 1 second and 1,500,000 millionths.
-const CARRY_PCAP: &str = "d4c3b2a1020004000000000000000000000004000100000001000000\
-    60e31600040000000400000001020304";
-
 const CUT_PCAP: &str = "d4c3b2a1020004000000000000000000000004000100000001000000\
     60e316000400000004000000010203";
-
-const SECTION: &str = "0a0d0d0a1c0000004d3c2b1a01000000ffffffffffffffff1c000000";
-
-// The same packet in a section, after an interface in microseconds.
-const CARRY_PCAPNG: &str = "0a0d0d0a1c0000004d3c2b1a01000000ffffffffffffffff1c000000\
-    0100000020000000010000000000040009000100060000000000000020000000\
-    06000000240000000000000000000000a025260004000000040000000102030424000000";
-
-// And back, at 2 seconds and 500,000 millionths.
-const CARRIED_PCAP: &str = "d4c3b2a1020004000000000000000000000004000100000002000000\
-    20a10700040000000400000001020304";
-
-const CARRIED_BIG: &str = "a1b2c3d4000200040000000000000000000400000000000100000002\
-    0007a120000000040000000401020304";
-
-// The packet twice, of two files, each after its interface.
-const TWICE: &str = "0a0d0d0a1c0000004d3c2b1a01000000ffffffffffffffff1c000000\
-    0100000020000000010000000000040009000100060000000000000020000000\
-    06000000240000000000000000000000a025260004000000040000000102030424000000\
-    0100000020000000010000000000040009000100060000000000000020000000\
-    06000000240000000100000000000000a025260004000000040000000102030424000000";
 
 const LINE: &str =
     "packet 1 offset 24 time 2+500000/1000000 captured 4 original 4 link 1 data 01020304\n";

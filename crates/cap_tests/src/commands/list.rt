@@ -2,6 +2,7 @@
 ghost use Rattle.std.specs.Prelude.{◌≤◌};
 
 use crate::checks::same;
+use crate::commands::captures::{CARRY_PCAP, CARRY_PCAPNG, OBSOLETE_PCAPNG};
 use crate::commands::refused;
 use crate::files::{bytes_of, reader_of, room_of};
 use cap_bytes::{Pieces, Rule, Tail};
@@ -9,10 +10,6 @@ use cap_lists::list_to;
 use cap_run::{Outcome, outcome_line, status_of};
 use std::alloc::Global;
 use std::process::Abort;
-
-// One record of 1 second and 1,500,000 millionths, with the bytes 01020304.
-const CARRY_PCAP: &str = "d4c3b2a1020004000000000000000000000004000100000001000000\
-    60e31600040000000400000001020304";
 
 const CARRY_LINE: &str = "packet 1 offset 24 time 2+500000/1000000 captured 4 original 4 \
     link 1 data 01020304\n";
@@ -49,15 +46,6 @@ const SPELLINGS: [(&str, &str); 4] = [
 // Seconds 4,294,967,295 and 1,500,000 millionths.
 const ABOVE: &str = "d4c3b2a10200040000000000000000000000040001000000ffffffff\
     60e31600040000000400000001020304";
-
-// A section, an interface in microseconds (32) and the same packet (36), also as an obsolete packet block.
-const CARRY_PCAPNG: &str = "0a0d0d0a1c0000004d3c2b1a01000000ffffffffffffffff1c000000\
-    0100000020000000010000000000040009000100060000000000000020000000\
-    06000000240000000000000000000000a025260004000000040000000102030424000000";
-
-const OBSOLETE_PCAPNG: &str = "0a0d0d0a1c0000004d3c2b1a01000000ffffffffffffffff1c000000\
-    0100000020000000010000000000040009000100060000000000000020000000\
-    02000000240000000000ffff00000000a025260004000000040000000102030424000000";
 
 const CARRY_BLOCK_LINE: &str = "packet 1 offset 60 time 2+500000/1000000 captured 4 original 4 \
     link 1 data 01020304\n";

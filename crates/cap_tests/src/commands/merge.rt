@@ -2,6 +2,7 @@
 ghost use Rattle.std.specs.Prelude.{◌≤◌};
 
 use crate::checks::{holds, same};
+use crate::commands::captures::{CARRY_PCAP, SECTION, TWICE};
 use crate::commands::{ask_front, reader_again, room_again};
 use crate::files::{
     answer_of_files, ask_written, bytes_of, pair_of, reader_of, readers_of, room_of,
@@ -11,10 +12,6 @@ use cap_numbers::Order;
 use cap_write::merge_to;
 use std::alloc::Global;
 use std::process::Abort;
-
-// One record of 1 second and 1,500,000 millionths.
-const CARRY: &str = "d4c3b2a1020004000000000000000000000004000100000001000000\
-    60e31600040000000400000001020304";
 
 // A packet at 5 seconds and one at 1 second; and at 2 and at 5 seconds.
 const RUNS_BACK: &str = "d4c3b2a1020004000000000000000000000004000100000005000000\
@@ -35,13 +32,6 @@ const UNTIMED: &str = "0a0d0d0a1c0000004d3c2b1a01000000ffffffffffffffff1c000000\
     0100000014000000010000000400000014000000\
     03000000140000000a0000000102030414000000";
 
-// CARRY twice: a section, and for each file its interface and its packet.
-const TWICE: &str = "0a0d0d0a1c0000004d3c2b1a01000000ffffffffffffffff1c000000\
-    0100000020000000010000000000040009000100060000000000000020000000\
-    06000000240000000000000000000000a025260004000000040000000102030424000000\
-    0100000020000000010000000000040009000100060000000000000020000000\
-    06000000240000000100000000000000a025260004000000040000000102030424000000";
-
 // The packets at 2, 5, 1 and 5 seconds, of files 2, 1, 1 and 2.
 const BY_CLOCK: &str = "0a0d0d0a1c0000004d3c2b1a01000000ffffffffffffffff1c000000\
     0100000020000000010000000000040009000100060000000000000020000000\
@@ -51,7 +41,7 @@ const BY_CLOCK: &str = "0a0d0d0a1c0000004d3c2b1a01000000ffffffffffffffff1c000000
     0600000024000000010000000000000040420f000100000001000000a100000024000000\
     06000000240000000000000000000000404b4c000100000001000000b500000024000000";
 
-// They and CARRY, whose packet at 2.5 seconds comes after the one at 2 seconds.
+// They and CARRY_PCAP, whose packet at 2.5 seconds comes after the one at 2 seconds.
 const OF_THREE: &str = "0a0d0d0a1c0000004d3c2b1a01000000ffffffffffffffff1c000000\
     0100000020000000010000000000040009000100060000000000000020000000\
     0600000024000000000000000000000080841e000100000001000000b200000024000000\
@@ -66,8 +56,6 @@ const EARLY_ALONE: &str = "0a0d0d0a1c0000004d3c2b1a01000000ffffffffffffffff1c000
     0100000020000000010000000000040009000100060000000000000020000000\
     0600000020000000000000000000000040420f00000000000000000020000000";
 
-const SECTION: &str = "0a0d0d0a1c0000004d3c2b1a01000000ffffffffffffffff1c000000";
-
 // Files, what is written of them, and how that ends.
 type Row = (
     &'static [&'static str],
@@ -76,12 +64,12 @@ type Row = (
 );
 
 const MERGED: [Row; 8] = [
-    (&[CARRY, CARRY], TWICE, Ok(())),
+    (&[CARRY_PCAP, CARRY_PCAP], TWICE, Ok(())),
     (&[RUNS_BACK, RUNS_ON], BY_CLOCK, Ok(())),
     (&[BY_CLOCK], BY_CLOCK, Ok(())),
     // three files at once, and the first two first: the same bytes
-    (&[RUNS_BACK, RUNS_ON, CARRY], OF_THREE, Ok(())),
-    (&[BY_CLOCK, CARRY], OF_THREE, Ok(())),
+    (&[RUNS_BACK, RUNS_ON, CARRY_PCAP], OF_THREE, Ok(())),
+    (&[BY_CLOCK, CARRY_PCAP], OF_THREE, Ok(())),
     (&[LATE, EARLY], EARLY_ALONE, Err((2, 40, Rule::Cut))),
     (&[EARLY, LATE], EARLY_ALONE, Err((1, 40, Rule::Cut))),
     (&[UNTIMED], SECTION, Err((1, 48, Rule::NoTime))),

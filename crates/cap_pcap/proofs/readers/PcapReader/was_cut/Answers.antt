@@ -1,5 +1,0 @@
-use Rattle.std.proofs.Common.{rules}
-use Rattle.cap_pcap.proofs.readers.PcapReader.was_cut.Goals as goal
-
-pub returns-in-Some-Cut : goal.returns-in-Some-Cut
-returns-in-Some-Cut g c = search rules
