@@ -35,13 +35,18 @@ fn joins(rt: &impl Abort, run: &mut Run) {
     same!(rt; datagram.bytes, 112);
 }
 
+// That many groups are open.
+fn holds_open(rt: &impl Abort, run: &Run, groups: usize) {
+    same!(rt; run.joiner.open_count(), groups);
+}
+
 #[test]
 fn the_worked_fragments_join(rt: HostRuntime) {
     let mut run = Run::new(rt.alloc());
     keeps_three(&rt, &mut run);
-    same!(&rt; run.joiner.open_count(), 1);
+    holds_open(&rt, &run, 1);
     joins(&rt, &mut run);
-    same!(&rt; run.joiner.open_count(), 0);
+    holds_open(&rt, &run, 0);
 }
 
 // A whole datagram comes, with what of its data was captured.
@@ -58,7 +63,7 @@ fn a_whole_datagram_drops_its_group(rt: HostRuntime) {
     let mut run = Run::new(rt.alloc());
     keeps_three(&rt, &mut run);
     takes_whole(&rt, &mut run);
-    same!(&rt; run.joiner.open_count(), 0);
+    holds_open(&rt, &run, 0);
     keeps(&rt, &mut run, 3);
 }
 
@@ -80,5 +85,5 @@ fn bad_and_cut_packets_change_nothing(rt: HostRuntime) {
     is_cut(&rt, &mut run, &[0x45]);
     is_cut(&rt, &mut run, &FRAGMENTS[1][..27]);
     is_bad(&rt, &mut run, &WHOLE);
-    same!(&rt; run.joiner.open_count(), 1);
+    holds_open(&rt, &run, 1);
 }

@@ -45,6 +45,27 @@ const PADDED_PACKET: [u8; 40] = [
 
 const SECTION: u32 = 0x0A0D_0D0A;
 
+// A block's kind, the offset where it begins, its length and its byte order.
+type Row = (u32, u64, u32, Order);
+
+// The blocks of OPTIONS_PCAPNG.
+const OPTION_BLOCKS: [Row; 4] = [
+    (SECTION, 0, 44, Order::Little),
+    (1, 44, 52, Order::Little),
+    (6, 96, 48, Order::Little),
+    (5, 144, 24, Order::Little),
+];
+
+// The blocks of TWO_SECTIONS.
+const SECTION_BLOCKS: [Row; 6] = [
+    (SECTION, 0, 28, Order::Little),
+    (1, 28, 20, Order::Little),
+    (6, 48, 36, Order::Little),
+    (SECTION, 84, 28, Order::Big),
+    (1, 112, 20, Order::Big),
+    (6, 132, 36, Order::Big),
+];
+
 fn reader(
     alloc: Global,
     bytes: &[u8],
@@ -90,10 +111,10 @@ fn comes<R: Source>(
 fn gives_blocks<R: Source>(
     rt: &impl Abort,
     reader: &mut BlockReader<R>,
-    blocks: &[Block],
+    blocks: &[Row],
 ) -> Result<(), Fault> {
-    for block in blocks {
-        comes(rt, reader, Some(*block))?;
+    for (kind, offset, total, order) in blocks {
+        comes(rt, reader, Some(block(*kind, *offset, *total, *order)))?;
     }
     comes(rt, reader, None)?;
     comes(rt, reader, None)
@@ -104,7 +125,7 @@ fn has_blocks(
     rt: &impl Abort,
     alloc: Global,
     file: &[u8],
-    blocks: &[Block],
+    blocks: &[Row],
     was_cut: bool,
 ) -> Result<(), Fault> {
     for &piece in &[1, 4_096] {
@@ -118,25 +139,10 @@ fn has_blocks(
 
 #[test]
 fn always_memory_blocks_in_order(rt: HostRuntime) -> Result<(), Fail> {
-    let (little, big) = (Order::Little, Order::Big);
-    let options = [
-        block(SECTION, 0, 44, little),
-        block(1, 44, 52, little),
-        block(6, 96, 48, little),
-        block(5, 144, 24, little),
-    ];
-    has_blocks(&rt, rt.alloc(), &OPTIONS_PCAPNG, &options, false)?;
-    let cut = OPTIONS_PCAPNG.split_at(167).0;
-    has_blocks(&rt, rt.alloc(), cut, options.split_at(3).0, true)?;
-    let two_sections = [
-        block(SECTION, 0, 28, little),
-        block(1, 28, 20, little),
-        block(6, 48, 36, little),
-        block(SECTION, 84, 28, big),
-        block(1, 112, 20, big),
-        block(6, 132, 36, big),
-    ];
-    has_blocks(&rt, rt.alloc(), &TWO_SECTIONS, &two_sections, false)?;
+    has_blocks(&rt, rt.alloc(), &OPTIONS_PCAPNG, &OPTION_BLOCKS, false)?;
+    let (cut, whole) = (OPTIONS_PCAPNG.split_at(167).0, OPTION_BLOCKS.split_at(3).0);
+    has_blocks(&rt, rt.alloc(), cut, whole, true)?;
+    has_blocks(&rt, rt.alloc(), &TWO_SECTIONS, &SECTION_BLOCKS, false)?;
     Ok(())
 }
 
@@ -338,17 +344,32 @@ fn put_padded<W: Sink>(writer: &mut W) -> Result<(), Fault> {
     put_packet(writer, Order::Big, fields, &[1, 2, 3, 4, 5])
 }
 
+fn writes_file(rt: &impl Abort, alloc: Global) -> Result<(), Fault> {
+    let mut file = room(alloc, 96)?;
+    put_file(rt, &mut file)?;
+    same!(rt; file.bytes(), CARRY_PCAPNG.as_slice());
+    Ok(())
+}
+
+fn writes_interface(rt: &impl Abort, alloc: Global) -> Result<(), Fault> {
+    let mut file = room(alloc, 44)?;
+    put_interface(&mut file, Order::Big, &interface(rt, 101, 0, 0x8a, -1))?;
+    same!(rt; file.bytes(), OFFSET_INTERFACE.as_slice());
+    Ok(())
+}
+
+fn writes_padded(rt: &impl Abort, alloc: Global) -> Result<(), Fault> {
+    let mut file = room(alloc, 40)?;
+    put_padded(&mut file)?;
+    same!(rt; file.bytes(), PADDED_PACKET.as_slice());
+    Ok(())
+}
+
 #[test]
 fn written_blocks(rt: HostRuntime) -> Result<(), Fail> {
-    let mut file = room(rt.alloc(), 96)?;
-    put_file(&rt, &mut file)?;
-    same!(&rt; file.bytes(), CARRY_PCAPNG.as_slice());
-    let mut before = room(rt.alloc(), 44)?;
-    put_interface(&mut before, Order::Big, &interface(&rt, 101, 0, 0x8a, -1))?;
-    same!(&rt; before.bytes(), OFFSET_INTERFACE.as_slice());
-    let mut padded = room(rt.alloc(), 40)?;
-    put_padded(&mut padded)?;
-    same!(&rt; padded.bytes(), PADDED_PACKET.as_slice());
+    writes_file(&rt, rt.alloc())?;
+    writes_interface(&rt, rt.alloc())?;
+    writes_padded(&rt, rt.alloc())?;
     Ok(())
 }
 

@@ -400,22 +400,24 @@ impl Write for ErrsOnce {
     }
 }
 
-// Any error is a failure at once: nothing is asked again.
+// Any error is a failure at once: a read and a write that err are asked for once each.
+fn errs_once(rt: &impl Abort, kind: ErrorKind) {
+    let inner = ErrsOnce {
+        kind,
+        reads: 0,
+        writes: 0,
+    };
+    let mut device = Tracked::new(inner);
+    let mut buffer = [0; 4];
+    same!(rt; device.take(&mut buffer), Err(Broken));
+    holds!(rt; device.failed());
+    same!(rt; device.give(b"0123"), Err(Broken));
+    let inner = device.into_inner();
+    same!(rt; (inner.reads, inner.writes), (1, 1));
+}
+
 #[test]
 fn an_error_is_told_at_once(rt: HostRuntime) {
-    for kind in [ErrorKind::Interrupted, ErrorKind::Other] {
-        let inner = ErrsOnce {
-            kind,
-            reads: 0,
-            writes: 0,
-        };
-        let mut device = Tracked::new(inner);
-        let mut buffer = [0; 4];
-        same!(&rt; device.take(&mut buffer), Err(Broken));
-        holds!(&rt; device.failed());
-        same!(&rt; device.give(b"0123"), Err(Broken));
-        let inner = device.into_inner();
-        same!(&rt; inner.reads, 1);
-        same!(&rt; inner.writes, 1);
-    }
+    errs_once(&rt, ErrorKind::Interrupted);
+    errs_once(&rt, ErrorKind::Other);
 }

@@ -220,6 +220,10 @@ fn always_line_always_memory_lines_give_their_jobs_and_faults(rt: HostRuntime) {
     for (words, want) in &LINES {
         same!(&rt; answer(rt.alloc(), *words), *want, *words);
     }
+}
+
+#[test]
+fn lines_give_orders_formats_and_outputs(rt: HostRuntime) {
     for (words, want) in &WRITING {
         same!(&rt; writing(rt.alloc(), *words), *want, *words);
     }

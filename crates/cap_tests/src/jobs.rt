@@ -48,16 +48,28 @@ const WHOLE: [(Task, usize, Option<Format>, Option<&str>, bool); 12] = [
 ];
 
 #[test]
-fn names_are_of_tasks_orders_and_formats(rt: HostRuntime) {
+fn names_are_of_tasks(rt: HostRuntime) {
     for (name, task) in &TASKS {
         same!(&rt; task_of(*name), *task, *name);
     }
+}
+
+#[test]
+fn names_are_of_orders(rt: HostRuntime) {
     for (name, order) in &ORDERS {
         same!(&rt; order_of(*name), *order, *name);
     }
+}
+
+#[test]
+fn names_are_of_formats(rt: HostRuntime) {
     for (name, format) in &FORMATS {
         same!(&rt; format_of(*name), *format, *name);
     }
+}
+
+#[test]
+fn a_task_has_what_it_takes(rt: HostRuntime) {
     for (task, files, to, out, whole) in &WHOLE {
         same!(&rt; is_whole(*task, *files, *to, *out), *whole, *task);
     }

@@ -56,6 +56,11 @@ fn is_kept(answer: Result<Put, JoinFault>) -> bool {
     matches!(&answer, Ok(Put::Kept))
 }
 
+// Whether a packet is kept at a clock.
+fn keeps_at(rt: &impl Abort, run: &mut Run, clock: Option<u64>, packet: &[u8]) -> bool {
+    is_kept(run.put(rt, clock, packet))
+}
+
 const SECOND: u64 = 1_000_000;
 
 // The front of a datagram, which says a length of that many bytes.
@@ -66,7 +71,7 @@ fn front(alloc: Global, identification: u16, length: u8) -> Result<Vec<u8>, Allo
 
 // A fragment of datagram 7 is kept, and that many bytes are held then.
 fn keeps(rt: &impl Abort, run: &mut Run, packet: &[u8], held: usize) {
-    holds!(rt; is_kept(run.put(rt, None, packet)));
+    holds!(rt; keeps_at(rt, run, None, packet));
     same!(rt; run.joiner.held_bytes(), held);
 }
 
@@ -122,21 +127,25 @@ fn overlap_map(rt: HostRuntime) -> Result<(), Fail> {
 // The first three of the worked fragments are kept, one a second.
 fn keeps_three(rt: &impl Abort, run: &mut Run) {
     let [last, front, again, _] = &FRAGMENTS;
-    holds!(rt; is_kept(run.put(rt, Some(SECOND), last)));
-    holds!(rt; is_kept(run.put(rt, Some(2 * SECOND), front)));
-    holds!(rt; is_kept(run.put(rt, Some(3 * SECOND), again)));
+    holds!(rt; keeps_at(rt, run, Some(SECOND), last));
+    holds!(rt; keeps_at(rt, run, Some(2 * SECOND), front));
+    holds!(rt; keeps_at(rt, run, Some(3 * SECOND), again));
+}
+
+// The last of the worked fragments joins them.
+fn joins_worked(rt: &impl Abort, run: &mut Run) {
+    let datagram = joined(rt, run.put(rt, Some(4 * SECOND), &FRAGMENTS[3]));
+    has_data(rt, &datagram, &DATA, 112);
+    same!(rt; datagram.header.key(), key(7));
+    same!(rt; datagram.first.map(|frame| frame.place), Some(0));
+    same!(rt; datagram.last.map(|frame| frame.place), Some(3));
 }
 
 #[test]
-fn overlapped_fragments(rt: HostRuntime) -> Result<(), Fail> {
+fn overlapped_fragments(rt: HostRuntime) {
     let mut run = Run::new(rt.alloc());
     keeps_three(&rt, &mut run);
-    let datagram = joined(&rt, run.put(&rt, Some(4 * SECOND), &FRAGMENTS[3]));
-    has_data(&rt, &datagram, &DATA, 112);
-    same!(&rt; datagram.header.key(), key(7));
-    same!(&rt; datagram.first.map(|frame| frame.place), Some(0));
-    same!(&rt; datagram.last.map(|frame| frame.place), Some(3));
-    Ok(())
+    joins_worked(&rt, &mut run);
 }
 
 // The two fragments of the row: one that ends a datagram of 16 bytes, and its front.
@@ -180,7 +189,7 @@ fn puts_both(
     clocks: (Option<u64>, u64, bool),
 ) -> Result<(), JoinFault> {
     let (first, second, is_joined) = clocks;
-    holds!(rt; is_kept(run.put(rt, first, last)));
+    holds!(rt; keeps_at(rt, run, first, last));
     let put = run.put(rt, Some(second), front)?;
     joins_or_keeps(rt, run, put, is_joined, second);
     Ok(())
@@ -198,16 +207,21 @@ fn always_memory_thirty_seconds(rt: HostRuntime) -> Result<(), Fail> {
     Ok(())
 }
 
+// A group is dropped by its own key alone.
+fn flushes(rt: &impl Abort, run: &mut Run, last: &[u8], front: &[u8]) {
+    holds!(rt; keeps_at(rt, run, Some(SECOND), last));
+    run.joiner.flush(key(9));
+    same!(rt; run.joiner.open_count(), 0);
+    holds!(rt; keeps_at(rt, run, Some(3 * SECOND), front));
+    run.joiner.flush(key(8));
+    same!(rt; run.joiner.open_count(), 1);
+}
+
 #[test]
 fn a_whole_datagram_flushes(rt: HostRuntime) -> Result<(), Fail> {
     let (last, front) = two_fragments(rt.alloc())?;
     let mut run = Run::new(rt.alloc());
-    holds!(&rt; is_kept(run.put(&rt, Some(SECOND), &last)));
-    run.joiner.flush(key(9));
-    same!(&rt; run.joiner.open_count(), 0);
-    holds!(&rt; is_kept(run.put(&rt, Some(3 * SECOND), &front)));
-    run.joiner.flush(key(8));
-    same!(&rt; run.joiner.open_count(), 1);
+    flushes(&rt, &mut run, &last, &front);
     Ok(())
 }
 
@@ -216,14 +230,14 @@ fn many_groups(rt: &impl Abort, alloc: Global, count: u16) -> Result<Run, AllocE
     let mut run = Run::new(alloc);
     for identification in 0..count {
         let front = front(alloc, identification, 0x10)?;
-        holds!(rt; is_kept(run.put(rt, Some(SECOND), &front)));
+        holds!(rt; keeps_at(rt, &mut run, Some(SECOND), &front));
     }
     Ok(run)
 }
 
 // A fragment is kept at a clock: that many groups were given up then, and that many are open.
 fn keeps_one(rt: &impl Abort, run: &mut Run, clock: u64, next: &[u8], given_up: u64, open: usize) {
-    holds!(rt; is_kept(run.put(rt, Some(clock), next)));
+    holds!(rt; keeps_at(rt, run, Some(clock), next));
     same!(rt; run.joiner.given_up(), given_up);
     same!(rt; run.joiner.open_count(), open);
 }
@@ -256,7 +270,7 @@ fn put_half(
 {
     for pair in 0..4_094 {
         let piece = packet(alloc, 5, 2 * pair + first, true, data)?;
-        holds!(rt; is_kept(run.put(rt, None, &piece)));
+        holds!(rt; keeps_at(rt, run, None, &piece));
     }
     same!(rt; run.joiner.held_bytes(), 65_504);
     Ok(())
@@ -396,7 +410,7 @@ fn opens(rt: &impl Abort, alloc: Global, fronts: &[Front]) -> Result<(), AllocEr
     let mut run = Run::new(alloc);
     for &(clock, identification, open) in fronts {
         let front = packet(alloc, identification, 0, true, &block_data(0))?;
-        holds!(rt; is_kept(run.put(rt, clock, &front)), identification);
+        holds!(rt; keeps_at(rt, &mut run, clock, &front), identification);
         same!(rt; run.joiner.open_count(), open, identification);
     }
     Ok(())
@@ -423,8 +437,17 @@ fn put_again(rt: &impl Abort, run: &mut Run, clock: u64, packet: &[u8]) -> Resul
     }
 }
 
+// Two fragments are joined, each put again after a refused growth.
+fn joins_again(rt: &impl Abort, run: &mut Run, last: &[u8], front: &[u8]) {
+    holds!(rt; is_kept(put_again(rt, run, SECOND, last)));
+    same!(rt; run.joiner.open_count(), 1);
+    let datagram = joined(rt, put_again(rt, run, 31 * SECOND, front));
+    same!(rt; datagram.frames, 2);
+    same!(rt; datagram.payload.len(), 16);
+}
+
 #[test]
-fn a_refused_growth_leaves_the_joiner(rt: HostRuntime) -> Result<(), Fail> {
+fn a_refused_growth_leaves_the_joiner(rt: HostRuntime) {
     let last = [
         0x45, 0, 0, 28, 0, 9, 0, 1, 0x40, 0x11, 0, 0, 10, 0, 0, 1, 10, 0, 0, 2, 0, 1, 2, 3, 4, 5,
         6, 7,
@@ -434,12 +457,7 @@ fn a_refused_growth_leaves_the_joiner(rt: HostRuntime) -> Result<(), Fail> {
         0x07, 0xd0, 0, 0x10, 0, 0,
     ];
     let mut run = Run::new(rt.alloc());
-    holds!(&rt; is_kept(put_again(&rt, &mut run, SECOND, last.as_slice())));
-    same!(&rt; run.joiner.open_count(), 1);
-    let datagram = joined(&rt, put_again(&rt, &mut run, 31 * SECOND, front.as_slice()));
-    same!(&rt; datagram.frames, 2);
-    same!(&rt; datagram.payload.len(), 16);
-    Ok(())
+    joins_again(&rt, &mut run, &last, &front);
 }
 
 #[test]

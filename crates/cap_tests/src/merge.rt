@@ -150,13 +150,18 @@ fn ends_by<F: PacketFeed>(rt: &impl Abort, feed: &mut F, end: Head) {
     same!(rt; feed.head(), Ok(end), "again");
 }
 
+// Two files give these packets, and then that end.
+fn merges(rt: &impl Abort, feed: &mut Merged<Listed>, came: &[Came], end: Head) {
+    same!(rt; feed.files(), 2);
+    gives(rt, feed, came);
+    ends_by(rt, feed, end);
+}
+
 #[test]
 fn two_files_in_order(rt: HostRuntime) {
     for (one, two, came, refusal) in &MERGED {
         let mut feed = sides_of(&rt, rt.alloc(), *one, *two);
-        same!(&rt; feed.files(), 2);
-        gives(&rt, &mut feed, *came);
-        ends_by(&rt, &mut feed, end_of(*refusal));
+        merges(&rt, &mut feed, *came, end_of(*refusal));
     }
 }
 
@@ -180,15 +185,19 @@ const ONE_INTERFACE: File = &[SECTION, PLAIN, PACKET];
 const TWO_INTERFACES: File = &[SECTION, PLAIN, PLAIN, PACKET];
 
 // What is held is the greatest of any file's, before a read and then.
+fn holds_greatest<F: PacketFeed>(rt: &impl Abort, feed: &mut F) {
+    let held = feed.feed_held();
+    same!(rt; (held.window, held.interfaces, held.failed), (0, 0, false));
+    holds!(rt; feed.head().is_ok());
+    let held = feed.feed_held();
+    same!(rt; (held.interfaces, held.failed), (2, false));
+    holds!(rt; (1..=524_288).contains(&held.window));
+}
+
 #[test]
 fn what_is_held(rt: HostRuntime) {
     let files = [ONE_INTERFACE, RUNS_BACK, TWO_INTERFACES, RUNS_ON];
     let sources = sources_of(&rt, rt.alloc(), &files, 1);
     let mut feed = merged_of(&rt, rt.alloc(), sources);
-    let held = feed.feed_held();
-    same!(&rt; (held.window, held.interfaces, held.failed), (0, 0, false));
-    holds!(&rt; feed.head().is_ok());
-    let held = feed.feed_held();
-    same!(&rt; (held.interfaces, held.failed), (2, false));
-    holds!(&rt; (1..=524_288).contains(&held.window));
+    holds_greatest(&rt, &mut feed);
 }

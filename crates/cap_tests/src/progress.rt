@@ -4,6 +4,7 @@ use crate::checks::{holds, same};
 use crate::files::room_of;
 use cap_bytes::{Device, Pieces, Sink, Source};
 use cap_run::{Progress, Watched, progress_line};
+use std::process::Abort;
 
 // Bytes that are read, of how many, after how many milliseconds, and the line.
 const LINES: [(u64, Option<u64>, u64, &str); 6] = [
@@ -50,19 +51,34 @@ fn a_line_tells_bytes_rate_and_time_left(rt: HostRuntime) {
     }
 }
 
+// A reader gives "cap", and then fails.
+fn gives_three_and_fails<R: Source>(rt: &impl Abort, source: &mut R) {
+    let mut buffer = [0; 8];
+    same!(rt; source.take(&mut buffer), Ok(3));
+    same!(rt; &buffer[..3], b"cap".as_slice());
+    holds!(rt; source.take(&mut buffer).is_err());
+    holds!(rt; source.failed());
+}
+
 #[test]
-fn a_watched_device_does_what_its_inner_one_does(rt: HostRuntime) {
+fn a_watched_reader_does_what_its_inner_one_does(rt: HostRuntime) {
     let progress = Progress::new(&rt, None, true, Some(4));
     let bytes = b"capt".to_vec(rt.alloc()).expect(&rt, "memory");
     let mut source = Watched::new(Pieces::new(bytes, 3, Some(2)), &progress);
-    let mut buffer = [0; 8];
-    same!(&rt; source.take(&mut buffer), Ok(3));
-    same!(&rt; &buffer[..3], b"cap".as_slice());
-    holds!(&rt; source.take(&mut buffer).is_err());
-    holds!(&rt; source.failed());
+    gives_three_and_fails(&rt, &mut source);
+}
+
+// A writer takes three bytes, and then fails.
+fn takes_three_and_fails<W: Sink>(rt: &impl Abort, sink: &mut W) {
+    same!(rt; sink.give(b"ca"), Ok(2));
+    same!(rt; sink.give(b"pt"), Ok(1));
+    holds!(rt; sink.give(b"t").is_err());
+}
+
+#[test]
+fn a_watched_writer_does_what_its_inner_one_does(rt: HostRuntime) {
+    let progress = Progress::new(&rt, None, true, Some(4));
     let mut sink = Watched::new(room_of(&rt, rt.alloc(), 3), &progress);
-    same!(&rt; sink.give(b"ca"), Ok(2));
-    same!(&rt; sink.give(b"pt"), Ok(1));
-    holds!(&rt; sink.give(b"t").is_err());
+    takes_three_and_fails(&rt, &mut sink);
     same!(&rt; sink.into_inner().bytes(), b"cap".as_slice());
 }

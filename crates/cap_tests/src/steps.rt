@@ -166,29 +166,12 @@ fn goes_by_steps<F: PacketFeed>(rt: &impl Abort, alloc: Global, table: &mut Tabl
     }
 }
 
-#[test]
-fn always_memory_step_by_step(rt: HostRuntime) {
-    for piece in [1, 4096] {
-        let mut table = table_of(&rt, rt.alloc(), &[FRAGMENT_FRAMES], piece);
-        goes_by_steps(&rt, rt.alloc(), &mut table);
-    }
-}
-
-#[test]
-fn interfaces_are_held(rt: HostRuntime) {
-    let mut table = table_of(&rt, rt.alloc(), &[UNTIMED_THEN_TIMED], 4096);
-    same!(&rt; table.held().interfaces, 0);
-    same!(&rt; table.step(), Ok(Step::Took));
+// The first step takes a packet, whose interface and conversation are held then.
+fn holds_an_interface<F: PacketFeed>(rt: &impl Abort, table: &mut Table<F>) {
+    same!(rt; table.held().interfaces, 0);
+    same!(rt; table.step(), Ok(Step::Took));
     let now = table.held();
-    same!(&rt; (now.interfaces, now.talks), (1, 1));
-}
-
-#[test]
-fn a_table_is_dropped_after_any_number_of_steps(rt: HostRuntime) {
-    for steps in 0..5 {
-        let mut table = table_of(&rt, rt.alloc(), &[FRAGMENT_FRAMES], 1);
-        take_steps(&rt, &mut table, steps, Step::Took);
-    }
+    same!(rt; (now.interfaces, now.talks), (1, 1));
 }
 
 // The table writes and holds what it did before.
@@ -233,6 +216,60 @@ fn reports_again<F: PacketFeed>(
     same!(rt; text_of(rt, alloc, table).bytes(), wanted.as_bytes());
 }
 
+// What a table is put through.
+#[derive(Clone, Copy)]
+enum Trial<'a> {
+    // the steps of a table of FRAGMENT_FRAMES
+    Steps,
+    // that many steps, each of which takes a packet
+    Takes(u32),
+    // a step that takes the first interface
+    Interface,
+    // steps that are taken again after a refused growth, and that report
+    Again(&'a str),
+}
+
+fn undergo<F: PacketFeed>(rt: &impl Abort, alloc: Global, table: &mut Table<F>, trial: Trial<'_>) {
+    match trial {
+        Trial::Steps => goes_by_steps(rt, alloc, table),
+        Trial::Takes(count) => take_steps(rt, table, count, Step::Took),
+        Trial::Interface => holds_an_interface(rt, table),
+        Trial::Again(wanted) => reports_again(rt, alloc, table, wanted),
+    }
+}
+
+// Puts the table of 1 to 32 files, read by `piece` bytes at a time, through that.
+fn table_undergoes(rt: &impl Abort, alloc: Global, files: &[File], piece: usize, trial: Trial<'_>)
+    requires { 1 ≤ piece }
+{
+    let mut table = table_of(rt, alloc, files, piece);
+    undergo(rt, alloc, &mut table, trial);
+}
+
+#[test]
+fn always_memory_step_by_step(rt: HostRuntime) {
+    table_undergoes(&rt, rt.alloc(), &[FRAGMENT_FRAMES], 1, Trial::Steps);
+    table_undergoes(&rt, rt.alloc(), &[FRAGMENT_FRAMES], 4096, Trial::Steps);
+}
+
+#[test]
+fn interfaces_are_held(rt: HostRuntime) {
+    table_undergoes(
+        &rt,
+        rt.alloc(),
+        &[UNTIMED_THEN_TIMED],
+        4096,
+        Trial::Interface,
+    );
+}
+
+#[test]
+fn a_table_is_dropped_after_any_number_of_steps(rt: HostRuntime) {
+    for steps in 0..5 {
+        table_undergoes(&rt, rt.alloc(), &[FRAGMENT_FRAMES], 1, Trial::Takes(steps));
+    }
+}
+
 // The files and the report of a table.
 const REPORTS: [(&[File], &str); 5] = [
     (&[FRAGMENT_FRAMES], FRAGMENT_REPORT),
@@ -246,7 +283,6 @@ const REPORTS: [(&[File], &str); 5] = [
 #[test]
 fn a_refused_growth_leaves_the_table(rt: HostRuntime) {
     for (files, wanted) in &REPORTS {
-        let mut table = table_of(&rt, rt.alloc(), *files, 4096);
-        reports_again(&rt, rt.alloc(), &mut table, *wanted);
+        table_undergoes(&rt, rt.alloc(), *files, 4096, Trial::Again(*wanted));
     }
 }

@@ -61,16 +61,37 @@ fn walk<F: PacketFeed>(feed: &mut F) -> (usize, Option<Fault>) {
     (PACKETS.len(), feed.head().err())
 }
 
-// A failed read is told by file and offset, and again, after the packets before it.
+// With that read of that file failing, so many packets come, and then the fault, also if it is asked for again.
+fn fails_after<F: PacketFeed>(
+    rt: &impl Abort,
+    feed: &mut F,
+    failing: (u32, u64),
+    packets: usize,
+    fault: Fault,
+) {
+    same!(rt; walk(feed), (packets, Some(fault)), failing);
+    same!(rt; feed.head(), Err(fault), failing);
+    holds!(rt; feed.feed_held().failed, failing);
+}
+
+// A failed read is told by file and offset, after the packets before it.
+fn is_told(rt: &impl Abort, alloc: Global, failing: (u32, u64), packets: usize, offset: u64) {
+    let (file, read) = failing;
+    let mut merged = merged_with(rt, alloc, file, read);
+    fails_after(
+        rt,
+        &mut merged,
+        failing,
+        packets,
+        Fault::Read { file, offset },
+    );
+}
+
 #[test]
 fn each_read_of_two_files(rt: HostRuntime) {
     for (file, first, last, offset, packets) in FAILING {
         for read in first..=last {
-            let mut merged = merged_with(&rt, rt.alloc(), file, read);
-            let fault = Fault::Read { file, offset };
-            same!(&rt; walk(&mut merged), (packets, Some(fault)), (file, read));
-            same!(&rt; merged.head(), Err(fault), (file, read));
-            holds!(&rt; merged.feed_held().failed);
+            is_told(&rt, rt.alloc(), (file, read), packets, offset);
         }
     }
 }

@@ -1,6 +1,9 @@
-use Rattle.std.proofs.Common.{sym, ◌∙◌}
+use Rattle.std.proofs.Common.{sym, ◌∙◌, rules}
 use Rattle.cap_order.proofs.Bounds.{learns-packet}
 use Rattle.cap_order.proofs.lanes.show.Goals as goal
+
+pub packet-requires : goal.packet-requires
+packet-requires g c = search rules
 
 pub returns-then-shows_packet-clause-shows : goal.returns-then-shows_packet-clause-shows
 returns-then-shows_packet-clause-shows g c =

@@ -1,4 +1,4 @@
-use Rattle.std.proofs.Common.{◌≡◌, ◌<◌, ℕ, List, sym, ◌∙◌, ap, subst, arith}
+use Rattle.std.proofs.Common.{◌≡◌, ◌<◌, ℕ, List, sym, ◌∙◌, ap, subst, arith, rules}
 use Rattle.std.specs.Prelude.{remove}
 use Rattle.std.specs.List.{IsDistinct}
 use Rattle.std.specs.Map.{keys_of}
@@ -23,6 +23,9 @@ invariant_of-self c =
       in_turn = λ o. subst AreInTurn (sym is) (AreInTurn-first t.groups.entries (c.self.invariant.in_turn o));
       latest = λ o. subst (AreUpTo t.latest) (sym is) (AreUpTo-first t.latest t.groups.entries (c.self.invariant.latest o));
     }
+
+pub returns-clause-entries : goal.returns-clause-entries
+returns-clause-entries c = search rules
 
 pub returns-clause-unique : goal.returns-clause-unique
 returns-clause-unique c = grind (arith, drop-first, IsDistinct-first, c.pop_mru.ensures.entries, c.self.invariant.unique)

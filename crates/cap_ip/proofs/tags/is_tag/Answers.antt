@@ -1,0 +1,7 @@
+use Rattle.std.proofs.Common.{rules}
+use Rattle.cap_ip.specs.Tags.{is_tag}
+use Rattle.cap_ip.proofs.tags.is_tag.Goals as goal
+
+pub returns-else-kind-eq-C_TAG : goal.returns-else-kind-eq-C_TAG
+unfolding is_tag
+returns-else-kind-eq-C_TAG c = search rules
