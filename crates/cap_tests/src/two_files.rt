@@ -61,7 +61,7 @@ fn walk<F: PacketFeed>(feed: &mut F) -> (usize, Option<Fault>) {
     (PACKETS.len(), feed.head().err())
 }
 
-// With that read of that file failing, so many packets come, and then the fault, also if it is asked for again.
+// With that read of that file failing, that many packets come, and then the fault, also if it is asked for again.
 fn fails_after<F: PacketFeed>(
     rt: &impl Abort,
     feed: &mut F,
