@@ -27,8 +27,8 @@ counted() {
 }
 
 # A check is one process, and there are as many at once as there are processors with 3 GiB of memory each (a check takes 1 to 3). Without this
-# number rt goes by a guess of its own, 10 GiB for the tests: so these wait until all else is done, and are then proved by several processes,
-# which together take longer.
+# number rt goes by a guess of its own, 10 GiB for the tests: so these wait until nearly all else is done, and if processors are idle by then
+# they are proved by several processes, which together take longer.
 processors=$(nproc)
 memory=$(awk '/^MemAvailable:/ { print int($2 / 1048576 / 3) }' /proc/meminfo)
 export RT_JOBS=${RT_JOBS:-$((memory < 1 ? 1 : memory < processors ? memory : processors))}

@@ -1,5 +1,0 @@
-use Rattle.std.proofs.Common.{rules}
-use Rattle.cap_time.proofs.stamps.order.count_alike.Goals as goal
-
-pub returns-then-a-b-2 : goal.returns-then-a-b-2
-returns-then-a-b-2 c = search rules
