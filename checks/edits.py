@@ -128,7 +128,8 @@ def checked(crate, texts, functions, room, rlibs):
 def failures(crate, said):
     """What the check says of each of its functions, and of those that fail by themselves, at which goals of theirs, or of lemmas that they cite."""
     told, notes, errors, last = {}, {}, {}, []
-    for line in said.splitlines():
+    # (a long message goes on in lines that begin with two spaces)
+    for line in re.sub(r"\n {2,}", " ", said).splitlines():
         function = re.match(rf"fn {crate}::(\S+): (.*)", line)
         error = re.match(r"(?:\./)?proofs/(?:(\S+)/)?\w+\.antt:\S+ error: ", line)
         if re.match(r"note: \S+: it is not proved that ", line):
