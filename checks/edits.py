@@ -1,16 +1,15 @@
 #!/usr/bin/env python3
-"""The must-fail edits of code: each file of crates/*/must-fail-together turns a function, and the prover must refuse it.
+"""A quick look at the must-fail edits of code, many in one check. It is not in the gate: `rt ci` tries each edit by itself, and decides.
 
 The proof of a function stands on the contracts of others, never on their bodies. So edits of different functions are made at once in a
 copy of the crate, and one check asks for all these functions. It says of each whether it is proved, and at which of its goals it isn't.
 An edit is refused if its function fails at a goal: it doesn't count that a function which it calls isn't proved, or that a proof file
 names what the edit took away. And no function may fail that no edit names: that shows that the edits are apart.
 
-A file has a line `function: PATH`, as a check prints it after the crate's name, and then, as in must-fail/, lines `file: PATH`,
-`old: TEXT` (which stands there once) and `new: TEXT`.
+Asked are the files of crates/*/must-fail that have a line `function: PATH`, as a check prints it after the crate's name, which rt passes over.
+Those without one change the definition of a law.
 
-Use: checks/edits.py [CRATE..]             over the libraries below as `rt ci` or `rt check` left them
-     rt ci | checks/edits.py --as-proved   a crate as soon as `rt ci` says that the libraries below are proved
+Use: checks/edits.py [CRATE..]     over the libraries below as `rt ci` or `rt check` left them
 """
 import sys
 
@@ -23,7 +22,6 @@ from threading import Thread
 
 TOP = os.path.dirname(os.path.dirname(os.path.abspath(__file__)))
 KIT = os.path.dirname(subprocess.run(["rt", "doc"], capture_output=True, text=True, check=True).stdout.strip())
-TOGETHER = "must-fail-together"
 # The crates that take longer than their code is long: cap_line with the types of clap, cap_tasks by four edits of one function.
 LONG = ["cap_write", "cap_tally", "cap_line", "cap_tasks"]
 # What a check says of a proof file that names what an edit took away, or what stands on such a line.
@@ -53,7 +51,7 @@ def read_text(path):
 
 
 def edits_of(crate):
-    folder = f"{TOP}/crates/{crate}/{TOGETHER}"
+    folder = f"{TOP}/crates/{crate}/must-fail"
     edits = []
     for name in sorted(os.listdir(folder)) if os.path.isdir(folder) else []:
         edit, path, old = Edit(name.removesuffix(".edit")), None, None
@@ -67,7 +65,8 @@ def edits_of(crate):
                 old = rest
             elif word in ("new", "new:"):
                 edit.changes.append((path, old, rest))
-        edits.append(edit)
+        if edit.function:
+            edits.append(edit)
     return edits
 
 
@@ -161,8 +160,8 @@ def try_together(crate, edits, room, rlibs):
     whole = dict(texts)
     for edit in edits:
         then = edit.applied(texts)
-        if not edit.function or not edit.changes or edit.applied(whole) in (None, whole):
-            wrong.append(f"{crate}/{edit.name}: it names no function, changes nothing, or an `old:` doesn't stand in its file once")
+        if not edit.changes or edit.applied(whole) in (None, whole):
+            wrong.append(f"{crate}/{edit.name}: it changes nothing, or an `old:` doesn't stand in its file once")
         elif edit.function in functions or then is None:
             left.append(edit)
         else:
@@ -208,7 +207,7 @@ def take_library(crate, rlibs):
 
 
 def main(words):
-    wanted = [it for it in words if not it.startswith("-")] or [it for it in LIBRARIES if edits_of(it)]
+    wanted = words or [it for it in LIBRARIES if edits_of(it)]
     waiting, ready, results = set(wanted), PriorityQueue(), {}
 
     def work():
@@ -224,16 +223,6 @@ def main(words):
         workers = [Thread(target=work, daemon=True) for _ in range(int(os.environ.get("RT_JOBS") or os.cpu_count()))]
         for worker in workers:
             worker.start()
-        if "--as-proved" in words:
-            # a group of its own, so that no check goes on if the gate ends
-            os.setpgrp()
-            signal.signal(signal.SIGTERM, lambda *_: os.killpg(0, signal.SIGKILL))
-            begin()
-            for line in sys.stdin:
-                proved = re.match(r"rt: (\w+) (proved$|is kept: )", line)
-                if proved:
-                    take_library(proved[1], rlibs)
-                    begin()
         for library in {it for crate in wanted for it in below(crate)}:
             take_library(library, rlibs)
         begin()

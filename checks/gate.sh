@@ -1,16 +1,15 @@
 #!/usr/bin/env bash
-# The gate: `rt ci`, with the must-fail edits of code beside it, and then the other scripts here. Its last line counts all: 'N passed, M failed'.
-# The status is 0 if nothing failed.
+# The gate: `rt ci`, and then the scripts beside this one. Its last line counts both: 'N passed, M failed'. The status is 0
+# if nothing failed.
 #
-# Use: checks/gate.sh     (the scripts after `rt ci` take less than a minute on four processors; they want a C compiler and Python 3)
+# Use: checks/gate.sh     (the scripts take less than a minute on four processors; they want a C compiler and Python 3)
 set -u
 cd "$(dirname "$0")/.."
 scripts='program.sh stack.sh papers.sh rounds.sh invariance.py hostile.py limits.py faults.py'
 passed=0
 failed=0
 logs=$(mktemp -d)
-declare -A running=()
-trap 'kill "${running[@]}" 2> /dev/null; rm -rf "$logs"' EXIT
+trap 'rm -rf "$logs"' EXIT
 
 # counted NAME STATUS: adds up what the last line of a command's log counts; one that counts nothing is one failure
 counted() {
@@ -27,28 +26,24 @@ counted() {
     fi
 }
 
-# A check is one process, and there are as many at once as there are processors with 4 GiB of memory each: a check of `rt ci` takes 1 to 4, and one
-# of edits, which has what it leaves idle, 1 to 1.6. Without this number rt goes by a guess of its own, 6 GiB for a crate of tests.
+# A check is one process, and there are as many at once as there are processors with 3 GiB of memory each (a check takes 1 to 3). Without this
+# number rt goes by a guess of its own, 10 GiB for the tests: so these wait until nearly all else is done, and if processors are idle by then
+# they are proved by several processes, which together take longer.
 processors=$(nproc)
-memory=$(awk '/^MemAvailable:/ { print int($2 / 1048576 / 4) }' /proc/meminfo)
+memory=$(awk '/^MemAvailable:/ { print int($2 / 1048576 / 3) }' /proc/meminfo)
 export RT_JOBS=${RT_JOBS:-$((memory < 1 ? 1 : memory < processors ? memory : processors))}
-
-# `rt ci` says when a crate is proved; then its library is there, and edits of the crates above it can be tried
-mkfifo "$logs/proved"
-nice -n 19 checks/edits.py --as-proved < "$logs/proved" > "$logs/edits.py" 2>&1 &
-running[edits.py]=$!
-rt ci 2>&1 | tee -p "$logs/rt ci" "$logs/proved"
+rt ci 2>&1 | tee "$logs/rt ci"
 counted 'rt ci' "${PIPESTATUS[0]}"
 
 # the scripts wait for each other in nothing, so they run side by side, and each is told in its turn
+declare -A running
 for script in $scripts; do
     "checks/$script" > "$logs/$script" 2>&1 &
     running[$script]=$!
 done
-for script in edits.py $scripts; do
+for script in $scripts; do
     status=0
     wait "${running[$script]}" || status=$?
-    unset "running[$script]"
     cat "$logs/$script"
     counted "$script" "$status"
 done

@@ -61,10 +61,8 @@ page = subprocess.run([f"{top}/checks/trusted.py", "--page"], capture_output=Tru
 judged("docs/TRUSTED.md", page == text_of("docs/TRUSTED.md"), "isn't what checks/trusted.py --page prints")
 ran_merge = re.search(r"^merge: (\d+) definitions, (\d+) lines", ran.stdout, re.M)
 readme = text_of("README.md")
-folders = ["must-fail", "must-fail-together"]
-alone, together = (sum(len(kept_in(f"{top}/crates/{crate}/{folder}")) for crate in os.listdir(f"{top}/crates")) for folder in folders)
-judged("README.md, edits", f"{alone + together} edits" in readme, f"there are {alone + together}")
-judged("README.md, edits of code", f"{together} of" in readme, f"there are {together}")
+edits = len([name for crate in os.listdir(f"{top}/crates") for name in kept_in(f"{top}/crates/{crate}/must-fail")])
+judged("README.md, edits", f"{edits} edits in" in readme, f"there are {edits}")
 for number in ran_merge.groups():
     judged("README.md, merge", f" {number} " in readme, f"wants {number}")
 
