@@ -78,9 +78,9 @@ DEVICES = {
 }
 # Tests that meet a refused growth, by crate, and how many together at most: they call again, or look at what a call left.
 TESTS = [
-    ("cap_input_tests", "^(bytes|join|source)::.*(a_window|a_standard_reader|a_refused_growth)", 1),
-    ("cap_output_tests", "^steps::a_refused_growth", 2),
-    ("cap_output_tests", "^commands::.*a_refused_growth", 1),
+    ("cap_tests", "^(bytes|join|source)::.*(a_window|a_standard_reader|a_refused_growth)", 1),
+    ("cap_tests", "^steps::a_refused_growth", 2),
+    ("cap_tests", "^commands::.*a_refused_growth", 1),
 ]
 MEMORY, WRITE = b"fault: memory\n", b"fault: write\n"
 

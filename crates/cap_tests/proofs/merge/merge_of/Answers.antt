@@ -2,7 +2,7 @@ use Rattle.std.proofs.Common.{◌≡◌, ◌++◌, ◌∷◌, [], drop, refl, sy
 use Rattle.cap_feed.specs.Feed.{Feed, HasFile}
 use Rattle.cap_feed.specs.Listed.{list_feed}
 use Rattle.cap_order.specs.Parts.{feed_of, new_parts}
-use Rattle.cap_output_tests.proofs.merge.merge_of.Goals as goal
+use Rattle.cap_tests.proofs.merge.merge_of.Goals as goal
 
 two_files : (one two : Feed) → one.files ≡ 1 ∷ [] → two.files ≡ 2 ∷ [] → HasFile (feed_of (new_parts (one ∷ (two ∷ [])))).files 2
 unfolding feed_of

@@ -1,7 +1,13 @@
-//! Tests of what is made of captures: merged files, written files, the lines of files, the report, README's example; and of the
-//! commands, the command line, outcomes and the line of progress.
+//! Tests of all rooms: of reading and of what it stands on, of what is made of captures, and of the commands, the command line,
+//! outcomes and the line of progress.
 #![tactic(auto)]
 
+#[cfg(test)]
+mod arrivals;
+#[cfg(test)]
+mod blocks;
+#[cfg(test)]
+mod bytes;
 #[cfg(test)]
 mod checks;
 #[cfg(test)]
@@ -19,11 +25,21 @@ mod files;
 #[cfg(test)]
 mod hex_vectors;
 #[cfg(test)]
+mod ip;
+#[cfg(test)]
 mod jobs;
+#[cfg(test)]
+mod join;
+#[cfg(test)]
+mod link;
 #[cfg(test)]
 mod merge;
 #[cfg(test)]
 mod outcomes;
+#[cfg(test)]
+mod pcap;
+#[cfg(test)]
+mod print;
 #[cfg(test)]
 mod progress;
 #[cfg(test)]
@@ -31,8 +47,16 @@ mod readme;
 #[cfg(test)]
 mod report;
 #[cfg(test)]
+mod runs;
+#[cfg(test)]
+mod source;
+#[cfg(test)]
 mod steps;
 #[cfg(test)]
+mod time;
+#[cfg(test)]
 mod two_files;
+#[cfg(test)]
+mod vectors;
 #[cfg(test)]
 mod write;
