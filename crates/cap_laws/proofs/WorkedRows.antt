@@ -10,7 +10,7 @@ use Rattle.cap_join.specs.Fragments.{piece_of}
 use Rattle.cap_join.specs.History.{joined_pieces, step, state_of}
 use Rattle.cap_ip.specs.Links.{typed, raw, network_of}
 use Rattle.cap_ip.specs.Tags.{is_tag, ended as tag_ended, payload, carried}
-use Rattle.cap_tally.specs.Counting.{counted}
+use Rattle.cap_counts.specs.Counting.{counted}
 use Rattle.cap_tally.specs.Talks.{rows_of}
 use Rattle.cap_time.specs.Code.{units_of_code}
 use Rattle.cap_time.specs.Stamp.{stamp_cmp, stamp_in, stamp_plus}

@@ -1,9 +1,9 @@
 -- The packets of a feed, counted one by one.
 use Rattle.std.proofs.Common.{◌≡◌, ◌≤◌, ◌<◌, ◌+◌, ◌*◌, ◌^◌, ℕ, cond, nat_lt, List, [], ◌∷◌, ◌++◌, drop, sym, ap, ◌∙◌, arith, Some, None, IsTrue, Ok, Err, append-nil, append_assoc, true, false}
 use Rattle.cap_bytes.specs.declared.faults.Fault.{Fault}
-use Rattle.cap_tally.proofs.Counting.{counted-more}
-use Rattle.cap_tally.specs.Counting.{packets_of, counted, with_packet}
-use Rattle.cap_tally.specs.declared.counts.Counts.{Counts}
+use Rattle.cap_counts.proofs.Counting.{counted-more}
+use Rattle.cap_counts.specs.Counting.{packets_of, counted, with_packet}
+use Rattle.cap_counts.specs.declared.counts.Counts.{Counts}
 use Rattle.cap_feed.proofs.Onward.{Went, Went-none, Went-more}
 use Rattle.cap_feed.specs.Feed.{Feed, Item, packet, Keeps, Passes, SameItems, FindsPacket, FindsItem, IsFeed, refusal_of}
 use Rattle.cap_feed.specs.Walk.{GivesPacket, ShowsItem}

@@ -5,8 +5,8 @@ use Rattle.cap_bytes.specs.declared.faults.Fault.{Fault}
 use Rattle.cap_bytes.specs.declared.faults.Fault.TheVariants.{Write}
 use Rattle.cap_bytes.specs.declared.faults.Refusal.{Refusal}
 use Rattle.cap_bytes.specs.declared.faults.Tail.{Tail}
-use Rattle.cap_tally.specs.FileLines.{files_text, counted_texts}
-use Rattle.cap_tally.specs.declared.files.Counted.{Counted}
+use Rattle.cap_counts.specs.FileLines.{files_text, counted_texts}
+use Rattle.cap_counts.specs.declared.files.Counted.{Counted}
 use Rattle.cap_talks.specs.InfoText.{file_texts, info_text}
 use Rattle.cap_talks.specs.Reading.{counted_files}
 use Rattle.cap_talks.specs.Telling.{Tells}

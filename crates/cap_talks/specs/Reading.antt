@@ -6,9 +6,9 @@ use Rattle.cap_bytes.specs.declared.faults.Fault.TheVariants.{Refused, Read, Wri
 use Rattle.cap_bytes.specs.declared.faults.Tail.{Tail}
 use Rattle.cap_feed.specs.Feed.{Feed, refusal_of}
 use Rattle.cap_source.specs.Items.{file_items, file_ending}
-use Rattle.cap_tally.specs.Counting.{packets_of, counted}
-use Rattle.cap_tally.specs.declared.counts.Counts.{Counts}
-use Rattle.cap_tally.specs.declared.files.Counted.{Counted}
+use Rattle.cap_counts.specs.Counting.{packets_of, counted}
+use Rattle.cap_counts.specs.declared.counts.Counts.{Counts}
+use Rattle.cap_counts.specs.declared.files.Counted.{Counted}
 use Rattle.cap_talks.specs.InfoText.{first_refusal}
 
 -- all packets that a feed gave are counted, or what refused it is answered

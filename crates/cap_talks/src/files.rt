@@ -11,9 +11,9 @@ ghost use Rattle.cap_talks.specs.Reading.{CountsAll, CountsFile, CountsFiles, Fa
 ghost use Rattle.cap_talks.specs.Telling.{Tells};
 
 use cap_bytes::{Fault, Sink, Source, Tail};
+use cap_counts::{Counted, Counts, put_files};
 use cap_feed::{Head, PacketFeed};
 use cap_source::Capture;
-use cap_tally::{Counted, Counts, put_files};
 use std::alloc::Global;
 
 // Takes all packets that a feed still gives.

@@ -7,9 +7,6 @@ pub mod SumLaws
 pub mod TalkPrinting
 pub mod RowOrder
 pub mod Packing
-pub mod Times
-pub mod Counting
-pub mod FilePrinting
 pub mod Recount
 pub mod Steps
 pub mod Frames

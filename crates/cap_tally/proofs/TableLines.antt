@@ -3,13 +3,13 @@ use Rattle.std.proofs.Common.{◌≡◌, ◌<◌, ◌+◌, ◌==◌, ◌||◌, �
 use Rattle.std.specs.List.{flat_map, list_any, range_with_len}
 use Rattle.cap_feed.specs.Feed.{HasFile}
 use Rattle.cap_feed.specs.declared.feeds.Ending.{Ending}
-use Rattle.cap_tally.specs.Counting.{counted}
-use Rattle.cap_tally.specs.FileLines.{file_text, ending_at}
-use Rattle.cap_tally.specs.FileLines.{ended_from, counted_texts}
+use Rattle.cap_counts.specs.Counting.{counted}
+use Rattle.cap_counts.specs.FileLines.{file_text, ending_at}
+use Rattle.cap_counts.specs.FileLines.{ended_from, counted_texts}
 use Rattle.cap_tally.specs.TakenText.{file_line, metas_of}
 use Rattle.cap_tally.specs.Taken.{Taken}
 use Rattle.cap_tally.specs.Totals.{counts_from}
-use Rattle.cap_tally.specs.declared.counts.Counts.{Counts}
+use Rattle.cap_counts.specs.declared.counts.Counts.{Counts}
 
 -- a file of that number is one of them
 pub is-numbered : (first count place : ℕ) → place < count → HasFile (range_with_len first count) (first + place)

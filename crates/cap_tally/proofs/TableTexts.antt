@@ -3,15 +3,15 @@ use Rattle.std.proofs.Common.{arith, ◌≡◌, ℕ, List, ◌++◌, length, Opt
 use Rattle.cap_feed.specs.declared.feeds.Ending.{Ending}
 use Rattle.cap_tally.specs.Classes.{classes, counts_of}
 use Rattle.cap_tally.specs.CountedUnits.{units_of, joined_in, given_up_in}
-use Rattle.cap_tally.specs.FileLines.{files_text}
-use Rattle.cap_tally.specs.FileLines.{ended_from, counted_texts}
+use Rattle.cap_counts.specs.FileLines.{files_text}
+use Rattle.cap_counts.specs.FileLines.{ended_from, counted_texts}
 use Rattle.cap_tally.specs.TakenText.{files_part, body_text, text_of, total_text, frames_text, joined_text, bytes_of, truncated_of}
 use Rattle.cap_tally.specs.Taken.{Taken}
 use Rattle.cap_tally.specs.Talks.{rows_of}
 use Rattle.cap_tally.specs.TalkLines.{talk_texts, talks_text}
 use Rattle.cap_tally.specs.Tallies.{TallyState, Stands, tally_text}
 use Rattle.cap_tally.specs.Totals.{TotalsState, TotalsStand}
-use Rattle.cap_tally.specs.declared.files.Counted.{Counted}
+use Rattle.cap_counts.specs.declared.files.Counted.{Counted}
 use Rattle.cap_tally.proofs.TableLines.{ended-length, lines-counted}
 use Rattle.cap_tally.proofs.Waiting.{given-up}
 

@@ -4,12 +4,12 @@ use Rattle.std.specs.Prelude.{replicate, slice_set, slice_index_or, if◌then◌
 use Rattle.std.specs.List.{AllByRecursion, refill}
 use Rattle.std.proofs.lemmas.Bool.Decides.{nat_tests}
 use Rattle.cap_feed.specs.declared.packets.Meta.{Meta}
-use Rattle.cap_tally.specs.Counting.{counted, with_packet, are_in_order, original_bytes, truncated_packets}
+use Rattle.cap_counts.specs.Counting.{counted, with_packet, are_in_order, original_bytes, truncated_packets}
 use Rattle.cap_tally.specs.TakenText.{metas_of, bytes_of, truncated_of}
 use Rattle.cap_tally.specs.Taken.{Taken}
 use Rattle.cap_tally.specs.Totals.{TotalsState, TotalsStand, IsSoundTotals, counts_from, is_room}
-use Rattle.cap_tally.specs.declared.counts.Counts.{Counts}
-use Rattle.cap_tally.proofs.Counting.{counted-more, counted-in_order}
+use Rattle.cap_counts.specs.declared.counts.Counts.{Counts}
+use Rattle.cap_counts.proofs.Counting.{counted-more, counted-in_order}
 
 pub one-more : {A : Type 0} (n : ℕ) (x : A) → replicate n x ++ (x ∷ []) ≡ replicate (suc n) x
 one-more zero x = refl

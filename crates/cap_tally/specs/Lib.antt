@@ -7,8 +7,6 @@ pub mod TalksView
 pub mod TalkLines
 pub mod Laws
 pub mod Worked
-pub mod Counting
-pub mod FileLines
 pub mod Taken
 pub mod Classes
 pub mod CountedUnits

@@ -3,8 +3,8 @@ use Rattle.std.specs.Prelude.{ℕ, List, [], ◌∷◌, ◌++◌, ◌+◌, ◌==
 use Rattle.std.specs.List.{flat_map, range_with_len}
 use Rattle.cap_feed.specs.declared.feeds.Ending.{Ending}
 use Rattle.cap_feed.specs.declared.packets.Meta.{Meta}
-use Rattle.cap_tally.specs.Counting.{counted}
-use Rattle.cap_tally.specs.FileLines.{file_text, files_text, ending_at}
+use Rattle.cap_counts.specs.Counting.{counted}
+use Rattle.cap_counts.specs.FileLines.{file_text, files_text, ending_at}
 use Rattle.cap_tally.specs.TalkLines.{talk_texts, talks_text}
 use Rattle.cap_tally.specs.Talks.{rows_of}
 use Rattle.cap_tally.specs.Classes.{classes, counts_of}

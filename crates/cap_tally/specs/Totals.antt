@@ -1,10 +1,10 @@
 -- What is counted of the packets that were taken: of each file, and of all.
 use Rattle.std.specs.Prelude.{◌≡◌, ℕ, ◌+◌, ◌*◌, ◌^◌, ◌&&◌, ◌≤◌, ◌<◌, List, Bool, length, map, nat_lt}
 use Rattle.std.specs.List.{AllByRecursion, range_with_len}
-use Rattle.cap_tally.specs.Counting.{counted, are_in_order}
+use Rattle.cap_counts.specs.Counting.{counted, are_in_order}
 use Rattle.cap_tally.specs.TakenText.{metas_of, bytes_of, truncated_of}
 use Rattle.cap_tally.specs.Taken.{Taken}
-use Rattle.cap_tally.specs.declared.counts.Counts.{Counts}
+use Rattle.cap_counts.specs.declared.counts.Counts.{Counts}
 
 -- The counts of each file, by number from 1; how many packets there are, their bytes, and how many are truncated.
 pub record TotalsState : Type 0 where

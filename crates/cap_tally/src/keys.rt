@@ -11,7 +11,7 @@ use crate::units::{CountedUnit, End};
 use std::hash::{Hash, Hasher};
 
 /// A key as two numbers, which are compared and hashed in a fraction of the time that its fields take.
-#[derive(Clone, Copy, Debug, PartialEq, Eq)]
+#[derive(Clone, Copy, PartialEq, Eq)]
 pub(crate) struct PackedKey {
     // the lesser end, and below it the protocol
     lesser: u64,

@@ -4,9 +4,6 @@
 
 mod adding;
 mod classes;
-mod counts;
-mod file_lines;
-mod files;
 mod keys;
 mod laws;
 mod looks;
@@ -21,8 +18,6 @@ mod totals;
 mod units;
 
 pub use crate::classes::Class;
-pub use crate::counts::Counts;
-pub use crate::files::{Counted, put_files};
 pub use crate::laws::{talk_laws, worked_talks};
 pub use crate::rows::{TalkKey, TalkRow};
 pub use crate::tables::{Held, Step, Table};

@@ -18,7 +18,7 @@ use std::marker::Model;
 const TALK_LIMIT: usize = 1_048_576;
 
 /// Why a unit, or the packet that completes it, wasn't counted. The table is as it was.
-#[derive(Clone, Copy, Debug, PartialEq, Eq)]
+#[derive(Clone, Copy)]
 pub enum TalksFault {
     /// The unit's conversation is a new one, and there are 1,048,576 already.
     Limit,

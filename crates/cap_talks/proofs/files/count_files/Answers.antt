@@ -7,7 +7,7 @@ use Rattle.std.specs.Prelude.{Vec}
 use Rattle.std.specs.declared.alloc.Global.{Global}
 use Rattle.cap_source.specs.ReadFaults.{FailsAs, FailsOf}
 use Rattle.cap_talks.specs.Reading.{CountsFile}
-use Rattle.cap_tally.specs.declared.files.Counted.{Counted}
+use Rattle.cap_counts.specs.declared.files.Counted.{Counted}
 use Rattle.cap_talks.proofs.FileByFile.{all-at, read-more, read-fault, fails}
 use Rattle.cap_talks.proofs.files.count_files.Goals as goal
 

@@ -1,6 +1,6 @@
 use Rattle.std.proofs.Common.{arith, rules}
 use Rattle.std.proofs.lemmas.Result.{err_from_is_err_and}
-use Rattle.cap_tally.proofs.Counting.{counted-in_order}
+use Rattle.cap_counts.proofs.Counting.{counted-in_order}
 use Rattle.cap_talks.proofs.CountedPackets.{found-packet, found-item, found-end, found-fault, counted-none, counted-taken, counted-end, counted-fault}
 use Rattle.cap_talks.proofs.files.count_packets.Goals as goal
 

@@ -1,6 +1,6 @@
 use Rattle.std.proofs.Common.{◌≡◌, [], length}
 use Rattle.std.specs.Prelude.{replicate}
-use Rattle.cap_tally.specs.Counting.{counted}
+use Rattle.cap_counts.specs.Counting.{counted}
 use Rattle.cap_tally.proofs.totals.new_files.Given as goal
 
 abbrev pub invariant-loop : goal.invariant-loop

@@ -5,8 +5,8 @@ use Rattle.cap_bytes.proofs.Putting.{Prints-head, Prints-behind}
 use Rattle.cap_bytes.specs.Printing.{Prints}
 use Rattle.cap_order.specs.Parts.{feed_of}
 use Rattle.cap_order.specs.View.{parts_of}
-use Rattle.cap_tally.specs.FileLines.{files_text}
-use Rattle.cap_tally.specs.FileLines.{ended_from, counted_texts}
+use Rattle.cap_counts.specs.FileLines.{files_text}
+use Rattle.cap_counts.specs.FileLines.{ended_from, counted_texts}
 use Rattle.cap_tally.specs.TakenText.{total_text}
 use Rattle.cap_tally.specs.Stepping.{next_taken}
 use Rattle.cap_tally.specs.Tallies.{tally_text}

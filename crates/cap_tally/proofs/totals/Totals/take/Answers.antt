@@ -1,6 +1,6 @@
 use Rattle.std.proofs.Common.{◌≡◌, ◌+◌, ◌-◌, ◌^◌, ◌<◌, [], None, length, arith, rules, refl, ap, ◌∙◌, subst}
 use Rattle.std.specs.Prelude.{slice_set, slice_index_or}
-use Rattle.cap_tally.specs.Counting.{counted, with_packet}
+use Rattle.cap_counts.specs.Counting.{counted, with_packet}
 use Rattle.cap_tally.specs.Looking.{taken}
 use Rattle.cap_tally.specs.Totals.{TotalsState}
 use Rattle.cap_tally.specs.TotalsView.{totals_view}
