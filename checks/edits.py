@@ -6,8 +6,8 @@ copy of the crate, and one check asks for all these functions. It says of each w
 An edit is refused if its function fails at a goal: it doesn't count that a function which it calls isn't proved, or that a proof file
 names what the edit took away. And no function may fail that no edit names: that shows that the edits are apart.
 
-Asked are the files of crates/*/must-fail that have a line `function: PATH`, as a check prints it after the crate's name, which rt passes over.
-Those without one change the definition of a law.
+Asked are the edits that edits.txt has, each with the function that it changes, as a check prints it after the crate's name. Those that aren't
+there change a definition.
 
 Use: checks/edits.py [CRATE..]     over the libraries below as `rt ci` or `rt check` left them
 """
@@ -50,16 +50,19 @@ def read_text(path):
         return file.read()
 
 
+# The function that an edit changes, by the edit's crate and name.
+FUNCTIONS = dict(line.split() for line in read_text(f"{TOP}/checks/edits.txt").splitlines())
+
+
 def edits_of(crate):
     folder = f"{TOP}/crates/{crate}/must-fail"
     edits = []
     for name in sorted(os.listdir(folder)) if os.path.isdir(folder) else []:
         edit, path, old = Edit(name.removesuffix(".edit")), None, None
+        edit.function = FUNCTIONS.get(f"{crate}/{edit.name}", "")
         for line in read_text(f"{folder}/{name}").splitlines():
             word, _, rest = line.partition(": ")
-            if word == "function":
-                edit.function = rest
-            elif word == "file":
+            if word == "file":
                 path = rest
             elif word == "old":
                 old = rest
