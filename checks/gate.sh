@@ -5,7 +5,7 @@
 # Use: checks/gate.sh     (the scripts take less than a minute on four processors; they want a C compiler and Python 3)
 set -u
 cd "$(dirname "$0")/.."
-scripts='program.sh stack.sh papers.sh rounds.sh invariance.py hostile.py limits.py faults.py'
+scripts=(program.sh stack.sh papers.sh rounds.sh invariance.py hostile.py limits.py 'faults.py growths' 'faults.py devices')
 passed=0
 failed=0
 logs=$(mktemp -d)
@@ -26,22 +26,23 @@ counted() {
     fi
 }
 
-# A check is one process, and there are as many at once as there are processors with 3 GiB of memory each (a check takes 1 to 3). Without this
-# number rt goes by a guess of its own, 10 GiB for the tests: so these wait until nearly all else is done, and if processors are idle by then
-# they are proved by several processes, which together take longer.
-processors=$(nproc)
+# A check is one process, and there is one at once more than there are processors, since before and after each rt copies what it stands on; but
+# only as many as there are times 3 GiB of memory (a check takes 1 to 3). Without this number rt goes by a guess of its own, 10 GiB for the
+# tests: so these wait until nearly all else is done, and if processors are idle by then they are proved by several processes, which together
+# take longer.
+most=$(($(nproc) + 1))
 memory=$(awk '/^MemAvailable:/ { print int($2 / 1048576 / 3) }' /proc/meminfo)
-export RT_JOBS=${RT_JOBS:-$((memory < 1 ? 1 : memory < processors ? memory : processors))}
+export RT_JOBS=${RT_JOBS:-$((memory < 1 ? 1 : memory < most ? memory : most))}
 rt ci 2>&1 | tee "$logs/rt ci"
 counted 'rt ci' "${PIPESTATUS[0]}"
 
 # the scripts wait for each other in nothing, so they run side by side, and each is told in its turn
 declare -A running
-for script in $scripts; do
-    "checks/$script" > "$logs/$script" 2>&1 &
+for script in "${scripts[@]}"; do
+    checks/$script > "$logs/$script" 2>&1 &
     running[$script]=$!
 done
-for script in $scripts; do
+for script in "${scripts[@]}"; do
     status=0
     wait "${running[$script]}" || status=$?
     cat "$logs/$script"

@@ -11,8 +11,7 @@ import sys
 
 sys.dont_write_bytecode = True
 
-import os, tempfile, threading
-from concurrent.futures import ThreadPoolExecutor
+import multiprocessing, os, tempfile
 
 import model
 from captures import PROGRAM, VECTORS, Bench, Count, block, make_shim, vector
@@ -94,6 +93,20 @@ def all_runs():
             yield label, "report", [content], n % 2 == 0
 
 
+def begin(folder, program, of_faults):
+    """Makes what the runs of a process need, in a folder of its own."""
+    global bench, shim
+    bench, shim = Bench(tempfile.mkdtemp(dir=folder), program), of_faults
+
+
+def held(numbered):
+    """The name of a run, and None, or how it differs from the model."""
+    n, (label, task, contents, allow_cut) = numbered
+    by_bytes = (shim, {"PIECE": 1}) if (n + n // 8 + n // 16) % 2 else None
+    name = f"{task} of {label}{', --allow-cut' if allow_cut else ''}{', by one byte' if by_bytes else ''}"
+    return name, bench.differs(task, contents, allow_cut, "<", os.path.join(bench.folder, "out"), by_bytes)
+
+
 def main():
     count = Count()
     program = sys.argv[1] if len(sys.argv) > 1 else PROGRAM
@@ -113,15 +126,9 @@ def main():
                 if task in ("info", "report"):
                     count.check(f"{task} writes nothing", seen[1] == b"", seen)
 
-        def held(numbered):
-            n, (label, task, contents, allow_cut) = numbered
-            out = os.path.join(folder, f"out{threading.get_ident()}")
-            by_bytes = (shim, {"PIECE": 1}) if (n + n // 8 + n // 16) % 2 else None
-            name = f"{task} of {label}{', --allow-cut' if allow_cut else ''}{', by one byte' if by_bytes else ''}"
-            return name, bench.differs(task, contents, allow_cut, "<", out, by_bytes)
-
-        with ThreadPoolExecutor(4) as pool:
-            for name, wrong in pool.map(held, enumerate(all_runs())):
+        # by processes, since most of the time is the model's, and by more than there are processors, since each waits for the program
+        with multiprocessing.get_context("fork").Pool(8, begin, (folder, program, shim)) as pool:
+            for name, wrong in pool.imap(held, enumerate(all_runs()), 64):
                 count.check(name, wrong is None, wrong)
     count.end()
 
