@@ -5,15 +5,11 @@ ghost use Rattle.cap_join.specs.Places.{PlacesLaw};
 ghost use Rattle.cap_join.specs.Rows.{OpenLimit, OverlapMap, ThirtySeconds};
 
 /// The two definitions of groups agree: the one by places, which asks of the fragment before with the
-/// key, and the one by steps, in which each fragment drops all groups that are too old. This holds
-/// if clocks never fall, places rise, and no fragment is a whole datagram by itself.
+/// key, and the one by steps, in which each fragment drops all groups that are too old; and so do the
+/// groups that were completed by either. This holds if clocks never fall, places rise, and no fragment
+/// is a whole datagram by itself. And no fragment is in two groups, open or completed.
 pub fn places_law()
-    ensures { PlacesLaw }
-{}
-
-/// The groups that were completed, by steps and by places, are the same if clocks never fall; and no
-/// fragment is in two groups, open or completed.
-pub fn completed_laws()
+    ensures groups { PlacesLaw }
     ensures completed { CompletedLaw }
     ensures once { OnceLaw }
 {}

@@ -14,4 +14,4 @@ mod tables;
 pub use crate::arrivals::Arrived;
 pub use crate::datagrams::{Datagram, JoinFault, Put, Stamped};
 pub use crate::joiners::Joiner;
-pub use crate::laws::{completed_laws, equal_clocks, places_law, worked_rows};
+pub use crate::laws::{equal_clocks, places_law, worked_rows};

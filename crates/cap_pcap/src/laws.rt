@@ -1,31 +1,22 @@
-//! Laws of the grammar of pcap files, each the contract of a function that does nothing.
+//! The laws of the grammar of pcap files.
 ghost use Rattle.cap_pcap.specs.Laws.{OneRecord, OneSplit, EverySplit, SplitItems, HeaderRead, RecordRead, HeaderAgain, RecordAgain};
 
-/// No record's spelling is a proper prefix of another's, and no bytes spell two packets.
-pub fn one_record()
-    ensures law { OneRecord }
-{}
-
-/// The bytes after a header split in one way into records and a rest that no record begins.
-pub fn one_split()
-    ensures law { OneSplit }
+/// The laws of the grammar, as the contract of a function that does nothing.
+///
+/// - `record`: no record's spelling is a proper prefix of another's, and no bytes spell two packets.
+/// - `one`, `every`: the bytes after every header split, in one way, into records and a rest that no record begins.
+/// - `items`: the items of some bytes are the packets of their split, and then what the rest is.
+/// - `header_spelled`, `packet_spelled`: bytes that spell a header or a packet are read as that, whatever follows
+///   them.
+/// - `header`, `packet`: what is written for a header or a packet spells it, so it is read again as the same
+///   values, whatever follows it.
+pub fn grammar_laws()
+    ensures record { OneRecord }
+    ensures one { OneSplit }
     ensures every { EverySplit }
-{}
-
-/// The items of some bytes are the packets of their split, and then what the rest is.
-pub fn split_items()
-    ensures law { SplitItems }
-{}
-
-/// Bytes that spell a header or a packet are read as that, whatever follows them.
-pub fn read_whole()
-    ensures header { HeaderRead }
-    ensures packet { RecordRead }
-{}
-
-/// What is written for a header or a packet spells it, so it is read again as the same values,
-/// whatever follows it.
-pub fn read_again()
+    ensures items { SplitItems }
+    ensures header_spelled { HeaderRead }
+    ensures packet_spelled { RecordRead }
     ensures header { HeaderAgain }
     ensures packet { RecordAgain }
 {}

@@ -18,7 +18,7 @@ mod totals;
 mod units;
 
 pub use crate::classes::Class;
-pub use crate::laws::{talk_laws, worked_talks};
+pub use crate::laws::talk_laws;
 pub use crate::rows::{TalkKey, TalkRow};
 pub use crate::tables::{Held, Step, Table};
 pub use crate::units::{CountedUnit, End, TimedFrame};

@@ -102,9 +102,8 @@ fn comes<R: Source>(
     rt: &impl Abort,
     reader: &mut BlockReader<R>,
     block: Option<Block>,
-) -> Result<(), Fault> {
-    same!(rt; reader.next_block()?, block);
-    Ok(())
+) {
+    same!(rt; reader.next_block(), Ok(block));
 }
 
 // Next come these blocks, and then the end, also if it is asked for again.
@@ -112,12 +111,12 @@ fn gives_blocks<R: Source>(
     rt: &impl Abort,
     reader: &mut BlockReader<R>,
     blocks: &[Row],
-) -> Result<(), Fault> {
+) {
     for (kind, offset, total, order) in blocks {
-        comes(rt, reader, Some(block(*kind, *offset, *total, *order)))?;
+        comes(rt, reader, Some(block(*kind, *offset, *total, *order)));
     }
-    comes(rt, reader, None)?;
-    comes(rt, reader, None)
+    comes(rt, reader, None);
+    comes(rt, reader, None);
 }
 
 // A file has these blocks, by one byte a read and by many, and was cut if that is so.
@@ -127,10 +126,10 @@ fn has_blocks(
     file: &[u8],
     blocks: &[Row],
     was_cut: bool,
-) -> Result<(), Fault> {
+) -> Result<(), AllocError> {
     for &piece in &[1, 4_096] {
         let mut reader = reader(alloc, file, piece, Tail::Accept)?;
-        gives_blocks(rt, &mut reader, blocks)?;
+        gives_blocks(rt, &mut reader, blocks);
         same!(rt; reader.was_cut(), was_cut);
         holds!(rt; !reader.window().failed());
     }
@@ -147,36 +146,34 @@ fn always_memory_blocks_in_order(rt: HostRuntime) -> Result<(), Fail> {
 }
 
 // A block comes, and the window shows more.
-fn gives_block<R: Source>(rt: &impl Abort, reader: &mut BlockReader<R>) -> Result<(), Fault> {
-    holds!(rt; reader.next_block()?.is_some());
+fn gives_block<R: Source>(rt: &impl Abort, reader: &mut BlockReader<R>) {
+    holds!(rt; matches!(reader.next_block(), Ok(Some(_))));
     holds!(rt; reader.window().shows(8));
-    Ok(())
 }
 
 // The window shows a packet after two blocks, and then none.
-fn shows_packet<R: Source>(rt: &impl Abort, reader: &mut BlockReader<R>) -> Result<(), Fault> {
+fn shows_packet<R: Source>(rt: &impl Abort, reader: &mut BlockReader<R>) {
     same!(rt; reader.take_packet(), None);
-    gives_block(rt, reader)?;
-    gives_block(rt, reader)?;
+    gives_block(rt, reader);
+    gives_block(rt, reader);
     same!(rt; reader.take_packet(), Some(block(6, 96, 48, Order::Little)));
     same!(rt; reader.take_packet(), None);
-    comes(rt, reader, Some(block(5, 144, 24, Order::Little)))
+    comes(rt, reader, Some(block(5, 144, 24, Order::Little)));
 }
 
 // The first bytes that are read bring a packet into the window, which shows it after the blocks before it.
 #[test]
 fn always_memory_a_shown_packet(rt: HostRuntime) -> Result<(), Fail> {
     let mut reader = reader(rt.alloc(), &OPTIONS_PCAPNG, 4_096, Tail::Refuse)?;
-    let shown = shows_packet(&rt, &mut reader);
-    drop(reader);
-    Ok(shown?)
+    shows_packet(&rt, &mut reader);
+    Ok(())
 }
 
 // The bodies of the file's blocks are lent one by one.
-fn lends_bodies<R: Source>(rt: &impl Abort, reader: &mut BlockReader<R>) -> Result<(), Fault> {
+fn lends_bodies<R: Source>(rt: &impl Abort, reader: &mut BlockReader<R>) {
     let mut rest = CARRY_PCAPNG.as_slice();
     for size in [16, 20, 24] {
-        let Some(block) = reader.next_block()? else {
+        let Ok(Some(block)) = reader.next_block() else {
             break;
         };
         if !is_known(block.kind) || rest.len() < size + 12 {
@@ -186,7 +183,6 @@ fn lends_bodies<R: Source>(rt: &impl Abort, reader: &mut BlockReader<R>) -> Resu
         rest = rest.split_at(size + 12).1;
     }
     holds!(rt; rest.is_empty());
-    Ok(())
 }
 
 // The bodies are lent as they stand in the file.
@@ -194,9 +190,8 @@ fn lends_bodies<R: Source>(rt: &impl Abort, reader: &mut BlockReader<R>) -> Resu
 fn bodies(rt: HostRuntime) -> Result<(), Fail> {
     holds!(&rt; is_section(&CARRY_PCAPNG));
     let mut reader = reader(rt.alloc(), &CARRY_PCAPNG, 1, Tail::Refuse)?;
-    let lent = lends_bodies(&rt, &mut reader);
-    drop(reader);
-    Ok(lent?)
+    lends_bodies(&rt, &mut reader);
+    Ok(())
 }
 
 // How many bytes of CARRY_PCAPNG come first, what follows them, and where and by which rule that is refused.

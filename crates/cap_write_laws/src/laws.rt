@@ -29,24 +29,19 @@ pub fn pcap_again()
     ensures { PcapAgain }
 {}
 
-/// In every file, of either format, the packets of one instance have one interface.
-pub fn one_interface()
-    ensures law { OneInterface }
-{}
-
 /// What `write_merged` writes of the run of any files, whatever bytes they hold, if it is at most 2^40
 /// bytes long, has the packets of the run, those before a refusal, in order: with the same numbers of
 /// interfaces, which are the instances there, and the same interfaces, times, lengths and bytes. The same
 /// holds of every list whose fields fit in their widths and in which the packets of one instance have one
 /// interface, but that the captured length which is read again is the number of a packet's bytes.
+///
+/// In every file, of either format, the packets of one instance have one interface (`interfaces`). In the run of
+/// some files, the greatest time among the packets up to and with one equals that packet's clock by the order of
+/// times, also if files run back in time (`clocks`).
 pub fn merged_again()
     ensures files { MergeLaw }
     ensures packets { MergedAgain }
-{}
-
-/// In the run of some files, the greatest time among the packets up to and with one equals that packet's
-/// clock by the order of times, also if files run back in time.
-pub fn clock_law()
+    ensures interfaces { OneInterface }
     ensures clocks { ClockLaw }
 {}
 

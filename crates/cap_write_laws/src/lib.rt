@@ -5,5 +5,5 @@
 mod laws;
 
 pub use crate::laws::{
-    clock_law, merged_again, one_interface, pcap_again, pcapng_again, round_trip, rounds_law,
+    merged_again, pcap_again, pcapng_again, round_trip, rounds_law,
 };
