@@ -16,7 +16,7 @@ use Rattle.cap_source.specs.Contents.{content_in}
 use Rattle.cap_feed.specs.Feed.{Item}
 use Rattle.cap_source.specs.Items.{Progress, fresh, behind, items_at, items_of_stop, items_in, pcap_items, interface_of, is_pcapng, items_from, file_items}
 use Rattle.cap_source.specs.declared.contents.Content.{Content}
-use Rattle.cap_write_laws.specs.Rounds.{in_file}
+use Rattle.cap_laws.specs.again.Rounds.{in_file}
 
 -- ---- pieces, of either format
 

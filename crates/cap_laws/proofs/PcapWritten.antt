@@ -13,7 +13,7 @@ use Rattle.cap_feed.specs.Feed.{Item, packet, refusal_of}
 use Rattle.cap_source.specs.Items.{file_first, file_items}
 use Rattle.cap_time.specs.declared.stamps.Stamp.{Stamp}
 use Rattle.cap_write.specs.Pcap.{pcap_bytes}
-use Rattle.cap_write_laws.specs.Laws.{PcapAgain, SamePackets}
+use Rattle.cap_laws.specs.again.Laws.{PcapAgain, SamePackets}
 use Rattle.cap_laws.proofs.LikeReports.{LikeItems, RunsLike, same-but-forms}
 use Rattle.cap_laws.proofs.OneFile.{run-one}
 use Rattle.cap_laws.proofs.SameRun.{told_twice}

@@ -11,8 +11,8 @@ use Rattle.cap_feed.specs.Feed.{Item, packet}
 use Rattle.cap_source.specs.Items.{file_items}
 use Rattle.cap_write.specs.Numbering.{Origin, numbered, refusal_in, with_origin}
 use Rattle.cap_write.specs.Texts.{packets_bytes}
-use Rattle.cap_write_laws.specs.Laws.{instances, numbers}
-use Rattle.cap_write_laws.specs.Rounds.{FileRoundsLaw, MergeLaw, IsItemOf, IsMergeOf, numbered_files, run_of}
+use Rattle.cap_laws.specs.again.Laws.{instances, numbers}
+use Rattle.cap_laws.specs.again.Rounds.{FileRoundsLaw, MergeLaw, IsItemOf, IsMergeOf, numbered_files, run_of}
 use Rattle.cap_laws.proofs.FileNumbers.{file-numbered}
 use Rattle.cap_laws.proofs.Twins.{goes, refuses}
 use Rattle.cap_laws.specs.Rounds.{Group, IsMerged, group_bytes, refused_by, RoundsInBytes}

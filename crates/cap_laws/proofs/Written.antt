@@ -11,8 +11,8 @@ use Rattle.cap_feed.specs.Feed.{Item, packet, refusal_of}
 use Rattle.cap_source.specs.Items.{file_first, file_items}
 use Rattle.cap_write.specs.Numbering.{Origin, refusal_in, with_origin}
 use Rattle.cap_write.specs.Texts.{first_origins, merged_refusal, merged_bytes, pcapng_refusal, pcapng_bytes}
-use Rattle.cap_write_laws.specs.Laws.{PcapngAgain}
-use Rattle.cap_write_laws.specs.Rounds.{MergeLaw}
+use Rattle.cap_laws.specs.again.Laws.{PcapngAgain}
+use Rattle.cap_laws.specs.again.Rounds.{MergeLaw}
 use Rattle.cap_laws.proofs.OneFile.{run-one}
 use Rattle.cap_laws.proofs.Alike.{RunsAlike}
 use Rattle.cap_laws.proofs.SameRun.{IsRewritten, rewritten-alike, same-run}

@@ -1,3 +1,4 @@
+pub mod again
 pub mod Forms
 pub mod InOrder
 pub mod Reports

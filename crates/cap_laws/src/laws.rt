@@ -9,7 +9,7 @@ ghost use Rattle.cap_laws.specs.WorkedReport.{Overlapped, Tagged};
 ghost use Rattle.cap_tally.specs.Classes.{OneClass};
 ghost use Rattle.cap_tally.specs.Taken.{Taken};
 
-use cap_write_laws::{merged_again, pcap_again, pcapng_again, rounds_law};
+use crate::again::{merged_again, pcap_again, pcapng_again, rounds_law};
 
 /// If `write_merged` writes the run of some files, whatever bytes these hold, with no refusal and in at most
 /// 2^40 bytes, the report over the one file that it wrote has the lines of the report over those files, byte for

@@ -1,9 +1,11 @@
-//! Laws over several crates: what stays of the report and of the run when packets are written and read again, and merging in
-//! rounds.
+//! Laws over several crates: what of one capture is read again when it is written in either format, and of several when they
+//! are merged, at once or in rounds; and what stays of the report and of the run then.
 #![tactic(auto)]
 
+mod again;
 mod laws;
 
+pub use crate::again::{merged_again, pcap_again, pcapng_again, round_trip, rounds_law};
 pub use crate::laws::{
     merged_report, merged_run, one_class, pcap_report, pcapng_report, pcapng_run, refusal_rule,
     rounds_bytes, worked_report,

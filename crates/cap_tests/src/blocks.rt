@@ -98,20 +98,12 @@ fn fault_of<R: Source>(reader: &mut BlockReader<R>) -> Option<Fault> {
 }
 
 // Next comes that block, or the end.
-fn comes<R: Source>(
-    rt: &impl Abort,
-    reader: &mut BlockReader<R>,
-    block: Option<Block>,
-) {
+fn comes<R: Source>(rt: &impl Abort, reader: &mut BlockReader<R>, block: Option<Block>) {
     same!(rt; reader.next_block(), Ok(block));
 }
 
 // Next come these blocks, and then the end, also if it is asked for again.
-fn gives_blocks<R: Source>(
-    rt: &impl Abort,
-    reader: &mut BlockReader<R>,
-    blocks: &[Row],
-) {
+fn gives_blocks<R: Source>(rt: &impl Abort, reader: &mut BlockReader<R>, blocks: &[Row]) {
     for (kind, offset, total, order) in blocks {
         comes(rt, reader, Some(block(*kind, *offset, *total, *order)));
     }

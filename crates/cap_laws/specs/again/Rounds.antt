@@ -1,0 +1,121 @@
+-- Laws of merging: what is written of a merge is read again, a packet's clock in the merged list, and merging in rounds.
+use Rattle.std.specs.Prelude.{◌≡◌, ℕ, suc, ◌≤◌, ◌^◌, List, [], ◌∷◌, ◌++◌, length, map, Option, Some, None}
+use Rattle.std.specs.List.{AllByRecursion, AllZip, flat_map}
+use Rattle.std.specs.Option.{option_map}
+use Rattle.std.specs.declared.cmp.Ordering.TheVariants.{Equal}
+use Rattle.cap_blocks.specs.Split.{AreBytes}
+use Rattle.cap_bytes.specs.declared.faults.Rule.{Rule}
+use Rattle.cap_bytes.specs.declared.faults.Tail.{Tail}
+use Rattle.cap_numbers.specs.declared.numbers.Order.{Order}
+use Rattle.cap_feed.specs.Feed.{Item, packet, refused, refusal_of}
+use Rattle.cap_source.specs.Items.{file_items}
+use Rattle.cap_feed.specs.declared.packets.Format.TheVariants.{Pcapng}
+use Rattle.cap_feed.specs.declared.packets.Meta.{Meta}
+use Rattle.cap_time.specs.Clock.{clock_cmp, greatest}
+use Rattle.cap_write.specs.Numbering.{Numbered, numbered, refusal_in}
+use Rattle.cap_write.specs.Texts.{merged_bytes}
+use Rattle.cap_merge.specs.Files.{run_of_files, run_of_lists}
+use Rattle.cap_order.specs.Run.{Clocked, opened, run}
+use Rattle.cap_order.specs.Parts.{item_time, is_refusal}
+use Rattle.cap_laws.specs.again.Laws.{instances, numbers}
+
+-- ---- the merge law
+
+-- What is written of a merge of any files, if it is at most 2^40 bytes long, has the packets of their run,
+-- those before a refusal, in order: both have the same numbered packets, and a packet's instance is its number
+-- there.
+abbrev pub MergeLaw : Type 0
+MergeLaw =
+    (order : Order) (tail tail_again : Tail) (file_again : ℕ) (files : List (List ℕ)) → AllByRecursion AreBytes files
+    → (let items = run_of_files tail files in
+    let text = merged_bytes order items in
+    let again = file_items tail_again file_again text in
+    length text ≤ 2 ^ 40
+    → (numbered [] again ≡ numbered [] items)
+    × (refusal_in [] again ≡ None)
+    × (refusal_of again ≡ None)
+    × (instances again ≡ numbers (numbered [] again)))
+
+-- ---- the clock law
+
+-- The greatest time among the packets of a run up to and with one is, by the order, that packet's clock, also if
+-- files run back.
+abbrev pub ClockLaw : Type 0
+ClockLaw =
+    (files : List (List Item)) (before after : List (Clocked Item)) (x : Clocked Item)
+    → run item_time is_refusal (map opened files) ≡ before ++ (x ∷ after)
+    → clock_cmp (greatest (map (λ y. item_time y.item) (before ++ (x ∷ [])))) x.clock ≡ Equal
+
+-- ---- the law of rounds
+
+-- an item as one of the file of that number
+abbrev pub in_file : ℕ → Item → Item
+in_file file (packet meta frame) = packet (record meta { file = file }) frame
+in_file file (refused refusal) = refused (record refusal { file = file })
+
+-- files by their places, from a number on
+abbrev pub numbered_files : ℕ → List (List Item) → List (List Item)
+numbered_files file [] = []
+numbered_files file (items ∷ files) = map (in_file file) items ∷ numbered_files (suc file) files
+
+-- the items of the run of some files, which are numbered from 1 by their places
+unfoldable pub run_of : List (List Item) → List Item
+run_of files = run_of_lists (numbered_files 1 files)
+
+-- the packets that a merge of some files writes, and the rule that refuses the one after them, if one does
+abbrev pub merged_packets : List (List Item) → List Numbered
+merged_packets files = numbered [] (run_of files)
+
+abbrev pub merged_rule : List (List Item) → Option Rule
+merged_rule files = option_map (λ refusal. refusal.rule) (refusal_in [] (run_of files))
+
+-- A packet of a file is a written one: the number of its interface is the interface's instance in the file.
+pub record IsPacketOf (n : Numbered) (meta : Meta) (bytes : List ℕ) : Type 0 where
+  pub instance : meta.instance ≡ n.number
+  pub interface : meta.interface ≡ n.interface
+  pub units : meta.units ≡ Some n.units
+  pub captured : meta.captured ≡ n.captured
+  pub original : meta.original ≡ n.original
+  pub frame : bytes ≡ n.frame
+
+abbrev pub IsItemOf : Numbered → Item → Type 0
+IsItemOf n (packet meta frame) = IsPacketOf n meta frame
+IsItemOf n (refused refusal) = ⊥
+
+-- A file holds what a merge of some files writes, if nothing is refused.
+pub record IsMergeOf (files : List (List Item)) (items : List Item) : Type 0 where
+  pub accepted : refusal_in [] (run_of files) ≡ None
+  pub packets : AllZip IsItemOf (merged_packets files) items
+
+-- Files are split, in their order, into neighbouring groups, and each group is merged. Then the merge of files that hold
+-- what these merges write, in the groups' order, writes what the merge of all files writes.
+abbrev pub FileRoundsLaw : Type 0
+FileRoundsLaw =
+    (groups : List (List (List Item))) (files : List (List Item)) → AllZip IsMergeOf groups files
+    → (merged_packets files ≡ merged_packets (flat_map (λ group. group) groups))
+    × (merged_rule files ≡ merged_rule (flat_map (λ group. group) groups))
+
+-- Some written packets as the items of a file, in which their numbers are the instances; where their blocks begin isn't told.
+abbrev pub item_of : Numbered → Item
+item_of n =
+    packet (record {
+      file = 1;
+      offset = 0;
+      format = Pcapng;
+      skipped = 0;
+      instance = n.number;
+      interface = n.interface;
+      units = Some n.units;
+      captured = n.captured;
+      original = n.original;
+    }) n.frame
+
+abbrev pub file_of : List Numbered → List Item
+file_of packets = map item_of packets
+
+-- The run of what the groups' merges write, each as a file, has the packets of the run of all files.
+abbrev pub RoundsLaw : Type 0
+RoundsLaw =
+    (groups : List (List (List Item))) → AllByRecursion (λ group. refusal_in [] (run_of group) ≡ None) groups
+    → (merged_packets (map (λ group. file_of (merged_packets group)) groups) ≡ merged_packets (flat_map (λ group. group) groups))
+    × (merged_rule (map (λ group. file_of (merged_packets group)) groups) ≡ merged_rule (flat_map (λ group. group) groups))

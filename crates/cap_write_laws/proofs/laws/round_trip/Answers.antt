@@ -1,8 +1,0 @@
-use Rattle.cap_write_laws.proofs.RoundTrip.{round_trip-law, same_bytes-law}
-use Rattle.cap_write_laws.proofs.laws.round_trip.Goals as goal
-
-pub returns-clause-packets : goal.returns-clause-packets
-returns-clause-packets c = round_trip-law
-
-pub returns-clause-bytes : goal.returns-clause-bytes
-returns-clause-bytes c = same_bytes-law
