@@ -5,7 +5,7 @@ ghost use Rattle.cap_bytes.specs.Items.{stop_by, answer_of};
 use crate::faults::{Fault, Refusal, Rule, Tail};
 
 /// What ended the pieces of a file.
-#[derive(Clone, Copy, Debug, PartialEq, Eq)]
+#[derive(Clone, Copy)]
 pub enum Stop {
     /// No bytes were left.
     End,

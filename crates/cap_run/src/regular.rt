@@ -8,7 +8,7 @@ use std::rt::Files;
 
 /// A regular file, under whatever name it was opened: all its names, relative and absolute ones, symbolic
 /// and hard links, give the same.
-#[derive(Clone, Copy, Debug, PartialEq, Eq)]
+#[derive(Clone, Copy, PartialEq, Eq)]
 pub struct FileId {
     /// The number of the device that the file is on.
     pub device: u64,

@@ -8,7 +8,7 @@ use cap_time::Stamp;
 use std::cmp::Ordering;
 
 /// What names a conversation: a protocol and two ends, whichever of them is the source.
-#[derive(Clone, Copy, Debug, PartialEq, Eq)]
+#[derive(Clone, Copy)]
 pub struct TalkKey {
     /// The number of the protocol: 6 TCP, 17 UDP.
     pub protocol: u8,
@@ -20,7 +20,7 @@ pub struct TalkKey {
 
 /// What is counted of the units of a conversation. What a unit changes stands side by side, whichever way it goes, so that a packet
 /// touches as few lines of the processor's memory as it can.
-#[derive(Clone, Copy, Debug)]
+#[derive(Clone, Copy)]
 pub struct TalkRow {
     /// The sum of the original lengths, in bytes, of the frames of units from the lesser end, so also of those from an end to
     /// itself.

@@ -7,7 +7,7 @@ use cap_time::Stamp;
 
 /// An end of a conversation: an IPv4 address (RFC 791, 3.1), and a port if the protocol has ports
 /// (RFC 768; RFC 9293, 3.1). Ends compare as pairs of numbers, by address and then by port.
-#[derive(Clone, Copy, Debug, PartialEq, Eq, PartialOrd, Ord)]
+#[derive(Clone, Copy, PartialEq, Eq, PartialOrd, Ord)]
 pub struct End {
     /// The address, its first byte the highest.
     pub address: u32,
@@ -38,7 +38,7 @@ pub fn ends_of(source: u32, destination: u32, transport: Transport) -> Option<(E
 }
 
 /// A frame that has a time.
-#[derive(Clone, Copy, Debug)]
+#[derive(Clone, Copy)]
 pub struct TimedFrame {
     /// Its own time.
     pub time: Stamp,
@@ -47,7 +47,7 @@ pub struct TimedFrame {
 }
 
 /// An IPv4 datagram that counts in a conversation: one that came whole, or one that was joined.
-#[derive(Clone, Copy, Debug)]
+#[derive(Clone, Copy)]
 pub struct CountedUnit {
     /// The number of the protocol that its data is of: 6 TCP, 17 UDP.
     pub protocol: u8,

@@ -2,7 +2,7 @@
 //! draft-ietf-opsawg-pcap and draft-ietf-opsawg-pcapng.
 mod vectors;
 
-ghost use Rattle.std.specs.Prelude.{◌≡◌, [], ◌∷◌, Some, IfOk};
+ghost use Rattle.std.specs.Prelude.{◌≡◌, [], ◌∷◌, Some};
 
 use crate::checks::{holds, same};
 use crate::source::vectors::{BEFORE, BIG_SECTION, OBSOLETE, SHORT_INTERFACE, SIMPLE, TWICE};
@@ -11,35 +11,35 @@ use cap_bytes::{Fault, Pieces, Refusal, Rule, Source, Tail};
 use cap_feed::{Ending, Format, Head, Listed, Meta, PacketFeed, next_packet};
 use cap_source::Capture;
 use cap_time::{Interface, Resolution, Stamp};
-use std::alloc::{AllocError, Global};
+use std::alloc::Global;
 use std::cmp::max;
 use std::process::Abort;
-use std::test::Fail;
 
 fn capture(
+    rt: &impl Abort,
     alloc: Global,
     bytes: &[u8],
     piece: usize,
     tail: Tail,
-) -> Result<Capture<Pieces>, AllocError>
-    ensures files { IfOk result (λ feed. (⟦<Capture<Pieces> as PacketFeed>⟧.feed feed).files ≡ 7 ∷ []) }
+) -> Capture<Pieces>
+    ensures files { (⟦<Capture<Pieces> as PacketFeed>⟧.feed result).files ≡ 7 ∷ [] }
 {
-    let pieces = Pieces::new(bytes.to_vec(alloc)?, max(piece, 1), None);
-    Ok(Capture::new(alloc, pieces, 7, tail))
+    let bytes = bytes.to_vec(alloc).expect(rt, "memory");
+    Capture::new(alloc, Pieces::new(bytes, max(piece, 1), None), 7, tail)
 }
 
 // Some blocks after a section header.
-fn in_section(alloc: Global, blocks: &[&[u8]]) -> Result<Vec<u8>, AllocError> {
-    let mut bytes = SECTION.to_vec(alloc)?;
+fn in_section(rt: &impl Abort, alloc: Global, blocks: &[&[u8]]) -> Vec<u8> {
+    let mut bytes = SECTION.to_vec(alloc).expect(rt, "memory");
     for block in blocks {
-        bytes.extend_from_slice(block)?;
+        bytes.extend_from_slice(block).expect(rt, "memory");
     }
-    Ok(bytes)
+    bytes
 }
 
 // A file of some blocks after a section header, by one byte a read.
-fn section(alloc: Global, blocks: &[&[u8]]) -> Result<Capture<Pieces>, AllocError> {
-    capture(alloc, &in_section(alloc, blocks)?, 1, Tail::Refuse)
+fn section(rt: &impl Abort, alloc: Global, blocks: &[&[u8]]) -> Capture<Pieces> {
+    capture(rt, alloc, &in_section(rt, alloc, blocks), 1, Tail::Refuse)
 }
 
 fn interface(rt: &impl Abort, link: u16, snaplen: u32, code: u8, offset: i64) -> Interface {
@@ -67,52 +67,39 @@ fn carried(rt: &impl Abort, offset: u64, format: Format) -> Meta {
 }
 
 // What comes next is that.
-fn comes<F: PacketFeed>(rt: &impl Abort, feed: &mut F, head: Head) -> Result<(), Fault> {
-    same!(rt; feed.head()?, head);
-    Ok(())
+fn comes<F: PacketFeed>(rt: &impl Abort, feed: &mut F, head: Head) {
+    same!(rt; feed.head(), Ok(head));
 }
 
 // A packet comes next, which is at hand then.
-fn finds<F: PacketFeed>(rt: &impl Abort, feed: &mut F, meta: Meta) -> Result<(), Fault> {
-    holds!(rt; feed.has_packet()?);
+fn finds<F: PacketFeed>(rt: &impl Abort, feed: &mut F, meta: Meta) {
+    same!(rt; feed.has_packet(), Ok(true));
     holds!(rt; feed.shows_packet());
-    comes(rt, feed, Head::Packet(meta))
+    comes(rt, feed, Head::Packet(meta));
 }
 
 // What comes next is that packet with those bytes, which is passed.
-fn takes<F: PacketFeed>(
-    rt: &impl Abort,
-    feed: &mut F,
-    meta: Meta,
-    frame: &[u8],
-) -> Result<(), Fault> {
-    finds(rt, feed, meta)?;
-    same!(rt; feed.head()?, Head::Packet(meta));
+fn takes<F: PacketFeed>(rt: &impl Abort, feed: &mut F, meta: Meta, frame: &[u8]) {
+    finds(rt, feed, meta);
+    same!(rt; feed.head(), Ok(Head::Packet(meta)));
     same!(rt; *feed.packet(), meta);
     same!(rt; feed.frame(), frame);
     feed.pass();
-    Ok(())
 }
 
 // What comes next is that packet of 4 bytes, which is passed.
-fn takes_carried<F: PacketFeed>(
-    rt: &impl Abort,
-    feed: &mut F,
-    offset: u64,
-    format: Format,
-) -> Result<(), Fault> {
-    takes(rt, feed, carried(rt, offset, format), &[1, 2, 3, 4])
+fn takes_carried<F: PacketFeed>(rt: &impl Abort, feed: &mut F, offset: u64, format: Format) {
+    takes(rt, feed, carried(rt, offset, format), &[1, 2, 3, 4]);
 }
 
 // The file's interface is that of the packets above.
-fn has_interface<R: Source>(rt: &impl Abort, feed: &mut Capture<R>) -> Result<(), Fault> {
-    same!(rt; feed.first()?, Some(interface(rt, 1, 262_144, 6, 0)));
-    Ok(())
+fn has_interface<R: Source>(rt: &impl Abort, feed: &mut Capture<R>) {
+    same!(rt; feed.first(), Ok(Some(interface(rt, 1, 262_144, 6, 0))));
 }
 
 // A feed begins with that packet of 4 bytes.
-fn begins_with<F: PacketFeed>(rt: &impl Abort, mut feed: F, meta: Meta) -> Result<(), Fault> {
-    takes(rt, &mut feed, meta, &[1, 2, 3, 4])
+fn begins_with<F: PacketFeed>(rt: &impl Abort, mut feed: F, meta: Meta) {
+    takes(rt, &mut feed, meta, &[1, 2, 3, 4]);
 }
 
 // How the file ended, which is the only one.
@@ -125,12 +112,11 @@ fn ended<F: PacketFeed>(feed: &F) -> Ending
 }
 
 // The end comes next, and the file ended so.
-fn ends<F: PacketFeed>(rt: &impl Abort, mut feed: F, ending: Ending) -> Result<(), Fault>
+fn ends<F: PacketFeed>(rt: &impl Abort, mut feed: F, ending: Ending)
     requires files { (F.feed feed).files ≡ 7 ∷ [] }
 {
-    same!(rt; feed.head()?, Head::End);
+    same!(rt; feed.head(), Ok(Head::End));
     same!(rt; ended(&feed), ending);
-    Ok(())
 }
 
 fn refused(offset: u64, rule: Rule) -> Head {
@@ -142,15 +128,15 @@ fn refused(offset: u64, rule: Rule) -> Head {
 }
 
 // What comes next is that, asked twice.
-fn answers_twice<F: PacketFeed>(rt: &impl Abort, mut feed: F, head: Head) -> Result<(), Fault> {
-    comes(rt, &mut feed, head)?;
-    comes(rt, &mut feed, head)
+fn answers_twice<F: PacketFeed>(rt: &impl Abort, mut feed: F, head: Head) {
+    comes(rt, &mut feed, head);
+    comes(rt, &mut feed, head);
 }
 
 // The file's first item is that, by one byte a read and by many.
-fn begins(rt: &impl Abort, alloc: Global, bytes: &[u8], head: Head) -> Result<(), Fault> {
-    answers_twice(rt, capture(alloc, bytes, 1, Tail::Refuse)?, head)?;
-    answers_twice(rt, capture(alloc, bytes, 4_096, Tail::Refuse)?, head)
+fn begins(rt: &impl Abort, alloc: Global, bytes: &[u8], head: Head) {
+    answers_twice(rt, capture(rt, alloc, bytes, 1, Tail::Refuse), head);
+    answers_twice(rt, capture(rt, alloc, bytes, 4_096, Tail::Refuse), head);
 }
 
 // A feed holds a window, and no interface of a section.
@@ -161,24 +147,20 @@ fn holds_window<F: PacketFeed>(rt: &impl Abort, feed: &F) {
 }
 
 // The packet of CARRY_PCAP comes after its interface, and then the end.
-fn gives_one<R: Source>(rt: &impl Abort, feed: &mut Capture<R>) -> Result<(), Fault> {
-    has_interface(rt, feed)?;
-    takes_carried(rt, feed, 24, Format::Pcap)?;
-    holds!(rt; !feed.has_packet()?);
-    comes(rt, feed, Head::End)?;
+fn gives_one<R: Source>(rt: &impl Abort, feed: &mut Capture<R>) {
+    has_interface(rt, feed);
+    takes_carried(rt, feed, 24, Format::Pcap);
+    same!(rt; feed.has_packet(), Ok(false));
+    comes(rt, feed, Head::End);
     holds_window(rt, feed);
-    Ok(())
 }
 
 #[test]
-fn always_memory_a_pcap_file(rt: HostRuntime) -> Result<(), Fail> {
+fn always_memory_a_pcap_file(rt: HostRuntime) {
     for &piece in &[1, 4_096] {
-        let mut feed = capture(rt.alloc(), &CARRY_PCAP, piece, Tail::Refuse)?;
-        let given = gives_one(&rt, &mut feed);
-        drop(feed);
-        given?;
+        let mut feed = capture(&rt, rt.alloc(), &CARRY_PCAP, piece, Tail::Refuse);
+        gives_one(&rt, &mut feed);
     }
-    Ok(())
 }
 
 // 2,500,000 millionths of a second are five halves; a packet without units has no time.
@@ -192,97 +174,86 @@ fn the_time_of_a_packet(rt: HostRuntime) {
 }
 
 // The packet of each section comes.
-fn gives_two<F: PacketFeed>(rt: &impl Abort, feed: &mut F) -> Result<(), Fault> {
-    takes_carried(rt, feed, 48, Format::Pcapng)?;
+fn gives_two<F: PacketFeed>(rt: &impl Abort, feed: &mut F) {
+    takes_carried(rt, feed, 48, Format::Pcapng);
     let second = Meta {
         instance: 1,
         interface: interface(rt, 101, 0, 6, 0),
         ..carried(rt, 132, Format::Pcapng)
     };
-    takes(rt, feed, second, &[1, 2, 3, 4])
+    takes(rt, feed, second, &[1, 2, 3, 4]);
 }
 
 // The packets of both sections come, and then the end, where one interface is held.
-fn gives_sections<R: Source>(rt: &impl Abort, feed: &mut Capture<R>) -> Result<(), Fault> {
-    gives_two(rt, feed)?;
-    has_interface(rt, feed)?;
-    comes(rt, feed, Head::End)?;
+fn gives_sections<R: Source>(rt: &impl Abort, feed: &mut Capture<R>) {
+    gives_two(rt, feed);
+    has_interface(rt, feed);
+    comes(rt, feed, Head::End);
     same!(rt; feed.feed_held().interfaces, 1);
-    Ok(())
 }
 
 // A little-endian section with a packet on interface 0, and a big-endian one.
 #[test]
-fn two_sections(rt: HostRuntime) -> Result<(), Fail> {
-    let bytes = in_section(rt.alloc(), &[&INTERFACE, &PACKET, &BIG_SECTION])?;
+fn two_sections(rt: HostRuntime) {
+    let bytes = in_section(&rt, rt.alloc(), &[&INTERFACE, &PACKET, &BIG_SECTION]);
     for &piece in &[1, 4_096] {
-        let mut feed = capture(rt.alloc(), &bytes, piece, Tail::Refuse)?;
-        let given = gives_sections(&rt, &mut feed);
-        drop(feed);
-        given?;
+        let mut feed = capture(&rt, rt.alloc(), &bytes, piece, Tail::Refuse);
+        gives_sections(&rt, &mut feed);
     }
-    Ok(())
 }
 
 #[test]
-fn unknown_trailer(rt: HostRuntime) -> Result<(), Fail> {
-    let mut bytes = in_section(rt.alloc(), &[&[1, 0, 0, 0x40, 0, 0, 32, 0]])?;
+fn unknown_trailer(rt: HostRuntime) {
+    let mut bytes = in_section(&rt, rt.alloc(), &[&[1, 0, 0, 0x40, 0, 0, 32, 0]]);
     for _ in 0..524_286 {
-        bytes.extend_from_slice(&[0; 4])?;
+        bytes.extend_from_slice(&[0; 4]).expect(&rt, "memory");
     }
-    bytes.extend_from_slice(&[0xfc, 0xff, 31, 0])?;
-    begins(&rt, rt.alloc(), &bytes, refused(28, Rule::BlockTrailer))?;
-    Ok(())
+    bytes
+        .extend_from_slice(&[0xfc, 0xff, 31, 0])
+        .expect(&rt, "memory");
+    begins(&rt, rt.alloc(), &bytes, refused(28, Rule::BlockTrailer));
 }
 
 // The packet after an interface, which stands at a place, has that interface.
-fn takes_after(
-    rt: &impl Abort,
-    alloc: Global,
-    block: &[u8],
-    offset: u64,
-    interface: Interface,
-) -> Result<(), Fault> {
+fn takes_after(rt: &impl Abort, alloc: Global, block: &[u8], offset: u64, interface: Interface) {
     let meta = Meta {
         interface,
         ..carried(rt, offset, Format::Pcapng)
     };
-    begins_with(rt, section(alloc, &[block, &PACKET])?, meta)
+    begins_with(rt, section(rt, alloc, &[block, &PACKET]), meta);
 }
 
 #[test]
-fn clocks(rt: HostRuntime) -> Result<(), Fail> {
+fn clocks(rt: HostRuntime) {
     let before = interface(&rt, 1, 262_144, 6, -1);
-    takes_after(&rt, rt.alloc(), &BEFORE, 60, before)?;
+    takes_after(&rt, rt.alloc(), &BEFORE, 60, before);
     let twice = interface(&rt, 1, 262_144, 0x8a, 0);
-    takes_after(&rt, rt.alloc(), &TWICE, 68, twice)?;
-    Ok(())
+    takes_after(&rt, rt.alloc(), &TWICE, 68, twice);
 }
 
 // A packet comes of which 4 of 10 bytes were captured, without a time, and then the end.
-fn gives_simple<F: PacketFeed>(rt: &impl Abort, mut feed: F) -> Result<(), Fault> {
+fn gives_simple<F: PacketFeed>(rt: &impl Abort, mut feed: F) {
     let meta = Meta {
         interface: interface(rt, 1, 4, 6, 0),
         units: None,
         original: 10,
         ..carried(rt, 48, Format::Pcapng)
     };
-    takes(rt, &mut feed, meta, &[1, 2, 3, 4])?;
-    comes(rt, &mut feed, Head::End)
+    takes(rt, &mut feed, meta, &[1, 2, 3, 4]);
+    comes(rt, &mut feed, Head::End);
 }
 
 #[test]
-fn simple_packet(rt: HostRuntime) -> Result<(), Fail> {
-    gives_simple(&rt, section(rt.alloc(), &[&SHORT_INTERFACE, &SIMPLE])?)?;
-    Ok(())
+fn simple_packet(rt: HostRuntime) {
+    gives_simple(&rt, section(&rt, rt.alloc(), &[&SHORT_INTERFACE, &SIMPLE]));
 }
 
 // The packet comes, and then the end: a block was skipped.
-fn gives_options<F: PacketFeed>(rt: &impl Abort, mut feed: F) -> Result<(), Fault>
+fn gives_options<F: PacketFeed>(rt: &impl Abort, mut feed: F)
     requires files { (F.feed feed).files ≡ 7 ∷ [] }
 {
     let head = Head::Packet(carried(rt, 96, Format::Pcapng));
-    same!(rt; feed.head()?, head);
+    same!(rt; feed.head(), Ok(head));
     same!(rt; feed.frame(), [1, 2, 3, 4].as_slice());
     feed.pass();
     let ending = Ending {
@@ -290,20 +261,21 @@ fn gives_options<F: PacketFeed>(rt: &impl Abort, mut feed: F) -> Result<(), Faul
         skipped: 1,
         was_cut: false,
     };
-    ends(rt, feed, ending)
+    ends(rt, feed, ending);
 }
 
 #[test]
-fn options_file(rt: HostRuntime) -> Result<(), Fail> {
-    gives_options(&rt, capture(rt.alloc(), &OPTIONS_PCAPNG, 1, Tail::Refuse)?)?;
-    Ok(())
+fn options_file(rt: HostRuntime) {
+    gives_options(
+        &rt,
+        capture(&rt, rt.alloc(), &OPTIONS_PCAPNG, 1, Tail::Refuse),
+    );
 }
 
 #[test]
-fn obsolete_packet(rt: HostRuntime) -> Result<(), Fail> {
-    let feed = section(rt.alloc(), &[&INTERFACE, &OBSOLETE])?;
-    begins_with(&rt, feed, carried(&rt, 48, Format::Pcapng))?;
-    Ok(())
+fn obsolete_packet(rt: HostRuntime) {
+    let feed = section(&rt, rt.alloc(), &[&INTERFACE, &OBSOLETE]);
+    begins_with(&rt, feed, carried(&rt, 48, Format::Pcapng));
 }
 
 // What follows a section header, and where and by which rule it is refused: an option of a resolution of two
@@ -363,77 +335,66 @@ const REFUSED: [(&[u8], u64, Rule); 7] = [
 ];
 
 #[test]
-fn refused_files(rt: HostRuntime) -> Result<(), Fail> {
+fn refused_files(rt: HostRuntime) {
     for &(block, offset, rule) in &REFUSED {
-        let bytes = in_section(rt.alloc(), &[block])?;
-        begins(&rt, rt.alloc(), &bytes, refused(offset, rule))?;
+        let bytes = in_section(&rt, rt.alloc(), &[block]);
+        begins(&rt, rt.alloc(), &bytes, refused(offset, rule));
     }
-    begins(&rt, rt.alloc(), &[], refused(0, Rule::Cut))?;
-    begins(&rt, rt.alloc(), &[0; 4], refused(0, Rule::Magic))?;
-    begins(&rt, rt.alloc(), &SECTION, Head::End)?;
-    Ok(())
+    begins(&rt, rt.alloc(), &[], refused(0, Rule::Cut));
+    begins(&rt, rt.alloc(), &[0; 4], refused(0, Rule::Magic));
+    begins(&rt, rt.alloc(), &SECTION, Head::End);
 }
 
 // A rest that is cut is dropped if that is asked for.
 #[test]
-fn a_cut_rest_is_dropped(rt: HostRuntime) -> Result<(), Fail> {
+fn a_cut_rest_is_dropped(rt: HostRuntime) {
     let ending = Ending {
         format: Format::Pcap,
         skipped: 0,
         was_cut: true,
     };
-    let feed = capture(rt.alloc(), CARRY_PCAP.split_at(43).0, 1, Tail::Accept)?;
-    ends(&rt, feed, ending)?;
-    Ok(())
+    let feed = capture(&rt, rt.alloc(), CARRY_PCAP.split_at(43).0, 1, Tail::Accept);
+    ends(&rt, feed, ending);
 }
 
 // The file's interface is told, and then a refusal comes.
-fn refuses_rest<R: Source>(rt: &impl Abort, feed: &mut Capture<R>) -> Result<(), Fault> {
-    has_interface(rt, feed)?;
-    comes(rt, feed, refused(24, Rule::Cut))
+fn refuses_rest<R: Source>(rt: &impl Abort, feed: &mut Capture<R>) {
+    has_interface(rt, feed);
+    comes(rt, feed, refused(24, Rule::Cut));
 }
 
 // And refused else, after the file's interface.
 #[test]
-fn a_cut_rest_is_refused(rt: HostRuntime) -> Result<(), Fail> {
-    let mut feed = capture(rt.alloc(), CARRY_PCAP.split_at(43).0, 1, Tail::Refuse)?;
-    let refused = refuses_rest(&rt, &mut feed);
-    drop(feed);
-    Ok(refused?)
+fn a_cut_rest_is_refused(rt: HostRuntime) {
+    let mut feed = capture(&rt, rt.alloc(), CARRY_PCAP.split_at(43).0, 1, Tail::Refuse);
+    refuses_rest(&rt, &mut feed);
 }
 
 // The file with options, of which the read with that number fails.
-fn failing(alloc: Global, call: u64) -> Result<Capture<Pieces>, AllocError> {
-    let pieces = Pieces::new(OPTIONS_PCAPNG.to_vec(alloc)?, 1, Some(call));
-    Ok(Capture::new(alloc, pieces, 7, Tail::Refuse))
+fn failing(rt: &impl Abort, alloc: Global, call: u64) -> Capture<Pieces> {
+    let bytes = OPTIONS_PCAPNG.to_vec(alloc).expect(rt, "memory");
+    Capture::new(alloc, Pieces::new(bytes, 1, Some(call)), 7, Tail::Refuse)
 }
 
 // The read with that number fails, which comes again. It fails after the packet if the packet was read by then.
-fn fails_at<F: PacketFeed>(
-    rt: &impl Abort,
-    mut feed: F,
-    call: u64,
-    offset: u64,
-) -> Result<(), Fault> {
+fn fails_at<F: PacketFeed>(rt: &impl Abort, mut feed: F, call: u64, offset: u64) {
     if call > 144 {
-        takes_carried(rt, &mut feed, 96, Format::Pcapng)?;
+        takes_carried(rt, &mut feed, 96, Format::Pcapng);
     }
     let fault = Err(Fault::Read { file: 7, offset });
     same!(rt; feed.head(), fault, call);
     same!(rt; feed.head(), fault, call);
     holds!(rt; feed.feed_held().failed);
-    Ok(())
 }
 
 // Each read failing in turn: the fault comes again. Nothing is read after a packet before it is passed.
 #[test]
-fn failing_reads(rt: HostRuntime) -> Result<(), Fail> {
+fn failing_reads(rt: HostRuntime) {
     for call in 1..=169 {
         let offset = last_of(&[0, 44, 96, 144, 168], call - 1) as u64;
         let call = call as u64;
-        fails_at(&rt, failing(rt.alloc(), call)?, call, offset)?;
+        fails_at(&rt, failing(&rt, rt.alloc(), call), call, offset);
     }
-    Ok(())
 }
 
 // The head, asked again after a growth was refused.
@@ -445,30 +406,28 @@ fn asked<F: PacketFeed>(feed: &mut F) -> Result<Head, Fault> {
 }
 
 // The bytes of the file with options, also if a growth was refused.
-fn options_bytes(alloc: Global) -> Result<Vec<u8>, AllocError> {
+fn options_bytes(rt: &impl Abort, alloc: Global) -> Vec<u8> {
     match OPTIONS_PCAPNG.to_vec(alloc) {
-        Ok(bytes) => Ok(bytes),
-        Err(_) => OPTIONS_PCAPNG.to_vec(alloc),
+        Ok(bytes) => bytes,
+        Err(_) => OPTIONS_PCAPNG.to_vec(alloc).expect(rt, "memory"),
     }
 }
 
 // The file's packet and its interface come as with memory.
-fn answers<R: Source>(rt: &impl Abort, feed: &mut Capture<R>) -> Result<(), Fault> {
-    let head = asked(feed)?;
-    same!(rt; head, Head::Packet(carried(rt, 96, Format::Pcapng)));
-    has_interface(rt, feed)
+fn answers<R: Source>(rt: &impl Abort, feed: &mut Capture<R>) {
+    same!(rt; asked(feed), Ok(Head::Packet(carried(rt, 96, Format::Pcapng))));
+    has_interface(rt, feed);
 }
 
 // Each answer as with memory, whichever growth is refused.
 #[test]
-fn a_refused_growth(rt: HostRuntime) -> Result<(), Fail> {
-    let pieces = Pieces::new(options_bytes(rt.alloc())?, 4_096, None);
-    let answered = answers(&rt, &mut Capture::new(rt.alloc(), pieces, 7, Tail::Refuse));
-    Ok(answered?)
+fn a_refused_growth(rt: HostRuntime) {
+    let pieces = Pieces::new(options_bytes(&rt, rt.alloc()), 4_096, None);
+    answers(&rt, &mut Capture::new(rt.alloc(), pieces, 7, Tail::Refuse));
 }
 
 // Two packets without bytes come.
-fn lists_two<F: PacketFeed>(rt: &impl Abort, feed: &mut F, clock: Interface) -> Result<(), Fault> {
+fn lists_two<F: PacketFeed>(rt: &impl Abort, feed: &mut F, clock: Interface) {
     for &(offset, units) in &[(0, 5), (1, 6)] {
         let meta = Meta {
             interface: clock,
@@ -477,14 +436,13 @@ fn lists_two<F: PacketFeed>(rt: &impl Abort, feed: &mut F, clock: Interface) -> 
             original: 0,
             ..carried(rt, offset, Format::Pcap)
         };
-        takes(rt, feed, meta, &[])?;
+        takes(rt, feed, meta, &[]);
     }
-    Ok(())
 }
 
 // A refusal comes, and no packet.
-fn lists_none<F: PacketFeed>(rt: &impl Abort, feed: &mut F) -> Result<(), Fault> {
-    comes(rt, feed, refused(2, Rule::Cut))?;
+fn lists_none<F: PacketFeed>(rt: &impl Abort, feed: &mut F) {
+    comes(rt, feed, refused(2, Rule::Cut));
     let refusal = Refusal {
         file: 7,
         offset: 2,
@@ -492,31 +450,28 @@ fn lists_none<F: PacketFeed>(rt: &impl Abort, feed: &mut F) -> Result<(), Fault>
     };
     same!(rt; feed.has_packet(), Err(Fault::Refused(refusal)));
     holds!(rt; !feed.shows_packet());
-    Ok(())
 }
 
 // The list's packets come, and then its refusal.
-fn lists<F: PacketFeed>(rt: &impl Abort, mut feed: F, clock: Interface) -> Result<(), Fault> {
-    lists_two(rt, &mut feed, clock)?;
-    lists_none(rt, &mut feed)
+fn lists<F: PacketFeed>(rt: &impl Abort, mut feed: F, clock: Interface) {
+    lists_two(rt, &mut feed, clock);
+    lists_none(rt, &mut feed);
 }
 
 // Two packets in memory, and then a refusal.
 #[test]
-fn a_list(rt: HostRuntime) -> Result<(), Fail> {
+fn a_list(rt: HostRuntime) {
     let clock = interface(&rt, 101, 0, 6, 0);
-    let times = [5, 6].to_vec(rt.alloc())?;
-    lists(&rt, Listed::new(7, clock, times, Some(Rule::Cut)), clock)?;
-    Ok(())
+    let times = [5, 6].to_vec(rt.alloc()).expect(&rt, "memory");
+    lists(&rt, Listed::new(7, clock, times, Some(Rule::Cut)), clock);
 }
 
 // A packet is at hand once it was asked for, and is passed.
-fn passes_first<F: PacketFeed>(rt: &impl Abort, feed: &mut F) -> Result<(), Fault> {
+fn passes_first<F: PacketFeed>(rt: &impl Abort, feed: &mut F) {
     holds!(rt; !feed.shows_packet());
-    holds!(rt; feed.has_packet()?);
+    same!(rt; feed.has_packet(), Ok(true));
     holds!(rt; feed.shows_packet());
     feed.pass();
-    Ok(())
 }
 
 // The next one is at hand without that.
@@ -528,48 +483,50 @@ fn passes_shown<F: PacketFeed>(rt: &impl Abort, feed: &mut F) {
 }
 
 // No packet is at hand, and none comes.
-fn shows_none<F: PacketFeed>(rt: &impl Abort, feed: &mut F) -> Result<(), Fault> {
+fn shows_none<F: PacketFeed>(rt: &impl Abort, feed: &mut F) {
     holds!(rt; !feed.shows_packet());
-    holds!(rt; !feed.has_packet()?);
+    same!(rt; feed.has_packet(), Ok(false));
     holds!(rt; !feed.shows_packet());
-    Ok(())
 }
 
 // Both packets are at hand after one read.
-fn shows_both<F: PacketFeed>(rt: &impl Abort, mut feed: F) -> Result<(), Fault> {
-    passes_first(rt, &mut feed)?;
+fn shows_both<F: PacketFeed>(rt: &impl Abort, mut feed: F) {
+    passes_first(rt, &mut feed);
     passes_shown(rt, &mut feed);
-    shows_none(rt, &mut feed)
+    shows_none(rt, &mut feed);
 }
 
 // CARRY_PCAP with its record twice.
-fn two_records(alloc: Global) -> Result<Vec<u8>, AllocError> {
-    let mut bytes = Vec::from_array(alloc, CARRY_PCAP)?;
-    bytes.extend_from_slice(&CARRY_PCAP[24..])?;
-    Ok(bytes)
+fn two_records(rt: &impl Abort, alloc: Global) -> Vec<u8> {
+    let mut bytes = CARRY_PCAP.to_vec(alloc).expect(rt, "memory");
+    bytes
+        .extend_from_slice(&CARRY_PCAP[24..])
+        .expect(rt, "memory");
+    bytes
 }
 
 // A file of two records, of which a read shows both.
 #[test]
-fn packets_at_hand(rt: HostRuntime) -> Result<(), Fail> {
-    let bytes = two_records(rt.alloc())?;
-    shows_both(&rt, capture(rt.alloc(), &bytes, 4_096, Tail::Refuse)?)?;
-    Ok(())
+fn packets_at_hand(rt: HostRuntime) {
+    let bytes = two_records(&rt, rt.alloc());
+    shows_both(&rt, capture(&rt, rt.alloc(), &bytes, 4_096, Tail::Refuse));
 }
 
 // One packet comes, and then none.
-fn walks<F: PacketFeed>(rt: &impl Abort, mut feed: F) -> Result<(), Fault> {
-    let meta = next_packet(&mut feed)?.expect(rt, "the one packet");
-    same!(rt; (meta.file, meta.offset, meta.captured), (7, 24, 4));
+fn walks<F: PacketFeed>(rt: &impl Abort, mut feed: F) {
+    let next = next_packet(&mut feed).map(|meta| meta.map(|meta| (
+        meta.file,
+        meta.offset,
+        meta.captured,
+    )));
+    same!(rt; next, Ok(Some((7, 24, 4))));
     feed.pass();
-    same!(rt; next_packet(&mut feed)?, None);
-    Ok(())
+    same!(rt; next_packet(&mut feed), Ok(None));
 }
 
 #[test]
-fn a_walk(rt: HostRuntime) -> Result<(), Fail> {
-    let capture = capture(rt.alloc(), &CARRY_PCAP, 1, Tail::Refuse)?;
+fn a_walk(rt: HostRuntime) {
+    let capture = capture(&rt, rt.alloc(), &CARRY_PCAP, 1, Tail::Refuse);
     same!(&rt; capture.file(), 7);
-    walks(&rt, capture)?;
-    Ok(())
+    walks(&rt, capture);
 }

@@ -19,7 +19,7 @@ use cap_source::Capture;
 use std::alloc::Global;
 
 /// How packets are written.
-#[derive(Clone, Copy, Debug, PartialEq, Eq)]
+#[derive(Clone, Copy)]
 pub struct Encoding {
     /// The format of the file.
     pub format: Format,

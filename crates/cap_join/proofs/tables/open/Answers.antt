@@ -1,4 +1,4 @@
-use Rattle.std.proofs.Common.{◌≡◌, ◌∙◌, true, false, Option, List, [], ◌∷◌, ◌++◌, refl, sym, ap, subst, arith}
+use Rattle.std.proofs.Common.{rules, ◌≡◌, ◌∙◌, true, false, Option, List, [], ◌∷◌, ◌++◌, refl, sym, ap, subst, arith}
 use Rattle.std.specs.Prelude.{remove, if◌then◌else◌}
 use Rattle.cap_ip.specs.Header.{HeaderFields}
 use Rattle.cap_ip.specs.declared.headers.Key.{Key}
@@ -65,3 +65,6 @@ returns-clause-table c =
     IsTable-opened c.args.clock c.key-key.result (place_in c.args.incoming.now) c.put.new.self es (live_entries c.args.clock es) (if gave_up then remove (live_entries c.args.clock es) 0 else live_entries c.args.clock es) c.make_place-gave_up.new.self gave_up
     c.requires.table refl o.gave refl o.entries
     (c.in_ok-put.ensures.place ∙ c.new-group.ensures.place) (omega (arith, c.in_ok-put.ensures.frames, c.new-group.ensures.group.frames)) c.make_place-gave_up.ensures.unique
+
+pub returns-in_err-add-clause-err : goal.returns-in_err-add-clause-err
+returns-in_err-add-clause-err c = search rules

@@ -1,4 +1,4 @@
-use Rattle.std.proofs.Common.{map, rules}
+use Rattle.std.proofs.Common.{map}
 use Rattle.clap.specs.Words.{app_of, kind_of}
 use Rattle.cap_line.proofs.Parsing.{IsCapt-simple_and_free, IsRefused-said}
 use Rattle.cap_line.proofs.words.message.Goals as goal
@@ -11,4 +11,4 @@ returns g c =
     (c.in-Err.ensures.kinds (IsCapt-simple_and_free app c.in-Ok.ensures)) c.said_by.ensures
 
 pub returns-in-Ok-try_get_matches_from : goal.returns-in-Ok-try_get_matches_from
-returns-in-Ok-try_get_matches_from g c = search rules
+returns-in-Ok-try_get_matches_from g c = tt

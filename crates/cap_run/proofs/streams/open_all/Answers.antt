@@ -1,4 +1,4 @@
-use Rattle.std.proofs.Common.{◌≡◌, ◌++◌, ◌∷◌, [], ◌+◌, ◌-◌, ◌<◌, ◌∙◌, ℕ, Bool, false, List, Result, Ok, Err, IfOk, IsFalse, get_or, is_err, length, map, take, refl, sym, arith}
+use Rattle.std.proofs.Common.{rules, ◌≡◌, ◌++◌, ◌∷◌, [], ◌+◌, ◌-◌, ◌<◌, ◌∙◌, ℕ, Bool, false, List, Result, Ok, Err, IfOk, IsFalse, get_or, is_err, length, map, take, refl, sym, arith}
 use Rattle.std.specs.Borrow.{Bor}
 use Rattle.std.proofs.lemmas.List.{get_or-map, length-map, map-append, take_more}
 use Rattle.cap_run.specs.Streams.{is_dash}
@@ -36,3 +36,9 @@ returns-in_default-clause-stops g c = (
   omega (arith, length-map c.args.names.now (λ n. n.now)),
   opened_not c.args.names.now c.loop-place.place _ c.loop-place-test.true (c.in_default.ensures.fault refl),
 )
+
+pub slice_bounds-open-end : goal.slice_bounds-open-end
+slice_bounds-open-end g c = search rules
+
+pub overflow_add-result : goal.overflow_add-result
+overflow_add-result g c = search rules

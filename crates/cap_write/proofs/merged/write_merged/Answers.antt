@@ -1,4 +1,4 @@
-use Rattle.std.proofs.Common.{arith}
+use Rattle.std.proofs.Common.{rules, arith}
 use Rattle.std.proofs.lemmas.Result.{err_from_is_err_and}
 use Rattle.cap_bytes.proofs.Putting.{Prints-head, Prints-behind}
 use Rattle.cap_write.proofs.merged.write_merged.Goals as goal
@@ -8,3 +8,9 @@ returns-in_err-put_section-clause-text g c = grind (arith, err_from_is_err_and, 
 
 pub returns-clause-text : goal.returns-clause-text
 returns-clause-text g c = grind (arith, Prints-behind)
+
+pub returns-clause-writer : goal.returns-clause-writer
+returns-clause-writer g c = search rules
+
+pub returns-clause-walks : goal.returns-clause-walks
+returns-clause-walks g c = search rules

@@ -3,3 +3,6 @@ use Rattle.cap_feed.proofs.listed.Listed.new.Goals as goal
 
 pub returns : goal.returns
 returns c = search rules
+
+pub invariant_of-result : goal.invariant_of-result
+invariant_of-result c = search rules
