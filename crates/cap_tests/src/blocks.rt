@@ -9,10 +9,9 @@ use cap_blocks::{
 use cap_bytes::{Device, Fault, Pieces, Room, Rule, Sink, Source, Tail, Window};
 use cap_numbers::Order;
 use cap_time::{Interface, Resolution};
-use std::alloc::{AllocError, Global};
+use std::alloc::Global;
 use std::cmp::{max, min};
 use std::process::Abort;
-use std::test::Fail;
 
 // A little-endian section and a big-endian one, each of 28, 20 and 36 bytes.
 const TWO_SECTIONS: [u8; 168] = [
@@ -67,13 +66,15 @@ const SECTION_BLOCKS: [Row; 6] = [
 ];
 
 fn reader(
+    rt: &impl Abort,
     alloc: Global,
     bytes: &[u8],
     piece: usize,
     tail: Tail,
-) -> Result<BlockReader<Pieces>, AllocError> {
-    let pieces = Pieces::new(bytes.to_vec(alloc)?, max(piece, 1), None);
-    Ok(BlockReader::new(Window::new(alloc, pieces, 7), tail))
+) -> BlockReader<Pieces> {
+    let bytes = bytes.to_vec(alloc).expect(rt, "memory");
+    let pieces = Pieces::new(bytes, max(piece, 1), None);
+    BlockReader::new(Window::new(alloc, pieces, 7), tail)
 }
 
 fn block(kind: u32, offset: u64, total: u32, order: Order) -> Block {
@@ -112,29 +113,21 @@ fn gives_blocks<R: Source>(rt: &impl Abort, reader: &mut BlockReader<R>, blocks:
 }
 
 // A file has these blocks, by one byte a read and by many, and was cut if that is so.
-fn has_blocks(
-    rt: &impl Abort,
-    alloc: Global,
-    file: &[u8],
-    blocks: &[Row],
-    was_cut: bool,
-) -> Result<(), AllocError> {
+fn has_blocks(rt: &impl Abort, alloc: Global, file: &[u8], blocks: &[Row], was_cut: bool) {
     for &piece in &[1, 4_096] {
-        let mut reader = reader(alloc, file, piece, Tail::Accept)?;
+        let mut reader = reader(rt, alloc, file, piece, Tail::Accept);
         gives_blocks(rt, &mut reader, blocks);
         same!(rt; reader.was_cut(), was_cut);
         holds!(rt; !reader.window().failed());
     }
-    Ok(())
 }
 
 #[test]
-fn always_memory_blocks_in_order(rt: HostRuntime) -> Result<(), Fail> {
-    has_blocks(&rt, rt.alloc(), &OPTIONS_PCAPNG, &OPTION_BLOCKS, false)?;
+fn always_memory_blocks_in_order(rt: HostRuntime) {
+    has_blocks(&rt, rt.alloc(), &OPTIONS_PCAPNG, &OPTION_BLOCKS, false);
     let (cut, whole) = (OPTIONS_PCAPNG.split_at(167).0, OPTION_BLOCKS.split_at(3).0);
-    has_blocks(&rt, rt.alloc(), cut, whole, true)?;
-    has_blocks(&rt, rt.alloc(), &TWO_SECTIONS, &SECTION_BLOCKS, false)?;
-    Ok(())
+    has_blocks(&rt, rt.alloc(), cut, whole, true);
+    has_blocks(&rt, rt.alloc(), &TWO_SECTIONS, &SECTION_BLOCKS, false);
 }
 
 // A block comes, and the window shows more.
@@ -155,10 +148,9 @@ fn shows_packet<R: Source>(rt: &impl Abort, reader: &mut BlockReader<R>) {
 
 // The first bytes that are read bring a packet into the window, which shows it after the blocks before it.
 #[test]
-fn always_memory_a_shown_packet(rt: HostRuntime) -> Result<(), Fail> {
-    let mut reader = reader(rt.alloc(), &OPTIONS_PCAPNG, 4_096, Tail::Refuse)?;
+fn always_memory_a_shown_packet(rt: HostRuntime) {
+    let mut reader = reader(&rt, rt.alloc(), &OPTIONS_PCAPNG, 4_096, Tail::Refuse);
     shows_packet(&rt, &mut reader);
-    Ok(())
 }
 
 // The bodies of the file's blocks are lent one by one.
@@ -179,11 +171,10 @@ fn lends_bodies<R: Source>(rt: &impl Abort, reader: &mut BlockReader<R>) {
 
 // The bodies are lent as they stand in the file.
 #[test]
-fn bodies(rt: HostRuntime) -> Result<(), Fail> {
+fn bodies(rt: HostRuntime) {
     holds!(&rt; is_section(&CARRY_PCAPNG));
-    let mut reader = reader(rt.alloc(), &CARRY_PCAPNG, 1, Tail::Refuse)?;
+    let mut reader = reader(&rt, rt.alloc(), &CARRY_PCAPNG, 1, Tail::Refuse);
     lends_bodies(&rt, &mut reader);
-    Ok(())
 }
 
 // How many bytes of CARRY_PCAPNG come first, what follows them, and where and by which rule that is refused.
@@ -257,10 +248,11 @@ const REFUSED: [(usize, &[u8], u64, Rule); 15] = [
 ];
 
 // The first n bytes of CARRY_PCAPNG, and what follows them.
-fn begun(alloc: Global, n: usize, behind: &[u8]) -> Result<Vec<u8>, AllocError> {
-    let mut bytes = CARRY_PCAPNG.split_at(min(n, 28)).0.to_vec(alloc)?;
-    bytes.extend_from_slice(behind)?;
-    Ok(bytes)
+fn begun(rt: &impl Abort, alloc: Global, n: usize, behind: &[u8]) -> Vec<u8> {
+    let (first, _) = CARRY_PCAPNG.split_at(min(n, 28));
+    let mut bytes = first.to_vec(alloc).expect(rt, "memory");
+    bytes.extend_from_slice(behind).expect(rt, "memory");
+    bytes
 }
 
 // The fault ends the file, also if it is read again, and nothing was cut.
@@ -271,27 +263,19 @@ fn ends_in<R: Source>(rt: &impl Abort, reader: &mut BlockReader<R>, fault: Fault
 }
 
 // A file ends in that fault, by one byte a read and by many.
-fn refuses(
-    rt: &impl Abort,
-    alloc: Global,
-    file: &[u8],
-    fault: Fault,
-    n: usize,
-) -> Result<(), AllocError> {
+fn refuses(rt: &impl Abort, alloc: Global, file: &[u8], fault: Fault, n: usize) {
     for &piece in &[1, 4_096] {
-        let mut reader = reader(alloc, file, piece, Tail::Refuse)?;
+        let mut reader = reader(rt, alloc, file, piece, Tail::Refuse);
         ends_in(rt, &mut reader, fault, n);
     }
-    Ok(())
 }
 
 #[test]
-fn refused_blocks(rt: HostRuntime) -> Result<(), Fail> {
+fn refused_blocks(rt: HostRuntime) {
     for &(n, behind, offset, rule) in &REFUSED {
-        let file = begun(rt.alloc(), n, behind)?;
-        refuses(&rt, rt.alloc(), &file, refused(offset, rule), n)?;
+        let file = begun(&rt, rt.alloc(), n, behind);
+        refuses(&rt, rt.alloc(), &file, refused(offset, rule), n);
     }
-    Ok(())
 }
 
 fn interface(rt: &impl Abort, link: u16, snaplen: u32, code: u8, offset: i64) -> Interface {
@@ -304,60 +288,57 @@ fn interface(rt: &impl Abort, link: u16, snaplen: u32, code: u8, offset: i64) ->
 }
 
 // A writer into that many bytes.
-fn room(alloc: Global, size: usize) -> Result<Room, AllocError> {
-    Ok(Room::new(Vec::with_capacity(alloc, size)?))
+fn room(rt: &impl Abort, alloc: Global, size: usize) -> Room {
+    Room::new(Vec::with_capacity(alloc, size).expect(rt, "memory"))
 }
 
 // Writes what CARRY_PCAPNG has.
-fn put_file<W: Sink>(rt: &impl Abort, writer: &mut W) -> Result<(), Fault> {
+fn put_file<W: Sink>(rt: &impl Abort, writer: &mut W) {
     let interface = interface(rt, 1, 262_144, 6, 0);
     let fields = PacketFields {
         interface: 0,
         units: 2_500_000,
         original: 4,
     };
-    put_section(writer, Order::Little)?;
-    put_interface(writer, Order::Little, &interface)?;
-    put_packet(writer, Order::Little, fields, &[1, 2, 3, 4])
+    same!(rt; put_section(writer, Order::Little), Ok(()));
+    same!(rt; put_interface(writer, Order::Little, &interface), Ok(()));
+    same!(rt; put_packet(writer, Order::Little, fields, &[1, 2, 3, 4]), Ok(()));
 }
 
 // Writes what PADDED_PACKET has.
-fn put_padded<W: Sink>(writer: &mut W) -> Result<(), Fault> {
+fn put_padded<W: Sink>(rt: &impl Abort, writer: &mut W) {
     let fields = PacketFields {
         interface: 1,
         units: 0x0102_0304_0506_0708,
         original: 9,
     };
-    put_packet(writer, Order::Big, fields, &[1, 2, 3, 4, 5])
+    same!(rt; put_packet(writer, Order::Big, fields, &[1, 2, 3, 4, 5]), Ok(()));
 }
 
-fn writes_file(rt: &impl Abort, alloc: Global) -> Result<(), Fault> {
-    let mut file = room(alloc, 96)?;
-    put_file(rt, &mut file)?;
+fn writes_file(rt: &impl Abort, alloc: Global) {
+    let mut file = room(rt, alloc, 96);
+    put_file(rt, &mut file);
     same!(rt; file.bytes(), CARRY_PCAPNG.as_slice());
-    Ok(())
 }
 
-fn writes_interface(rt: &impl Abort, alloc: Global) -> Result<(), Fault> {
-    let mut file = room(alloc, 44)?;
-    put_interface(&mut file, Order::Big, &interface(rt, 101, 0, 0x8a, -1))?;
+fn writes_interface(rt: &impl Abort, alloc: Global) {
+    let mut file = room(rt, alloc, 44);
+    let interface = interface(rt, 101, 0, 0x8a, -1);
+    same!(rt; put_interface(&mut file, Order::Big, &interface), Ok(()));
     same!(rt; file.bytes(), OFFSET_INTERFACE.as_slice());
-    Ok(())
 }
 
-fn writes_padded(rt: &impl Abort, alloc: Global) -> Result<(), Fault> {
-    let mut file = room(alloc, 40)?;
-    put_padded(&mut file)?;
+fn writes_padded(rt: &impl Abort, alloc: Global) {
+    let mut file = room(rt, alloc, 40);
+    put_padded(rt, &mut file);
     same!(rt; file.bytes(), PADDED_PACKET.as_slice());
-    Ok(())
 }
 
 #[test]
-fn written_blocks(rt: HostRuntime) -> Result<(), Fail> {
-    writes_file(&rt, rt.alloc())?;
-    writes_interface(&rt, rt.alloc())?;
-    writes_padded(&rt, rt.alloc())?;
-    Ok(())
+fn written_blocks(rt: HostRuntime) {
+    writes_file(&rt, rt.alloc());
+    writes_interface(&rt, rt.alloc());
+    writes_padded(&rt, rt.alloc());
 }
 
 // The options of the interface of OPTIONS_PCAPNG come, and then none, also if that is asked again.

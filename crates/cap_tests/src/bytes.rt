@@ -12,7 +12,6 @@ use std::cmp::max;
 use std::io;
 use std::io::{ErrorKind, Read, Write};
 use std::process::Abort;
-use std::test::Fail;
 
 const RULES: [(Rule, u8, &str); 21] = [
     (Rule::Magic, 1, "magic"),
@@ -47,14 +46,13 @@ fn rules_have_their_numbers_and_names(rt: HostRuntime) {
 }
 
 // A fault prints as that line.
-fn prints(rt: &impl Abort, alloc: Global, fault: Fault, line: &str) -> Result<(), Fail> {
-    let printed = format!(in alloc; "{fault}")?;
+fn prints(rt: &impl Abort, alloc: Global, fault: Fault, line: &str) {
+    let printed = format!(in alloc; "{fault}").expect(rt, "memory");
     same!(rt; printed.as_str(), line);
-    Ok(())
 }
 
 #[test]
-fn faults_print_one_line(rt: HostRuntime) -> Result<(), Fail> {
+fn faults_print_one_line(rt: HostRuntime) {
     let refused = Fault::Refused(Refusal {
         file: 2,
         offset: 24,
@@ -65,14 +63,14 @@ fn faults_print_one_line(rt: HostRuntime) -> Result<(), Fail> {
         rt.alloc(),
         refused,
         "refused: file 2 offset 24 rule 6 block-trailer",
-    )?;
+    );
     let read = Fault::Read {
         file: 1,
         offset: 24,
     };
-    prints(&rt, rt.alloc(), read, "fault: read file 1 offset 24")?;
-    prints(&rt, rt.alloc(), Fault::Write, "fault: write")?;
-    prints(&rt, rt.alloc(), Fault::Memory, "fault: memory")
+    prints(&rt, rt.alloc(), read, "fault: read file 1 offset 24");
+    prints(&rt, rt.alloc(), Fault::Write, "fault: write");
+    prints(&rt, rt.alloc(), Fault::Memory, "fault: memory");
 }
 
 // Numbers of 2, 4 and 8 bytes, with a byte before and one after them.
@@ -103,16 +101,16 @@ fn numbers_in_both_orders(rt: HostRuntime) {
 }
 
 // The bytes 0, 1, 2, .. of a file that is `length` long; the byte at a place is the place modulo 251.
-fn counted(alloc: Global, length: usize) -> Result<Vec<u8>, Fail> {
+fn counted(rt: &impl Abort, alloc: Global, length: usize) -> Vec<u8> {
     let mut bytes = match Vec::with_capacity(alloc, length) {
         Ok(bytes) => bytes,
         // Only one allocation is refused.
-        Err(_) => Vec::with_capacity(alloc, length)?,
+        Err(_) => Vec::with_capacity(alloc, length).expect(rt, "memory"),
     };
     for place in 0..length {
-        bytes.push((place % 251) as u8)?;
+        bytes.push((place % 251) as u8).expect(rt, "memory");
     }
-    Ok(bytes)
+    bytes
 }
 
 // Drops n bytes if they are shown.
@@ -187,11 +185,10 @@ fn takes_step<R: Source>(
     asked: Asked,
     wanted: bool,
     offset: u64,
-) -> Result<(), Fault> {
-    same!(rt; answer(window, asked)?, wanted, asked);
+) {
+    same!(rt; answer(window, asked), Ok(wanted), asked);
     same!(rt; window.offset(), offset, asked);
     holds!(rt; window.held() <= 524_288);
-    Ok(())
 }
 
 // The window is at the file's end.
@@ -202,39 +199,34 @@ fn is_at_end<R: Source>(rt: &impl Abort, window: &Window<R>) {
 }
 
 // Each step is answered as its row says, and the last leaves the window at the end.
-fn takes_steps<R: Source>(rt: &impl Abort, window: &mut Window<R>) -> Result<(), Fault> {
+fn takes_steps<R: Source>(rt: &impl Abort, window: &mut Window<R>) {
     for &(asked, wanted, offset, shown) in &STEPS {
-        takes_step(rt, window, asked, wanted, offset)?;
+        takes_step(rt, window, asked, wanted, offset);
         if let Some(place) = shown {
             shows_at(rt, window, offset, place);
         }
     }
     is_at_end(rt, window);
-    Ok(())
 }
 
 #[test]
-fn always_memory_a_window_shows_the_next_bytes_or_the_end(rt: HostRuntime) -> Result<(), Fail> {
+fn always_memory_a_window_shows_the_next_bytes_or_the_end(rt: HostRuntime) {
     for &piece in &[1, 2, 4_096] {
-        let pieces = Pieces::new(counted(rt.alloc(), 70_000)?, max(piece, 1), None);
+        let pieces = Pieces::new(counted(&rt, rt.alloc(), 70_000), max(piece, 1), None);
         let mut window = Window::new(rt.alloc(), pieces, 7);
-        let taken = takes_steps(&rt, &mut window);
-        drop(window);
-        taken?;
+        takes_steps(&rt, &mut window);
     }
-    Ok(())
 }
 
 // Bytes come by four, and a window shows what was read.
 #[test]
-fn always_memory_a_window_shows_what_was_read(rt: HostRuntime) -> Result<(), Fail> {
-    let pieces = Pieces::new(counted(rt.alloc(), 10)?, 4, None);
+fn always_memory_a_window_shows_what_was_read(rt: HostRuntime) {
+    let pieces = Pieces::new(counted(&rt, rt.alloc(), 10), 4, None);
     let mut window = Window::new(rt.alloc(), pieces, 3);
     holds!(&rt; !window.shows(1));
-    holds!(&rt; need(&mut window, 3)?);
+    same!(&rt; need(&mut window, 3), Ok(true));
     holds!(&rt; window.shows(4));
     holds!(&rt; !window.shows(5));
-    Ok(())
 }
 
 // Reads 10 bytes by a window: shows 4, drops them, and skips 6.
@@ -254,21 +246,20 @@ fn fails_again<R: Source>(rt: &impl Abort, window: &mut Window<R>, fault: Fault)
 }
 
 // A window on a file of 10 bytes, of which the read with that number fails.
-fn ten(alloc: Global, failing: u64) -> Result<Window<Pieces>, Fail> {
-    let pieces = Pieces::new(counted(alloc, 10)?, 1, Some(failing));
-    Ok(Window::new(alloc, pieces, 3))
+fn ten(rt: &impl Abort, alloc: Global, failing: u64) -> Window<Pieces> {
+    let pieces = Pieces::new(counted(rt, alloc, 10), 1, Some(failing));
+    Window::new(alloc, pieces, 3)
 }
 
 #[test]
-fn a_window_that_failed_answers_so_again(rt: HostRuntime) -> Result<(), Fail> {
+fn a_window_that_failed_answers_so_again(rt: HostRuntime) {
     for failing in 1..=10 {
         // A look at the first 4 bytes stands at 0; a skip stands where it has come to.
         let offset = if failing <= 4 { 0 } else { failing - 1 };
         let fault = Fault::Read { file: 3, offset };
-        fails_again(&rt, &mut ten(rt.alloc(), failing)?, fault);
+        fails_again(&rt, &mut ten(&rt, rt.alloc(), failing), fault);
     }
-    same!(&rt; walk(&mut ten(rt.alloc(), 11)?), Ok(true));
-    Ok(())
+    same!(&rt; walk(&mut ten(&rt, rt.alloc(), 11)), Ok(true));
 }
 
 // The writer takes no more than the first bytes of a text.
@@ -280,16 +271,15 @@ fn takes_prefix(rt: &impl Abort, writer: &mut Room, text: &[u8], room: usize) {
 }
 
 #[test]
-fn a_writer_that_fails_has_taken_a_prefix(rt: HostRuntime) -> Result<(), Fail> {
+fn a_writer_that_fails_has_taken_a_prefix(rt: HostRuntime) {
     let text = b"0123456789";
     for room in 0..10 {
-        let mut writer = Room::new(Vec::with_capacity(rt.alloc(), room)?);
+        let mut writer = Room::new(Vec::with_capacity(rt.alloc(), room).expect(&rt, "memory"));
         takes_prefix(&rt, &mut writer, text, room);
     }
-    let mut writer = Room::new(Vec::with_capacity(rt.alloc(), 10)?);
+    let mut writer = Room::new(Vec::with_capacity(rt.alloc(), 10).expect(&rt, "memory"));
     same!(&rt; put_all(&mut writer, text), Ok(()));
     same!(&rt; writer.bytes(), text.as_slice());
-    Ok(())
 }
 
 // Takes bytes one by one, and none once `left` is 0.
@@ -325,23 +315,17 @@ fn a_writer_that_takes_nothing_has_failed(rt: HostRuntime) {
 }
 
 // The window shows ten bytes, and no more.
-fn shows_ten<R: Source>(
-    rt: &impl Abort,
-    window: &mut Window<R>,
-    bytes: &[u8],
-) -> Result<(), Fault> {
-    holds!(rt; need(window, 10)?);
+fn shows_ten<R: Source>(rt: &impl Abort, window: &mut Window<R>, bytes: &[u8]) {
+    same!(rt; need(window, 10), Ok(true));
     same!(rt; window.bytes(), bytes);
-    holds!(rt; !need(window, 11)?);
-    Ok(())
+    same!(rt; need(window, 11), Ok(false));
 }
 
 #[test]
-fn a_standard_reader_is_read_to_its_end(rt: HostRuntime) -> Result<(), Fail> {
+fn a_standard_reader_is_read_to_its_end(rt: HostRuntime) {
     let bytes = b"0123456789";
     let mut window = Window::new(rt.alloc(), Tracked::new(bytes.as_slice()), 1);
-    shows_ten(&rt, &mut window, bytes)?;
-    Ok(())
+    shows_ten(&rt, &mut window, bytes);
 }
 
 // Shows that many bytes, also if asked again, and fails to read the next.
@@ -357,11 +341,10 @@ fn reads_just<R: Source>(rt: &impl Abort, window: &mut Window<R>, n: usize)
 
 // Reads no further than it is asked: the next read would fail.
 #[test]
-fn a_window_reads_no_further(rt: HostRuntime) -> Result<(), Fail> {
+fn a_window_reads_no_further(rt: HostRuntime) {
     for n in 1..=9 {
-        reads_just(&rt, &mut ten(rt.alloc(), n as u64 + 1)?, n);
+        reads_just(&rt, &mut ten(&rt, rt.alloc(), n as u64 + 1), n);
     }
-    Ok(())
 }
 
 // Errs at the first call of each kind, and then reads and takes one byte at a time.

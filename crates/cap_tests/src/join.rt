@@ -6,19 +6,19 @@ use crate::runs::{DATA, FRAGMENTS, Run};
 use cap_ip::Key;
 use cap_join::{Datagram, JoinFault, Put, places_law, worked_rows};
 use cap_numbers::{Order, put_u16};
-use std::alloc::{AllocError, Global};
+use std::alloc::Global;
 use std::process::Abort;
-use std::test::Fail;
 
 // A fragment's packet: its identification, in blocks of 8 bytes where its data begins, whether more
 // follow, and its data.
 fn packet(
+    rt: &impl Abort,
     alloc: Global,
     identification: u16,
     block: u16,
     more: bool,
     piece: &[u8],
-) -> Result<Vec<u8>, AllocError> {
+) -> Vec<u8> {
     let flags = block % 0x2000 + u16::from(more) * 0x2000;
     let total = 20 + piece.len().min(60_000) as u16;
     let mut head = [
@@ -27,9 +27,9 @@ fn packet(
     put_u16(Order::Big, &mut head, 2, total);
     put_u16(Order::Big, &mut head, 4, identification);
     put_u16(Order::Big, &mut head, 6, flags);
-    let mut packet = head.to_vec(alloc)?;
-    packet.extend_from_slice(piece)?;
-    Ok(packet)
+    let mut packet = head.to_vec(alloc).expect(rt, "memory");
+    packet.extend_from_slice(piece).expect(rt, "memory");
+    packet
 }
 
 // The key of those packets.
@@ -64,9 +64,9 @@ fn keeps_at(rt: &impl Abort, run: &mut Run, clock: Option<u64>, packet: &[u8]) -
 const SECOND: u64 = 1_000_000;
 
 // The front of a datagram, which says a length of that many bytes.
-fn front(alloc: Global, identification: u16, length: u8) -> Result<Vec<u8>, AllocError> {
+fn front(rt: &impl Abort, alloc: Global, identification: u16, length: u8) -> Vec<u8> {
     let data = [0x03, 0xe8, 0x07, 0xd0, 0, length, 0, 0];
-    packet(alloc, identification, 0, true, &data)
+    packet(rt, alloc, identification, 0, true, &data)
 }
 
 // A fragment of datagram 7 is kept, and that many bytes are held then.
@@ -76,14 +76,13 @@ fn keeps(rt: &impl Abort, run: &mut Run, packet: &[u8], held: usize) {
 }
 
 // All fragments of the map but its front are kept.
-fn keeps_rest(rt: &impl Abort, alloc: Global, run: &mut Run) -> Result<(), AllocError> {
+fn keeps_rest(rt: &impl Abort, alloc: Global, run: &mut Run) {
     let middle = [0xa0, 0xa1, 0xa2, 0xa3, 0xa4, 0xa5, 0xa6, 0xa7];
-    keeps(rt, run, &packet(alloc, 7, 1, true, &middle)?, 16);
+    keeps(rt, run, &packet(rt, alloc, 7, 1, true, &middle), 16);
     let short = [0xc0, 0xc1, 0xc2];
-    keeps(rt, run, &packet(alloc, 7, 2, false, &short)?, 24);
+    keeps(rt, run, &packet(rt, alloc, 7, 2, false, &short), 24);
     let last = [0xd0, 0xd1, 0xd2, 0xd3, 0xd4, 0xd5, 0xd6, 0xd7];
-    keeps(rt, run, &packet(alloc, 7, 3, false, &last)?, 32);
-    Ok(())
+    keeps(rt, run, &packet(rt, alloc, 7, 3, false, &last), 32);
 }
 
 // The datagram of the map.
@@ -116,12 +115,11 @@ fn joins_map(rt: &impl Abort, mut run: Run, front: &[u8]) {
 }
 
 #[test]
-fn overlap_map(rt: HostRuntime) -> Result<(), Fail> {
-    let front = front(rt.alloc(), 7, 0x20)?;
+fn overlap_map(rt: HostRuntime) {
+    let front = front(&rt, rt.alloc(), 7, 0x20);
     let mut run = Run::new(rt.alloc());
-    keeps_rest(&rt, rt.alloc(), &mut run)?;
+    keeps_rest(&rt, rt.alloc(), &mut run);
     joins_map(&rt, run, &front);
-    Ok(())
 }
 
 // The first three of the worked fragments are kept, one a second.
@@ -149,11 +147,11 @@ fn overlapped_fragments(rt: HostRuntime) {
 }
 
 // The two fragments of the row: one that ends a datagram of 16 bytes, and its front.
-fn two_fragments(alloc: Global) -> Result<(Vec<u8>, Vec<u8>), AllocError> {
-    Ok((
-        packet(alloc, 9, 1, false, &[0, 1, 2, 3, 4, 5, 6, 7])?,
-        front(alloc, 9, 0x10)?,
-    ))
+fn two_fragments(rt: &impl Abort, alloc: Global) -> (Vec<u8>, Vec<u8>) {
+    (
+        packet(rt, alloc, 9, 1, false, &[0, 1, 2, 3, 4, 5, 6, 7]),
+        front(rt, alloc, 9, 0x10),
+    )
 }
 
 // Clocks of the two fragments, and whether they are joined: at 30 seconds, past them, and without a first clock.
@@ -187,24 +185,20 @@ fn puts_both(
     last: &[u8],
     front: &[u8],
     clocks: (Option<u64>, u64, bool),
-) -> Result<(), JoinFault> {
+) {
     let (first, second, is_joined) = clocks;
     holds!(rt; keeps_at(rt, run, first, last));
-    let put = run.put(rt, Some(second), front)?;
+    let put = run.put(rt, Some(second), front).expect(rt, "memory");
     joins_or_keeps(rt, run, put, is_joined, second);
-    Ok(())
 }
 
 #[test]
-fn always_memory_thirty_seconds(rt: HostRuntime) -> Result<(), Fail> {
-    let (last, front) = two_fragments(rt.alloc())?;
+fn always_memory_thirty_seconds(rt: HostRuntime) {
+    let (last, front) = two_fragments(&rt, rt.alloc());
     for &clocks in &THIRTY_SECONDS {
         let mut run = Run::new(rt.alloc());
-        let put = puts_both(&rt, &mut run, &last, &front, clocks);
-        drop(run);
-        put?;
+        puts_both(&rt, &mut run, &last, &front, clocks);
     }
-    Ok(())
 }
 
 // A group is dropped by its own key alone.
@@ -218,21 +212,20 @@ fn flushes(rt: &impl Abort, run: &mut Run, last: &[u8], front: &[u8]) {
 }
 
 #[test]
-fn a_whole_datagram_flushes(rt: HostRuntime) -> Result<(), Fail> {
-    let (last, front) = two_fragments(rt.alloc())?;
+fn a_whole_datagram_flushes(rt: HostRuntime) {
+    let (last, front) = two_fragments(&rt, rt.alloc());
     let mut run = Run::new(rt.alloc());
     flushes(&rt, &mut run, &last, &front);
-    Ok(())
 }
 
 // A run with groups of the identifications from 0 up to a number, all at 1 second.
-fn many_groups(rt: &impl Abort, alloc: Global, count: u16) -> Result<Run, AllocError> {
+fn many_groups(rt: &impl Abort, alloc: Global, count: u16) -> Run {
     let mut run = Run::new(alloc);
     for identification in 0..count {
-        let front = front(alloc, identification, 0x10)?;
+        let front = front(rt, alloc, identification, 0x10);
         holds!(rt; keeps_at(rt, &mut run, Some(SECOND), &front));
     }
-    Ok(run)
+    run
 }
 
 // A fragment is kept at a clock: that many groups were given up then, and that many are open.
@@ -250,30 +243,22 @@ fn gives_up_one(rt: &impl Abort, mut run: Run, next: &[u8]) {
 }
 
 #[test]
-fn open_limit(rt: HostRuntime) -> Result<(), Fail> {
-    let next = front(rt.alloc(), 1024, 0x10)?;
-    gives_up_one(&rt, many_groups(&rt, rt.alloc(), 1024)?, &next);
-    let mut late = many_groups(&rt, rt.alloc(), 1024)?;
+fn open_limit(rt: HostRuntime) {
+    let next = front(&rt, rt.alloc(), 1024, 0x10);
+    gives_up_one(&rt, many_groups(&rt, rt.alloc(), 1024), &next);
+    let mut late = many_groups(&rt, rt.alloc(), 1024);
     keeps_one(&rt, &mut late, 31 * SECOND + 1, &next, 0, 1);
-    Ok(())
 }
 
 // Puts every other one of 8,188 blocks, from the first or the second on, none of which completes the datagram.
-fn put_half(
-    rt: &impl Abort,
-    alloc: Global,
-    run: &mut Run,
-    first: u16,
-    data: &[u8],
-) -> Result<(), AllocError>
+fn put_half(rt: &impl Abort, alloc: Global, run: &mut Run, first: u16, data: &[u8])
     requires { first ≤ 1 }
 {
     for pair in 0..4_094 {
-        let piece = packet(alloc, 5, 2 * pair + first, true, data)?;
+        let piece = packet(rt, alloc, 5, 2 * pair + first, true, data);
         holds!(rt; keeps_at(rt, run, None, &piece));
     }
     same!(rt; run.joiner.held_bytes(), 65_504);
-    Ok(())
 }
 
 // A datagram of the most bytes and frames has the later bytes of each block.
@@ -286,19 +271,18 @@ fn has_halves(rt: &impl Abort, datagram: &Datagram) {
 }
 
 // Puts both halves of the blocks.
-fn put_halves(rt: &impl Abort, alloc: Global, run: &mut Run) -> Result<(), AllocError> {
-    put_half(rt, alloc, run, 1, &[1, 1, 1, 1, 1, 1, 1, 1])?;
-    put_half(rt, alloc, run, 0, &[2, 2, 2, 2, 2, 2, 2, 2])
+fn put_halves(rt: &impl Abort, alloc: Global, run: &mut Run) {
+    put_half(rt, alloc, run, 1, &[1, 1, 1, 1, 1, 1, 1, 1]);
+    put_half(rt, alloc, run, 0, &[2, 2, 2, 2, 2, 2, 2, 2]);
 }
 
 #[test]
-fn every_other_block(rt: HostRuntime) -> Result<(), Fail> {
+fn every_other_block(rt: HostRuntime) {
     let end = [3, 3, 3, 3, 3, 3, 3, 3, 3, 3, 3];
-    let last = packet(rt.alloc(), 5, 8_188, false, &end)?;
+    let last = packet(&rt, rt.alloc(), 5, 8_188, false, &end);
     let mut run = Run::new(rt.alloc());
-    put_halves(&rt, rt.alloc(), &mut run)?;
+    put_halves(&rt, rt.alloc(), &mut run);
     has_halves(&rt, &joined(&rt, run.put(&rt, None, &last)));
-    Ok(())
 }
 
 // The last block of 8 bytes that a datagram's data can have whole, in whole blocks.
@@ -311,44 +295,44 @@ fn block_data(block: u16) -> [u8; 8] {
 }
 
 // A joined datagram has the data of all blocks.
-fn has_all_blocks(rt: &impl Abort, alloc: Global, datagram: &Datagram) -> Result<(), AllocError> {
+fn has_all_blocks(rt: &impl Abort, alloc: Global, datagram: &Datagram) {
     let mut expected = Vec::new(alloc);
     for block in 0..=LAST_BLOCK {
-        expected.extend_from_slice(&block_data(block))?;
+        expected
+            .extend_from_slice(&block_data(block))
+            .expect(rt, "memory");
     }
     holds!(rt; datagram.payload.as_slice() == expected.as_slice());
     same!(rt; datagram.frames, 8_189);
-    Ok(())
 }
 
 // Puts a block of a datagram, and whether that completes it: it has the data of all then.
-fn puts_block(rt: &impl Abort, alloc: Global, run: &mut Run, block: u16) -> Result<bool, Fail> {
-    let piece = packet(alloc, 5, block, block != LAST_BLOCK, &block_data(block))?;
-    match run.put(rt, Some(SECOND), &piece)? {
+fn puts_block(rt: &impl Abort, alloc: Global, run: &mut Run, block: u16) -> bool {
+    let piece = packet(rt, alloc, 5, block, block != LAST_BLOCK, &block_data(block));
+    match run.put(rt, Some(SECOND), &piece).expect(rt, "memory") {
         Put::Kept => {
             same!(rt; run.joiner.open_count(), 1);
-            Ok(false)
+            false
         }
         Put::Joined(datagram) => {
-            has_all_blocks(rt, alloc, &datagram)?;
+            has_all_blocks(rt, alloc, &datagram);
             same!(rt; run.joiner.open_count(), 0);
-            Ok(true)
+            true
         }
     }
 }
 
 // Puts the 8,189 blocks of a datagram in an order: the last of them completes it.
-fn joins_in(rt: &impl Abort, alloc: Global, order: &[u16]) -> Result<(), Fail> {
+fn joins_in(rt: &impl Abort, alloc: Global, order: &[u16]) {
     let mut run = Run::new(alloc);
     let mut done = false;
     for &block in order {
-        if puts_block(rt, alloc, &mut run, block)? {
+        if puts_block(rt, alloc, &mut run, block) {
             same!(rt; run.place, 8_189);
             done = true;
         }
     }
     holds!(rt; done);
-    Ok(())
 }
 
 // The nth block of an order: rising, falling, the even ones and then the odd ones, also falling, and any, by a number. What
@@ -368,7 +352,7 @@ fn block_of(order: u8, n: u16, any: u16) -> u16 {
 }
 
 #[test]
-fn blocks_in_any_order(rt: HostRuntime) -> Result<(), Fail> {
+fn blocks_in_any_order(rt: HostRuntime) {
     for order in 0..5 {
         // a generator whose period is all of 2^13 numbers
         let mut number: u32 = 815;
@@ -377,12 +361,11 @@ fn blocks_in_any_order(rt: HostRuntime) -> Result<(), Fail> {
             number = number.wrapping_mul(1_397).wrapping_add(4_051) % 8_192;
             let block = block_of(order, n, number as u16);
             if block <= LAST_BLOCK {
-                blocks.push(block)?;
+                blocks.push(block).expect(&rt, "memory");
             }
         }
-        joins_in(&rt, rt.alloc(), &blocks)?;
+        joins_in(&rt, rt.alloc(), &blocks);
     }
-    Ok(())
 }
 
 // The clock of a fragment that begins a datagram, its identification, and how many groups are open after it.
@@ -406,21 +389,19 @@ const UNTIMED_FIRST: [Front; 5] = [
 ];
 
 // Fragments that begin datagrams are kept one by one.
-fn opens(rt: &impl Abort, alloc: Global, fronts: &[Front]) -> Result<(), AllocError> {
+fn opens(rt: &impl Abort, alloc: Global, fronts: &[Front]) {
     let mut run = Run::new(alloc);
     for &(clock, identification, open) in fronts {
-        let front = packet(alloc, identification, 0, true, &block_data(0))?;
+        let front = packet(rt, alloc, identification, 0, true, &block_data(0));
         holds!(rt; keeps_at(rt, &mut run, clock, &front), identification);
         same!(rt; run.joiner.open_count(), open, identification);
     }
-    Ok(())
 }
 
 #[test]
-fn old_groups_in_any_order_of_clocks(rt: HostRuntime) -> Result<(), Fail> {
-    opens(&rt, rt.alloc(), &FALLING)?;
-    opens(&rt, rt.alloc(), &UNTIMED_FIRST)?;
-    Ok(())
+fn old_groups_in_any_order_of_clocks(rt: HostRuntime) {
+    opens(&rt, rt.alloc(), &FALLING);
+    opens(&rt, rt.alloc(), &UNTIMED_FIRST);
 }
 
 // Puts a packet, and once more if it ran out of memory: the joiner is then as it was.

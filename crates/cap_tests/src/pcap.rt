@@ -1,17 +1,16 @@
 //! The records of whole pcap files, by one byte a read and by many. The files and what they give are worked out by
 //! hand from draft-ietf-opsawg-pcap.
-ghost use Rattle.std.specs.Prelude.{◌≡◌, Some, IsSome, IfOk, OnOk};
+ghost use Rattle.std.specs.Prelude.{◌≡◌, Some, IsSome};
 
 use crate::checks::{holds, same};
 use crate::vectors::{CARRY_PCAP, refused};
-use cap_bytes::{Device, Fault, Pieces, Room, Rule, Sink, Source, Tail, Window};
+use cap_bytes::{Device, Pieces, Room, Rule, Sink, Source, Tail, Window};
 use cap_numbers::Order;
 use cap_pcap::{PcapHeader, PcapReader, Record, RecordTime, put_header, put_record};
 use cap_time::Unit;
-use std::alloc::{AllocError, Global};
+use std::alloc::Global;
 use std::cmp::max;
 use std::process::Abort;
-use std::test::Fail;
 
 // The packet of CARRY_PCAP as it is written, at 2 seconds and 500,000 microseconds.
 const CARRIED: [u8; 44] = [
@@ -41,13 +40,15 @@ const LATE: [u8; 44] = [
 ];
 
 fn reader(
+    rt: &impl Abort,
     alloc: Global,
     bytes: &[u8],
     piece: usize,
     tail: Tail,
-) -> Result<PcapReader<Pieces>, AllocError> {
-    let pieces = Pieces::new(bytes.to_vec(alloc)?, max(piece, 1), None);
-    Ok(PcapReader::new(Window::new(alloc, pieces, 7), tail))
+) -> PcapReader<Pieces> {
+    let bytes = bytes.to_vec(alloc).expect(rt, "memory");
+    let pieces = Pieces::new(bytes, max(piece, 1), None);
+    PcapReader::new(Window::new(alloc, pieces, 7), tail)
 }
 
 fn header(order: Order, unit: Unit, link: u16) -> PcapHeader {
@@ -93,32 +94,29 @@ fn gives_one<R: Source>(
     reader: &mut PcapReader<R>,
     header: PcapHeader,
     record: Record,
-) -> Result<(), Fault>
-    ensures known { OnOk result (IsSome reader.new.known) }
+)
+    ensures known { IsSome reader.new.known }
 {
-    same!(rt; reader.header()?, header);
-    same!(rt; reader.next_record()?, Some(record));
-    same!(rt; reader.header()?, header);
-    Ok(())
+    same!(rt; reader.header(), Ok(header));
+    same!(rt; reader.next_record(), Ok(Some(record)));
+    same!(rt; reader.header(), Ok(header));
 }
 
 // No record comes.
-fn ends<R: Source>(rt: &impl Abort, reader: &mut PcapReader<R>) -> Result<(), Fault>
+fn ends<R: Source>(rt: &impl Abort, reader: &mut PcapReader<R>)
     requires { IsSome reader.old.known }
     ensures known { reader.new.known ≡ reader.old.known }
 {
-    same!(rt; reader.next_record()?, None);
-    Ok(())
+    same!(rt; reader.next_record(), Ok(None));
 }
 
 // The end comes, also if it is asked for again, and nothing was cut.
-fn gives_end<R: Source>(rt: &impl Abort, reader: &mut PcapReader<R>) -> Result<(), Fault>
+fn gives_end<R: Source>(rt: &impl Abort, reader: &mut PcapReader<R>)
     requires { IsSome reader.old.known }
 {
-    ends(rt, reader)?;
-    ends(rt, reader)?;
+    ends(rt, reader);
+    ends(rt, reader);
     holds!(rt; !reader.was_cut());
-    Ok(())
 }
 
 // One packet comes, and then the end.
@@ -127,87 +125,76 @@ fn gives_file<R: Source>(
     reader: &mut PcapReader<R>,
     header: PcapHeader,
     record: Record,
-) -> Result<(), Fault> {
-    gives_one(rt, reader, header, record)?;
-    gives_end(rt, reader)
+) {
+    gives_one(rt, reader, header, record);
+    gives_end(rt, reader);
 }
 
 // The file is read as its row says, by one byte a read and by many.
-fn is_spelled(rt: &impl Abort, alloc: Global, spelling: &Spelling) -> Result<(), Fault> {
+fn is_spelled(rt: &impl Abort, alloc: Global, spelling: &Spelling) {
     let (bytes, order, unit, link, units, original) = spelling;
     let header = header(*order, *unit, *link);
     let record = record(24, *units, 4, *original);
     for &piece in &[1, 4_096] {
-        let mut reader = reader(alloc, bytes, piece, Tail::Refuse)?;
-        let given = gives_file(rt, &mut reader, header, record);
-        drop(reader);
-        given?;
+        let mut reader = reader(rt, alloc, bytes, piece, Tail::Refuse);
+        gives_file(rt, &mut reader, header, record);
     }
-    Ok(())
 }
 
 #[test]
-fn always_memory_six_spellings(rt: HostRuntime) -> Result<(), Fail> {
+fn always_memory_six_spellings(rt: HostRuntime) {
     for spelling in &SPELLINGS {
-        is_spelled(&rt, rt.alloc(), spelling)?;
+        is_spelled(&rt, rt.alloc(), spelling);
     }
-    Ok(())
 }
 
 // CARRY_PCAP with a second record, of 2 of 60 bytes.
-fn two_records(alloc: Global) -> Result<Vec<u8>, AllocError> {
-    let mut bytes = CARRY_PCAP.to_vec(alloc)?;
-    bytes.extend_from_slice(&[3, 0, 0, 0, 5, 0, 0, 0, 2, 0, 0, 0, 60, 0, 0, 0, 0xfe, 0xff])?;
-    Ok(bytes)
+fn two_records(rt: &impl Abort, alloc: Global) -> Vec<u8> {
+    let mut bytes = CARRY_PCAP.to_vec(alloc).expect(rt, "memory");
+    let second = [3, 0, 0, 0, 5, 0, 0, 0, 2, 0, 0, 0, 60, 0, 0, 0, 0xfe, 0xff];
+    bytes.extend_from_slice(&second).expect(rt, "memory");
+    bytes
 }
 
 // A record comes next, with those bytes.
-fn gives<R: Source>(
-    rt: &impl Abort,
-    reader: &mut PcapReader<R>,
-    record: Record,
-    frame: &[u8],
-) -> Result<(), Fault>
+fn gives<R: Source>(rt: &impl Abort, reader: &mut PcapReader<R>, record: Record, frame: &[u8])
     requires { IsSome reader.old.known }
     ensures known { reader.new.known ≡ reader.old.known }
 {
-    same!(rt; reader.next_record()?, Some(record));
+    same!(rt; reader.next_record(), Ok(Some(record)));
     same!(rt; reader.frame(), frame);
-    Ok(())
 }
 
 // Both records come, and then the end before a rest that is cut.
-fn gives_two<R: Source>(rt: &impl Abort, reader: &mut PcapReader<R>) -> Result<(), Fault> {
-    reader.header()?;
-    gives(rt, reader, record(24, 2_500_000, 4, 4), &[1, 2, 3, 4])?;
-    gives(rt, reader, record(44, 3_000_005, 2, 60), &[0xfe, 0xff])?;
-    ends(rt, reader)?;
+fn gives_two<R: Source>(rt: &impl Abort, reader: &mut PcapReader<R>) {
+    reader.header().expect(rt, "the header");
+    gives(rt, reader, record(24, 2_500_000, 4, 4), &[1, 2, 3, 4]);
+    gives(rt, reader, record(44, 3_000_005, 2, 60), &[0xfe, 0xff]);
+    ends(rt, reader);
     holds!(rt; reader.was_cut());
-    Ok(())
 }
 
 // Two records, and the first 12 bytes of a third.
 #[test]
-fn records_in_order(rt: HostRuntime) -> Result<(), Fail> {
-    let mut bytes = two_records(rt.alloc())?;
-    bytes.extend_from_slice(CARRIED.split_at(12).0)?;
+fn records_in_order(rt: HostRuntime) {
+    let mut bytes = two_records(&rt, rt.alloc());
+    bytes
+        .extend_from_slice(CARRIED.split_at(12).0)
+        .expect(&rt, "memory");
     for &piece in &[1, 4_096] {
-        let mut reader = reader(rt.alloc(), &bytes, piece, Tail::Accept)?;
-        let given = gives_two(&rt, &mut reader);
-        drop(reader);
-        given?;
+        let mut reader = reader(&rt, rt.alloc(), &bytes, piece, Tail::Accept);
+        gives_two(&rt, &mut reader);
     }
-    Ok(())
 }
 
 // The header is known once it was asked for.
-fn tells_header<R: Source>(rt: &impl Abort, reader: &mut PcapReader<R>) -> Result<PcapHeader, Fault>
-    ensures known { IfOk result (λ header. reader.new.known ≡ Some header) }
+fn tells_header<R: Source>(rt: &impl Abort, reader: &mut PcapReader<R>) -> PcapHeader
+    ensures known { reader.new.known ≡ Some result }
 {
     same!(rt; reader.known(), None);
-    let header = reader.header()?;
+    let header = reader.header().expect(rt, "the header");
     same!(rt; reader.known(), Some(header));
-    Ok(header)
+    header
 }
 
 // Both records are shown.
@@ -221,21 +208,19 @@ fn shows_two<R: Source>(rt: &impl Abort, reader: &mut PcapReader<R>, header: Pca
 }
 
 // Both records are shown, and then none, and none comes.
-fn shows_all<R: Source>(rt: &impl Abort, reader: &mut PcapReader<R>) -> Result<(), Fault> {
-    let header = tells_header(rt, reader)?;
+fn shows_all<R: Source>(rt: &impl Abort, reader: &mut PcapReader<R>) {
+    let header = tells_header(rt, reader);
     shows_two(rt, reader, header);
     same!(rt; reader.take_shown(header), None);
-    ends(rt, reader)
+    ends(rt, reader);
 }
 
 // The first bytes that are read bring two records into the window, which shows them then.
 #[test]
-fn always_memory_shown_records(rt: HostRuntime) -> Result<(), Fail> {
-    let bytes = two_records(rt.alloc())?;
-    let mut reader = reader(rt.alloc(), &bytes, 4_096, Tail::Refuse)?;
-    let shown = shows_all(&rt, &mut reader);
-    drop(reader);
-    Ok(shown?)
+fn always_memory_shown_records(rt: HostRuntime) {
+    let bytes = two_records(&rt, rt.alloc());
+    let mut reader = reader(&rt, rt.alloc(), &bytes, 4_096, Tail::Refuse);
+    shows_all(&rt, &mut reader);
 }
 
 // Files whose header is refused, and the rule: cut, of another format, and of another version.
@@ -259,21 +244,21 @@ fn refuses<R: Source>(rt: &impl Abort, reader: &mut PcapReader<R>, rule: Rule) {
 }
 
 #[test]
-fn refused_files(rt: HostRuntime) -> Result<(), Fail> {
+fn refused_files(rt: HostRuntime) {
     for &(bytes, rule) in &REFUSED {
-        refuses(&rt, &mut reader(rt.alloc(), bytes, 1, Tail::Accept)?, rule);
+        let mut reader = reader(&rt, rt.alloc(), bytes, 1, Tail::Accept);
+        refuses(&rt, &mut reader, rule);
     }
-    Ok(())
 }
 
 // Writes a file of one packet, at 2 seconds and a fraction.
-fn put_file<W: Sink>(writer: &mut W, header: PcapHeader, fraction: u32) -> Result<(), Fault> {
+fn put_file<W: Sink>(rt: &impl Abort, writer: &mut W, header: PcapHeader, fraction: u32) {
     let time = RecordTime {
         seconds: 2,
         fraction,
     };
-    put_header(writer, &header)?;
-    put_record(writer, header.order, time, 4, &[1, 2, 3, 4])
+    same!(rt; put_header(writer, &header), Ok(()));
+    same!(rt; put_record(writer, header.order, time, 4, &[1, 2, 3, 4]), Ok(()));
 }
 
 // What is written, and with which order, unit and fraction.
@@ -285,11 +270,10 @@ const WRITTEN: [([u8; 44], Order, Unit, u32); 4] = [
 ];
 
 #[test]
-fn written_files(rt: HostRuntime) -> Result<(), Fail> {
+fn written_files(rt: HostRuntime) {
     for (bytes, order, unit, fraction) in &WRITTEN {
-        let mut room = Room::new(Vec::with_capacity(rt.alloc(), 44)?);
-        put_file(&mut room, header(*order, *unit, 1), *fraction)?;
+        let mut room = Room::new(Vec::with_capacity(rt.alloc(), 44).expect(&rt, "memory"));
+        put_file(&rt, &mut room, header(*order, *unit, 1), *fraction);
         same!(&rt; room.bytes(), bytes.as_slice());
     }
-    Ok(())
 }
