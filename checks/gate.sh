@@ -33,21 +33,15 @@ counted() {
 most=$(($(nproc) + 1))
 memory=$(awk '/^MemAvailable:/ { print int($2 / 1048576 / 3) }' /proc/meminfo)
 export RT_JOBS=${RT_JOBS:-$((memory < 1 ? 1 : memory < most ? memory : most))}
-{ rt ci 2>&1; echo $? > "$logs/status"; } | tee "$logs/rt ci" &
-proofs=$!
+rt ci 2>&1 | tee "$logs/rt ci"
+counted 'rt ci' "${PIPESTATUS[0]}"
 
-# The scripts want the program and the tests as rt ci builds them, and wait for each other in nothing: so they run side by side, beside the last
-# edits, which leave processors idle, and each is told in its turn.
-until [ -e "$logs/status" ] || { grep -q '^rt: cap_tool proved' "$logs/rt ci" && grep -q '^rt: cap_tests: its tests are proved' "$logs/rt ci"; }; do
-    sleep 1
-done 2> /dev/null
+# the scripts wait for each other in nothing, so they run side by side, and each is told in its turn
 declare -A running
 for script in "${scripts[@]}"; do
     checks/$script > "$logs/$script" 2>&1 &
     running[$script]=$!
 done
-wait "$proofs"
-counted 'rt ci' "$(cat "$logs/status")"
 for script in "${scripts[@]}"; do
     status=0
     wait "${running[$script]}" || status=$?
