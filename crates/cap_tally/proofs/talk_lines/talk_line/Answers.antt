@@ -22,7 +22,7 @@ returns c =
       c.put_time.ensures.text,
       c.put_text.ensures.text,
       c.new-line.ensures.text,
+      line_parts (protocol_text key.protocol) (end_text key.lesser) (end_text key.greater)
+          (traffic_text row.forward_frames row.forward_bytes) (traffic_text row.backward_frames row.backward_bytes)
+          (time_text (option_map printed_of row.first)) (time_text (option_map printed_of row.last)),
     )
-    (line_parts (protocol_text key.protocol) (end_text key.lesser) (end_text key.greater)
-    (traffic_text row.forward_frames row.forward_bytes) (traffic_text row.backward_frames row.backward_bytes)
-    (time_text (option_map printed_of row.first)) (time_text (option_map printed_of row.last)))

@@ -1,4 +1,4 @@
-use Rattle.std.proofs.Common.{rules, ◌∙◌, ap, None, refl, sym, arith}
+use Rattle.std.proofs.Common.{◌∙◌, ap, None, refl, sym, arith}
 use Rattle.std.specs.List.{range_with_len}
 use Rattle.cap_order.specs.MergedLaws.{merged-is-feed}
 use Rattle.cap_order.specs.View.{parts_of}
@@ -20,4 +20,4 @@ pub returns-clause-stands : goal.returns-clause-stands
 returns-clause-stands g c = record { totals = c.new-totals.ensures.stands; tally = c.new.ensures.stands (next_taken (parts_of c.args.merged)) }
 
 pub returns-clause-going : goal.returns-clause-going
-returns-clause-going g c = search rules
+returns-clause-going g c = refl

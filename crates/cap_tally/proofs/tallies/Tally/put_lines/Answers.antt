@@ -1,4 +1,4 @@
-use Rattle.std.proofs.Common.{◌++◌, None, Err, length, subst}
+use Rattle.std.proofs.Common.{◌++◌, None, Err, length, ap, subst}
 use Rattle.std.proofs.lemmas.Result.{err_from_is_err_and}
 use Rattle.cap_bytes.proofs.Putting.{Prints-behind}
 use Rattle.cap_bytes.specs.Printing.{Prints}
@@ -28,4 +28,4 @@ returns-clause-text g c = λ w.
     rw (← c.self.view_is)
     (Prints-behind None (g.W.Sink.held c.args.writer.now) (g.W.Sink.held c.put_counts.new.writer) (g.W.Sink.held c.put_talks.new.writer)
     (frames_text t.classes ++ joined_text t.joined t.joiner.given_up) (talks_text (length t.talks.rows) ++ talk_texts t.talks.rows)
-    c.put_talks.result (rw c.given_up.ensures.value at ((e.text w).1)) (c.put_talks.ensures.text (e.writer.told w)))
+    c.put_talks.result (rw (ap (joined_text t.joined) c.given_up.ensures.value) at ((e.text w).1)) (c.put_talks.ensures.text (e.writer.told w)))
