@@ -3,3 +3,6 @@ use Rattle.cap_feed.proofs.walks.next_packet.Goals as goal
 
 pub returns-then-branch-clause-answer : goal.returns-then-branch-clause-answer
 returns-then-branch-clause-answer g c = search rules
+
+pub returns-then-branch-clause-items : goal.returns-then-branch-clause-items
+returns-then-branch-clause-items g c = search rules

@@ -10,6 +10,9 @@ use Rattle.cap_merge.proofs.files.captures_of.Goals as goal
 in_range : (file n m l : ℕ) → file ≡ 1 + n → n < m → l ≡ m → l ≤ 32 → file + 1 < 2 ^ 32
 in_range file n m l a b d e = omega arith
 
+next_number : (file n m : ℕ) → file ≡ 1 + n → m ≡ n + 1 → file + 1 ≡ 1 + m
+next_number file n m a b = omega arith
+
 pub loop-source-preserved : goal.loop-source-preserved
 loop-source-preserved g c =
     let i = c.loop-source.invariant in
@@ -24,7 +27,7 @@ loop-source-preserved g c =
     let more = AreUnread-more c.args.tail 1 (map reader seen) (map feed_of c.loop-source.captures.items) (reader x) (feed_of c.new-capture.result) i.unread is in
     let pushed : c.push.new.self.items ≡ c.loop-source.captures.items ++ c.new-capture.result ∷ [] = search rules in
     record {
-      number = omega (arith, i.number, length-append seen (x ∷ []));
+      number = next_number _ _ _ i.number (length-append seen (x ∷ []));
       unread =
           rw (map-append reader seen (x ∷ []), pushed, map-append feed_of c.loop-source.captures.items (c.new-capture.result ∷ [])) more;
     }
