@@ -1,4 +1,4 @@
-use Rattle.std.proofs.Common.{rules, ◌≡◌, ◌++◌, ◌∷◌, [], ◌+◌, ◌-◌, ◌<◌, ◌∙◌, ℕ, Bool, false, List, Result, Ok, Err, IfOk, IsFalse, get_or, is_err, length, map, take, refl, sym, arith}
+use Rattle.std.proofs.Common.{rules, ◌≡◌, ◌++◌, ◌∷◌, [], ◌+◌, ◌-◌, ◌<◌, ◌≤◌, ◌∙◌, ℕ, Bool, false, List, Result, Ok, Err, IfOk, IsFalse, get_or, is_err, length, map, take, refl, sym, arith}
 use Rattle.std.specs.Borrow.{Bor}
 use Rattle.std.proofs.lemmas.List.{get_or-map, length-map, map-append, take_more}
 use Rattle.cap_run.specs.Streams.{is_dash}
@@ -30,10 +30,17 @@ loop-place-preserved g c =
     let len = done c.add.result _ added c.add.ensures.len in
     (next_dash _ _ _ c.args.names.now c.loop-place.place _ c.loop-place-test.true c.loop-place.invariant.0 c.in-Ok.ensures.which all, omega (arith, len), omega arith)
 
+-- its number, from 1 on
+first : (place : ℕ) → 1 ≤ place + 1
+first place = omega arith
+
+last : (place names texts : ℕ) → place < names → texts ≡ names → place + 1 ≤ texts
+last place names texts below same = omega arith
+
 pub returns-in_default-clause-stops : goal.returns-in_default-clause-stops
 returns-in_default-clause-stops g c = (
-  omega arith,
-  omega (arith, length-map c.args.names.now (λ n. n.now)),
+  first c.loop-place.place,
+  last c.loop-place.place _ _ c.loop-place-test.true (length-map c.args.names.now (λ n. n.now)),
   opened_not c.args.names.now c.loop-place.place _ c.loop-place-test.true (c.in_default.ensures.fault refl),
 )
 
