@@ -1,7 +1,7 @@
-use Rattle.std.proofs.Common.{rules}
+use Rattle.std.proofs.Common.{arith}
 use Rattle.cap_ip.specs.Links.{network_of}
 use Rattle.cap_ip.proofs.links.network.Goals as goal
 
 pub returns-in-276 : goal.returns-in-276
 unfolding network_of
-returns-in-276 c = search rules
+returns-in-276 c = grind arith

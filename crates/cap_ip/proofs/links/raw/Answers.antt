@@ -1,7 +1,7 @@
-use Rattle.std.proofs.Common.{rules}
+use Rattle.std.proofs.Common.{arith}
 use Rattle.cap_ip.specs.Links.{raw}
 use Rattle.cap_ip.proofs.links.raw.Goals as goal
 
 pub returns-then-frame-eq-VERSION_4 : goal.returns-then-frame-eq-VERSION_4
 unfolding raw
-returns-then-frame-eq-VERSION_4 c = search rules
+returns-then-frame-eq-VERSION_4 c = grind arith

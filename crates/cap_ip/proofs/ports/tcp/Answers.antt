@@ -1,7 +1,7 @@
-use Rattle.std.proofs.Common.{rules}
+use Rattle.std.proofs.Common.{arith}
 use Rattle.cap_ip.specs.Transport.{tcp_of}
 use Rattle.cap_ip.proofs.ports.tcp.Goals as goal
 
 pub returns : goal.returns
 unfolding tcp_of
-returns c = search rules
+returns c = grind arith
