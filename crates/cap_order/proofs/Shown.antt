@@ -1,12 +1,16 @@
 -- What comes next of a feed, as the items to come have it.
-use Rattle.std.proofs.Common.{arith, ◌≡◌, IsTrue, Some, None, Ok, Err}
+use Rattle.std.proofs.Common.{arith, ◌≡◌, IsTrue, true, Some, None, Ok, Err}
 use Rattle.cap_bytes.specs.declared.faults.Fault.{Fault}
 use Rattle.cap_bytes.specs.declared.faults.Fault.TheVariants.{Refused}
 use Rattle.cap_bytes.specs.declared.faults.Refusal.{Refusal}
 use Rattle.cap_feed.specs.Feed.{Feed, SameItems, FindsPacket, FindsItem, IsFeed}
-use Rattle.cap_feed.specs.Walk.{ShowsItem}
+use Rattle.cap_feed.specs.Walk.{ShowsItem, GivesPacket}
 use Rattle.cap_feed.specs.declared.feeds.Head.TheVariants as heads
 use Rattle.cap_feed.specs.declared.packets.Meta.{Meta}
+
+-- a packet that was found is the one that is known
+pub gives-packet : (old new : Feed) (meta : Meta) → FindsPacket old (Ok true) new → new.known ≡ Some (heads.Packet meta) → GivesPacket old (Ok (Some meta)) new
+gives-packet old new meta found known = grind arith
 
 -- what comes next of a feed, by what is known of it
 pub shows-packet : (old new : Feed) (meta : Meta) → IsFeed new → IsTrue new.told → new.known ≡ Some (heads.Packet meta) → SameItems old new

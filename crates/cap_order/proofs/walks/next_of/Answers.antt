@@ -2,7 +2,7 @@ use Rattle.std.proofs.lemmas.Result.{err_from_is_err_and}
 use Rattle.cap_order.specs.MergedLaws.{merged-is-feed}
 use Rattle.cap_order.specs.Parts.{feed_of}
 use Rattle.cap_order.specs.View.{parts_of}
-use Rattle.cap_order.proofs.Shown.{shows-packet, shows-fault, shows-end}
+use Rattle.cap_order.proofs.Shown.{gives-packet, shows-packet, shows-fault, shows-end}
 use Rattle.cap_order.proofs.walks.next_of.Goals as goal
 
 pub returns-in_err-has_packet-clause-items : goal.returns-in_err-has_packet-clause-items
@@ -13,6 +13,11 @@ returns-in_err-has_packet-clause-items g c = λ t.
     rw (p.1, p.2)
     (shows-fault (feed_of (parts_of c.args.merged.now)) (feed_of (parts_of m)) c.in_err-has_packet.field-0.0 law (c.has_packet.ensures.keeps.told t)
     c.in_err-has_packet.ensures.answer (c.in_err-has_packet.ensures.items t))
+
+pub returns-then-branch-clause-answer : goal.returns-then-branch-clause-answer
+returns-then-branch-clause-answer g c =
+    gives-packet (feed_of (parts_of c.args.merged.now)) (feed_of (parts_of c.has_packet.new.self)) c.packet.result.now
+    (rw c.if-branch.true at c.in_ok-has_packet.ensures.answer) c.packet.ensures.packet
 
 pub returns-then-branch-clause-items : goal.returns-then-branch-clause-items
 returns-then-branch-clause-items g c = λ t.

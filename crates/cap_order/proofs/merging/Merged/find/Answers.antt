@@ -1,4 +1,4 @@
-use Rattle.std.proofs.Common.{map, rules}
+use Rattle.std.proofs.Common.{map, Some, ap, ◌∙◌}
 use Rattle.std.proofs.lemmas.Result.{err_from_is_err_and}
 use Rattle.cap_order.specs.Parts.{parts}
 use Rattle.cap_order.proofs.Peeking.{stopped-looks}
@@ -15,4 +15,4 @@ returns-in_err-look g c =
     rw (p.1, p.2) (record { asks = h.0; next = h.1 })
 
 pub returns-in-Refused-clause-next : goal.returns-in-Refused-clause-next
-returns-in-Refused-clause-next g c = search rules
+returns-in-Refused-clause-next g c = c.in_ok-look.ensures.next ∙ ap Some c.in-Refused.is
