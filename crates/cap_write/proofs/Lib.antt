@@ -6,5 +6,5 @@ mod Merging
 mod Numbers
 pub mod Places
 pub mod Records
-pub mod Writing
+mod Writing
 pub mod Written
