@@ -6,7 +6,8 @@ there on), until a run meets no refusal. The program answers as with memory, or 
 have written nothing, and the other commands a prefix, and has given all memory back. Of the tests that call again after
 `Fault::Memory`, each has to pass, whichever request is refused.
 
-Devices: each read of each file failing in turn, which is told with the header, record or block that it is of; a writer
+Devices: each read of each file failing in turn, which is told with the header, record or block that it is of (`list`, `blocks` and a
+merge: after all that comes before it); a writer
 that fails, or takes nothing, after any number of bytes, which has just these (one that a signal interrupts is asked
 again); a file without end, which rule 14 stops.
 
@@ -75,6 +76,13 @@ DEVICES = {
     "pcap": ["carry-pcap", "carry-pcapng"],
     "list": ["options", "tagged-frames"],
     "blocks": ["options"],
+}
+# How many packets of two files a merge writes before a read fails, by the file and the place that are told: of a file nothing is read before the first
+# packets of both are looked for, or before the packet in front is passed. In the order of clocks the packets are the second file's first, both
+# of the first file, and what the second one still has.
+MERGED_BEFORE = {
+    "runs-back": {(1, 0): 0, (1, 24): 0, (1, 41): 2, (1, 58): 3, (2, 0): 0, (2, 24): 0, (2, 41): 1, (2, 58): 4},
+    "runs-back and options": {(1, 0): 0, (1, 24): 0, (1, 41): 2, (1, 58): 3, (2, 0): 0, (2, 44): 0, (2, 96): 0, (2, 144): 1, (2, 168): 1},
 }
 # Tests that meet a refused growth, by crate, and how many together at most: they call again, or look at what a call left.
 TESTS = [
@@ -182,6 +190,8 @@ def reads_of(count, bench, shim, out, task, row):
             is_so = told_as(task, seen, wanted, f"fault: read file {number} offset {offset}\n".encode()) and seen[3] == 1
             if task in ("list", "blocks"):
                 is_so = is_so and seen[1] == wanted_of(task, [content[:offset]])[1]
+            if task == "merge":
+                is_so = is_so and len(model.File(1, seen[1], True).packets) == MERGED_BEFORE[row][number, offset]
             count.check(f"{task} of {row}, read {call} of file {number}", is_so, seen)
 
 

@@ -5,7 +5,7 @@
 # Use: checks/gate.sh     (the scripts take less than a minute on four processors; they want a C compiler and Python 3)
 set -u
 cd "$(dirname "$0")/.."
-scripts=(program.sh stack.sh papers.sh rounds.sh invariance.py hostile.py limits.py 'faults.py growths' 'faults.py devices')
+scripts=(program.sh stack.sh papers.sh rounds.sh rows.py invariance.py hostile.py limits.py 'faults.py growths' 'faults.py devices')
 passed=0
 failed=0
 logs=$(mktemp -d)
@@ -33,20 +33,39 @@ counted() {
 most=$(($(nproc) + 1))
 memory=$(awk '/^MemAvailable:/ { print int($2 / 1048576 / 3) }' /proc/meminfo)
 export RT_JOBS=${RT_JOBS:-$((memory < 1 ? 1 : memory < most ? memory : most))}
+
+# are_built: rt ci has built the program and the tests
+are_built() {
+    grep -q '^rt: cap_tool proved' "$logs/rt ci" && grep -q '^rt: cap_tests: its tests are proved' "$logs/rt ci"
+}
+
+# The scripts begin beside the last edits, once a processor has had nothing to do for three seconds, and take only what is left of the processors; begun
+# before, they would take what the edits want, and nothing would end sooner. They wait for each other in nothing, so they run side by side. What program.sh
+# sees is timed by the clock, and it takes little.
+run_scripts() {
+    local script idle=0
+    until [ -e "$logs/ended" ] || [ "$idle" = 3 ]; do
+        sleep 1
+        if [ ! -d "$logs" ]; then exit; fi
+        if are_built && [ "$(pgrep -c -x rattle)" -lt "$(nproc)" ]; then idle=$((idle + 1)); else idle=0; fi
+    done 2> /dev/null
+    for script in "${scripts[@]}"; do
+        {
+            nice -n $([ "$script" = program.sh ] && echo 0 || echo 19) checks/$script > "$logs/$script" 2>&1
+            echo $? > "$logs/$script, its status"
+        } &
+    done
+    wait
+}
+
+run_scripts &
 rt ci 2>&1 | tee "$logs/rt ci"
 counted 'rt ci' "${PIPESTATUS[0]}"
-
-# the scripts wait for each other in nothing, so they run side by side, and each is told in its turn
-declare -A running
+touch "$logs/ended"
+wait
 for script in "${scripts[@]}"; do
-    checks/$script > "$logs/$script" 2>&1 &
-    running[$script]=$!
-done
-for script in "${scripts[@]}"; do
-    status=0
-    wait "${running[$script]}" || status=$?
     cat "$logs/$script"
-    counted "$script" "$status"
+    counted "$script" "$(cat "$logs/$script, its status")"
 done
 echo "$passed passed, $failed failed"
 [ "$failed" = 0 ]

@@ -126,7 +126,7 @@ def main():
                 if task in ("info", "report"):
                     count.check(f"{task} writes nothing", seen[1] == b"", seen)
 
-        # by processes, since most of the time is the model's, and by more than there are processors, since each waits for the program
+        # by processes, since to begin a program 23,000 times is most of the work, and by more than there are processors, since each waits for it
         with multiprocessing.get_context("fork").Pool(8, begin, (folder, program, shim)) as pool:
             for name, wrong in pool.imap(held, enumerate(all_runs()), 64):
                 count.check(name, wrong is None, wrong)

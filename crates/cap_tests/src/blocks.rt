@@ -1,16 +1,16 @@
 //! The blocks of whole pcapng files, by one byte a read and by many. The files and what they give are worked out by
 //! hand from draft-ietf-opsawg-pcapng.
 use crate::checks::{holds, same};
-use crate::vectors::{CARRY_PCAPNG, OPTIONS_PCAPNG, refused};
+use crate::vectors::{CARRY_PCAPNG, OPTIONS_PCAPNG};
 use cap_blocks::{
     Block, BlockReader, Options, PacketFields, is_known, is_section, put_interface, put_packet,
     put_section,
 };
-use cap_bytes::{Device, Fault, Pieces, Room, Rule, Sink, Source, Tail, Window};
+use cap_bytes::{Device, Pieces, Room, Rule, Sink, Source, Tail, Window};
 use cap_numbers::Order;
 use cap_time::{Interface, Resolution};
 use std::alloc::Global;
-use std::cmp::{max, min};
+use std::cmp::max;
 use std::process::Abort;
 
 // A little-endian section and a big-endian one, each of 28, 20 and 36 bytes.
@@ -84,18 +84,6 @@ fn block(kind: u32, offset: u64, total: u32, order: Order) -> Block {
         total,
         order,
     }
-}
-
-// The fault that ends a file of at most six blocks, or none.
-fn fault_of<R: Source>(reader: &mut BlockReader<R>) -> Option<Fault> {
-    for _ in 0..7 {
-        match reader.next_block() {
-            Ok(Some(_)) => {}
-            Ok(None) => return None,
-            Err(fault) => return Some(fault),
-        }
-    }
-    None
 }
 
 // Next comes that block, or the end.
@@ -175,107 +163,6 @@ fn bodies(rt: HostRuntime) {
     holds!(&rt; is_section(&CARRY_PCAPNG));
     let mut reader = reader(&rt, rt.alloc(), &CARRY_PCAPNG, 1, Tail::Refuse);
     lends_bodies(&rt, &mut reader);
-}
-
-// How many bytes of CARRY_PCAPNG come first, what follows them, and where and by which rule that is refused.
-const REFUSED: [(usize, &[u8], u64, Rule); 15] = [
-    (0, &[], 0, Rule::Cut),
-    (0, &[0x0a, 0x0d, 0x0d], 0, Rule::Cut),
-    (0, &[0xd4, 0xc3, 0xb2, 0xa1], 0, Rule::Magic),
-    (4, &[30, 0, 0, 0], 0, Rule::Cut),
-    // neither the order magic nor the length is right
-    (4, &[30, 0, 0, 0, 0, 0, 0, 0], 0, Rule::OrderMagic),
-    (
-        4,
-        &[24, 0, 0, 0, 0x4d, 0x3c, 0x2b, 0x1a],
-        0,
-        Rule::BlockLength,
-    ),
-    (
-        12,
-        &[1, 0, 1, 0, 0, 0, 0, 0, 0, 0, 0, 0, 28, 0, 0, 0],
-        0,
-        Rule::Version,
-    ),
-    (
-        28,
-        &[5, 0, 0, 0, 0, 0, 0, 0, 0, 0, 0, 0],
-        28,
-        Rule::BlockLength,
-    ),
-    (
-        28,
-        &[5, 0, 0, 0, 30, 0, 0, 0, 0, 0, 0, 0],
-        28,
-        Rule::BlockLength,
-    ),
-    (
-        28,
-        &[6, 0, 0, 0, 0xff, 0xff, 0xff, 0xff, 0, 0, 0, 0],
-        28,
-        Rule::BlockLength,
-    ),
-    (
-        28,
-        &[6, 0, 0, 0, 4, 0, 8, 0, 0, 0, 0, 0],
-        28,
-        Rule::BlockLength,
-    ),
-    (
-        28,
-        &[2, 0, 0, 0, 28, 0, 0, 0, 0, 0, 0, 0],
-        28,
-        Rule::BlockLength,
-    ),
-    (
-        28,
-        &[5, 0, 0, 0, 0xfc, 0xff, 0xff, 0xff, 0, 0, 0, 0],
-        28,
-        Rule::Cut,
-    ),
-    (
-        28,
-        &[5, 0, 0, 0, 16, 0, 0, 0, 1, 2, 3, 4, 12, 0, 0, 0],
-        28,
-        Rule::BlockTrailer,
-    ),
-    (
-        28,
-        &[3, 0, 0, 0, 16, 0, 0, 0, 1, 2, 3, 4, 12, 0, 0, 0],
-        28,
-        Rule::BlockTrailer,
-    ),
-];
-
-// The first n bytes of CARRY_PCAPNG, and what follows them.
-fn begun(rt: &impl Abort, alloc: Global, n: usize, behind: &[u8]) -> Vec<u8> {
-    let (first, _) = CARRY_PCAPNG.split_at(min(n, 28));
-    let mut bytes = first.to_vec(alloc).expect(rt, "memory");
-    bytes.extend_from_slice(behind).expect(rt, "memory");
-    bytes
-}
-
-// The fault ends the file, also if it is read again, and nothing was cut.
-fn ends_in<R: Source>(rt: &impl Abort, reader: &mut BlockReader<R>, fault: Fault, n: usize) {
-    same!(rt; fault_of(reader), Some(fault), n);
-    same!(rt; fault_of(reader), Some(fault), n);
-    holds!(rt; !reader.was_cut());
-}
-
-// A file ends in that fault, by one byte a read and by many.
-fn refuses(rt: &impl Abort, alloc: Global, file: &[u8], fault: Fault, n: usize) {
-    for &piece in &[1, 4_096] {
-        let mut reader = reader(rt, alloc, file, piece, Tail::Refuse);
-        ends_in(rt, &mut reader, fault, n);
-    }
-}
-
-#[test]
-fn refused_blocks(rt: HostRuntime) {
-    for &(n, behind, offset, rule) in &REFUSED {
-        let file = begun(&rt, rt.alloc(), n, behind);
-        refuses(&rt, rt.alloc(), &file, refused(offset, rule), n);
-    }
 }
 
 fn interface(rt: &impl Abort, link: u16, snaplen: u32, code: u8, offset: i64) -> Interface {

@@ -4,14 +4,12 @@ ghost use Rattle.std.specs.Prelude.{◌≤◌};
 use crate::checks::{holds, same};
 use crate::files::{room_of, sources_of};
 use crate::hex_vectors::{
-    CARRY_PCAP, CUT_PCAP, EMPTY, File, HEADER_ONLY, OPTIONS_PCAPNG, RUNS_BACK, SIMPLE_PACKET,
+    CARRY_PCAP, CUT_PCAP, File, HEADER_ONLY, OPTIONS_PCAPNG, RUNS_BACK, SIMPLE_PACKET,
 };
-use cap_bytes::{Fault, Refusal, Rule, Sink, Source, Tail};
+use cap_bytes::{Fault, Sink, Source, Tail};
 use cap_talks::file_lines;
 use std::alloc::Global;
 use std::process::Abort;
-
-const NO_MAGIC: File = &["00000000"];
 
 const CARRY_LINE: &str = "files 1\nfile 1 pcap packets 1 bytes 4 truncated 0 skipped 0 \
     first 2+500000/1000000 last 2+500000/1000000\n";
@@ -45,16 +43,6 @@ const TOLD: [Told; 7] = [
     (&[RUNS_BACK, OPTIONS_PCAPNG], Tail::Accept, TWO_LINES),
 ];
 
-// Files, and the first refusal of any of them: its file, offset and rule.
-type Refused = (&'static [File], (u32, u64, Rule));
-
-const REFUSED: [Refused; 4] = [
-    (&[CUT_PCAP], (1, 24, Rule::Cut)),
-    (&[EMPTY], (1, 0, Rule::Cut)),
-    (&[CARRY_PCAP, NO_MAGIC, CUT_PCAP], (2, 0, Rule::Magic)),
-    (&[CARRY_PCAP, CUT_PCAP, NO_MAGIC], (2, 24, Rule::Cut)),
-];
-
 // What the lines of 1 to 32 files answer.
 fn tell<R: Source, W: Sink>(
     rt: &impl Abort,
@@ -85,23 +73,5 @@ fn always_memory_files_are_told(rt: HostRuntime) {
         for piece in [1, 4096] {
             tells(&rt, rt.alloc(), row, piece);
         }
-    }
-}
-
-// The first refusal is answered, and nothing written.
-fn refuses(rt: &impl Abort, alloc: Global, row: &Refused) {
-    let (files, (file, offset, rule)) = *row;
-    let mut writer = room_of(rt, alloc, 512);
-    let sources = sources_of(rt, alloc, files, 4096);
-    let answer = tell(rt, alloc, sources, Tail::Refuse, &mut writer);
-    let refusal = Refusal { file, offset, rule };
-    let wanted = (Err(Fault::Refused(refusal)), 0);
-    same!(rt; (answer, writer.bytes().len()), wanted);
-}
-
-#[test]
-fn the_first_refusal_is_told_and_nothing_written(rt: HostRuntime) {
-    for row in &REFUSED {
-        refuses(&rt, rt.alloc(), row);
     }
 }

@@ -11,20 +11,15 @@ use cap_talks::report;
 use std::alloc::Global;
 use std::process::Abort;
 
-/// Puts the bytes of a file, which is texts in hex, at the end of others.
-pub(crate) fn extend(rt: &impl Abort, alloc: Global, bytes: &mut Vec<u8>, file: &[&str]) {
+/// The bytes of a file, which is texts in hex.
+pub(crate) fn bytes_of(rt: &impl Abort, alloc: Global, file: &[&str]) -> Vec<u8> {
+    let mut bytes = Vec::new(alloc);
     for part in file {
         let decoded = hex::decode(alloc, *part).expect(rt, "bytes in hex");
         bytes
             .extend_from_slice(decoded.as_slice())
             .expect(rt, "memory");
     }
-}
-
-/// The bytes of a file.
-pub(crate) fn bytes_of(rt: &impl Abort, alloc: Global, file: &[&str]) -> Vec<u8> {
-    let mut bytes = Vec::new(alloc);
-    extend(rt, alloc, &mut bytes, file);
     bytes
 }
 
@@ -134,15 +129,4 @@ pub(crate) fn report_to(
     holds!(rt; !sources.is_empty());
     holds!(rt; sources.len() <= 32);
     report(alloc, sources, tail, writer)
-}
-
-/// The report of one file.
-pub(crate) fn told(rt: &impl Abort, alloc: Global, file: Vec<u8>) -> Room {
-    let mut sources = roomy(rt, alloc, 1);
-    sources
-        .push(Pieces::new(file, 4096, None))
-        .expect(rt, "memory");
-    let mut writer = room_of(rt, alloc, 1024);
-    same!(rt; report_to(rt, alloc, sources, Tail::Refuse, &mut writer), Ok(()));
-    writer
 }

@@ -4,23 +4,19 @@
 /// A file: texts in hex, one after the other.
 pub(crate) type File = &'static [&'static str];
 
-// The header of a pcap file before its link type, of one of Ethernet, and of one of IP alone.
-pub(crate) const PCAP: &str = "d4c3b2a102000400000000000000000000000400";
-
+// The header of a pcap file of Ethernet, and of one of IP alone.
 pub(crate) const ETHERNET: &str = "d4c3b2a10200040000000000000000000000040001000000";
 
 pub(crate) const RAW: &str = "d4c3b2a10200040000000000000000000000040065000000";
 
 pub(crate) const HEADER_ONLY: File = &[ETHERNET];
 
-pub(crate) const EMPTY: File = &[];
-
 // Records without bytes, at 1 second, at 2 and at 5.
-pub(crate) const EMPTY_AT_1: &str = "01000000000000000000000000000000";
+const EMPTY_AT_1: &str = "01000000000000000000000000000000";
 
-pub(crate) const EMPTY_AT_2: &str = "02000000000000000000000000000000";
+const EMPTY_AT_2: &str = "02000000000000000000000000000000";
 
-pub(crate) const EMPTY_AT_5: &str = "05000000000000000000000000000000";
+const EMPTY_AT_5: &str = "05000000000000000000000000000000";
 
 // Records at 5 seconds and then at 1 second, at 24 and 40 of 56 bytes, and at 2 and at 5 seconds.
 pub(crate) const RUNS_BACK: File = &[ETHERNET, EMPTY_AT_5, EMPTY_AT_1];
@@ -60,9 +56,9 @@ pub(crate) const OPTIONS_PCAPNG: File = &[
 ];
 
 // An interface of Ethernet and snaplen 4, and a simple packet on it that had 10 bytes.
-pub(crate) const SNAPLEN_4: &str = "0100000014000000010000000400000014000000";
+const SNAPLEN_4: &str = "0100000014000000010000000400000014000000";
 
-pub(crate) const SIMPLE: &str = "03000000140000000a0000000102030414000000";
+const SIMPLE: &str = "03000000140000000a0000000102030414000000";
 
 pub(crate) const SIMPLE_PACKET: File = &[SECTION, SNAPLEN_4, SIMPLE];
 
@@ -80,18 +76,16 @@ pub(crate) const TAGGED_FRAMES: File = &[
     000068690000000000000000",
 ];
 
-// A record of 28 bytes at 1 second, at 2, at 3, at 4, at 31, and a millionth later.
+// A record of 28 bytes at 1 second, at 2, at 3, at 4 and at 31.
 pub(crate) const AT_1: &str = "01000000000000001c0000001c000000";
 
-pub(crate) const AT_2: &str = "02000000000000001c0000001c000000";
+const AT_2: &str = "02000000000000001c0000001c000000";
 
 pub(crate) const AT_3: &str = "03000000000000001c0000001c000000";
 
 pub(crate) const AT_4: &str = "04000000000000001c0000001c000000";
 
 pub(crate) const AT_31: &str = "1f000000000000001c0000001c000000";
-
-pub(crate) const AFTER_31: &str = "1f000000010000001c0000001c000000";
 
 // Four fragments of one datagram, of which the third overwrites the second.
 pub(crate) const FRAGMENT_FRAMES: File = &[
@@ -106,15 +100,7 @@ pub(crate) const FRAGMENT_FRAMES: File = &[
     "4500001c00072001401100000a0000010a000002a0a1a2a3a4a5a6a7",
 ];
 
-// The last 8 bytes of a datagram of 16, its first 8, and a whole datagram of the same key.
+// The last 8 bytes of a datagram of 16, and its first 8.
 pub(crate) const LAST: &str = "4500001c00090001401100000a0000010a000002a0a1a2a3a4a5a6a7";
 
 pub(crate) const FIRST: &str = "4500001c00092000401100000a0000010a00000203e807d000100000";
-
-pub(crate) const WHOLE: &str = "4500001c00090000401100000a0000010a00000203e807d000080000";
-
-// A datagram of UDP with 2 bytes, from 10.0.0.1:1000 to 10.0.0.2:2000.
-pub(crate) const UDP: &str = "4500001e00010000401100000a0000010a00000203e807d0000a00006869";
-
-// The same bytes as of ICMP.
-pub(crate) const ICMP: &str = "4500001e00010000400100000a0000010a00000203e807d0000a00006869";

@@ -11,13 +11,7 @@ mod bytes;
 #[cfg(test)]
 mod checks;
 #[cfg(test)]
-mod classes;
-#[cfg(test)]
-mod command_lines;
-#[cfg(test)]
 mod commands;
-#[cfg(test)]
-mod conversations;
 #[cfg(test)]
 mod file_lines;
 #[cfg(test)]
@@ -54,8 +48,6 @@ mod source;
 mod steps;
 #[cfg(test)]
 mod time;
-#[cfg(test)]
-mod two_files;
 #[cfg(test)]
 mod vectors;
 #[cfg(test)]

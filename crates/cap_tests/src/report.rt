@@ -3,10 +3,8 @@ ghost use Rattle.std.specs.Prelude.{◌≤◌};
 
 use crate::checks::same;
 use crate::files::{report_to, room_of, sources_of};
-use crate::hex_vectors::{
-    CUT_PCAP, EARLY, EMPTY, FRAGMENT_FRAMES, File, HEADER_ONLY, LATE, SECTION, TAGGED_FRAMES,
-};
-use cap_bytes::{Fault, Refusal, Rule, Tail};
+use crate::hex_vectors::{CUT_PCAP, FRAGMENT_FRAMES, File, HEADER_ONLY, SECTION, TAGGED_FRAMES};
+use cap_bytes::Tail;
 use std::alloc::Global;
 use std::process::Abort;
 
@@ -122,18 +120,6 @@ const REPORTED: [Reported; 9] = [
     (&[TIMED_THEN_UNTIMED], Tail::Refuse, TIMED_REPORT),
 ];
 
-// Files, whether a cut end is dropped, and the refusal of the lowest place: its file, offset and rule.
-type Refused = (&'static [File], Tail, (u32, u64, Rule));
-
-const REFUSED: [Refused; 6] = [
-    (&[LATE, EARLY], Tail::Refuse, (2, 40, Rule::Cut)),
-    (&[EARLY, LATE], Tail::Refuse, (1, 40, Rule::Cut)),
-    (&[CUT_PCAP], Tail::Refuse, (1, 24, Rule::Cut)),
-    (&[EMPTY], Tail::Refuse, (1, 0, Rule::Cut)),
-    (&[EMPTY], Tail::Accept, (1, 0, Rule::Cut)),
-    (&[TAGGED_FRAMES, EMPTY], Tail::Accept, (2, 0, Rule::Cut)),
-];
-
 // What is reported of files by `piece` bytes at a time.
 fn reports(rt: &impl Abort, alloc: Global, row: &Reported, piece: usize)
     requires { 1 ≤ piece }
@@ -150,28 +136,6 @@ fn always_memory_worked_files_are_reported(rt: HostRuntime) {
     for row in &REPORTED {
         for piece in [1, 4096] {
             reports(&rt, rt.alloc(), row, piece);
-        }
-    }
-}
-
-// The refusal that is answered of files by `piece` bytes at a time, of which nothing is written.
-fn refuses(rt: &impl Abort, alloc: Global, row: &Refused, piece: usize)
-    requires { 1 ≤ piece }
-{
-    let (files, tail, (file, offset, rule)) = *row;
-    let mut writer = room_of(rt, alloc, 1024);
-    let sources = sources_of(rt, alloc, files, piece);
-    let answer = report_to(rt, alloc, sources, tail, &mut writer);
-    let refusal = Refusal { file, offset, rule };
-    let wanted = (Err(Fault::Refused(refusal)), 0);
-    same!(rt; (answer, writer.bytes().len()), wanted);
-}
-
-#[test]
-fn the_refusal_of_the_lowest_place_is_told_and_nothing_written(rt: HostRuntime) {
-    for row in &REFUSED {
-        for piece in [1, 4096] {
-            refuses(&rt, rt.alloc(), row, piece);
         }
     }
 }

@@ -6,7 +6,7 @@ ghost use Rattle.std.specs.Prelude.{◌≡◌, [], ◌∷◌, Some};
 
 use crate::checks::{holds, same};
 use crate::source::vectors::{BEFORE, BIG_SECTION, OBSOLETE, SHORT_INTERFACE, SIMPLE, TWICE};
-use crate::vectors::{CARRY_PCAP, INTERFACE, OPTIONS_PCAPNG, PACKET, SECTION, last_of};
+use crate::vectors::{CARRY_PCAP, INTERFACE, OPTIONS_PCAPNG, PACKET, SECTION};
 use cap_bytes::{Fault, Pieces, Refusal, Rule, Source, Tail};
 use cap_feed::{Ending, Format, Head, Listed, Meta, PacketFeed, next_packet};
 use cap_source::Capture;
@@ -278,123 +278,17 @@ fn obsolete_packet(rt: HostRuntime) {
     begins_with(&rt, feed, carried(&rt, 48, Format::Pcapng));
 }
 
-// What follows a section header, and where and by which rule it is refused: an option of a resolution of two
-// bytes, resolutions past the finest, an option past the end, packets of an unknown interface or of too many bytes.
-const REFUSED: [(&[u8], u64, Rule); 7] = [
-    (
-        &[
-            1, 0, 0, 0, 28, 0, 0, 0, 1, 0, 0, 0, 0, 0, 0, 0, 9, 0, 2, 0, 6, 0, 0, 0, 28, 0, 0, 0,
-        ],
-        28,
-        Rule::OptionLength,
-    ),
-    (
-        &[
-            1, 0, 0, 0, 28, 0, 0, 0, 1, 0, 0, 0, 0, 0, 0, 0, 9, 0, 1, 0, 0x14, 0, 0, 0, 28, 0, 0, 0,
-        ],
-        28,
-        Rule::Resolution,
-    ),
-    (
-        &[
-            1, 0, 0, 0, 28, 0, 0, 0, 1, 0, 0, 0, 0, 0, 0, 0, 9, 0, 1, 0, 0xc0, 0, 0, 0, 28, 0, 0, 0,
-        ],
-        28,
-        Rule::Resolution,
-    ),
-    (
-        &[
-            1, 0, 0, 0, 28, 0, 0, 0, 1, 0, 0, 0, 0, 0, 0, 0, 2, 0, 9, 0, 0, 0, 0, 0, 28, 0, 0, 0,
-        ],
-        28,
-        Rule::OptionEnd,
-    ),
-    (
-        &[
-            1, 0, 0, 0, 20, 0, 0, 0, 1, 0, 0, 0, 0, 0, 0, 0, 20, 0, 0, 0, //
-            6, 0, 0, 0, 32, 0, 0, 0, 1, 0, 0, 0, 0, 0, 0, 0, 0, 0, 0, 0, 0, 0, 0, 0, 0, 0, 0, 0, //
-            32, 0, 0, 0,
-        ],
-        48,
-        Rule::InterfaceUnknown,
-    ),
-    (
-        &[
-            1, 0, 0, 0, 20, 0, 0, 0, 1, 0, 0, 0, 0, 0, 0, 0, 20, 0, 0, 0, //
-            6, 0, 0, 0, 36, 0, 0, 0, 0, 0, 0, 0, 0, 0, 0, 0, 0, 0, 0, 0, 5, 0, 0, 0, 5, 0, 0, 0, //
-            1, 2, 3, 4, 36, 0, 0, 0,
-        ],
-        48,
-        Rule::Captured,
-    ),
-    (
-        &[3, 0, 0, 0, 16, 0, 0, 0, 0, 0, 0, 0, 16, 0, 0, 0],
-        28,
-        Rule::InterfaceUnknown,
-    ),
-];
-
-#[test]
-fn refused_files(rt: HostRuntime) {
-    for &(block, offset, rule) in &REFUSED {
-        let bytes = in_section(&rt, rt.alloc(), &[block]);
-        begins(&rt, rt.alloc(), &bytes, refused(offset, rule));
-    }
-    begins(&rt, rt.alloc(), &[], refused(0, Rule::Cut));
-    begins(&rt, rt.alloc(), &[0; 4], refused(0, Rule::Magic));
-    begins(&rt, rt.alloc(), &SECTION, Head::End);
-}
-
-// A rest that is cut is dropped if that is asked for.
-#[test]
-fn a_cut_rest_is_dropped(rt: HostRuntime) {
-    let ending = Ending {
-        format: Format::Pcap,
-        skipped: 0,
-        was_cut: true,
-    };
-    let feed = capture(&rt, rt.alloc(), CARRY_PCAP.split_at(43).0, 1, Tail::Accept);
-    ends(&rt, feed, ending);
-}
-
 // The file's interface is told, and then a refusal comes.
 fn refuses_rest<R: Source>(rt: &impl Abort, feed: &mut Capture<R>) {
     has_interface(rt, feed);
     comes(rt, feed, refused(24, Rule::Cut));
 }
 
-// And refused else, after the file's interface.
+// A rest that is cut is refused, after the file's interface.
 #[test]
 fn a_cut_rest_is_refused(rt: HostRuntime) {
     let mut feed = capture(&rt, rt.alloc(), CARRY_PCAP.split_at(43).0, 1, Tail::Refuse);
     refuses_rest(&rt, &mut feed);
-}
-
-// The file with options, of which the read with that number fails.
-fn failing(rt: &impl Abort, alloc: Global, call: u64) -> Capture<Pieces> {
-    let bytes = OPTIONS_PCAPNG.to_vec(alloc).expect(rt, "memory");
-    Capture::new(alloc, Pieces::new(bytes, 1, Some(call)), 7, Tail::Refuse)
-}
-
-// The read with that number fails, which comes again. It fails after the packet if the packet was read by then.
-fn fails_at<F: PacketFeed>(rt: &impl Abort, mut feed: F, call: u64, offset: u64) {
-    if call > 144 {
-        takes_carried(rt, &mut feed, 96, Format::Pcapng);
-    }
-    let fault = Err(Fault::Read { file: 7, offset });
-    same!(rt; feed.head(), fault, call);
-    same!(rt; feed.head(), fault, call);
-    holds!(rt; feed.feed_held().failed);
-}
-
-// Each read failing in turn: the fault comes again. Nothing is read after a packet before it is passed.
-#[test]
-fn failing_reads(rt: HostRuntime) {
-    for call in 1..=169 {
-        let offset = last_of(&[0, 44, 96, 144, 168], call - 1) as u64;
-        let call = call as u64;
-        fails_at(&rt, failing(&rt, rt.alloc(), call), call, offset);
-    }
 }
 
 // The head, asked again after a growth was refused.

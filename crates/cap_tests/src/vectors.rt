@@ -59,14 +59,3 @@ pub(crate) fn refused(offset: u64, rule: Rule) -> Fault {
         rule,
     })
 }
-
-// The last of the places that isn't above n, or 0.
-pub(crate) fn last_of(places: &[usize], n: usize) -> usize {
-    let mut last = 0;
-    for place in places {
-        if *place <= n {
-            last = *place;
-        }
-    }
-    last
-}

@@ -1,12 +1,13 @@
-//! Jobs of command lines, over worked captures of the formats.
+//! Jobs, over worked captures of the formats.
 use crate::checks::{holds, same};
 use crate::commands::captures::{
     CARRIED_BIG, CARRIED_PCAP, CARRY_PCAP, CARRY_PCAPNG, SECTION, TWICE,
 };
-use crate::commands::refused;
 use crate::files::{ask_written, readers_of, room_of};
-use cap_bytes::{Fault, Rule, Sink};
-use cap_line::parse;
+use cap_bytes::{Fault, Sink};
+use cap_feed::Format;
+use cap_jobs::{Job, Task, is_whole};
+use cap_numbers::Order;
 use cap_tasks::job_to;
 use std::alloc::Global;
 use std::process::Abort;
@@ -27,91 +28,122 @@ const REPORT: &str = "files 1\n\
     joined 0 given-up 0\n\
     talks 0\n";
 
-// A command line, the capture that it names, in hex, and what is printed.
-type Printed = (&'static [&'static str], &'static str, &'static str);
+// A task, whether a cut end is dropped, the capture, in hex, and what is printed.
+type Printed = (Task, bool, &'static str, &'static str);
 
 const PRINTED: [Printed; 5] = [
-    (&["capt", "list", "a"], CARRY_PCAP, LINE),
-    (&["capt", "list", "--allow-cut", "a"], CUT_PCAP, ""),
+    (Task::List, false, CARRY_PCAP, LINE),
+    (Task::List, true, CUT_PCAP, ""),
     (
-        &["capt", "blocks", "a"],
+        Task::Blocks,
+        false,
         SECTION,
         "block 1 offset 0 order little kind 0a0d0d0a total 28\n",
     ),
-    (&["capt", "info", "a"], CARRY_PCAP, INFO),
-    (&["capt", "report", "a"], CARRY_PCAP, REPORT),
+    (Task::Info, false, CARRY_PCAP, INFO),
+    (Task::Report, false, CARRY_PCAP, REPORT),
 ];
 
-// A command line, the captures that it names, and what is written, in hex. A join writes no datagram of
+// A task, the order and the format that it writes, the captures, and what is written, in hex. A join writes no datagram of
 // frames of 4 bytes.
 type Written = (
-    &'static [&'static str],
+    Task,
+    Order,
+    Option<Format>,
     &'static [&'static str],
     &'static str,
 );
 
 const WRITTEN: [Written; 5] = [
     (
-        &["capt", "convert", "--to", "pcapng", "-o", "b", "a"],
+        Task::Convert,
+        Order::Little,
+        Some(Format::Pcapng),
         &[CARRY_PCAP],
         CARRY_PCAPNG,
     ),
     (
-        &["capt", "convert", "--to", "pcap", "-o", "b", "a"],
+        Task::Convert,
+        Order::Little,
+        Some(Format::Pcap),
         &[CARRY_PCAPNG],
         CARRIED_PCAP,
     ),
     (
-        &[
-            "capt", "convert", "--order", "big", "--to", "pcap", "-o", "b", "a",
-        ],
+        Task::Convert,
+        Order::Big,
+        Some(Format::Pcap),
         &[CARRY_PCAPNG],
         CARRIED_BIG,
     ),
     (
-        &["capt", "merge", "-o", "c", "a", "b"],
+        Task::Merge,
+        Order::Little,
+        None,
         &[CARRY_PCAP, CARRY_PCAP],
         TWICE,
     ),
-    (&["capt", "join", "-o", "b", "a"], &[CARRY_PCAP], SECTION),
+    (Task::Join, Order::Little, None, &[CARRY_PCAP], SECTION),
 ];
 
-// What the job of a command line answers.
+// What a job of that many captures answers.
 fn does<W: Sink>(
     rt: &impl Abort,
     alloc: Global,
-    words: &'static [&'static str],
+    job: &Job<'_>,
     captures: &[&str],
     writer: &mut W,
 ) -> Result<(), Fault> {
-    let job = parse(alloc, words).expect(rt, "a job");
     let sources = readers_of(rt, alloc, captures, 4096);
     holds!(rt; sources.len() == job.files.len());
-    job_to(alloc, &job, sources, writer)
+    holds!(rt; !job.files.is_empty());
+    holds!(rt; job.files.len() <= 32);
+    holds!(rt; is_whole(job.task, job.files.len(), job.to, job.out));
+    job_to(alloc, job, sources, writer)
 }
 
-// What the job of a command line prints.
+// A job of one capture that prints.
+fn printing(rt: &impl Abort, alloc: Global, task: Task, allow_cut: bool) -> Job<'static> {
+    let mut files = Vec::new(alloc);
+    files.push("a").expect(rt, "memory");
+    Job {
+        task,
+        files,
+        allow_cut,
+        order: Order::Little,
+        to: None,
+        out: None,
+    }
+}
+
+// What a job prints.
 fn prints(rt: &impl Abort, alloc: Global, row: &Printed) {
-    let (words, capture, text) = *row;
+    let (task, allow_cut, capture, text) = *row;
+    let job = printing(rt, alloc, task, allow_cut);
     let mut writer = room_of(rt, alloc, 1024);
-    let answer = does(rt, alloc, words, &[capture], &mut writer);
+    let answer = does(rt, alloc, &job, &[capture], &mut writer);
     let wanted = (Ok(()), text.as_bytes());
-    same!(rt; (answer, writer.bytes()), wanted, words);
+    same!(rt; (answer, writer.bytes()), wanted, task);
 }
 
-// What the job of a command line writes.
+// What a job writes.
 fn writes(rt: &impl Abort, alloc: Global, row: &Written) {
-    let (words, captures, text) = *row;
+    let (task, order, to, captures, text) = *row;
+    let mut files = Vec::new(alloc);
+    for _ in captures {
+        files.push("a").expect(rt, "memory");
+    }
+    let job = Job {
+        task,
+        files,
+        allow_cut: false,
+        order,
+        to,
+        out: Some("b"),
+    };
     let mut writer = room_of(rt, alloc, 1024);
-    let answer = does(rt, alloc, words, captures, &mut writer);
+    let answer = does(rt, alloc, &job, captures, &mut writer);
     ask_written(rt, alloc, (answer, writer.bytes()), Ok(()), &[text]);
-}
-
-// The job of a cut capture refuses it.
-fn refuses_a_cut(rt: &impl Abort, alloc: Global) {
-    let mut writer = room_of(rt, alloc, 1024);
-    let answer = does(rt, alloc, &["capt", "list", "a"], &[CUT_PCAP], &mut writer);
-    same!(rt; answer, Err(refused(1, 24, Rule::Cut)));
 }
 
 #[test]
@@ -122,5 +154,4 @@ fn each_job_is_done(rt: HostRuntime) {
     for row in &WRITTEN {
         writes(&rt, rt.alloc(), row);
     }
-    refuses_a_cut(&rt, rt.alloc());
 }

@@ -1,13 +1,11 @@
 //! Merged files: values from the formats and from worked captures.
 ghost use Rattle.std.specs.Prelude.{◌≤◌};
 
-use crate::checks::{holds, same};
+use crate::checks::holds;
 use crate::commands::captures::{CARRY_PCAP, SECTION, TWICE};
 use crate::commands::{ask_front, reader_again, room_again};
-use crate::files::{
-    answer_of_files, ask_written, bytes_of, pair_of, reader_of, readers_of, room_of,
-};
-use cap_bytes::{Fault, Pieces, Rule, Sink, Source, Tail};
+use crate::files::{answer_of_files, ask_written, pair_of, readers_of, room_of};
+use cap_bytes::{Fault, Rule, Sink, Source, Tail};
 use cap_numbers::Order;
 use cap_write::merge_to;
 use std::alloc::Global;
@@ -106,25 +104,6 @@ fn always_memory_files_are_merged_by_time(rt: HostRuntime) {
             merges(&rt, rt.alloc(), row, piece);
         }
     }
-}
-
-#[test]
-fn a_read_that_fails_is_told_with_its_file(rt: HostRuntime) {
-    // file 1 fails at its first read past its first record
-    let first = Pieces::new(bytes_of(&rt, rt.alloc(), &[RUNS_BACK]), 1, Some(42));
-    let second = reader_of(&rt, rt.alloc(), &[RUNS_ON], 1);
-    let sources = pair_of(&rt, rt.alloc(), first, second);
-    let mut writer = room_of(&rt, rt.alloc(), 512);
-    let answer = merge(&rt, rt.alloc(), sources, &mut writer);
-    same!(&rt;
-        answer,
-        Err(Fault::Read {
-            file: 1,
-            offset: 41
-        })
-    );
-    let wanted = bytes_of(&rt, rt.alloc(), &[BY_CLOCK]);
-    same!(&rt; Some(writer.bytes()), wanted.as_slice().get(..164));
 }
 
 // The answer is as with memory, or `Memory` after a prefix, whichever growth is refused.

@@ -1,0 +1,313 @@
+#!/usr/bin/env python3
+"""Rows of the commands and of the command line on the built program, worked out by hand from the formats: what is printed or written of captures
+in hex, and how it ends. Each capture is read whole and by one byte at a time (faults.c).
+
+Use: checks/rows.py [PROGRAM]     (as after `rt run` or `rt ci` in crates/cap_tool; some seconds)"""
+import sys
+
+sys.dont_write_bytecode = True
+
+import os, struct, tempfile
+
+from captures import INTERFACE, MICRO_LITTLE, PROGRAM, SECTION, Bench, Count, make_shim, run, vector
+
+ETHERNET, RAW = f"{MICRO_LITTLE} 01000000", f"{MICRO_LITTLE} 65000000"
+SECTION_BIG = "0a0d0d0a 0000001c 1a2b3c4d 0001 0000 ffffffffffffffff 0000001c"
+CARRIED = f"{ETHERNET} 02000000 20a10700 04000000 04000000 01020304"
+# CARRY_PCAPNG in the other order, and three times: a section, and for each file its interface and its packet.
+CARRY_BIG = (f"{SECTION_BIG} 00000001 00000020 0001 0000 00040000 0009 0001 06000000 0000 0000 00000020 "
+             "00000006 00000024 00000000 00000000 002625a0 00000004 00000004 01020304 00000024")
+THRICE = SECTION + "".join(f"{INTERFACE} 06000000 24000000 0{n}000000 00000000 a0252600 04000000 04000000 01020304 24000000" for n in range(3))
+
+# An interface of Ethernet without options (20 bytes), and one of IP alone.
+PLAIN, OF_IP = "01000000 14000000 0100 0000 00000400 14000000", "01000000 14000000 6500 0000 00000000 14000000"
+
+
+def interface(option):
+    """A section, and an interface of 28 bytes with eight of options."""
+    return f"{SECTION} 01000000 1c000000 0100 0000 00000400 {option} 1c000000"
+
+
+# A capture that `list` refuses, with --allow-cut or without: the offset and the rule.
+NOT_LISTED = [
+    ("", False, "0 rule 3 cut"), ("", True, "0 rule 3 cut"),
+    (f"{ETHERNET} 01000000 60e31600 04000000 04000000 010203", False, "24 rule 3 cut"),
+    (MICRO_LITTLE, True, "0 rule 3 cut"),
+    ("d4c3b2a1 02000300 00000000 00000000 00000400 01000000", False, "0 rule 2 version"),
+    ("00000000", False, "0 rule 1 magic"),
+    # 262,145 captured bytes, and the end of the input
+    (f"{ETHERNET} 00000000 00000000 01000400 01000400", False, "24 rule 4 packet-long"),
+    # a resolution of two bytes, two that are too fine, and an option past the end of its block
+    (interface("0900 0200 06060000"), False, "28 rule 11 option-length"),
+    (interface("0900 0100 14000000"), False, "28 rule 12 resolution"),
+    (interface("0900 0100 c0000000"), False, "28 rule 12 resolution"),
+    (interface("0200 0900 01020304"), False, "28 rule 10 option-end"),
+    # a packet of interface 1, if there is interface 0; one of 5 captured bytes in 4; a simple one without an interface
+    (f"{SECTION} {PLAIN} 06000000 24000000 01000000 00000000 00000000 04000000 04000000 01020304 24000000", False,
+     "48 rule 9 interface-unknown"),
+    (f"{SECTION} {PLAIN} 06000000 24000000 00000000 00000000 00000000 05000000 04000000 01020304 24000000", False, "48 rule 8 captured"),
+    (f"{SECTION} 03000000 14000000 04000000 01020304 14000000", False, "28 rule 9 interface-unknown"),
+]
+
+LONGEST = "packet 1 offset 24 time 0+0/1000000 captured 262144 original 262144 link 1 data 00000000000000000000000000000000\n"
+
+# A file that `blocks` refuses: where, and by which rule. Of one that is refused behind its section, that is printed.
+NOT_BLOCKS = [
+    ("", "0 rule 3 cut"), ("0a0d0d", "0 rule 3 cut"), ("d4c3b2a1", "0 rule 1 magic"), ("0a0d0d0a 1e000000", "0 rule 3 cut"),
+    # neither the order magic nor the length is right
+    ("0a0d0d0a 1e000000 00000000", "0 rule 7 order-magic"), ("0a0d0d0a 18000000 4d3c2b1a", "0 rule 5 block-length"),
+    ("0a0d0d0a 1c000000 4d3c2b1a 0100 0100 0000000000000000 1c000000", "0 rule 2 version"),
+    (f"{SECTION} 05000000 00000000 00000000", "28 rule 5 block-length"), (f"{SECTION} 05000000 1e000000 00000000", "28 rule 5 block-length"),
+    (f"{SECTION} 06000000 ffffffff 00000000", "28 rule 5 block-length"), (f"{SECTION} 06000000 04000800 00000000", "28 rule 5 block-length"),
+    (f"{SECTION} 02000000 1c000000 00000000", "28 rule 5 block-length"), (f"{SECTION} 05000000 fcffffff 00000000", "28 rule 3 cut"),
+    (f"{SECTION} 05000000 10000000 01020304 0c000000", "28 rule 6 block-trailer"),
+    (f"{SECTION} 03000000 10000000 01020304 0c000000", "28 rule 6 block-trailer"),
+]
+
+# Records without bytes at 5 seconds and at 1 second, and 8 bytes of the next.
+LATE, EARLY = (f"{ETHERNET} {second:02x}000000 00000000 00000000 00000000 0000000000000000" for second in (5, 1))
+CUT = vector("CARRY_PCAP")[:-1].hex()
+
+# Captures of which a command prints nothing, with --allow-cut or without, and the refusal: that of the lowest place in the order of clocks
+# for `report`, and of the first file for `info`.
+NOT_PRINTED = [
+    ("report", [LATE, EARLY], False, "file 2 offset 40 rule 3 cut"), ("report", [EARLY, LATE], False, "file 1 offset 40 rule 3 cut"),
+    ("report", [CUT], False, "file 1 offset 24 rule 3 cut"),
+    ("report", [""], False, "file 1 offset 0 rule 3 cut"), ("report", [""], True, "file 1 offset 0 rule 3 cut"),
+    ("report", [vector("TAGGED_FRAMES").hex(), ""], True, "file 2 offset 0 rule 3 cut"),
+    ("info", [CUT], False, "file 1 offset 24 rule 3 cut"), ("info", [""], False, "file 1 offset 0 rule 3 cut"),
+    ("info", [vector("CARRY_PCAP").hex(), "00000000", CUT], False, "file 2 offset 0 rule 1 magic"),
+    ("info", [vector("CARRY_PCAP").hex(), CUT, "00000000"], False, "file 2 offset 24 rule 3 cut"),
+]
+
+# A datagram of UDP with 2 bytes, from 10.0.0.1:1000 to 10.0.0.2:2000; the same bytes as of ICMP; of another datagram of these ends the last 8
+# bytes of 16, the first 8, and one that is whole.
+UDP = "4500001e 00010000 40110000 0a000001 0a000002 03e807d0 000a0000 6869"
+ICMP = "4500001e 00010000 40010000 0a000001 0a000002 03e807d0 000a0000 6869"
+LAST = "4500001c 00090001 40110000 0a000001 0a000002 a0a1a2a3 a4a5a6a7"
+FIRST = "4500001c 00092000 40110000 0a000001 0a000002 03e807d0 00100000"
+WHOLE = "4500001c 00090000 40110000 0a000001 0a000002 03e807d0 00080000"
+TCP = ("02000000 00020200 00000001 0800 450005dc 00010000 40060000 0a000001 0a000002 03e807d0 00000000 00000000 "
+       "50000000 00000000")
+
+
+def record(second, data, original=None, micros=0):
+    """A record of a pcap file, captured whole where nothing else is said."""
+    length = len(bytes.fromhex(data))
+    return struct.pack("<IIII", second, micros, length, length if original is None else original).hex() + data
+
+
+def of_link(link, *records):
+    return MICRO_LITTLE + struct.pack("<I", link).hex() + "".join(records)
+
+
+CLASSES = ("other-link", "not-ipv4", "short", "cut", "bad", "unjoined", "counted")
+TALK = "10.0.0.1:1000 10.0.0.2:2000 forward"
+
+
+def frames(joined=0, given_up=0, talks=(), **classes):
+    """The end of a report, from the line of the frames' classes on."""
+    counts = " ".join(f"{name} {classes.get(name.replace('-', '_'), 0)}" for name in CLASSES)
+    lines = [f"frames {counts}", f"joined {joined} given-up {given_up}", f"talks {len(talks)}", *(f"talk {talk}" for talk in talks)]
+    return "".join(f"{line}\n" for line in lines)
+
+
+def times(first, last=None):
+    return f"first {first} last {last or first}"
+
+
+SECOND = "1+0/1000000"
+
+# A capture, and the end of its report.
+REPORTED = [
+    (of_link(1, record(1, "00" * 13)), frames(short=1)),
+    (of_link(1, record(1, "00" * 13, 60)), frames(cut=1)),
+    (of_link(1, record(1, "00" * 12 + "8100")), frames(short=1)),
+    (of_link(1, record(1, "00" * 12 + "86dd")), frames(not_ipv4=1)),
+    (of_link(147, record(1, "00" * 20)), frames(other_link=1)),
+    (of_link(101, record(1, "")), frames(short=1)),
+    (of_link(113, record(1, f"00000001 00060200 00000001 0000 0800 {UDP}")),
+     frames(counted=1, talks=[f"udp {TALK} 1 46 backward 0 0 {times(SECOND)}"])),
+    (of_link(101, record(1, ICMP)), frames(counted=1, talks=[f"p1 10.0.0.1 10.0.0.2 forward 1 30 backward 0 0 {times(SECOND)}"])),
+    (of_link(276, record(1, f"08000000 00000001 00010006 02000000 00010000 {UDP}")),
+     frames(counted=1, talks=[f"udp {TALK} 1 50 backward 0 0 {times(SECOND)}"])),
+    (of_link(228, record(1, "60")), frames(bad=1)),
+    (of_link(101, record(1, "60")), frames(not_ipv4=1)),
+    # 54 and 53 bytes of a frame of 1,514
+    (of_link(1, record(1, TCP, 1514)),
+     "truncated 1\n" + frames(counted=1, talks=[f"tcp {TALK} 1 1514 backward 0 0 {times(SECOND)}"])),
+    (of_link(1, record(1, TCP[:-2], 1514)), frames(cut=1)),
+    # four fragments, with a UDP length above the joined data's in the third
+    (of_link(101, record(1, "4500001c 00070002 40110000 0a000001 0a000002 b0b1b2b3 b4b5b6b7"),
+             record(2, "4500001c 00072000 40110000 0a000001 0a000002 03e807d0 00180000"),
+             record(3, "4500001c 00072000 40110000 0a000001 0a000002 03e907d1 00190000"),
+             record(4, "4500001c 00072001 40110000 0a000001 0a000002 a0a1a2a3 a4a5a6a7")), frames(bad=4)),
+    # a group is too old after 30 seconds, and is flushed by a whole datagram of its key
+    (of_link(101, record(1, LAST), record(31, FIRST)),
+     frames(counted=2, joined=1, talks=[f"udp {TALK} 2 56 backward 0 0 {times(SECOND, '31+0/1000000')}"])),
+    (of_link(101, record(1, LAST), record(31, FIRST, micros=1)), frames(unjoined=2)),
+    (of_link(101, record(1, LAST), record(2, WHOLE), record(3, FIRST)),
+     frames(unjoined=2, counted=1, talks=[f"udp {TALK} 1 28 backward 0 0 {times('2+0/1000000')}"])),
+    # the latest copy of a byte counts, and the latest end
+    (of_link(101, record(1, "4500001c 00092001 40110000 0a000001 0a000002 a0a1a2a3 a4a5a6a7"),
+             record(2, "45000017 00090002 40110000 0a000001 0a000002 c0c1c2"),
+             record(3, "4500001c 00090003 40110000 0a000001 0a000002 d0d1d2d3 d4d5d6d7"),
+             record(4, "4500001c 00092000 40110000 0a000001 0a000002 03e807d0 00200000")),
+     frames(counted=4, joined=1, talks=[f"udp {TALK} 4 107 backward 0 0 {times(SECOND, '4+0/1000000')}"])),
+    # both ways of TCP, the way back first; ICMP without a time; UDP from an end to itself, from port 9 to port 7; protocol 255 without data
+    # and without a time, from 255.255.255.255 to itself
+    (f"{SECTION} {OF_IP} 06000000 48000000 00000000 00000000 40420f00 28000000 28000000 45000028 00010000 40060000 0a000002 0a000001 "
+     f"00500050 00000000 00000000 50000000 00000000 48000000 03000000 30000000 1e000000 {ICMP} 0000 30000000 "
+     "06000000 3c000000 00000000 00000000 40420f00 1c000000 1c000000 4500001c 00010000 40110000 0a000001 0a000001 00090007 00080000 3c000000 "
+     "06000000 4c000000 00000000 00000000 40420f00 29000000 29000000 45000029 00010000 40060000 0a000001 0a000002 00500050 00000000 00000000 "
+     "50000000 00000000 00000000 4c000000 03000000 24000000 14000000 45000014 00010000 40ff0000 ffffffff ffffffff 24000000",
+     frames(counted=5, talks=[f"tcp 10.0.0.1:80 10.0.0.2:80 forward 1 41 backward 1 40 {times(SECOND)}",
+                              f"p1 10.0.0.1 10.0.0.2 forward 1 30 backward 0 0 {times('-')}",
+                              f"udp 10.0.0.1:7 10.0.0.1:9 forward 0 0 backward 1 28 {times(SECOND)}",
+                              f"p255 255.255.255.255 255.255.255.255 forward 1 20 backward 0 0 {times('-')}"])),
+]
+
+
+def halves(first, second):
+    """A datagram that came whole between the fragments of another, all at half a second: the first frame, which is counted last and has the
+    lowest place, in an interface's units, and the others in another's."""
+    forms = "01000000 1c000000 6500 0000 00000400 0900 0100 8a000000 1c000000 01000000 1c000000 6500 0000 00000400 0900 0100 01000000 1c000000"
+    units = ["00000000 00000000 00020000", "01000000 00000000 05000000"]
+    packets = [f"06000000 3c000000 {units[first]} 1c000000 1c000000 {FIRST} 3c000000",
+               f"06000000 40000000 {units[second]} 1e000000 1e000000 {UDP} 0000 40000000",
+               f"06000000 3c000000 {units[second]} 1c000000 1c000000 {LAST} 3c000000"]
+    return f"{SECTION} {forms} {' '.join(packets)}"
+
+
+for order, form in (((0, 1), "0+512/1024"), ((1, 0), "0+5/10")):
+    REPORTED.append((halves(*order), f"joined 1 given-up 0\ntalks 1\ntalk udp {TALK} 3 86 backward 0 0 {times(form)}\n"))
+
+
+def groups(count, *last):
+    """So many fragments at 1 second, each of which opens a group, and another record."""
+    opens = (f"4500001c {n:04x}2000 40110000 0a000001 0a000002 03e807d0 00100000" for n in range(count))
+    return of_link(101, *(record(1, data) for data in opens), *last)
+
+
+def rest(identification):
+    return f"4500001c {identification:04x}0001 40110000 0a000001 0a000002 a0a1a2a3 a4a5a6a7"
+
+
+# 1,024 groups are open at most: the oldest is given up for the next one. Groups that are too old don't count.
+NEXT = "4500001c 04002000 40110000 0a000001 0a000002 03e807d0 00100000"
+REPORTED += [
+    (groups(1025), "files 1\nfile 1 pcap packets 1025 bytes 28700 truncated 0 skipped 0 first 1+0/1000000 last 1+0/1000000\n"
+     "total packets 1025 bytes 28700 truncated 0\n" + frames(unjoined=1025, given_up=1)),
+    (groups(1025, record(1, rest(0))), frames(unjoined=1026, given_up=2)),
+    (groups(1025, record(1, rest(1))),
+     frames(unjoined=1024, counted=2, joined=1, given_up=1, talks=[f"udp {TALK} 2 56 backward 0 0 {times(SECOND)}"])),
+    (groups(1024, record(31, NEXT)), frames(unjoined=1025, given_up=1)),
+    (groups(1024, record(31, NEXT, micros=1)), frames(unjoined=1025)),
+]
+
+LISTED = "packet 1 offset 60 time 2+500000/1000000 captured 4 original 4 link 1 data 01020304\n"
+BLOCKS = ("block 1 offset 0 order little kind 0a0d0d0a total 28\nblock 2 offset 28 order little kind 00000001 total 32\n"
+          "block 3 offset 60 order little kind 00000006 total 36\n")
+TOLD = "file {} pcapng packets 1 bytes 4 truncated 0 skipped 0 first 2+500000/1000000 last 2+500000/1000000\n"
+TOLD_CUT = "files 1\nfile 1 pcapng packets 0 bytes 0 truncated 0 skipped 0 first - last - cut\n"
+TWO = f"files 2\n{TOLD.format(1)}{TOLD.format(2)}"
+FILES, INPUT, OUTPUT = ((2, b"", f"fault: {part}\n".encode(), None) for part in ("files", "input", "output"))
+# Words that clap refuses, and help that was asked for: says.txt has the texts.
+FAULTY, HELP = (2, b"", ..., None), (0, ..., b"", None)
+
+
+def prints(text):
+    return 0, text.encode(), b"", None
+
+
+def writes(content):
+    """Writes OUT, which is the file c."""
+    return 0, b"", b"", bytes.fromhex(content)
+
+
+def gives(content):
+    """Writes to standard output."""
+    return 0, bytes.fromhex(content), b"", None
+
+
+# Words after `capt`, and what comes of them: the status, standard output and standard error, of which `...` is some text, and the file c. The files `a`,
+# `b` and `--allow-cut` are CARRY_PCAPNG, as standard input is where nothing else is said, and `cut` is it without its last byte.
+LINES = [
+    ("list a", prints(LISTED)), ("list -", prints(LISTED)), ("list -- --allow-cut", prints(LISTED)),
+    ("list cut", (1, b"", b"refused: file 1 offset 60 rule 3 cut\n", None)),
+    ("list --allow-cut cut", prints("")), ("list cut --allow-cut", prints("")),
+    ("blocks a", prints(BLOCKS)), ("blocks --allow-cut - < cut", prints(BLOCKS[:BLOCKS.index("block 3")])),
+    ("info a b", prints(TWO)), ("info --allow-cut - < cut", prints(TOLD_CUT)), ("info - a -", INPUT),
+    ("report a b", prints(f"{TWO}total packets 2 bytes 8 truncated 0\n{frames(short=2)}")), ("report - -", INPUT),
+    ("report - --allow-cut < cut", prints(f"{TOLD_CUT}total packets 0 bytes 0 truncated 0\n{frames()}")),
+    ("convert --to pcap -o c a", writes(CARRIED)), ("convert --order little --to pcap -o - -", gives(CARRIED)),
+    ("convert a -o - --order=big --to=pcapng --allow-cut", gives(CARRY_BIG)), ("convert --to pcap -o a a", OUTPUT),
+    ("merge -o c a b -", writes(THRICE)), ("merge --order big -o - -", gives(CARRY_BIG)), ("join -o c --order=big a b", writes(SECTION_BIG)),
+    ("merge -o c - -", INPUT), ("merge -o a a b", OUTPUT), ("merge -o a a - -", INPUT), (f"merge -o a a - - {'a ' * 30}", FILES),
+    ("--version", prints("capt 0.1.0\n")), ("-V", prints("capt 0.1.0\n")),
+    *((words, HELP) for words in ("--help", "-h", "list --help", "list -h", "blocks -h", "info --help", "convert -h")),
+    *((words, FAULTY) for words in (
+        "", "help", "frobnicate a", "--allow-cut list a", "list", "list a b", "list --version", "list --allow-cut --allow-cut a",
+        "list --allow-cut=yes a", "list --order big a", "list -x a", "blocks", "blocks a b", "info", "info -o c a", "report", "report -o c a",
+        "convert -o c a", "convert --to pcap a", "convert --to pcap -o c", "convert --to tar -o c a", "convert --to pcap -o c a b",
+        "convert --order middle --to pcap -o c a", "convert --to pcap --to pcap -o c a", "merge a b", "merge -o c", "merge --to pcap -o c a",
+        "merge -o c -o d a", "join a")),
+]
+
+
+def seen_of(folder, program, words):
+    """What comes of a command line."""
+    words, _, standard = words.partition("<")
+    out = os.path.join(folder, "c")
+    with open(os.path.join(folder, standard.strip() or "a"), "rb") as given:
+        seen = run(words.split(), program, cwd=folder, stdin=given)
+    if not os.path.exists(out):
+        return *seen, None
+    with open(out, "rb") as file:
+        written = file.read()
+    os.remove(out)
+    return *seen, written
+
+
+def main():
+    count = Count()
+    program = sys.argv[1] if len(sys.argv) > 1 else PROGRAM
+    with tempfile.TemporaryDirectory() as folder:
+        bench, shim = Bench(folder, program), make_shim(folder)
+
+        def holds(name, task, contents, allow_cut, wanted):
+            for by_bytes in (None, (shim, {"PIECE": 1})):
+                seen = bench.run(task, [bytes.fromhex(content) for content in contents], allow_cut, faults=by_bytes)[:3]
+                count.check(f"{task} of {name}", wanted(*seen), seen)
+
+        for content, allow_cut, told in NOT_LISTED:
+            error = f"refused: file 1 offset {told}\n".encode()
+            holds(content or "an empty file", "list", [content], allow_cut, lambda *seen: seen == (1, b"", error))
+        for content, told in NOT_BLOCKS:
+            error, printed = f"refused: file 1 offset {told}\n".encode(), BLOCKS[:BLOCKS.index("block 2")] if told.startswith("28") else ""
+            holds(content or "an empty file", "blocks", [content], False, lambda *seen: seen == (1, printed.encode(), error))
+        longest = f"{ETHERNET} 00000000 00000000 00000400 00000400 {'00' * 262_144}"
+        holds("the longest packet", "list", [longest], False, lambda *seen: seen == (0, LONGEST.encode(), b""))
+        for task, contents, allow_cut, told in NOT_PRINTED:
+            error = f"refused: {told}\n".encode()
+            holds(contents, task, contents, allow_cut, lambda *seen: seen == (1, b"", error))
+        for content, text in REPORTED:
+            holds(content[:200], "report", [content], False,
+                  lambda status, out, error: (status, error) == (0, b"") and out.endswith(text.encode()))
+
+        work = os.path.join(folder, "work")
+        os.mkdir(work)
+        carried = vector("CARRY_PCAPNG")
+        for name in ("a", "b", "--allow-cut", "cut"):
+            with open(os.path.join(work, name), "wb") as file:
+                file.write(carried[:-1] if name == "cut" else carried)
+        for words, wanted in LINES:
+            seen = seen_of(work, program, words)
+            is_so = all(bool(found) if want is ... else found == want for found, want in zip(seen, wanted))
+            count.check(f"capt {words}", is_so, seen)
+            with open(os.path.join(work, "a"), "rb") as kept:
+                count.check(f"capt {words}, its files", kept.read() == carried)
+    count.end()
+
+
+main()
