@@ -1,6 +1,6 @@
 use Rattle.std.proofs.lemmas.Grind.{common_steps}
 use Rattle.std.proofs.Common.{◌≤◌, length, arith, vec_len}
-use Rattle.cap_bytes.proofs.Lists.{dropped_here, dropped_past}
+use Rattle.cap_bytes.proofs.Lists.{length-slice_range, dropped_here, dropped_past}
 use Rattle.cap_bytes.proofs.windows.Window.skip.Goals as goal
 
 pub returns-then-n-here-clause-answer : goal.returns-then-n-here-clause-answer
@@ -28,7 +28,13 @@ pub returns-in-Failed-clause-keeps : goal.returns-in-Failed-clause-keeps
 returns-in-Failed-clause-keeps g c = grind (arith, common_steps)
 
 pub returns-then-n-here-clause-keeps : goal.returns-then-n-here-clause-keeps
-returns-then-n-here-clause-keeps g c = grind (arith, common_steps)
+returns-then-n-here-clause-keeps g c = grind (arith, length-slice_range)
 
 pub returns-in-Some-clause-keeps : goal.returns-in-Some-clause-keeps
-returns-in-Some-clause-keeps g c = grind (arith, common_steps)
+returns-in-Some-clause-keeps g c = grind (arith, length-slice_range)
+
+pub returns-in_err-make_room-clause-keeps : goal.returns-in_err-make_room-clause-keeps
+returns-in_err-make_room-clause-keeps g c = grind (arith, length-slice_range)
+
+pub returns-in-Failed-clause-answer : goal.returns-in-Failed-clause-answer
+returns-in-Failed-clause-answer g c = grind (arith, length-slice_range)

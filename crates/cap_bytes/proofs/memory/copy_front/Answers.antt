@@ -1,0 +1,7 @@
+use Rattle.std.proofs.Common.{arith}
+use Rattle.std.proofs.Math.Seq.{take-append_seam}
+use Rattle.std.proofs.lemmas.List.{take-append-drop}
+use Rattle.cap_bytes.proofs.memory.copy_front.Goals as goal
+
+pub returns-clause-front : goal.returns-clause-front
+returns-clause-front c = grind (arith, take-append_seam, take-append-drop)
