@@ -6,5 +6,6 @@ mod Merging
 mod Numbers
 pub mod Places
 pub mod Records
+mod Starting
 mod Writing
 pub mod Written

@@ -4,7 +4,7 @@ use Rattle.cap_bytes.proofs.Putting.{Putting}
 use Rattle.cap_bytes.specs.Device.{Writer}
 use Rattle.cap_bytes.specs.Printing.{Prints}
 use Rattle.cap_bytes.specs.declared.faults.Fault.{Fault}
-use Rattle.cap_bytes.specs.declared.faults.Fault.TheVariants.{Refused}
+use Rattle.cap_bytes.specs.declared.faults.Fault.TheVariants.{Refused, Memory}
 use Rattle.cap_bytes.specs.declared.faults.Refusal.{Refusal}
 use Rattle.cap_bytes.specs.declared.faults.Rule.{Rule}
 use Rattle.cap_numbers.specs.declared.numbers.Order.{Order}
@@ -12,7 +12,7 @@ use Rattle.cap_feed.proofs.Walking.{Plan, GoesOn, GivesUp, Prints-whole, Prints-
 use Rattle.cap_feed.specs.Feed.{Item, packet}
 use Rattle.cap_feed.specs.declared.packets.Meta.{Meta}
 use Rattle.cap_write.proofs.Numbers.{write_fault-untimed}
-use Rattle.cap_write.specs.Interfaces.{HasUnits}
+use Rattle.cap_write.specs.Interfaces.{HasUnits, Numbers}
 use Rattle.cap_write.specs.Numbering.{Origin, refusal_at, refusal_by, write_fault}
 use Rattle.cap_write.specs.Texts.{text_or, one_bytes}
 
@@ -25,6 +25,15 @@ Prints-refused text meta rule fault held is = grind (arith, append-nil)
 pub Prints-untimed : (order : Order) (origins : List Origin) (meta : Meta) (frame held : List ℕ) (fault : Fault) → HasUnits meta (Err fault)
     → Prints {A = Unit {0}} (one_bytes order origins meta frame) (refusal_by meta (write_fault origins meta)) held (Err fault) held
 Prints-untimed order origins meta frame held fault h = grind (arith, Prints-refused, write_fault-untimed)
+
+-- a packet whose interface has no number: it is refused, or there was no memory
+pub Prints-unnumbered : (order : Order) (origins after : List Origin) (meta : Meta) (frame held : List ℕ) (fault : Fault) → Numbers meta origins (Err fault) after
+    → Prints {A = Unit {0}} (one_bytes order origins meta frame) (refusal_by meta (write_fault origins meta)) held (Err fault) held
+Prints-unnumbered order origins after meta frame held Memory h = (0, sym (append-nil held))
+Prints-unnumbered order origins after meta frame held (Refused r) h =
+    subst (λ (q : Refusal). Prints {A = Unit {0}} (one_bytes order origins meta frame) (refusal_by meta (write_fault origins meta)) held (Err (Refused q)) held)
+    (sym h.2) (Prints-refused _ meta h.0 (write_fault origins meta) held h.1)
+Prints-unnumbered order origins after meta frame held fault h = absurd h
 
 -- what is written of a feed's packets if one is refused, or isn't written whole
 pub Prints-one : (plan next : Plan) (fault : Fault) (text : List ℕ) (refusal : Option Refusal) (from mid : Writer) (held : List ℕ)

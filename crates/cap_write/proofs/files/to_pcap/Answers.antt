@@ -1,5 +1,9 @@
-use Rattle.std.proofs.Common.{arith}
+use Rattle.std.proofs.Common.{arith, ◌∙◌, ap, Err}
 use Rattle.cap_feed.proofs.Onward.{Keeps-trans}
+use Rattle.std.proofs.lemmas.Result.{err_from_is_err_and}
+use Rattle.cap_source.specs.Captures.{feed_of, first_of}
+use Rattle.cap_write.specs.Pcap.{pcap_bytes}
+use Rattle.cap_write.proofs.Starting.{Prints-unread, Writer-unread, Walks-unread}
 use Rattle.cap_write.proofs.files.to_pcap.Goals as goal
 
 pub returns-clause-walks : goal.returns-clause-walks
@@ -7,3 +11,18 @@ returns-clause-walks g c = grind arith
 
 pub returns-clause-keeps : goal.returns-clause-keeps
 returns-clause-keeps g c = search (Keeps-trans, c.in_ok-first.ensures.keeps, c.put_pcap.ensures.keeps)
+
+pub returns-in_err-first-clause-text : goal.returns-in_err-first-clause-text
+returns-in_err-first-clause-text g c =
+    let p = err_from_is_err_and c.from_residual.result c.from_residual.ensures.1 in
+    λ t w. Prints-unread _ _ _ _ (pcap_bytes c.args.order (first_of c.args.capture.now) (feed_of c.args.capture.now).items) _ (g.W.Sink.held c.args.writer.now) c.in_err-first.ensures.answer (p.1 ∙ ap Err p.2)
+
+pub returns-in_err-first-clause-writer : goal.returns-in_err-first-clause-writer
+returns-in_err-first-clause-writer g c =
+    let p = err_from_is_err_and c.from_residual.result c.from_residual.ensures.1 in
+    rw (p.1, p.2) (Writer-unread _ _ _ _ c.in_err-first.ensures.answer)
+
+pub returns-in_err-first-clause-walks : goal.returns-in_err-first-clause-walks
+returns-in_err-first-clause-walks g c =
+    let p = err_from_is_err_and c.from_residual.result c.from_residual.ensures.1 in
+    rw (p.1, p.2) (Walks-unread _ _ _ c.in_err-first.ensures.answer)

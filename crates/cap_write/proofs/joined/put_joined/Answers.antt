@@ -1,13 +1,15 @@
-use Rattle.std.proofs.Common.{Some, None, Ok, arith, rules}
+use Rattle.std.proofs.Common.{Some, None, Ok, arith, rules, refl, []}
 use Rattle.std.proofs.lemmas.Result.{err_from_is_err_and}
 use Rattle.cap_order.specs.MergedLaws.{merged-is-feed}
 use Rattle.cap_order.specs.Parts.{feed_of}
 use Rattle.cap_order.specs.View.{parts_of}
-use Rattle.cap_feed.proofs.Onward.{Keeps-trans}
+use Rattle.cap_feed.proofs.Onward.{Keeps-trans, Went-none}
 use Rattle.cap_feed.specs.Walk.{ShowsItem}
 use Rattle.cap_feed.proofs.Walking.{Prints-fault, Prints-end}
 use Rattle.cap_write.proofs.Feeding.{plan_of, plan_of-is}
 use Rattle.cap_write.proofs.Joining.{Joining-more, Joining-part, feeding, shows-fault, shows-end, place-small}
+use Rattle.cap_write.proofs.Starting.{Walking-none, Walking-writer, unwritten, known-packet}
+use Rattle.cap_write.proofs.Writing.{WriterKeeps-behind}
 use Rattle.cap_write.proofs.joined.put_joined.Goals as goal
 
 pub returns-in_err-meta-clause-text : goal.returns-in_err-meta-clause-text
@@ -87,3 +89,23 @@ returns-clause-walks g c = grind arith
 
 pub returns-clause-keeps : goal.returns-clause-keeps
 returns-clause-keeps g c = grind arith
+
+pub loop-joining-init : goal.loop-joining-init
+loop-joining-init g c =
+    record { limit = c.requires.limit; went = Went-none _; events = []; stands = c.new.ensures.stands; next = omega (arith, c.new.ensures.next); places = omega arith; walk = Walking-none _ _ _ _ }
+
+pub returns-in_err-meta-clause-writer : goal.returns-in_err-meta-clause-writer
+returns-in_err-meta-clause-writer g c =
+    let p = err_from_is_err_and c.from_residual.result c.from_residual.ensures.1 in
+    rw (p.1, p.2) (Walking-writer _ _ _ _ _ _ _ (unwritten _ _ c.in_err-meta.field-0.0 c.in_err-meta.ensures.answer) c.loop-joining.invariant.walk)
+
+pub returns-in_err-put_completed-clause-writer : goal.returns-in_err-put_completed-clause-writer
+returns-in_err-put_completed-clause-writer g c =
+    let p = err_from_is_err_and c.from_residual-in_err-put_completed.result c.from_residual-in_err-put_completed.ensures.1 in
+    rw (p.1, p.2) (WriterKeeps-behind _ _ _ _ (Walking-writer _ _ _ _ _ _ _ refl c.loop-joining.invariant.walk) c.in_err-put_completed.ensures.writer)
+
+pub returns-clause-writer : goal.returns-clause-writer
+returns-clause-writer g c = Walking-writer _ _ _ _ _ _ _ refl c.loop-joining.invariant.walk
+
+pub pass-requires : goal.pass-requires
+pass-requires g c = record { packet = known-packet (feed_of (parts_of c.next_of.new.merged)) c.in-Some.meta (rw c.in-Some.is at c.in_ok-meta.ensures.answer).known }

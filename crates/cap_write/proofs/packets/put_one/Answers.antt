@@ -1,6 +1,6 @@
 use Rattle.std.proofs.Common.{rules}
 use Rattle.std.proofs.lemmas.Result.{err_from_is_err_and}
-use Rattle.cap_write.proofs.Written.{Prints-untimed}
+use Rattle.cap_write.proofs.Written.{Prints-untimed, Prints-unnumbered}
 use Rattle.cap_write.proofs.packets.put_one.Goals as goal
 
 pub returns-in_err-units-clause-text : goal.returns-in_err-units-clause-text
@@ -11,3 +11,8 @@ returns-in_err-units-clause-text g c =
 
 pub returns-clause-text : goal.returns-clause-text
 returns-clause-text g c = search rules
+
+pub returns-in_err-number-clause-text : goal.returns-in_err-number-clause-text
+returns-in_err-number-clause-text g c =
+    let p = err_from_is_err_and c.from_residual-in_err-number.result c.from_residual-in_err-number.ensures.1 in
+    rw (p.1, p.2) (λ t. Prints-unnumbered _ _ _ _ _ _ c.in_err-number.field-0.0 c.in_err-number.ensures.answer)

@@ -1,12 +1,14 @@
-use Rattle.std.proofs.Common.{arith, Some, None, Ok, length, drop, subst, sym, rules}
+use Rattle.std.proofs.Common.{arith, Some, None, Ok, length, drop, subst, sym, rules, refl}
 use Rattle.std.proofs.lemmas.Result.{err_from_is_err_and}
-use Rattle.cap_feed.proofs.Onward.{Went-more}
+use Rattle.cap_feed.proofs.Onward.{Went-more, Went-none}
 use Rattle.cap_feed.proofs.Walking.{GoesOn, Walking-more, Prints-fault, Prints-end}
 use Rattle.cap_feed.specs.Walk.{ShowsItem}
 use Rattle.cap_write.proofs.Feeding.{plan_of, plan_of-is, plan_of-next, plan_of-refused}
 use Rattle.cap_write.proofs.Written.{Prints-one}
 use Rattle.cap_write.specs.Numbering.{numbered_of, with_origin, write_fault}
 use Rattle.cap_write.specs.Texts.{numbered_bytes, one_bytes}
+use Rattle.cap_write.proofs.Starting.{Walking-none, Walking-writer, unwritten, captured-few}
+use Rattle.cap_write.proofs.Writing.{WriterKeeps-behind}
 use Rattle.cap_write.proofs.packets.put_packets.Goals as goal
 
 pub returns-in_err-meta-clause-text : goal.returns-in_err-meta-clause-text
@@ -84,3 +86,23 @@ returns-clause-walks g c = grind arith
 
 pub returns-clause-keeps : goal.returns-clause-keeps
 returns-clause-keeps g c = grind arith
+
+pub loop-meta-init : goal.loop-meta-init
+loop-meta-init g c = record { limit = c.requires.limit; went = Went-none _; walk = Walking-none _ _ _ _ }
+
+pub returns-in_err-meta-clause-writer : goal.returns-in_err-meta-clause-writer
+returns-in_err-meta-clause-writer g c =
+    let p = err_from_is_err_and c.from_residual.result c.from_residual.ensures.1 in
+    rw (p.1, p.2) (Walking-writer _ _ _ _ _ _ _ (unwritten _ _ c.in_err-meta.field-0.0 c.in_err-meta.ensures.answer) c.loop-meta.invariant.walk)
+
+pub returns-in_err-put_one-clause-writer : goal.returns-in_err-put_one-clause-writer
+returns-in_err-put_one-clause-writer g c =
+    let p = err_from_is_err_and c.from_residual-in_err-put_one.result c.from_residual-in_err-put_one.ensures.1 in
+    rw (p.1, p.2) (WriterKeeps-behind _ _ _ _ (Walking-writer _ _ _ _ _ _ _ refl c.loop-meta.invariant.walk) c.in_err-put_one.ensures.writer)
+
+pub returns-clause-writer : goal.returns-clause-writer
+returns-clause-writer g c = Walking-writer _ _ _ _ _ _ _ refl c.loop-meta.invariant.walk
+
+pub put_one-requires-clause-captured : goal.put_one-requires-clause-captured
+put_one-requires-clause-captured g c =
+    captured-few (g.F.PacketFeed.feed c.next_packet.new.feed) c.in-Some.meta _ (g.met.F.PacketFeed.lawful _) (rw c.in-Some.is at c.in_ok-meta.ensures.answer).known c.frame.ensures.frame

@@ -3,6 +3,7 @@ use Rattle.std.proofs.lemmas.Result.{err_from_is_err_and}
 use Rattle.cap_bytes.proofs.Putting.{Prints-head, Prints-behind}
 use Rattle.cap_write.specs.Numbering.{refusal_in}
 use Rattle.cap_write.specs.Texts.{first_origins, front_bytes, text_behind}
+use Rattle.cap_write.proofs.Writing.{WriterKeeps-behind}
 use Rattle.cap_write.proofs.pcapng.put_pcapng.Goals as goal
 
 pub returns-in_err-put_front-clause-text : goal.returns-in_err-put_front-clause-text
@@ -16,3 +17,6 @@ returns-in_err-put_front-clause-text g c = λ t w.
 
 pub returns-clause-text : goal.returns-clause-text
 returns-clause-text g c = grind (arith, Prints-behind)
+
+pub returns-clause-writer : goal.returns-clause-writer
+returns-clause-writer g c = WriterKeeps-behind _ _ _ _ c.in_ok-put_front.ensures.writer c.put_packets.ensures.writer
