@@ -1,5 +1,5 @@
 -- One step of a table.
-use Rattle.std.proofs.Common.{◌≡◌, ℕ, ◌≤◌, Bool, true, false, List, [], ◌∷◌, drop, map, refl, sym, ◌∙◌, ap, subst, ◌&&◌, true≢false, Option, Some, None, Ok, Err, IsTrue, inl}
+use Rattle.std.proofs.Common.{◌≡◌, ℕ, ◌+◌, ◌<◌, ◌≤◌, arith, Bool, Result, true, false, List, [], ◌∷◌, drop, map, refl, sym, ◌∙◌, ap, subst, ◌&&◌, true≢false, Option, Some, None, Ok, Err, IsTrue, inl}
 use Rattle.std.specs.Prelude.{is_some, if◌then◌else◌, IfSome}
 use Rattle.std.specs.List.{range_with_len}
 use Rattle.cap_bytes.specs.declared.faults.Fault.{Fault}
@@ -16,8 +16,10 @@ use Rattle.cap_feed.specs.declared.feeds.Head.{Head}
 use Rattle.cap_feed.specs.declared.feeds.Head.TheVariants as heads
 use Rattle.cap_feed.specs.declared.packets.Meta.{Meta}
 use Rattle.cap_time.specs.declared.stamps.Stamp.{Stamp}
-use Rattle.cap_tally.specs.Stepping.{next_by, next_taken, TableStands, Steps}
+use Rattle.cap_tally.specs.Stepping.{AnswersAgain, next_by, next_taken, TableStands, Steps}
 use Rattle.cap_tally.specs.Taken.{Taken}
+use Rattle.cap_tally.specs.declared.tables.Step.{Step}
+use Rattle.cap_tally.specs.declared.tables.Step.TheVariants as steps
 use Rattle.cap_tally.specs.Totals.{TotalsState}
 use Rattle.cap_tally.specs.Tallies.{TallyState, Joins, Stands}
 
@@ -201,3 +203,45 @@ known-end old new false e h = h
 
 pub is-packet : (feed : Feed) (meta : Meta) → feed.known ≡ Some (heads.Packet meta) → IsPacket feed.known
 is-packet feed meta known = subst IsPacket (sym known) tt
+
+pub found-packet : (old new : Feed) (found : Bool) → found ≡ true → FindsPacket old (Ok found) new → IsPacket new.known
+found-packet old new true e h = subst IsPacket (sym h.1.known) tt
+found-packet old new false e h = absurd (true≢false (sym e))
+
+-- ---- what is answered again
+
+-- what was known of what comes next is a packet, if it was known
+pub again-packet : (old new : Feed) (found : Bool) (result : Result Step Fault) → found ≡ true → FindsPacket old (Ok found) new → AnswersAgain old.known result
+again-packet old new true result e h = by old.known h.1.again
+  where
+    by : (known : Option Head) → IfSome known (λ first. (heads.Packet h.0 ≡ first) × (new ≡ old)) → AnswersAgain known result
+    by None again = tt
+    by (Some first) again = subst (λ (w : Head). AnswersAgain (Some w) result) again.0 tt
+again-packet old new false result e h = absurd (true≢false (sym e))
+
+again-head : (old new : Feed) (head : Head) (result : Result Step Fault) → Knows old head new → AnswersAgain (Some head) result → AnswersAgain old.known result
+again-head old new head result knows h = by old.known knows.again
+  where
+    by : (known : Option Head) → IfSome known (λ first. (head ≡ first) × (new ≡ old)) → AnswersAgain known result
+    by None again = tt
+    by (Some first) again = subst (λ (w : Head). AnswersAgain (Some w) result) again.0 h
+
+pub again-end : (old new : Feed) → Knows old heads.End new → AnswersAgain old.known (Ok steps.Done)
+again-end old new knows = again-head old new heads.End (Ok steps.Done) knows refl
+
+unknown-again : (known : Option Head) (result : Result Step Fault) → known ≡ None → AnswersAgain known result
+unknown-again known result e = subst (λ (k : Option Head). AnswersAgain k result) (sym e) tt
+
+pub again-fault : (old new : Feed) (fault : Fault) → FindsPacket old (Err fault) new → AnswersAgain old.known (Err fault)
+again-fault old new (Refused refusal) h = again-head old new (heads.Refused refusal) (Err (Refused refusal)) h refl
+again-fault old new (Read file offset) h = unknown-again old.known (Err (Read file offset)) h.before
+again-fault old new Write h = absurd h
+again-fault old new Memory h = unknown-again old.known (Err Memory) h.before
+
+-- ---- the packets that were taken, and those to come
+
+pub stayed : (place now left to_come : ℕ) → now ≡ place → to_come ≤ left → now + to_come ≤ place + left
+stayed place now left to_come e h = omega arith
+
+pub went : (place now left mid to_come : ℕ) → now ≡ place + 1 → mid ≤ left → to_come < mid → now + to_come ≤ place + left
+went place now left mid to_come e h l = omega arith

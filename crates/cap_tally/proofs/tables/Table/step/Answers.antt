@@ -1,5 +1,6 @@
 use Rattle.std.proofs.Common.{◌∷◌, drop, length, List, Option, Err, inr, sym, ap, ◌∙◌, subst, arith, refl}
 use Rattle.std.proofs.lemmas.Result.{err_from_is_err_and}
+use Rattle.cap_feed.proofs.Onward.{Keeps-trans}
 use Rattle.cap_order.specs.MergedLaws.{merged-is-feed}
 use Rattle.cap_order.specs.Parts.{feed_of}
 use Rattle.cap_order.specs.View.{parts_of}
@@ -9,7 +10,7 @@ use Rattle.cap_tally.specs.Stepping.{next_taken, clocked}
 use Rattle.cap_tally.specs.Taken.{Taken}
 use Rattle.cap_tally.specs.Tallies.{LimitBy, Stands}
 use Rattle.cap_tally.specs.CountedUnits.{is_limit_at}
-use Rattle.cap_tally.proofs.Stepping.{known-packet, known-end, faulted, stands-asked, next-is, first-asked, run-packet, run-end, of-file, is-left, is-packet}
+use Rattle.cap_tally.proofs.Stepping.{known-packet, known-end, faulted, stands-asked, next-is, first-asked, run-packet, run-end, of-file, is-left, is-packet, found-packet, again-packet, again-end, again-fault, stayed, went}
 use Rattle.cap_order.proofs.Numbers.{numbers-within}
 use Rattle.cap_tally.proofs.tables.Table.step.Goals as goal
 
@@ -168,3 +169,63 @@ returns-in-Err-Memory-clause-step g c =
         going = refl;
       };
     }
+
+-- what every answer keeps, and what it says again
+
+pub returns-in_err-has_packet-clause-keeps : goal.returns-in_err-has_packet-clause-keeps
+returns-in_err-has_packet-clause-keeps g c =
+    let e = c.in_err-has_packet.ensures in
+    record { keeps = e.keeps; places = stayed _ _ _ _ refl e.keeps.left; files = refl }
+
+pub returns-in_err-has_packet-clause-again : goal.returns-in_err-has_packet-clause-again
+returns-in_err-has_packet-clause-again g c =
+    let is = err_from_is_err_and c.from_residual.result c.from_residual.ensures.1 in
+    rw (is.1, is.2) (again-fault _ _ _ c.in_err-has_packet.ensures.answer)
+
+pub returns-then-not-branch-clause-keeps : goal.returns-then-not-branch-clause-keeps
+returns-then-not-branch-clause-keeps g c =
+    let e = c.in_ok-has_packet.ensures in
+    record { keeps = e.keeps; places = stayed _ _ _ _ refl e.keeps.left; files = refl }
+
+pub returns-then-not-branch-clause-again : goal.returns-then-not-branch-clause-again
+returns-then-not-branch-clause-again g c =
+    again-end _ _ (known-end _ _ _ c.if-not-branch.true c.in_ok-has_packet.ensures.answer)
+
+pub next_packet-next-requires : goal.next_packet-next-requires
+next_packet-next-requires g c =
+    found-packet _ _ _ c.if-not-branch.false c.in_ok-has_packet.ensures.answer
+
+pub pass-requires : goal.pass-requires
+pass-requires g c =
+    record { packet = found-packet _ _ _ c.if-not-branch.false c.in_ok-has_packet.ensures.answer }
+
+pub returns-in-Ok-clause-keeps : goal.returns-in-Ok-clause-keeps
+returns-in-Ok-clause-keeps g c =
+    let e = c.in_ok-has_packet.ensures in
+    record {
+      keeps = Keeps-trans _ _ _ e.keeps c.pass.ensures.keeps;
+      places = went _ _ _ _ _ c.in-Ok.ensures.place e.keeps.left c.pass.ensures.passes.left;
+      files = c.take-in-Ok.ensures.files;
+    }
+
+pub returns-in-Ok-clause-again : goal.returns-in-Ok-clause-again
+returns-in-Ok-clause-again g c =
+    again-packet _ _ _ _ c.if-not-branch.false c.in_ok-has_packet.ensures.answer
+
+pub returns-in-Err-Limit-clause-keeps : goal.returns-in-Err-Limit-clause-keeps
+returns-in-Err-Limit-clause-keeps g c =
+    let e = c.in_ok-has_packet.ensures in
+    record { keeps = e.keeps; places = stayed _ _ _ _ c.in-Err-Limit.ensures.same e.keeps.left; files = refl }
+
+pub returns-in-Err-Limit-clause-again : goal.returns-in-Err-Limit-clause-again
+returns-in-Err-Limit-clause-again g c =
+    again-packet _ _ _ _ c.if-not-branch.false c.in_ok-has_packet.ensures.answer
+
+pub returns-in-Err-Memory-clause-keeps : goal.returns-in-Err-Memory-clause-keeps
+returns-in-Err-Memory-clause-keeps g c =
+    let e = c.in_ok-has_packet.ensures in
+    record { keeps = e.keeps; places = stayed _ _ _ _ c.in-Err-Memory.ensures.same e.keeps.left; files = refl }
+
+pub returns-in-Err-Memory-clause-again : goal.returns-in-Err-Memory-clause-again
+returns-in-Err-Memory-clause-again g c =
+    again-packet _ _ _ _ c.if-not-branch.false c.in_ok-has_packet.ensures.answer
