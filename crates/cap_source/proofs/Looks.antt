@@ -1,14 +1,15 @@
 -- What the first four bytes tell, and the reader that is made by that.
-use Rattle.std.proofs.Common.{◌≡◌, ◌≤◌, ℕ, true, false, List, ◌++◌, length, None, IsTrue, Ok, refl, sym, ap, ◌∙◌, arith, nat_le, length-append}
+use Rattle.std.proofs.Common.{◌≡◌, ◌≤◌, ℕ, true, false, List, ◌++◌, length, None, IsTrue, Result, Ok, refl, sym, ap, ◌∙◌, arith, nat_le, length-append}
 use Rattle.std.proofs.lemmas.Bool.Decides.{nat_tests}
 use Rattle.cap_numbers.proofs.Spelling.{number-append}
 use Rattle.cap_bytes.specs.Window.{State as WindowState, Shows, Keeps, coming}
+use Rattle.cap_bytes.specs.declared.faults.Fault.{Fault}
 use Rattle.cap_bytes.specs.declared.faults.Tail.{Tail}
 use Rattle.cap_pcap.specs.Split as records
 use Rattle.cap_blocks.specs.Split as splits
 use Rattle.cap_blocks.specs.Split.{is_section}
 use Rattle.cap_source.specs.Items.{Progress, interface_of, is_pcapng, items_in, ending_in, first_in, pcap_items, pcap_ending, unless_refused, items_from, ending_from, first_from}
-use Rattle.cap_source.specs.FileState.{unread_state, Waits}
+use Rattle.cap_source.specs.FileState.{FileKeeps, unread_state, Waits}
 use Rattle.cap_source.specs.Readers.{state_of, reader_by, has_format, LooksAtWindow}
 use Rattle.cap_feed.specs.declared.packets.Format.{Format}
 use Rattle.cap_source.specs.declared.readers.Reader.{Reader}
@@ -64,3 +65,13 @@ pub opened_by : {R : Type 0} (old unread new : Reader R) (w v : WindowState) (ta
     → old ≡ readers.Unread w tail → unread ≡ readers.Unread v tail → new ≡ reader_by unread format
     → LooksAtWindow w (Ok format) v → Keeps w v → Waits (state_of old p) (state_of new p)
 opened_by {R} old unread new w v tail format p is_old is_unread is_new s k = grind (arith, opened_waits)
+
+-- what every look keeps
+pub unread_keeps : (w v : WindowState) (tail : Tail) (p : Progress) (result : Result Format Fault) → LooksAtWindow w result v → Keeps w v
+    → FileKeeps (unread_state w tail p) (unread_state v tail p)
+unread_keeps w v tail p result h k = grind arith
+
+pub opened_keeps : {R : Type 0} (old unread new : Reader R) (w v : WindowState) (tail : Tail) (format : Format) (p : Progress)
+    → old ≡ readers.Unread w tail → unread ≡ readers.Unread v tail → new ≡ reader_by unread format
+    → LooksAtWindow w (Ok format) v → Keeps w v → FileKeeps (state_of old p) (state_of new p)
+opened_keeps {R} old unread new w v tail format p is_old is_unread is_new h k = grind arith

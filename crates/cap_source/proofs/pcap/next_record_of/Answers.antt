@@ -1,7 +1,7 @@
 use Rattle.std.proofs.Common.{◌∙◌}
 use Rattle.cap_source.specs.declared.readers.Next.TheVariants as nexts
 use Rattle.cap_bytes.proofs.Parsing.{from_some}
-use Rattle.cap_source.proofs.Pcaps.{record_learned, end_learned, refusal_learned}
+use Rattle.cap_source.proofs.Pcaps.{record_learned, end_learned, refusal_learned, pcap_keeps}
 use Rattle.cap_source.proofs.pcap.next_record_of.Goals as goal
 
 pub returns-in-Ok-Some-clause-answer : goal.returns-in-Ok-Some-clause-answer
@@ -36,3 +36,21 @@ returns-in-Err-Refused-clause-answer g c = λ progress.
           (refusal_learned c.args.header c.in-Err-Refused.refusal c.args.reader.now c.next_record.new.self progress
           c.requires.header c.requires.free answer e.keeps (λ t. (e.items t).0)),
     )
+
+pub returns-in-Ok-Some-clause-keeps : goal.returns-in-Ok-Some-clause-keeps
+returns-in-Ok-Some-clause-keeps g c = λ p. pcap_keeps c.args.reader.now c.next_record.new.self p c.in-Ok-Some.ensures.keeps
+
+pub returns-in-Ok-None-clause-keeps : goal.returns-in-Ok-None-clause-keeps
+returns-in-Ok-None-clause-keeps g c = λ p. pcap_keeps c.args.reader.now c.next_record.new.self p c.in-Ok-None.ensures.keeps
+
+pub returns-in-Err-Refused-clause-keeps : goal.returns-in-Err-Refused-clause-keeps
+returns-in-Err-Refused-clause-keeps g c = λ p. pcap_keeps c.args.reader.now c.next_record.new.self p c.in-Err-Refused.ensures.keeps
+
+pub returns-in-Err-Read-clause-keeps : goal.returns-in-Err-Read-clause-keeps
+returns-in-Err-Read-clause-keeps g c = λ p. pcap_keeps c.args.reader.now c.next_record.new.self p c.in-Err-Read.ensures.keeps
+
+pub returns-in-Err-Write-clause-keeps : goal.returns-in-Err-Write-clause-keeps
+returns-in-Err-Write-clause-keeps g c = λ p. pcap_keeps c.args.reader.now c.next_record.new.self p c.in-Err-Write.ensures.keeps
+
+pub returns-in-Err-Memory-clause-keeps : goal.returns-in-Err-Memory-clause-keeps
+returns-in-Err-Memory-clause-keeps g c = λ p. pcap_keeps c.args.reader.now c.next_record.new.self p c.in-Err-Memory.ensures.keeps
