@@ -1,9 +1,14 @@
 -- One look after another at what comes next of a file.
-use Rattle.std.proofs.Common.{◌≡◌, true, false, Option, Some, None, IsTrue, is_some, Result, Ok, refl, arith}
+use Rattle.std.proofs.Common.{◌≡◌, ◌≤◌, ◌^◌, true, false, Option, Some, None, IsTrue, is_some, Result, Ok, refl, arith}
 use Rattle.std.specs.Bool.{⊤}
 use Rattle.cap_bytes.specs.declared.faults.Fault.{Fault}
 use Rattle.cap_source.specs.FileState.{FileState, FileKeeps, Waits, Learns, StepsTo, Answers, TakesShown, LearnsNext, IsSound}
+use Rattle.cap_source.specs.Items.{Progress}
+use Rattle.cap_source.specs.Reached.{counted}
+use Rattle.cap_source.specs.Readers.{state_of, is_there, is_stopped}
 use Rattle.cap_source.specs.declared.readers.Next.{Next}
+use Rattle.cap_source.specs.declared.readers.Reader.{Reader}
+use Rattle.cap_source.specs.declared.readers.Reader.TheVariants as readers
 
 pub FileKeeps-trans : (a b c : FileState) → FileKeeps a b → FileKeeps b c → FileKeeps a c
 FileKeeps-trans a b c k l = grind arith
@@ -25,3 +30,60 @@ LearnsNext-shown old new known after not h = grind arith
 pub IsSound-shown : (old new : FileState) (known after : Option Next) → IsSound old known → FileKeeps old new → TakesShown old true after new
     → IsSound new after
 IsSound-shown old new known after i k h = grind arith
+
+-- How much is counted of a file, as the calls below ask it: cases of the reader stand here alone.
+counted_of : {R : Type 0} (reader : Reader R) (p : Progress) → IsTrue (is_there reader) → (state_of reader p).counted ≡ counted p
+counted_of (readers.Unread window tail) p there = refl
+counted_of (readers.Pcap reader) p there = refl
+counted_of (readers.Pcapng reader) p there = refl
+counted_of readers.Moved p there = grind arith
+
+pub counted_limit : {R : Type 0} (reader : Reader R) (p : Progress) (known : Option Next) → IsTrue (is_there reader)
+    → IsSound (state_of reader p) known → counted p ≤ 2 ^ 40
+counted_limit reader p known there i = omega (arith, counted_of reader p there, i.counted, i.limit)
+
+pub counted_kept : {R : Type 0} (old new : Reader R) (p : Progress) (known : Option Next) → IsTrue (is_there new)
+    → IsSound (state_of old p) known → FileKeeps (state_of old p) (state_of new p) → counted p ≤ (state_of new p).offset
+counted_kept old new p known there i k = omega (arith, counted_of new p there, k.counted i.counted)
+
+-- the same of a reader that was made
+pub counted_opened : {R : Type 0} (old : Reader R) (p : Progress) (new : FileState) → IsTrue (is_there old)
+    → counted p ≤ (state_of old p).offset → FileKeeps (state_of old p) new → new.counted ≤ new.offset
+counted_opened old p new there few k = k.counted (omega (arith, counted_of old p there, few))
+
+-- a reader of which nothing is known has not come to an end
+pub free_of : {R : Type 0} (reader : Reader R) (p : Progress) (known : Option Next) → is_some known ≡ false
+    → IsSound (state_of reader p) known → is_stopped reader ≡ false
+free_of reader p (Some next) not i = grind arith
+free_of (readers.Unread window tail) p None not i = refl
+free_of (readers.Pcap reader) p None not i = grind arith
+free_of (readers.Pcapng reader) p None not i = grind arith
+free_of readers.Moved p None not i = refl
+
+-- what comes next wasn't known, and was asked for
+pub LearnsNext-asked : {A : Type 0} (old new : FileState) (known after : Option Next) (result : Result A Fault) → is_some known ≡ false
+    → Answers old result after new → LearnsNext old known result new after
+LearnsNext-asked old new known after result not h = grind arith
+
+pub IsSound-asked : {A : Type 0} (old new : FileState) (known after : Option Next) (result : Result A Fault) → is_some known ≡ false
+    → IsSound old known → FileKeeps old new → Answers old result after new → IsSound new after
+IsSound-asked old new known after result not i k h = grind arith
+
+-- it was known
+pub LearnsNext-known : (s : FileState) (known : Option Next) → IsTrue (is_some known) → LearnsNext {A = ⊤} s known (Ok tt) s known
+LearnsNext-known s None is = grind arith
+LearnsNext-known s (Some next) is = (next, refl, (refl, refl))
+
+pub Waits-refl : (s : FileState) → s.stops ≡ false → Waits s s
+Waits-refl s free = grind arith
+
+pub FileKeeps-refl : (s : FileState) → FileKeeps s s
+FileKeeps-refl s = grind arith
+
+pub none_of : {A : Type 0} (option : Option A) → is_some option ≡ false → option ≡ None
+none_of None not = refl
+none_of (Some a) not = grind arith
+
+-- a block after which the file goes on
+pub Waits-further : (a b c : FileState) (after : Option Next) → Waits a b → FileKeeps a b → StepsTo b after c → is_some after ≡ false → Waits a c
+Waits-further a b c after w k h not = grind arith

@@ -1,5 +1,5 @@
 use Rattle.std.proofs.Common.{◌∙◌, sym}
-use Rattle.cap_source.proofs.Going.{LearnsNext-shown, IsSound-shown}
+use Rattle.cap_source.proofs.Going.{LearnsNext-known, LearnsNext-asked, IsSound-asked, LearnsNext-shown, IsSound-shown, counted_limit, counted_kept, free_of}
 use Rattle.cap_source.specs.Reached.{progress_of}
 use Rattle.cap_source.specs.Readers.{state_of}
 use Rattle.cap_source.proofs.learning.learn.Goals as goal
@@ -15,3 +15,35 @@ returns-then-take_shown-clause-sound g c =
     let p = progress_of c.args.reached.now in
     IsSound-shown (state_of c.args.reader.now p) (state_of c.take_shown.new.reader p) c.args.known.now c.take_shown.new.known
     c.requires.sound c.take_shown.ensures.keeps (rw c.if-take_shown.true at c.take_shown.ensures.answer)
+
+pub take_shown-requires-clause-counted : goal.take_shown-requires-clause-counted
+take_shown-requires-clause-counted g c = counted_limit c.args.reader.now (progress_of c.args.reached.now) _ c.requires.there c.requires.sound
+
+pub next_of-requires-clause-limit : goal.next_of-requires-clause-limit
+next_of-requires-clause-limit g c = c.take_shown.ensures.keeps.limit c.requires.sound.limit
+
+pub next_of-requires-clause-counted : goal.next_of-requires-clause-counted
+next_of-requires-clause-counted g c =
+    counted_kept c.args.reader.now c.take_shown.new.reader (progress_of c.args.reached.now) _ c.take_shown.ensures.there c.requires.sound c.take_shown.ensures.keeps
+
+pub next_of-requires-clause-free : goal.next_of-requires-clause-free
+next_of-requires-clause-free g c =
+    rw (c.take_shown.ensures.none c.if-take_shown.false).0
+    (free_of c.args.reader.now (progress_of c.args.reached.now) _ (sym c.is_some.ensures ∙ c.if-is_some.false) c.requires.sound)
+
+pub returns-then-is_some-clause-answer : goal.returns-then-is_some-clause-answer
+returns-then-is_some-clause-answer g c = LearnsNext-known _ _ (sym c.is_some.ensures ∙ c.if-is_some.true)
+
+pub returns-clause-answer : goal.returns-clause-answer
+returns-clause-answer g c =
+    let p = progress_of c.args.reached.now in
+    let same = c.take_shown.ensures.none c.if-take_shown.false in
+    LearnsNext-asked (state_of c.args.reader.now p) _ c.args.known.now c.next_of.new.known c.next_of.result
+    (sym c.is_some.ensures ∙ c.if-is_some.false) (rw same.0 at c.next_of.ensures.answer)
+
+pub returns-clause-sound : goal.returns-clause-sound
+returns-clause-sound g c =
+    let p = progress_of c.args.reached.now in
+    let same = c.take_shown.ensures.none c.if-take_shown.false in
+    IsSound-asked (state_of c.args.reader.now p) _ c.args.known.now c.next_of.new.known c.next_of.result
+    (sym c.is_some.ensures ∙ c.if-is_some.false) c.requires.sound (rw same.0 at c.next_of.ensures.keeps) (rw same.0 at c.next_of.ensures.answer)
