@@ -9,9 +9,10 @@ sys.dont_write_bytecode = True
 
 import os, struct, tempfile
 
-from captures import INTERFACE, MICRO_LITTLE, PROGRAM, SECTION, Bench, Count, make_shim, run, vector
+from captures import (INTERFACE, MICRO_LITTLE, PROGRAM, SECTION, Bench, Count, datagram, make_shim, packet, pcap_header, record, run,
+                      vector)
 
-ETHERNET, RAW = f"{MICRO_LITTLE} 01000000", f"{MICRO_LITTLE} 65000000"
+ETHERNET = f"{MICRO_LITTLE} 01000000"
 SECTION_BIG = "0a0d0d0a 0000001c 1a2b3c4d 0001 0000 ffffffffffffffff 0000001c"
 CARRIED = f"{ETHERNET} 02000000 20a10700 04000000 04000000 01020304"
 # CARRY_PCAPNG in the other order, and three times: a section, and for each file its interface and its packet.
@@ -51,7 +52,7 @@ NOT_LISTED = [
 
 LONGEST = "packet 1 offset 24 time 0+0/1000000 captured 262144 original 262144 link 1 data 00000000000000000000000000000000\n"
 
-# A file that `blocks` refuses: where, and by which rule. Of one that is refused behind its section, that is printed.
+# A file that `blocks` refuses: where, and by which rule. After a section, its line is printed first.
 NOT_BLOCKS = [
     ("", "0 rule 3 cut"), ("0a0d0d", "0 rule 3 cut"), ("d4c3b2a1", "0 rule 1 magic"), ("0a0d0d0a 1e000000", "0 rule 3 cut"),
     # neither the order magic nor the length is right
@@ -91,14 +92,13 @@ TCP = ("02000000 00020200 00000001 0800 450005dc 00010000 40060000 0a000001 0a00
        "50000000 00000000")
 
 
-def record(second, data, original=None, micros=0):
-    """A record of a pcap file, captured whole where nothing else is said."""
-    length = len(bytes.fromhex(data))
-    return struct.pack("<IIII", second, micros, length, length if original is None else original).hex() + data
+def at(second, data, original=None, micros=0):
+    """A record of a pcap file, captured whole where nothing else is said, in hex."""
+    return record(second, bytes.fromhex(data), original, micros).hex()
 
 
 def of_link(link, *records):
-    return MICRO_LITTLE + struct.pack("<I", link).hex() + "".join(records)
+    return pcap_header(link).hex() + "".join(records)
 
 
 CLASSES = ("other-link", "not-ipv4", "short", "cut", "bad", "unjoined", "counted")
@@ -120,39 +120,39 @@ SECOND = "1+0/1000000"
 
 # A capture, and the end of its report.
 REPORTED = [
-    (of_link(1, record(1, "00" * 13)), frames(short=1)),
-    (of_link(1, record(1, "00" * 13, 60)), frames(cut=1)),
-    (of_link(1, record(1, "00" * 12 + "8100")), frames(short=1)),
-    (of_link(1, record(1, "00" * 12 + "86dd")), frames(not_ipv4=1)),
-    (of_link(147, record(1, "00" * 20)), frames(other_link=1)),
-    (of_link(101, record(1, "")), frames(short=1)),
-    (of_link(113, record(1, f"00000001 00060200 00000001 0000 0800 {UDP}")),
+    (of_link(1, at(1, "00" * 13)), frames(short=1)),
+    (of_link(1, at(1, "00" * 13, 60)), frames(cut=1)),
+    (of_link(1, at(1, "00" * 12 + "8100")), frames(short=1)),
+    (of_link(1, at(1, "00" * 12 + "86dd")), frames(not_ipv4=1)),
+    (of_link(147, at(1, "00" * 20)), frames(other_link=1)),
+    (of_link(101, at(1, "")), frames(short=1)),
+    (of_link(113, at(1, f"00000001 00060200 00000001 0000 0800 {UDP}")),
      frames(counted=1, talks=[f"udp {TALK} 1 46 backward 0 0 {times(SECOND)}"])),
-    (of_link(101, record(1, ICMP)), frames(counted=1, talks=[f"p1 10.0.0.1 10.0.0.2 forward 1 30 backward 0 0 {times(SECOND)}"])),
-    (of_link(276, record(1, f"08000000 00000001 00010006 02000000 00010000 {UDP}")),
+    (of_link(101, at(1, ICMP)), frames(counted=1, talks=[f"p1 10.0.0.1 10.0.0.2 forward 1 30 backward 0 0 {times(SECOND)}"])),
+    (of_link(276, at(1, f"08000000 00000001 00010006 02000000 00010000 {UDP}")),
      frames(counted=1, talks=[f"udp {TALK} 1 50 backward 0 0 {times(SECOND)}"])),
-    (of_link(228, record(1, "60")), frames(bad=1)),
-    (of_link(101, record(1, "60")), frames(not_ipv4=1)),
+    (of_link(228, at(1, "60")), frames(bad=1)),
+    (of_link(101, at(1, "60")), frames(not_ipv4=1)),
     # 54 and 53 bytes of a frame of 1,514
-    (of_link(1, record(1, TCP, 1514)),
+    (of_link(1, at(1, TCP, 1514)),
      "truncated 1\n" + frames(counted=1, talks=[f"tcp {TALK} 1 1514 backward 0 0 {times(SECOND)}"])),
-    (of_link(1, record(1, TCP[:-2], 1514)), frames(cut=1)),
+    (of_link(1, at(1, TCP[:-2], 1514)), frames(cut=1)),
     # four fragments, with a UDP length above the joined data's in the third
-    (of_link(101, record(1, "4500001c 00070002 40110000 0a000001 0a000002 b0b1b2b3 b4b5b6b7"),
-             record(2, "4500001c 00072000 40110000 0a000001 0a000002 03e807d0 00180000"),
-             record(3, "4500001c 00072000 40110000 0a000001 0a000002 03e907d1 00190000"),
-             record(4, "4500001c 00072001 40110000 0a000001 0a000002 a0a1a2a3 a4a5a6a7")), frames(bad=4)),
+    (of_link(101, at(1, "4500001c 00070002 40110000 0a000001 0a000002 b0b1b2b3 b4b5b6b7"),
+             at(2, "4500001c 00072000 40110000 0a000001 0a000002 03e807d0 00180000"),
+             at(3, "4500001c 00072000 40110000 0a000001 0a000002 03e907d1 00190000"),
+             at(4, "4500001c 00072001 40110000 0a000001 0a000002 a0a1a2a3 a4a5a6a7")), frames(bad=4)),
     # a group is too old after 30 seconds, and is flushed by a whole datagram of its key
-    (of_link(101, record(1, LAST), record(31, FIRST)),
+    (of_link(101, at(1, LAST), at(31, FIRST)),
      frames(counted=2, joined=1, talks=[f"udp {TALK} 2 56 backward 0 0 {times(SECOND, '31+0/1000000')}"])),
-    (of_link(101, record(1, LAST), record(31, FIRST, micros=1)), frames(unjoined=2)),
-    (of_link(101, record(1, LAST), record(2, WHOLE), record(3, FIRST)),
+    (of_link(101, at(1, LAST), at(31, FIRST, micros=1)), frames(unjoined=2)),
+    (of_link(101, at(1, LAST), at(2, WHOLE), at(3, FIRST)),
      frames(unjoined=2, counted=1, talks=[f"udp {TALK} 1 28 backward 0 0 {times('2+0/1000000')}"])),
     # the latest copy of a byte counts, and the latest end
-    (of_link(101, record(1, "4500001c 00092001 40110000 0a000001 0a000002 a0a1a2a3 a4a5a6a7"),
-             record(2, "45000017 00090002 40110000 0a000001 0a000002 c0c1c2"),
-             record(3, "4500001c 00090003 40110000 0a000001 0a000002 d0d1d2d3 d4d5d6d7"),
-             record(4, "4500001c 00092000 40110000 0a000001 0a000002 03e807d0 00200000")),
+    (of_link(101, at(1, "4500001c 00092001 40110000 0a000001 0a000002 a0a1a2a3 a4a5a6a7"),
+             at(2, "45000017 00090002 40110000 0a000001 0a000002 c0c1c2"),
+             at(3, "4500001c 00090003 40110000 0a000001 0a000002 d0d1d2d3 d4d5d6d7"),
+             at(4, "4500001c 00092000 40110000 0a000001 0a000002 03e807d0 00200000")),
      frames(counted=4, joined=1, talks=[f"udp {TALK} 4 107 backward 0 0 {times(SECOND, '4+0/1000000')}"])),
     # both ways of TCP, the way back first; ICMP without a time; UDP from an end to itself, from port 9 to port 7; protocol 255 without data
     # and without a time, from 255.255.255.255 to itself
@@ -186,7 +186,7 @@ for order, form in (((0, 1), "0+512/1024"), ((1, 0), "0+5/10")):
 def groups(count, *last):
     """So many fragments at 1 second, each of which opens a group, and another record."""
     opens = (f"4500001c {n:04x}2000 40110000 0a000001 0a000002 03e807d0 00100000" for n in range(count))
-    return of_link(101, *(record(1, data) for data in opens), *last)
+    return of_link(101, *(at(1, data) for data in opens), *last)
 
 
 def rest(identification):
@@ -198,12 +198,39 @@ NEXT = "4500001c 04002000 40110000 0a000001 0a000002 03e807d0 00100000"
 REPORTED += [
     (groups(1025), "files 1\nfile 1 pcap packets 1025 bytes 28700 truncated 0 skipped 0 first 1+0/1000000 last 1+0/1000000\n"
      "total packets 1025 bytes 28700 truncated 0\n" + frames(unjoined=1025, given_up=1)),
-    (groups(1025, record(1, rest(0))), frames(unjoined=1026, given_up=2)),
-    (groups(1025, record(1, rest(1))),
+    (groups(1025, at(1, rest(0))), frames(unjoined=1026, given_up=2)),
+    (groups(1025, at(1, rest(1))),
      frames(unjoined=1024, counted=2, joined=1, given_up=1, talks=[f"udp {TALK} 2 56 backward 0 0 {times(SECOND)}"])),
-    (groups(1024, record(31, NEXT)), frames(unjoined=1025, given_up=1)),
-    (groups(1024, record(31, NEXT, micros=1)), frames(unjoined=1025)),
+    (groups(1024, at(31, NEXT)), frames(unjoined=1025, given_up=1)),
+    (groups(1024, at(31, NEXT, micros=1)), frames(unjoined=1025)),
 ]
+
+# How the 8,189 blocks of 8 bytes of a datagram come: rising, falling, every other one and then the rest, also falling, and in any order, by a
+# generator whose period is all of 2^13 numbers.
+NUMBERS = [815]
+while len(NUMBERS) < 8_192:
+    NUMBERS.append((NUMBERS[-1] * 1_397 + 4_051) % 8_192)
+RISING = range(8_189)
+ORDERS = [RISING, RISING[::-1], [*RISING[::2], *RISING[1::2]], [*RISING[::2], *RISING[1::2][::-1]], [n for n in NUMBERS if n < 8_189]]
+
+
+def joined(data, order):
+    """A capture of the fragments of 8 bytes that a datagram's data has, of which the last may be longer, in an order of their numbers; what `join` writes
+    of them, at the time of the last that comes, and the end of their report."""
+    pieces = [data[8 * n:8 * n + 8] for n in RISING[:-1]] + [data[8 * 8_188:]]
+    fragments = [datagram(pieces[n], 8 * n, n < 8_188, 5, 253) for n in order]
+    whole = datagram(data, 0, False, 5, 253)
+    total = sum(struct.unpack(">10H", whole[:20]))
+    whole = whole[:10] + struct.pack(">H", 0xFFFF - total % 0xFFFF) + whole[12:]
+    interface = bytes.fromhex("01000000 20000000 6500 0000 00000000 0900 0100 06000000 0000 0000 20000000")
+    text = frames(counted=8_189, joined=1, talks=[f"p253 10.0.0.1 10.0.0.2 forward 8189 {20 * 8_189 + len(data)} backward 0 0 {times(SECOND)}"])
+    return (pcap_header(101) + b"".join(record(1, fragment) for fragment in fragments),
+            bytes.fromhex(SECTION) + interface + packet(0, 1_000_000, whole), text.encode())
+
+
+# The last of these has the most bytes that a datagram can have.
+JOINED = [joined(b"".join(struct.pack(">H6s", n, bytes(range(1, 7))) for n in RISING), order) for order in ORDERS]
+JOINED.append(joined(b"".join(bytes([2 - n % 2]) * 8 for n in RISING[:-1]) + b"\x03" * 11, [*RISING[1:-1:2], *RISING[:-1:2], 8_188]))
 
 LISTED = "packet 1 offset 60 time 2+500000/1000000 captured 4 original 4 link 1 data 01020304\n"
 BLOCKS = ("block 1 offset 0 order little kind 0a0d0d0a total 28\nblock 2 offset 28 order little kind 00000001 total 32\n"
@@ -294,6 +321,13 @@ def main():
         for content, text in REPORTED:
             holds(content[:200], "report", [content], False,
                   lambda status, out, error: (status, error) == (0, b"") and out.endswith(text.encode()))
+
+        for content, written, text in JOINED:
+            for by_bytes in (None, (shim, {"PIECE": 1})):
+                seen = bench.run("join", [content], out=os.path.join(folder, "joined"), faults=by_bytes)[:3]
+                count.check("join of 8,189 fragments", seen == (0, written, b""), seen[0], seen[2])
+                seen = bench.run("report", [content], faults=by_bytes)[:3]
+                count.check("report of 8,189 fragments", seen[0] == 0 and seen[1].endswith(text), seen)
 
         work = os.path.join(folder, "work")
         os.mkdir(work)

@@ -13,16 +13,15 @@ use cap_bytes::{Fault, Pieces, Refusal, Room, Rule};
 use std::alloc::Global;
 use std::process::Abort;
 
-/// A refusal of a file.
-pub(crate) fn refused(file: u32, offset: u64, rule: Rule) -> Fault {
-    Fault::Refused(Refusal { file, offset, rule })
-}
-
 /// What is answered of a file that is read to its end, or refused there by that rule.
 pub(crate) fn answer_of_file(ending: Result<(), (u64, Rule)>) -> Result<(), Fault> {
     match ending {
         Ok(()) => Ok(()),
-        Err((offset, rule)) => Err(refused(1, offset, rule)),
+        Err((offset, rule)) => Err(Fault::Refused(Refusal {
+            file: 1,
+            offset,
+            rule,
+        })),
     }
 }
 

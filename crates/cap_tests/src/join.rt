@@ -250,124 +250,6 @@ fn open_limit(rt: HostRuntime) {
     keeps_one(&rt, &mut late, 31 * SECOND + 1, &next, 0, 1);
 }
 
-// Puts every other one of 8,188 blocks, from the first or the second on, none of which completes the datagram.
-fn put_half(rt: &impl Abort, alloc: Global, run: &mut Run, first: u16, data: &[u8])
-    requires { first ≤ 1 }
-{
-    for pair in 0..4_094 {
-        let piece = packet(rt, alloc, 5, 2 * pair + first, true, data);
-        holds!(rt; keeps_at(rt, run, None, &piece));
-    }
-    same!(rt; run.joiner.held_bytes(), 65_504);
-}
-
-// A datagram of the most bytes and frames has the later bytes of each block.
-fn has_halves(rt: &impl Abort, datagram: &Datagram) {
-    same!(rt; datagram.payload.len(), 65_515);
-    same!(rt; datagram.frames, 8_189);
-    same!(rt; datagram.payload[0], 2);
-    same!(rt; datagram.payload[8], 1);
-    same!(rt; datagram.payload[65_504], 3);
-}
-
-// Puts both halves of the blocks.
-fn put_halves(rt: &impl Abort, alloc: Global, run: &mut Run) {
-    put_half(rt, alloc, run, 1, &[1, 1, 1, 1, 1, 1, 1, 1]);
-    put_half(rt, alloc, run, 0, &[2, 2, 2, 2, 2, 2, 2, 2]);
-}
-
-#[test]
-fn every_other_block(rt: HostRuntime) {
-    let end = [3, 3, 3, 3, 3, 3, 3, 3, 3, 3, 3];
-    let last = packet(&rt, rt.alloc(), 5, 8_188, false, &end);
-    let mut run = Run::new(rt.alloc());
-    put_halves(&rt, rt.alloc(), &mut run);
-    has_halves(&rt, &joined(&rt, run.put(&rt, None, &last)));
-}
-
-// The last block of 8 bytes that a datagram's data can have whole, in whole blocks.
-const LAST_BLOCK: u16 = 8_188;
-
-// The data of a block: its number, and 6 bytes more.
-fn block_data(block: u16) -> [u8; 8] {
-    let [high, low] = block.to_be_bytes();
-    [high, low, 1, 2, 3, 4, 5, 6]
-}
-
-// A joined datagram has the data of all blocks.
-fn has_all_blocks(rt: &impl Abort, alloc: Global, datagram: &Datagram) {
-    let mut expected = Vec::new(alloc);
-    for block in 0..=LAST_BLOCK {
-        expected
-            .extend_from_slice(&block_data(block))
-            .expect(rt, "memory");
-    }
-    holds!(rt; datagram.payload.as_slice() == expected.as_slice());
-    same!(rt; datagram.frames, 8_189);
-}
-
-// Puts a block of a datagram, and whether that completes it: it has the data of all then.
-fn puts_block(rt: &impl Abort, alloc: Global, run: &mut Run, block: u16) -> bool {
-    let piece = packet(rt, alloc, 5, block, block != LAST_BLOCK, &block_data(block));
-    match run.put(rt, Some(SECOND), &piece).expect(rt, "memory") {
-        Put::Kept => {
-            same!(rt; run.joiner.open_count(), 1);
-            false
-        }
-        Put::Joined(datagram) => {
-            has_all_blocks(rt, alloc, &datagram);
-            same!(rt; run.joiner.open_count(), 0);
-            true
-        }
-    }
-}
-
-// Puts the 8,189 blocks of a datagram in an order: the last of them completes it.
-fn joins_in(rt: &impl Abort, alloc: Global, order: &[u16]) {
-    let mut run = Run::new(alloc);
-    let mut done = false;
-    for &block in order {
-        if puts_block(rt, alloc, &mut run, block) {
-            same!(rt; run.place, 8_189);
-            done = true;
-        }
-    }
-    holds!(rt; done);
-}
-
-// The nth block of an order: rising, falling, the even ones and then the odd ones, also falling, and any, by a number. What
-// is above the last block has no place in it.
-fn block_of(order: u8, n: u16, any: u16) -> u16 {
-    let half = LAST_BLOCK / 2;
-    match order {
-        0 => n,
-        1 => LAST_BLOCK.wrapping_sub(n),
-        2 if n > half => (n - half).wrapping_mul(2).wrapping_sub(1),
-        3 if n > half => LAST_BLOCK
-            .wrapping_add(1)
-            .wrapping_sub((n - half).wrapping_mul(2)),
-        2 | 3 => n.wrapping_mul(2),
-        _ => any,
-    }
-}
-
-#[test]
-fn blocks_in_any_order(rt: HostRuntime) {
-    for order in 0..5 {
-        // a generator whose period is all of 2^13 numbers
-        let mut number: u32 = 815;
-        let mut blocks = Vec::new(rt.alloc());
-        for n in 0..8_192 {
-            number = number.wrapping_mul(1_397).wrapping_add(4_051) % 8_192;
-            let block = block_of(order, n, number as u16);
-            if block <= LAST_BLOCK {
-                blocks.push(block).expect(&rt, "memory");
-            }
-        }
-        joins_in(&rt, rt.alloc(), &blocks);
-    }
-}
-
 // The clock of a fragment that begins a datagram, its identification, and how many groups are open after it.
 type Front = (Option<u64>, u16, usize);
 
@@ -392,7 +274,7 @@ const UNTIMED_FIRST: [Front; 5] = [
 fn opens(rt: &impl Abort, alloc: Global, fronts: &[Front]) {
     let mut run = Run::new(alloc);
     for &(clock, identification, open) in fronts {
-        let front = packet(rt, alloc, identification, 0, true, &block_data(0));
+        let front = front(rt, alloc, identification, 0x10);
         holds!(rt; keeps_at(rt, &mut run, clock, &front), identification);
         same!(rt; run.joiner.open_count(), open, identification);
     }
