@@ -1,7 +1,7 @@
 //! The blocks of whole pcapng files, by one byte a read and by many. The files and what they give are worked out by
 //! hand from draft-ietf-opsawg-pcapng.
 use crate::checks::{holds, same};
-use crate::vectors::{CARRY_PCAPNG, OPTIONS_PCAPNG};
+use crate::vectors::{CARRY_PCAPNG, OPTIONS_PCAPNG, refused};
 use cap_blocks::{
     Block, BlockReader, Options, PacketFields, is_known, is_section, put_interface, put_packet,
     put_section,
@@ -163,6 +163,21 @@ fn bodies(rt: HostRuntime) {
     holds!(&rt; is_section(&CARRY_PCAPNG));
     let mut reader = reader(&rt, rt.alloc(), &CARRY_PCAPNG, 1, Tail::Refuse);
     lends_bodies(&rt, &mut reader);
+}
+
+// The first block is refused, also if it is asked for again, and nothing was cut.
+fn refuses_twice<R: Source>(rt: &impl Abort, reader: &mut BlockReader<R>, rule: Rule) {
+    same!(rt; reader.next_block(), Err(refused(0, rule)));
+    same!(rt; reader.next_block(), Err(refused(0, rule)));
+    holds!(rt; !reader.was_cut());
+}
+
+// A section of 24 bytes.
+#[test]
+fn a_refusal_comes_again(rt: HostRuntime) {
+    let file = [0x0a, 0x0d, 0x0d, 0x0a, 24, 0, 0, 0, 0x4d, 0x3c, 0x2b, 0x1a];
+    let mut reader = reader(&rt, rt.alloc(), &file, 1, Tail::Accept);
+    refuses_twice(&rt, &mut reader, Rule::BlockLength);
 }
 
 fn interface(rt: &impl Abort, link: u16, snaplen: u32, code: u8, offset: i64) -> Interface {

@@ -4,6 +4,7 @@ ghost use Rattle.std.specs.Prelude.{◌≤◌};
 use crate::checks::{holds, same};
 use crate::hex_vectors::File;
 use cap_bytes::{Fault, Pieces, Refusal, Room, Rule, Source, Tail};
+use cap_feed::PacketFeed;
 use cap_merge::merge_files;
 use cap_order::Merged;
 use cap_source::Capture;
@@ -116,6 +117,13 @@ pub(crate) fn merged_of(
     holds!(rt; !sources.is_empty());
     holds!(rt; sources.len() <= 32);
     merge_files(alloc, sources, Tail::Refuse).expect(rt, "a run")
+}
+
+/// That a read fails before the first packet, which is told so and comes again.
+pub(crate) fn fails_twice<F: PacketFeed>(rt: &impl Abort, mut feed: F, fault: Fault) {
+    same!(rt; feed.head(), Err(fault));
+    same!(rt; feed.head(), Err(fault));
+    holds!(rt; feed.feed_held().failed);
 }
 
 /// What a report of 1 to 32 files answers.

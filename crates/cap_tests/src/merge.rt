@@ -5,9 +5,9 @@ ghost use Rattle.cap_order.specs.Parts.{feed_of};
 ghost use Rattle.cap_order.specs.View.{parts_of};
 
 use crate::checks::{holds, same};
-use crate::files::{merged_of, sources_of};
+use crate::files::{bytes_of, fails_twice, merged_of, pair_of, reader_of, sources_of};
 use crate::hex_vectors::{File, PACKET, RUNS_BACK, RUNS_ON, SECTION};
-use cap_bytes::{Fault, Refusal, Rule};
+use cap_bytes::{Fault, Pieces, Refusal, Rule};
 use cap_feed::{Ending, Format, Head, Listed, PacketFeed};
 use cap_order::Merged;
 use cap_time::{Interface, Resolution, Stamp};
@@ -200,4 +200,20 @@ fn what_is_held(rt: HostRuntime) {
     let sources = sources_of(&rt, rt.alloc(), &files, 1);
     let mut feed = merged_of(&rt, rt.alloc(), sources);
     holds_greatest(&rt, &mut feed);
+}
+
+// Byte 30 of the second file, which is of its first record, can't be read.
+#[test]
+fn a_failed_read_comes_again(rt: HostRuntime) {
+    let first = reader_of(&rt, rt.alloc(), RUNS_BACK, 1);
+    let second = Pieces::new(bytes_of(&rt, rt.alloc(), RUNS_ON), 1, Some(30));
+    let feed = merged_of(&rt, rt.alloc(), pair_of(&rt, rt.alloc(), first, second));
+    fails_twice(
+        &rt,
+        feed,
+        Fault::Read {
+            file: 2,
+            offset: 24,
+        },
+    );
 }

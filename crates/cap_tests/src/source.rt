@@ -5,6 +5,7 @@ mod vectors;
 ghost use Rattle.std.specs.Prelude.{◌≡◌, [], ◌∷◌, Some};
 
 use crate::checks::{holds, same};
+use crate::files::fails_twice;
 use crate::source::vectors::{BEFORE, BIG_SECTION, OBSOLETE, SHORT_INTERFACE, SIMPLE, TWICE};
 use crate::vectors::{CARRY_PCAP, INTERFACE, OPTIONS_PCAPNG, PACKET, SECTION};
 use cap_bytes::{Fault, Pieces, Refusal, Rule, Source, Tail};
@@ -289,6 +290,22 @@ fn refuses_rest<R: Source>(rt: &impl Abort, feed: &mut Capture<R>) {
 fn a_cut_rest_is_refused(rt: HostRuntime) {
     let mut feed = capture(&rt, rt.alloc(), CARRY_PCAP.split_at(43).0, 1, Tail::Refuse);
     refuses_rest(&rt, &mut feed);
+}
+
+// Byte 100 of the file with options, which is of its packet, can't be read.
+#[test]
+fn a_failed_read_comes_again(rt: HostRuntime) {
+    let bytes = OPTIONS_PCAPNG.to_vec(rt.alloc()).expect(&rt, "memory");
+    let pieces = Pieces::new(bytes, 1, Some(100));
+    let feed = Capture::new(rt.alloc(), pieces, 7, Tail::Refuse);
+    fails_twice(
+        &rt,
+        feed,
+        Fault::Read {
+            file: 7,
+            offset: 96,
+        },
+    );
 }
 
 // The head, asked again after a growth was refused.
