@@ -9,8 +9,8 @@ sys.dont_write_bytecode = True
 
 import os, struct, tempfile
 
-from captures import (INTERFACE, MICRO_LITTLE, PROGRAM, SECTION, Bench, Count, datagram, make_shim, packet, pcap_header, record, run,
-                      vector)
+from captures import (CARRIED as PACKET, INTERFACE, MICRO_LITTLE, PROGRAM, SECTION, Bench, Count, datagram, make_shim, packet, pcap_header,
+                      record, run, vector)
 
 ETHERNET = f"{MICRO_LITTLE} 01000000"
 SECTION_BIG = "0a0d0d0a 0000001c 1a2b3c4d 0001 0000 ffffffffffffffff 0000001c"
@@ -18,15 +18,16 @@ CARRIED = f"{ETHERNET} 02000000 20a10700 04000000 04000000 01020304"
 # CARRY_PCAPNG in the other order, and three times: a section, and for each file its interface and its packet.
 CARRY_BIG = (f"{SECTION_BIG} 00000001 00000020 0001 0000 00040000 0009 0001 06000000 0000 0000 00000020 "
              "00000006 00000024 00000000 00000000 002625a0 00000004 00000004 01020304 00000024")
-THRICE = SECTION + "".join(f"{INTERFACE} 06000000 24000000 0{n}000000 00000000 a0252600 04000000 04000000 01020304 24000000" for n in range(3))
-
-# An interface of Ethernet without options (20 bytes), and one of IP alone.
-PLAIN, OF_IP = "01000000 14000000 0100 0000 00000400 14000000", "01000000 14000000 6500 0000 00000000 14000000"
+THRICE = SECTION + "".join(f"{INTERFACE} 06000000 24000000 0{n}000000 00000000 {PACKET} 24000000" for n in range(3))
 
 
-def interface(option):
-    """A section, and an interface of 28 bytes with eight of options."""
-    return f"{SECTION} 01000000 1c000000 0100 0000 00000400 {option} 1c000000"
+def interface(options="", link="0100", snaplen="00000400"):
+    """An interface of a section, 20 bytes without options: Ethernet, where nothing else is said."""
+    total = (20 + len(bytes.fromhex(options))).to_bytes(4, "little").hex()
+    return f"01000000 {total} {link} 0000 {snaplen} {options} {total}"
+
+
+PLAIN, OF_IP = interface(), interface(link="6500", snaplen="00000000")
 
 
 # A capture that `list` refuses, with --allow-cut or without: the offset and the rule.
@@ -39,15 +40,45 @@ NOT_LISTED = [
     # 262,145 captured bytes, and the end of the input
     (f"{ETHERNET} 00000000 00000000 01000400 01000400", False, "24 rule 4 packet-long"),
     # a resolution of two bytes, two that are too fine, and an option past the end of its block
-    (interface("0900 0200 06060000"), False, "28 rule 11 option-length"),
-    (interface("0900 0100 14000000"), False, "28 rule 12 resolution"),
-    (interface("0900 0100 c0000000"), False, "28 rule 12 resolution"),
-    (interface("0200 0900 01020304"), False, "28 rule 10 option-end"),
+    (f"{SECTION} {interface('0900 0200 06060000')}", False, "28 rule 11 option-length"),
+    (f"{SECTION} {interface('0900 0100 14000000')}", False, "28 rule 12 resolution"),
+    (f"{SECTION} {interface('0900 0100 c0000000')}", False, "28 rule 12 resolution"),
+    (f"{SECTION} {interface('0200 0900 01020304')}", False, "28 rule 10 option-end"),
     # a packet of interface 1, if there is interface 0; one of 5 captured bytes in 4; a simple one without an interface
     (f"{SECTION} {PLAIN} 06000000 24000000 01000000 00000000 00000000 04000000 04000000 01020304 24000000", False,
      "48 rule 9 interface-unknown"),
     (f"{SECTION} {PLAIN} 06000000 24000000 00000000 00000000 00000000 05000000 04000000 01020304 24000000", False, "48 rule 8 captured"),
     (f"{SECTION} 03000000 14000000 04000000 01020304 14000000", False, "28 rule 9 interface-unknown"),
+    # a block of 2 MiB of an unknown kind, whose trailer tells 4 bytes less
+    (f"{SECTION} 01000040 00002000 {'00' * 2_097_140} fcff1f00", False, "28 rule 6 block-trailer"),
+]
+
+
+def listed(number, offset, time="2+500000/1000000", original=4, link=1):
+    return f"packet {number} offset {offset} time {time} captured 4 original {original} link {link} data 01020304\n"
+
+
+def enhanced(number):
+    """A packet of that interface, of 2,500,000 units and 4 bytes."""
+    return f"06000000 24000000 0{number}000000 00000000 {PACKET} 24000000"
+
+
+WRITTEN, WRITTEN_OF_IP = interface("0900 0100 06000000 00000000"), interface("0900 0100 06000000 00000000", "6500", "00000000")
+
+# A capture, its list, what is written of it as pcapng, and how that is refused, if it is: a section and one in the other order; an interface whose offset is
+# -1 second; one with 1,024 units in a second, whose second resolution doesn't count; an obsolete packet; and one of which 4 of 10 bytes were
+# captured, without a time, of an interface of snaplen 4.
+LISTED = [
+    (f"{SECTION} {PLAIN} {enhanced(0)} {SECTION_BIG} 00000001 00000014 0065 0000 00000000 00000014 "
+     "00000006 00000024 00000000 00000000 002625a0 00000004 00000004 01020304 00000024", listed(1, 48) + listed(2, 132, link=101),
+     f"{SECTION} {WRITTEN} {enhanced(0)} {WRITTEN_OF_IP} {enhanced(1)}", None),
+    (f"{SECTION} {interface('0e00 0800 ffffffffffffffff')} {enhanced(0)}", listed(1, 60, "1+500000/1000000"),
+     f"{SECTION} {interface('0900 0100 06000000 0e00 0800 ffffffffffffffff 00000000')} {enhanced(0)}", None),
+    (f"{SECTION} {interface('0900 0100 8a000000 0900 0100 14000000 00000909')} {enhanced(0)}", listed(1, 68, "2441+416/1024"),
+     f"{SECTION} {interface('0900 0100 8a000000 00000000')} {enhanced(0)}", None),
+    (f"{SECTION} {PLAIN} 02000000 24000000 0000 ffff 00000000 {PACKET} 24000000", listed(1, 48), f"{SECTION} {WRITTEN} {enhanced(0)}", None),
+    (f"{SECTION} {interface(snaplen='04000000')} 03000000 14000000 0a000000 01020304 14000000", listed(1, 48, "-", 10),
+     f"{SECTION} {interface('0900 0100 06000000 00000000', snaplen='04000000')}", "file 1 offset 48 rule 17 no-time"),
 ]
 
 LONGEST = "packet 1 offset 24 time 0+0/1000000 captured 262144 original 262144 link 1 data 00000000000000000000000000000000\n"
@@ -183,6 +214,62 @@ for order, form in (((0, 1), "0+512/1024"), ((1, 0), "0+5/10")):
     REPORTED.append((halves(*order), f"joined 1 given-up 0\ntalks 1\ntalk udp {TALK} 3 86 backward 0 0 {times(form)}\n"))
 
 
+def alone(kind, talk):
+    """The end of the report of one frame, of that class."""
+    return frames(talks=[f"{talk} backward 0 0 {times(SECOND)}"] if kind == "counted" else (), **{kind: 1})
+
+
+# Byte 0 (version and header length), the total length, and flags and fragment offset of an IPv4 packet of 28 bytes; whether it was captured whole; and
+# its class.
+EDGES = [
+    # version 5; headers of 4 words and of 8; totals below a header's length, at it, and above the packet's
+    (0x55, 28, "0000", True, "bad"), (0x44, 28, "0000", False, "bad"), (0x48, 32, "0000", True, "bad"), (0x48, 32, "0000", False, "cut"),
+    (0x45, 19, "0000", False, "bad"), (0x45, 20, "0000", True, "counted"), (0x46, 23, "0000", False, "bad"), (0x46, 24, "0000", True, "counted"),
+    (0x45, 29, "0000", True, "bad"), (0x45, 29, "0000", False, "counted"),
+    # the flag DF, and the reserved one
+    (0x45, 28, "4000", True, "counted"), (0x45, 28, "8000", True, "counted"),
+    # fragments in the middle: of 8 bytes, of none, of 7, and of more than were captured
+    (0x45, 28, "2001", False, "unjoined"), (0x45, 20, "2001", True, "bad"), (0x45, 27, "2001", True, "bad"), (0x45, 36, "2001", False, "cut"),
+    (0x45, 36, "2001", True, "bad"), (0x45, 35, "2001", False, "bad"),
+    # last ones: of 7 bytes, and ending at 65,515 and 65,516
+    (0x45, 27, "0001", True, "unjoined"), (0x45, 23, "1ffd", True, "unjoined"), (0x45, 24, "1ffd", True, "bad"),
+]
+ENDS = "192.168.1.2 198.51.100.3 forward 1"
+for front, total, flags, is_whole, kind in EDGES:
+    data, original = f"{front:02x}b1 00{total:02x} 1234 {flags} 3f84 0000 c0a80102 c6336403 a0a1a2a3 a4a5a6a7", 28 if is_whole else 1_514
+    REPORTED.append((of_link(228, at(1, data, original)), alone(kind, f"p132 {ENDS} {original}")))
+# 19 bytes of a header, which are all, or not
+for original, kind in ((19, "bad"), (20, "cut")):
+    REPORTED.append((of_link(228, at(1, "45b1001c 12340000 3f840000 c0a80102 c63364", original)), alone(kind, "")))
+
+# How long the data of a datagram of UDP or TCP is, what was captured of it, and its class.
+PORTS = [
+    ("udp", 10, "03e807d0 000a0000 6869", "counted"), ("udp", 10, "03e807d0 00080000 6869", "counted"), ("udp", 10, "03e807d0 00070000 6869", "bad"),
+    ("udp", 10, "03e807d0 000b0000 6869", "bad"), ("udp", 11, "03e807d0 000b0000", "counted"), ("udp", 10, "03e807d0 000a00", "cut"),
+    ("udp", 7, "03e807d0 000a00", "bad"),
+    ("tcp", 20, "03e807d0 00000001 00000000 50100000 00000000", "counted"), ("tcp", 20, "03e807d0 00000001 00000000 40100000 00000000", "bad"),
+    ("tcp", 23, "03e807d0 00000001 00000000 60100000 00000000", "bad"), ("tcp", 24, "03e807d0 00000001 00000000 60100000 00000000", "counted"),
+    ("tcp", 20, "03e807d0 00000001 00000000 50100000 000000", "cut"), ("tcp", 19, "03e807d0 00000001 00000000 50100000 000000", "bad"),
+]
+for name, length, data, kind in PORTS:
+    header = f"4500 {20 + length:04x} 00010000 40{dict(udp=17, tcp=6)[name]:02x} 0000 0a000001 0a000002"
+    REPORTED.append((of_link(101, at(1, header + data, 20 + length)), alone(kind, f"{name} {TALK} 1 {20 + length}")))
+
+# The worked fragments, between which frames come that are bad and cut, and change nothing; and before the last of which a whole datagram of their key
+# comes, of whose 4 bytes of data 2 were captured, and drops the others. And 1,024 tags before a fragment.
+FRAGMENTS = ["4500001c 00070002 40110000 0a000001 0a000002 b0b1b2b3 b4b5b6b7", "4500001c 00072000 40110000 0a000001 0a000002 03e807d0 00180000",
+             "4500001c 00072000 40110000 0a000001 0a000002 03e907d1 00180000", "4500001c 00072001 40110000 0a000001 0a000002 a0a1a2a3 a4a5a6a7"]
+SHORTENED = "45000018 00070000 40110000 0a000001 0a000002 6869"
+REPORTED += [
+    (of_link(228, at(1, FRAGMENTS[0]), at(1, "60"), at(1, "45", 60), at(1, FRAGMENTS[1][:-2], 28), at(1, SHORTENED),
+             *(at(2, fragment) for fragment in FRAGMENTS[1:])),
+     frames(cut=2, bad=2, counted=4, joined=1,
+            talks=[f"udp 10.0.0.1:1001 10.0.0.2:2001 forward 4 112 backward 0 0 {times(SECOND, '2+0/1000000')}"])),
+    (of_link(101, *(at(1, fragment) for fragment in FRAGMENTS[:3]), at(1, SHORTENED, 24), at(1, FRAGMENTS[3])), frames(bad=1, unjoined=4)),
+    (of_link(1, at(1, "00" * 12 + "8100000a" * 1_024 + "0800" + FRAGMENTS[0])), frames(unjoined=1)),
+]
+
+
 def groups(count, *last):
     """So many fragments at 1 second, each of which opens a group, and another record."""
     opens = (f"4500001c {n:04x}2000 40110000 0a000001 0a000002 03e807d0 00100000" for n in range(count))
@@ -232,7 +319,6 @@ def joined(data, order):
 JOINED = [joined(b"".join(struct.pack(">H6s", n, bytes(range(1, 7))) for n in RISING), order) for order in ORDERS]
 JOINED.append(joined(b"".join(bytes([2 - n % 2]) * 8 for n in RISING[:-1]) + b"\x03" * 11, [*RISING[1:-1:2], *RISING[:-1:2], 8_188]))
 
-LISTED = "packet 1 offset 60 time 2+500000/1000000 captured 4 original 4 link 1 data 01020304\n"
 BLOCKS = ("block 1 offset 0 order little kind 0a0d0d0a total 28\nblock 2 offset 28 order little kind 00000001 total 32\n"
           "block 3 offset 60 order little kind 00000006 total 36\n")
 TOLD = "file {} pcapng packets 1 bytes 4 truncated 0 skipped 0 first 2+500000/1000000 last 2+500000/1000000\n"
@@ -260,7 +346,7 @@ def gives(content):
 # Words after `capt`, and what comes of them: the status, standard output and standard error, of which `...` is some text, and the file c. The files `a`,
 # `b` and `--allow-cut` are CARRY_PCAPNG, as standard input is where nothing else is said, and `cut` is it without its last byte.
 LINES = [
-    ("list a", prints(LISTED)), ("list -", prints(LISTED)), ("list -- --allow-cut", prints(LISTED)),
+    ("list a", prints(listed(1, 60))), ("list -", prints(listed(1, 60))), ("list -- --allow-cut", prints(listed(1, 60))),
     ("list cut", (1, b"", b"refused: file 1 offset 60 rule 3 cut\n", None)),
     ("list --allow-cut cut", prints("")), ("list cut --allow-cut", prints("")),
     ("blocks a", prints(BLOCKS)), ("blocks --allow-cut - < cut", prints(BLOCKS[:BLOCKS.index("block 3")])),
@@ -304,12 +390,17 @@ def main():
 
         def holds(name, task, contents, allow_cut, wanted):
             for by_bytes in (None, (shim, {"PIECE": 1})):
-                seen = bench.run(task, [bytes.fromhex(content) for content in contents], allow_cut, faults=by_bytes)[:3]
+                contents_in_bytes = [bytes.fromhex(content) for content in contents]
+                seen = bench.run(task, contents_in_bytes, allow_cut, out=os.path.join(folder, "out"), faults=by_bytes)[:3]
                 count.check(f"{task} of {name}", wanted(*seen), seen)
 
         for content, allow_cut, told in NOT_LISTED:
             error = f"refused: file 1 offset {told}\n".encode()
-            holds(content or "an empty file", "list", [content], allow_cut, lambda *seen: seen == (1, b"", error))
+            holds(content[:200] or "an empty file", "list", [content], allow_cut, lambda *seen: seen == (1, b"", error))
+        for content, text, written, told in LISTED:
+            holds(content, "list", [content], False, lambda *seen: seen == (0, text.encode(), b""))
+            ended = (1, bytes.fromhex(written), f"refused: {told}\n".encode()) if told else (0, bytes.fromhex(written), b"")
+            holds(content, "pcapng", [content], False, lambda *seen: seen == ended)
         for content, told in NOT_BLOCKS:
             error, printed = f"refused: file 1 offset {told}\n".encode(), BLOCKS[:BLOCKS.index("block 2")] if told.startswith("28") else ""
             holds(content or "an empty file", "blocks", [content], False, lambda *seen: seen == (1, printed.encode(), error))

@@ -8,7 +8,6 @@ use crate::link::vectors::{
 };
 use cap_ip::{Network, network, tags_law};
 use std::process::Abort;
-use std::test::Fail;
 
 // A link type, a frame, its original length, how many of its bytes come before the IPv4 packet, and the packet's length.
 const CARRIED: [(u16, &[u8], u32, usize, usize); 10] = [
@@ -60,24 +59,11 @@ fn carries_none(rt: &impl Abort, link: u16, seen: Option<&[u8]>, original: u32, 
 
 #[test]
 fn carries_ipv4_or_none(rt: HostRuntime) {
+    tags_law();
     for &(link, frame, original, before, length) in &CARRIED {
         carries(&rt, link, frame, original, before, length);
     }
     for &(link, frame, captured, original, class) in &REFUSED {
         carries_none(&rt, link, frame.get(..captured), original, class);
     }
-}
-
-// An Ethernet frame with 1,024 tags, built byte by byte.
-#[test]
-fn follows_any_number_of_tags(rt: HostRuntime) -> Result<(), Fail> {
-    tags_law();
-    let mut frame = [0; 12].to_vec(rt.alloc())?;
-    for _ in 0..1024 {
-        frame.extend_from_slice(&[0x81, 0x00, 0x00, 0x0a])?;
-    }
-    frame.extend_from_slice(&[0x08, 0x00])?;
-    frame.extend_from_slice(&FRAGMENT)?;
-    holds!(&rt; network(1, frame.as_slice(), 4138) == Network::Ipv4(&FRAGMENT));
-    Ok(())
 }

@@ -103,20 +103,15 @@ impl Run {
         Ok(put)
     }
 
-    /// Takes a packet without a time.
-    pub(crate) fn take<'a>(
-        &mut self,
-        rt: &impl Abort,
-        bytes: &'a [u8],
-        whole: bool,
-    ) -> Arrived<'a> {
+    /// Takes a packet without a time, which was captured whole.
+    pub(crate) fn take<'a>(&mut self, rt: &impl Abort, bytes: &'a [u8]) -> Arrived<'a> {
         holds!(rt; self.place < 1_000);
         let stamped = Stamped {
             time: None,
             place: self.place,
             original: 28,
         };
-        match self.joiner.take(None, bytes, whole, stamped) {
+        match self.joiner.take(None, bytes, true, stamped) {
             Ok(arrived) => {
                 self.place += 1;
                 arrived

@@ -1,13 +1,10 @@
 //! The packets of whole files, by one byte a read and by many. The files and what they give are worked out by hand from
 //! draft-ietf-opsawg-pcap and draft-ietf-opsawg-pcapng.
-mod vectors;
-
 ghost use Rattle.std.specs.Prelude.{◌≡◌, [], ◌∷◌, Some};
 
 use crate::checks::{holds, same};
 use crate::files::fails_twice;
-use crate::source::vectors::{BEFORE, BIG_SECTION, OBSOLETE, SHORT_INTERFACE, SIMPLE, TWICE};
-use crate::vectors::{CARRY_PCAP, INTERFACE, OPTIONS_PCAPNG, PACKET, SECTION};
+use crate::vectors::{CARRY_PCAP, OPTIONS_PCAPNG};
 use cap_bytes::{Fault, Pieces, Refusal, Rule, Source, Tail};
 use cap_feed::{Ending, Format, Head, Listed, Meta, PacketFeed, next_packet};
 use cap_source::Capture;
@@ -27,20 +24,6 @@ fn capture(
 {
     let bytes = bytes.to_vec(alloc).expect(rt, "memory");
     Capture::new(alloc, Pieces::new(bytes, max(piece, 1), None), 7, tail)
-}
-
-// Some blocks after a section header.
-fn in_section(rt: &impl Abort, alloc: Global, blocks: &[&[u8]]) -> Vec<u8> {
-    let mut bytes = SECTION.to_vec(alloc).expect(rt, "memory");
-    for block in blocks {
-        bytes.extend_from_slice(block).expect(rt, "memory");
-    }
-    bytes
-}
-
-// A file of some blocks after a section header, by one byte a read.
-fn section(rt: &impl Abort, alloc: Global, blocks: &[&[u8]]) -> Capture<Pieces> {
-    capture(rt, alloc, &in_section(rt, alloc, blocks), 1, Tail::Refuse)
 }
 
 fn interface(rt: &impl Abort, link: u16, snaplen: u32, code: u8, offset: i64) -> Interface {
@@ -98,11 +81,6 @@ fn has_interface<R: Source>(rt: &impl Abort, feed: &mut Capture<R>) {
     same!(rt; feed.first(), Ok(Some(interface(rt, 1, 262_144, 6, 0))));
 }
 
-// A feed begins with that packet of 4 bytes.
-fn begins_with<F: PacketFeed>(rt: &impl Abort, mut feed: F, meta: Meta) {
-    takes(rt, &mut feed, meta, &[1, 2, 3, 4]);
-}
-
 // How the file ended, which is the only one.
 #[tactic(auto, using(cap_source::specs::Laws::has_file_alone))]
 fn ended<F: PacketFeed>(feed: &F) -> Ending
@@ -126,18 +104,6 @@ fn refused(offset: u64, rule: Rule) -> Head {
         offset,
         rule,
     })
-}
-
-// What comes next is that, asked twice.
-fn answers_twice<F: PacketFeed>(rt: &impl Abort, mut feed: F, head: Head) {
-    comes(rt, &mut feed, head);
-    comes(rt, &mut feed, head);
-}
-
-// The file's first item is that, by one byte a read and by many.
-fn begins(rt: &impl Abort, alloc: Global, bytes: &[u8], head: Head) {
-    answers_twice(rt, capture(rt, alloc, bytes, 1, Tail::Refuse), head);
-    answers_twice(rt, capture(rt, alloc, bytes, 4_096, Tail::Refuse), head);
 }
 
 // A feed holds a window, and no interface of a section.
@@ -174,81 +140,6 @@ fn the_time_of_a_packet(rt: HostRuntime) {
     same!(&rt; meta.time(), None);
 }
 
-// The packet of each section comes.
-fn gives_two<F: PacketFeed>(rt: &impl Abort, feed: &mut F) {
-    takes_carried(rt, feed, 48, Format::Pcapng);
-    let second = Meta {
-        instance: 1,
-        interface: interface(rt, 101, 0, 6, 0),
-        ..carried(rt, 132, Format::Pcapng)
-    };
-    takes(rt, feed, second, &[1, 2, 3, 4]);
-}
-
-// The packets of both sections come, and then the end, where one interface is held.
-fn gives_sections<R: Source>(rt: &impl Abort, feed: &mut Capture<R>) {
-    gives_two(rt, feed);
-    has_interface(rt, feed);
-    comes(rt, feed, Head::End);
-    same!(rt; feed.feed_held().interfaces, 1);
-}
-
-// A little-endian section with a packet on interface 0, and a big-endian one.
-#[test]
-fn two_sections(rt: HostRuntime) {
-    let bytes = in_section(&rt, rt.alloc(), &[&INTERFACE, &PACKET, &BIG_SECTION]);
-    for &piece in &[1, 4_096] {
-        let mut feed = capture(&rt, rt.alloc(), &bytes, piece, Tail::Refuse);
-        gives_sections(&rt, &mut feed);
-    }
-}
-
-#[test]
-fn unknown_trailer(rt: HostRuntime) {
-    let mut bytes = in_section(&rt, rt.alloc(), &[&[1, 0, 0, 0x40, 0, 0, 32, 0]]);
-    for _ in 0..524_286 {
-        bytes.extend_from_slice(&[0; 4]).expect(&rt, "memory");
-    }
-    bytes
-        .extend_from_slice(&[0xfc, 0xff, 31, 0])
-        .expect(&rt, "memory");
-    begins(&rt, rt.alloc(), &bytes, refused(28, Rule::BlockTrailer));
-}
-
-// The packet after an interface, which stands at a place, has that interface.
-fn takes_after(rt: &impl Abort, alloc: Global, block: &[u8], offset: u64, interface: Interface) {
-    let meta = Meta {
-        interface,
-        ..carried(rt, offset, Format::Pcapng)
-    };
-    begins_with(rt, section(rt, alloc, &[block, &PACKET]), meta);
-}
-
-#[test]
-fn clocks(rt: HostRuntime) {
-    let before = interface(&rt, 1, 262_144, 6, -1);
-    takes_after(&rt, rt.alloc(), &BEFORE, 60, before);
-    let twice = interface(&rt, 1, 262_144, 0x8a, 0);
-    takes_after(&rt, rt.alloc(), &TWICE, 68, twice);
-}
-
-// A packet comes of which 4 of 10 bytes were captured, without a time, and then the end.
-fn gives_simple<F: PacketFeed>(rt: &impl Abort, mut feed: F) {
-    let meta = Meta {
-        interface: interface(rt, 1, 4, 6, 0),
-        units: None,
-        original: 10,
-        ..carried(rt, 48, Format::Pcapng)
-    };
-    takes(rt, &mut feed, meta, &[1, 2, 3, 4]);
-    comes(rt, &mut feed, Head::End);
-}
-
-#[test]
-fn simple_packet(rt: HostRuntime) {
-    gives_simple(&rt, section(&rt, rt.alloc(), &[&SHORT_INTERFACE, &SIMPLE]));
-}
-
 // The packet comes, and then the end: a block was skipped.
 fn gives_options<F: PacketFeed>(rt: &impl Abort, mut feed: F)
     requires files { (F.feed feed).files ≡ 7 ∷ [] }
@@ -271,25 +162,6 @@ fn options_file(rt: HostRuntime) {
         &rt,
         capture(&rt, rt.alloc(), &OPTIONS_PCAPNG, 1, Tail::Refuse),
     );
-}
-
-#[test]
-fn obsolete_packet(rt: HostRuntime) {
-    let feed = section(&rt, rt.alloc(), &[&INTERFACE, &OBSOLETE]);
-    begins_with(&rt, feed, carried(&rt, 48, Format::Pcapng));
-}
-
-// The file's interface is told, and then a refusal comes.
-fn refuses_rest<R: Source>(rt: &impl Abort, feed: &mut Capture<R>) {
-    has_interface(rt, feed);
-    comes(rt, feed, refused(24, Rule::Cut));
-}
-
-// A rest that is cut is refused, after the file's interface.
-#[test]
-fn a_cut_rest_is_refused(rt: HostRuntime) {
-    let mut feed = capture(&rt, rt.alloc(), CARRY_PCAP.split_at(43).0, 1, Tail::Refuse);
-    refuses_rest(&rt, &mut feed);
 }
 
 // Byte 100 of the file with options, which is of its packet, can't be read.
