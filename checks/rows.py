@@ -28,7 +28,8 @@ def interface(options="", link="0100", snaplen="00000400"):
 
 
 PLAIN, OF_IP = interface(), interface(link="6500", snaplen="00000000")
-
+# As it is written.
+WRITTEN_OF_IP = interface("0900 0100 06000000 00000000", "6500", "00000000")
 
 # A capture that `list` refuses, with --allow-cut or without: the offset and the rule.
 NOT_LISTED = [
@@ -63,20 +64,18 @@ def enhanced(number):
     return f"06000000 24000000 0{number}000000 00000000 {PACKET} 24000000"
 
 
-WRITTEN, WRITTEN_OF_IP = interface("0900 0100 06000000 00000000"), interface("0900 0100 06000000 00000000", "6500", "00000000")
-
-# A capture, its list, what is written of it as pcapng, and how that is refused, if it is: a section and one in the other order; an interface whose offset is
-# -1 second; one with 1,024 units in a second, whose second resolution doesn't count; an obsolete packet; and one of which 4 of 10 bytes were
-# captured, without a time, of an interface of snaplen 4.
+# A capture, its list, what is written of it as pcapng, and how that is refused, if it is: two sections, the second in the other order; an interface whose
+# offset is -1 second; one with 1,024 units in a second, whose second resolution doesn't count; an obsolete packet; and one of which 4 of 10 bytes
+# were captured, without a time, of an interface of snaplen 4.
 LISTED = [
     (f"{SECTION} {PLAIN} {enhanced(0)} {SECTION_BIG} 00000001 00000014 0065 0000 00000000 00000014 "
      "00000006 00000024 00000000 00000000 002625a0 00000004 00000004 01020304 00000024", listed(1, 48) + listed(2, 132, link=101),
-     f"{SECTION} {WRITTEN} {enhanced(0)} {WRITTEN_OF_IP} {enhanced(1)}", None),
+     f"{SECTION} {INTERFACE} {enhanced(0)} {WRITTEN_OF_IP} {enhanced(1)}", None),
     (f"{SECTION} {interface('0e00 0800 ffffffffffffffff')} {enhanced(0)}", listed(1, 60, "1+500000/1000000"),
      f"{SECTION} {interface('0900 0100 06000000 0e00 0800 ffffffffffffffff 00000000')} {enhanced(0)}", None),
     (f"{SECTION} {interface('0900 0100 8a000000 0900 0100 14000000 00000909')} {enhanced(0)}", listed(1, 68, "2441+416/1024"),
      f"{SECTION} {interface('0900 0100 8a000000 00000000')} {enhanced(0)}", None),
-    (f"{SECTION} {PLAIN} 02000000 24000000 0000 ffff 00000000 {PACKET} 24000000", listed(1, 48), f"{SECTION} {WRITTEN} {enhanced(0)}", None),
+    (f"{SECTION} {PLAIN} 02000000 24000000 0000 ffff 00000000 {PACKET} 24000000", listed(1, 48), f"{SECTION} {INTERFACE} {enhanced(0)}", None),
     (f"{SECTION} {interface(snaplen='04000000')} 03000000 14000000 0a000000 01020304 14000000", listed(1, 48, "-", 10),
      f"{SECTION} {interface('0900 0100 06000000 00000000', snaplen='04000000')}", "file 1 offset 48 rule 17 no-time"),
 ]
@@ -309,10 +308,9 @@ def joined(data, order):
     whole = datagram(data, 0, False, 5, 253)
     total = sum(struct.unpack(">10H", whole[:20]))
     whole = whole[:10] + struct.pack(">H", 0xFFFF - total % 0xFFFF) + whole[12:]
-    interface = bytes.fromhex("01000000 20000000 6500 0000 00000000 0900 0100 06000000 0000 0000 20000000")
     text = frames(counted=8_189, joined=1, talks=[f"p253 10.0.0.1 10.0.0.2 forward 8189 {20 * 8_189 + len(data)} backward 0 0 {times(SECOND)}"])
     return (pcap_header(101) + b"".join(record(1, fragment) for fragment in fragments),
-            bytes.fromhex(SECTION) + interface + packet(0, 1_000_000, whole), text.encode())
+            bytes.fromhex(SECTION + WRITTEN_OF_IP) + packet(0, 1_000_000, whole), text.encode())
 
 
 # The last of these has the most bytes that a datagram can have.
