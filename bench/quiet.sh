@@ -5,8 +5,10 @@
 # other thread does nothing, and up to twice as large if it is busy. On an Intel Xeon it is 0.63 if nothing else runs there (ten operations, four
 # at a time, beside four steps), and 0.95 to 1.3 if much does.
 #
-# Use: bench/quiet.sh [LINES]     (a line takes some two seconds; run it before and after what is to be timed, beside nothing else; it
-# wants a C compiler)
+# It counts the time that the processors gave it, so it may also be asked beside work of this machine.
+#
+# Use: bench/quiet.sh [LINES]     (a line takes some two seconds; run it before, after and now and then during what is to be timed; it wants a C
+# compiler)
 set -eu
 lines=${1:-3}
 work=$(mktemp -d "${TMPDIR:-/tmp}/capt-quiet.XXXXXX")
@@ -18,7 +20,7 @@ cat > "$work/quiet.c" <<'C'
 
 static double now(void) {
     struct timespec at;
-    clock_gettime(CLOCK_MONOTONIC, &at);
+    clock_gettime(CLOCK_THREAD_CPUTIME_ID, &at);
     return at.tv_sec + at.tv_nsec / 1e9;
 }
 
