@@ -163,6 +163,9 @@ REPORTED = [
      frames(counted=1, talks=[f"udp {TALK} 1 50 backward 0 0 {times(SECOND)}"])),
     (of_link(228, at(1, "60")), frames(bad=1)),
     (of_link(101, at(1, "60")), frames(not_ipv4=1)),
+    # UDP both ways in padded frames, and with a length that reaches into the padding
+    (vector("TAGGED_FRAMES").hex(),
+     frames(bad=1, counted=2, talks=[f"udp {TALK} 1 60 backward 1 60 {times(SECOND, '2+0/1000000')}"])),
     # 54 and 53 bytes of a frame of 1,514
     (of_link(1, at(1, TCP, 1514)),
      "truncated 1\n" + frames(counted=1, talks=[f"tcp {TALK} 1 1514 backward 0 0 {times(SECOND)}"])),
@@ -399,6 +402,8 @@ def main():
             holds(content, "list", [content], False, lambda *seen: seen == (0, text.encode(), b""))
             ended = (1, bytes.fromhex(written), f"refused: {told}\n".encode()) if told else (0, bytes.fromhex(written), b"")
             holds(content, "pcapng", [content], False, lambda *seen: seen == ended)
+        ended = (1, bytes.fromhex(SECTION + INTERFACE), b"refused: file 1 offset 24 rule 3 cut\n")
+        holds("a record that is cut", "pcapng", [CUT], False, lambda *seen: seen == ended)
         for content, told in NOT_BLOCKS:
             error, printed = f"refused: file 1 offset {told}\n".encode(), BLOCKS[:BLOCKS.index("block 2")] if told.startswith("28") else ""
             holds(content or "an empty file", "blocks", [content], False, lambda *seen: seen == (1, printed.encode(), error))
