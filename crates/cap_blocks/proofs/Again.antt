@@ -2,10 +2,10 @@
 use Rattle.std.proofs.Common.{◌≡◌, ℕ, ◌+◌, ◌-◌, ◌/◌, ◌%◌, ◌^◌, ◌≤◌, ◌<◌, ◌==◌, Bool, true, List, [], ◌∷◌, ◌++◌, length, take, drop, replicate, Option, Some, Ok, refl, subst, sym, ◌∙◌, ap, arith, append_assoc, append-nil, length-append}
 use Rattle.std.proofs.lemmas.List.{take_at, drop_at, length-replicate}
 use Rattle.std.specs.Int.{w64, cast_unsigned}
-use Rattle.cap_numbers.specs.Number.{number, bytes_of}
-use Rattle.cap_numbers.specs.declared.numbers.Order.{Order}
-use Rattle.cap_numbers.specs.declared.numbers.Order.TheVariants.{Big, Little}
-use Rattle.cap_numbers.proofs.Spelling.{length-bytes_of, number-bytes_of, number-append}
+use Rattle.cap_bytes.specs.Number.{number, bytes_of}
+use Rattle.cap_bytes.specs.declared.numbers.Order.{Order}
+use Rattle.cap_bytes.specs.declared.numbers.Order.TheVariants.{Big, Little}
+use Rattle.cap_bytes.proofs.Spelling.{length-bytes_of, number-bytes_of, number-append}
 use Rattle.cap_time.specs.Resolution.{code_of}
 use Rattle.cap_time.specs.declared.resolutions.Interface.{Interface}
 use Rattle.cap_blocks.specs.Grammar.{section_kind, interface_kind, enhanced_kind, order_magic, is_total, SpellsSection, SpellsBlock, block_bytes, section_body, option_bytes, offset_option, interface_options, interface_body, interface_total, packet_body}

@@ -1,9 +1,9 @@
 -- Numbers that read the same in both orders, and numbers that don't.
 use Rattle.std.proofs.Common.{◌≡◌, ℕ, ◌+◌, List, drop, arith}
 use Rattle.std.proofs.lemmas.List.{get_or-drop}
-use Rattle.cap_numbers.specs.Number.{number}
-use Rattle.cap_numbers.specs.declared.numbers.Order.{Order}
-use Rattle.cap_numbers.specs.declared.numbers.Order.TheVariants.{Big, Little}
+use Rattle.cap_bytes.specs.Number.{number}
+use Rattle.cap_bytes.specs.declared.numbers.Order.{Order}
+use Rattle.cap_bytes.specs.declared.numbers.Order.TheVariants.{Big, Little}
 use Rattle.cap_blocks.specs.Grammar.{section_kind, order_magic}
 use Rattle.cap_blocks.specs.Split.{AreBytes}
 

@@ -1,13 +1,13 @@
 -- When the bytes at a place are refused.
 use Rattle.std.proofs.Common.{◌≡◌, ℕ, ◌+◌, ◌^◌, ◌≤◌, ◌<◌, List, ◌++◌, length, drop, Option, Some, None, is_some, true, false, not, refl, arith, length-append, ◌&&◌}
 use Rattle.std.proofs.lemmas.Bool.Decides.{nat_tests}
-use Rattle.cap_numbers.specs.Number.{number}
+use Rattle.cap_bytes.specs.Number.{number}
 use Rattle.cap_bytes.specs.declared.faults.Rule.{Rule}
 use Rattle.cap_bytes.specs.declared.faults.Rule.TheVariants.{Cut, BlockLength, OrderMagic, FileLimit}
 use Rattle.cap_bytes.specs.declared.faults.Tail.{Tail}
-use Rattle.cap_numbers.specs.declared.numbers.Order.{Order}
+use Rattle.cap_bytes.specs.declared.numbers.Order.{Order}
 use Rattle.cap_bytes.proofs.Items.{stop_where-whole, no_fault}
-use Rattle.cap_numbers.proofs.Spelling.{number-append, number-drop_append}
+use Rattle.cap_bytes.proofs.Spelling.{number-append, number-drop_append}
 use Rattle.cap_blocks.specs.Grammar.{section_kind, is_total, is_known}
 use Rattle.cap_blocks.specs.Split.{kind_at, total_at, is_section, is_ordered, order_at, or_else, first_fault, fields_fault, header_fault, body_fault, block_fault, block_at, stop_at}
 

@@ -8,7 +8,7 @@ use Rattle.cap_bytes.proofs.Parsing.{Goes-trans, some_left, SeesStop-fault, Fail
 use Rattle.cap_bytes.specs.declared.faults.Fault.{Fault}
 use Rattle.cap_bytes.specs.declared.faults.Rule.{Rule}
 use Rattle.cap_bytes.specs.declared.faults.Tail.{Tail}
-use Rattle.cap_numbers.specs.declared.numbers.Order.{Order}
+use Rattle.cap_bytes.specs.declared.numbers.Order.{Order}
 use Rattle.cap_blocks.specs.Grammar.{is_known}
 use Rattle.cap_blocks.specs.Parsing.{ParsesHeader, IsHeader, Stays, SeesHeader, SeesBody, SeesBlock, Leaves, LooksAtBody}
 use Rattle.cap_blocks.specs.Split.{order_at, header_fault, body_fault, block_fault, block_at, LacksRoom}

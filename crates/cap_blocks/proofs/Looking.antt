@@ -8,7 +8,7 @@ use Rattle.cap_bytes.specs.Window.{State, Needs, Keeps, coming}
 use Rattle.cap_bytes.proofs.Parsing.{all_shown, some_left, SeesStop-fault, SeesStop-end}
 use Rattle.cap_bytes.specs.declared.faults.Rule.{Rule}
 use Rattle.cap_bytes.specs.declared.faults.Tail.{Tail}
-use Rattle.cap_numbers.specs.declared.numbers.Order.{Order}
+use Rattle.cap_bytes.specs.declared.numbers.Order.{Order}
 use Rattle.cap_blocks.specs.Parsing.{FindsOwnOrder, FindsOrder, ParsesHeader, IsHeader, SeesHeader}
 use Rattle.cap_blocks.specs.Split.{is_section, own_order, order_at, header_fault, block_fault, block_at}
 use Rattle.cap_blocks.specs.declared.blocks.Block.{Block}

@@ -2,7 +2,7 @@
 use Rattle.std.proofs.Common.{◌≡◌, ◌≢◌, ◌==◌, ℕ, zero, suc, ◌+◌, ◌<◌, ◌≤◌, nat_lt, if◌then◌else◌, List, [], ◌∷◌, length, take, drop, Ok, Err, refl, ◌∙◌, arith, length-drop, lt-ltb}
 use Rattle.std.proofs.lemmas.Bool.Decides.{nat_tests}
 use Rattle.cap_bytes.specs.declared.faults.Rule.TheVariants.{OptionEnd}
-use Rattle.cap_numbers.specs.declared.numbers.Order.{Order}
+use Rattle.cap_bytes.specs.declared.numbers.Order.{Order}
 use Rattle.cap_blocks.specs.OptionList.{options_by, options_of, OptionItem, code_at, length_at, padded}
 
 -- the options by the tests of the first one, and what the rest gives

@@ -3,9 +3,9 @@ use Rattle.std.proofs.Common.{◌≡◌, ℕ, ◌+◌, ◌≤◌, List, [], ◌�
 use Rattle.std.proofs.lemmas.Bool.Decides.{nat_tests}
 use Rattle.std.proofs.lemmas.List.{length-replicate}
 use Rattle.std.specs.Int.{w64, cast_unsigned}
-use Rattle.cap_numbers.specs.Number.{bytes_of}
-use Rattle.cap_numbers.specs.declared.numbers.Order.{Order}
-use Rattle.cap_numbers.proofs.Spelling.{length-bytes_of}
+use Rattle.cap_bytes.specs.Number.{bytes_of}
+use Rattle.cap_bytes.specs.declared.numbers.Order.{Order}
+use Rattle.cap_bytes.proofs.Spelling.{length-bytes_of}
 use Rattle.cap_time.specs.Resolution.{code_of}
 use Rattle.cap_time.specs.declared.resolutions.Interface.{Interface}
 use Rattle.cap_blocks.specs.Grammar.{section_kind, interface_kind, enhanced_kind, order_magic, block_bytes, section_body, option_bytes, offset_option, interface_body, packet_body, interface_total, packet_head, packet_tail, section_bytes, interface_bytes, packet_bytes}

@@ -5,7 +5,7 @@ use Rattle.cap_bytes.specs.Items.{given, items_by_stop}
 use Rattle.cap_bytes.specs.Reader.{State, Keeps}
 use Rattle.cap_bytes.specs.declared.faults.Fault.{Fault}
 use Rattle.cap_bytes.specs.declared.faults.Tail.{Tail}
-use Rattle.cap_numbers.specs.declared.numbers.Order.{Order}
+use Rattle.cap_bytes.specs.declared.numbers.Order.{Order}
 use Rattle.cap_bytes.specs.declared.stops.Stop.{Stop}
 use Rattle.cap_bytes.specs.Window.{State as WindowState, Passes}
 use Rattle.cap_bytes.proofs.Readers.{Stands-passed, Gives-seen}

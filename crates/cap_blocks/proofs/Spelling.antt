@@ -2,10 +2,10 @@
 use Rattle.std.proofs.Common.{◌≡◌, ◌≢◌, ℕ, ◌+◌, ◌-◌, ◌≤◌, ◌==◌, ◌&&◌, not, List, length, take, drop, Option, Some, None, Bool, true, false, refl, sym, ◌∙◌, ap, subst, arith, length-drop, length-take, length-take-le, drop-drop, take-take, nat_lt}
 use Rattle.std.proofs.lemmas.Bool.Decides.{nat_tests}
 use Rattle.std.proofs.lemmas.List.{drop-take}
-use Rattle.cap_numbers.specs.Number.{number}
-use Rattle.cap_numbers.specs.declared.numbers.Order.{Order}
-use Rattle.cap_numbers.specs.declared.numbers.Order.TheVariants.{Big, Little}
-use Rattle.cap_numbers.proofs.Spelling.{number-take, number-drop_take}
+use Rattle.cap_bytes.specs.Number.{number}
+use Rattle.cap_bytes.specs.declared.numbers.Order.{Order}
+use Rattle.cap_bytes.specs.declared.numbers.Order.TheVariants.{Big, Little}
+use Rattle.cap_bytes.proofs.Spelling.{number-take, number-drop_take}
 use Rattle.cap_blocks.specs.Grammar.{section_kind, order_magic, is_total, is_version, SpellsSection, SpellsBlock}
 use Rattle.cap_blocks.specs.Split.{kind_at, total_at, is_section, is_ordered, own_order, order_at, first_fault, header_fault, body_fault, has_other_version, block_fault, body_in, body_at, Piece, piece_size, MayFollow, Begins, AreBytes}
 use Rattle.cap_blocks.proofs.Behind.{same, differs, there, body_fault-whole}

@@ -4,11 +4,11 @@ use Rattle.std.proofs.Common.{◌≡◌, ℕ, zero, suc, IsSome, false, length-d
 use Rattle.std.proofs.lemmas.Bool.Decides.{nat_tests}
 use Rattle.std.proofs.lemmas.List.{take_at, drop_at}
 use Rattle.cap_bytes.specs.Items.{given, stopped}
-use Rattle.cap_numbers.specs.Number.{number}
+use Rattle.cap_bytes.specs.Number.{number}
 use Rattle.cap_bytes.specs.declared.faults.Tail.{Tail}
 use Rattle.cap_bytes.specs.declared.faults.Tail.TheVariants.{Refuse}
-use Rattle.cap_numbers.specs.declared.numbers.Order.{Order}
-use Rattle.cap_numbers.proofs.Spelling.{number-lt, number-drop_append}
+use Rattle.cap_bytes.specs.declared.numbers.Order.{Order}
+use Rattle.cap_bytes.proofs.Spelling.{number-lt, number-drop_append}
 use Rattle.cap_blocks.specs.Grammar.{SpellsBlock}
 use Rattle.cap_blocks.specs.Laws.{OneBlock, OneSplit, EverySplit, SplitItems, ItemsAtFault, ItemsAtBlock, BlockRead, BlockThere, block_of}
 use Rattle.cap_blocks.specs.Split.{block_at, Piece, piece_size, MayFollow, Begins, Splits, AreBytes, stop_at, items_from}

@@ -1,8 +1,8 @@
 -- Which bytes spell the blocks of a pcapng file, and which bytes are written for them.
 use Rattle.std.specs.Prelude.{◌≡◌, ◌==◌, ◌||◌, ◌&&◌, ℕ, ◌+◌, ◌/◌, ◌%◌, ◌-◌, nat_le, not, Bool, IsTrue, ◌^◌, if◌then◌else◌, List, [], ◌∷◌, ◌++◌, length, take, drop, replicate}
 use Rattle.std.specs.Int.{w64, cast_unsigned}
-use Rattle.cap_numbers.specs.Number.{number, bytes_of}
-use Rattle.cap_numbers.specs.declared.numbers.Order.{Order}
+use Rattle.cap_bytes.specs.Number.{number, bytes_of}
+use Rattle.cap_bytes.specs.declared.numbers.Order.{Order}
 use Rattle.cap_time.specs.Resolution.{code_of}
 use Rattle.cap_time.specs.declared.resolutions.Interface.{Interface}
 use Rattle.cap_blocks.specs.OptionList.{padded}

@@ -2,8 +2,8 @@
 use Rattle.std.specs.Prelude.{◌≡◌, ◌==◌, if◌then◌else◌, ◌+◌, ◌*◌, ◌^◌, ◌≤◌, ◌<◌, ℕ, List, [], ◌∷◌, ◌++◌, length, drop, take, Option, Some, None, is_some, IsSome, Ok}
 use Rattle.std.specs.Int.{w64, cast_unsigned}
 use Rattle.cap_bytes.specs.Items.{stop_by, Item, given, stopped}
-use Rattle.cap_numbers.specs.Number.{number, bytes_of}
-use Rattle.cap_numbers.specs.declared.numbers.Order.{Order}
+use Rattle.cap_bytes.specs.Number.{number, bytes_of}
+use Rattle.cap_bytes.specs.declared.numbers.Order.{Order}
 use Rattle.cap_bytes.specs.declared.faults.Rule.{Rule}
 use Rattle.cap_bytes.specs.declared.faults.Tail.{Tail}
 use Rattle.cap_time.specs.Resolution.{code_of}

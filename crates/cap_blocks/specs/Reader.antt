@@ -7,7 +7,7 @@ use Rattle.cap_bytes.specs.Reader as readers
 use Rattle.cap_bytes.specs.Window.{State as WindowState}
 use Rattle.cap_bytes.specs.declared.faults.Fault.{Fault}
 use Rattle.cap_bytes.specs.declared.faults.Tail.{Tail}
-use Rattle.cap_numbers.specs.declared.numbers.Order.{Order}
+use Rattle.cap_bytes.specs.declared.numbers.Order.{Order}
 use Rattle.cap_bytes.specs.declared.stops.Stop.{Stop}
 use Rattle.cap_blocks.specs.Grammar.{is_known, is_total}
 use Rattle.cap_blocks.specs.Split.{block_at, block_fault, body_in, stop_at, LacksRoom, items_from}

@@ -1,12 +1,12 @@
 -- How a file splits into its blocks and a rest, and what the rest is refused by.
 use Rattle.std.specs.Prelude.{◌≡◌, ◌≢◌, ◌==◌, ◌&&◌, ◌⊎◌, not, ℕ, ◌+◌, ◌-◌, ◌^◌, ◌≤◌, ◌<◌, nat_lt, if◌then◌else◌, Bool, true, List, [], ◌∷◌, length, take, drop, slice_index, Option, Some, None, is_some}
 use Rattle.cap_bytes.specs.Items.{stop_where, Item, Format, items_in}
-use Rattle.cap_numbers.specs.Number.{number}
+use Rattle.cap_bytes.specs.Number.{number}
 use Rattle.cap_bytes.specs.declared.faults.Rule.{Rule}
 use Rattle.cap_bytes.specs.declared.faults.Rule.TheVariants.{Magic, Version, Cut, BlockLength, BlockTrailer, OrderMagic, FileLimit}
 use Rattle.cap_bytes.specs.declared.faults.Tail.{Tail}
-use Rattle.cap_numbers.specs.declared.numbers.Order.{Order}
-use Rattle.cap_numbers.specs.declared.numbers.Order.TheVariants.{Big, Little}
+use Rattle.cap_bytes.specs.declared.numbers.Order.{Order}
+use Rattle.cap_bytes.specs.declared.numbers.Order.TheVariants.{Big, Little}
 use Rattle.cap_bytes.specs.declared.stops.Stop.{Stop}
 use Rattle.cap_blocks.specs.Grammar.{section_kind, order_magic, is_known, is_total, is_version, SpellsBlock}
 use Rattle.cap_blocks.specs.declared.blocks.Block.{Block}

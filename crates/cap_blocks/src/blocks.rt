@@ -2,7 +2,7 @@
 ghost use Rattle.std.specs.Prelude.{◌≡◌};
 ghost use Rattle.cap_blocks.specs.Grammar.{is_known, least_total, is_total, is_version};
 
-use cap_numbers::Order;
+use cap_bytes::Order;
 
 /// The kind of a section header, which reads the same in both orders.
 pub const SECTION: u32 = 0x0A0D_0D0A;

@@ -5,8 +5,7 @@ ghost use Rattle.cap_blocks.specs.Parsing.{IsHeader, LooksAtBody, SkipsBody, Sta
 ghost use Rattle.cap_blocks.specs.Split.{body_fault};
 
 use crate::blocks::{Block, SECTION, is_known, is_version};
-use cap_bytes::{Fault, Rule, Source, Window};
-use cap_numbers::{u16_at, u32_at};
+use cap_bytes::{Fault, Rule, Source, Window, u16_at, u32_at};
 
 // How many bytes the total length takes after the body.
 const TRAILER_SIZE: usize = 4;

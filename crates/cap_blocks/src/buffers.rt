@@ -1,8 +1,8 @@
 //! A buffer in which the fixed parts of a block are put together.
 ghost use Rattle.std.specs.Prelude.{◌≡◌, ◌+◌, ◌≤◌, ◌++◌, [], length, take};
-ghost use Rattle.cap_numbers.specs.Number.{bytes_of};
+ghost use Rattle.cap_bytes.specs.Number.{bytes_of};
 
-use cap_numbers::{Order, put_u16, put_u32, put_u64};
+use cap_bytes::{Order, put_u16, put_u32, put_u64};
 use std::marker::Model;
 
 /// A block that is put together, or its first or last bytes: 160 at most.

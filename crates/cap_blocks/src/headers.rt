@@ -5,8 +5,7 @@ ghost use Rattle.cap_blocks.specs.Parsing.{FindsOwnOrder, FindsOrder, ParsesHead
 ghost use Rattle.cap_blocks.specs.Split.{is_section, is_ordered, first_fault};
 
 use crate::blocks::{Block, ENHANCED_PACKET, ORDER_MAGIC, SECTION, is_total};
-use cap_bytes::{FILE_LIMIT, Fault, Refusal, Rule, Source, Stop, Tail, Window};
-use cap_numbers::{Order, u32_at};
+use cap_bytes::{FILE_LIMIT, Fault, Order, Refusal, Rule, Source, Stop, Tail, Window, u32_at};
 
 /// How many bytes stand round the body of a block; its first ones tell its order and its total length.
 pub const FRAME_SIZE: usize = 12;

@@ -2,8 +2,7 @@
 ghost use Rattle.std.specs.Prelude.{◌≡◌, ◌%◌, ◌<◌, length, drop};
 ghost use Rattle.cap_blocks.specs.OptionList.{padded};
 
-use cap_bytes::Rule;
-use cap_numbers::{Order, u16_at};
+use cap_bytes::{Order, Rule, u16_at};
 
 /// The options of a list (draft-ietf-opsawg-pcapng, 3.5), in order: each its code and its value, without
 /// the padding to 4 bytes. The list ends with code 0, whatever its length and whatever follows, or with

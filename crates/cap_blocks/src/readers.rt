@@ -10,8 +10,7 @@ ghost use Rattle.cap_bytes.specs.declared.faults.Tail.{Tail};
 use crate::blocks::{Block, is_known};
 use crate::bodies::{body_rule, look_at_body};
 use crate::headers::{FRAME_SIZE, enhanced_at, look_at_header};
-use cap_bytes::{Fault, Refusal, Source, Stop, Tail, Window};
-use cap_numbers::Order;
+use cap_bytes::{Fault, Order, Refusal, Source, Stop, Tail, Window};
 use std::marker::Model;
 
 // How many bytes of a block stand in front of its body.
@@ -32,7 +31,7 @@ pub struct BlockReader<R: Source> {
 impl<R: Source> Model for BlockReader<R> {
     ghost use Rattle.std.specs.Prelude.{length};
     ghost use Rattle.cap_bytes.specs.Reader.{State};
-    ghost use Rattle.cap_numbers.specs.declared.numbers.Order.{Order};
+    ghost use Rattle.cap_bytes.specs.declared.numbers.Order.{Order};
     ghost use Rattle.cap_blocks.specs.Reader.{IsSound, state_of};
 
     ghost Value = { State Order };

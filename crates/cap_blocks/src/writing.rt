@@ -7,8 +7,7 @@ ghost use Rattle.cap_blocks.specs.OptionList.{padded};
 
 use crate::blocks::{ENHANCED_PACKET, INTERFACE, ORDER_MAGIC, SECTION};
 use crate::buffers::BlockBuffer;
-use cap_bytes::{Fault, Sink, put_all};
-use cap_numbers::Order;
+use cap_bytes::{Fault, Order, Sink, put_all};
 use cap_time::Interface;
 
 // The codes of options that are written (draft-ietf-opsawg-pcapng, 3.5 and 4.2).

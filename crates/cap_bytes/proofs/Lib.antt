@@ -1,3 +1,5 @@
+pub mod Spelled
+pub mod Spelling
 pub mod Items
 pub mod Lists
 pub mod Putting

@@ -1,3 +1,4 @@
+pub mod Number
 pub mod Calls
 pub mod Device
 pub mod SourceState

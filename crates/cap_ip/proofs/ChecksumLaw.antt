@@ -2,7 +2,7 @@
 use Rattle.std.specs.List.{AllByRecursion}
 use Rattle.std.proofs.Common.{◌≡◌, ◌<◌, ◌≤◌, ◌+◌, ◌-◌, ℕ, List, [], ◌∷◌, ◌++◌, length, All, subst, arith}
 use Rattle.std.proofs.lemmas.List.Elements.{recursion_from_All}
-use Rattle.cap_numbers.specs.Number.{number}
+use Rattle.cap_bytes.specs.Number.{number}
 use Rattle.cap_ip.specs.Checksum.{words, ones_sum, checksum_of, checked, ChecksumLaw}
 use Rattle.cap_ip.proofs.OnesSum.{total, IsFolded, IsFolded-unique, IsFolded-ones_sum, AreWords-words}
 

@@ -2,8 +2,8 @@
 use Rattle.std.specs.List.{AllByRecursion}
 use Rattle.std.proofs.Common.{◌≡◌, ◌<◌, ◌≤◌, ◌+◌, ◌*◌, ◌/◌, ◌%◌, ℕ, List, [], ◌∷◌, length, drop, get_or, suc, length-drop, subst, sym, refl, arith}
 use Rattle.std.proofs.lemmas.List.{drop-drop}
-use Rattle.cap_numbers.specs.Number.{number}
-use Rattle.cap_numbers.specs.declared.numbers.Order.TheVariants.{Big}
+use Rattle.cap_bytes.specs.Number.{number}
+use Rattle.cap_bytes.specs.declared.numbers.Order.TheVariants.{Big}
 use Rattle.cap_ip.specs.Checksum.{words, ones_add, ones_sum}
 
 -- the plain sum of words

@@ -1,7 +1,7 @@
 -- What comes after a type field, one tag at a time.
 use Rattle.std.proofs.Common.{◌≡◌, ◌<◌, ◌≤◌, ℕ, Bool, true, false, List, [], ◌∷◌, length, drop, refl, arith}
-use Rattle.cap_numbers.specs.Number.{number}
-use Rattle.cap_numbers.specs.declared.numbers.Order.TheVariants.{Big}
+use Rattle.cap_bytes.specs.Number.{number}
+use Rattle.cap_bytes.specs.declared.numbers.Order.TheVariants.{Big}
 use Rattle.cap_ip.specs.Tags.{is_tag, ended, payload, carried}
 
 -- a whole tag is passed over

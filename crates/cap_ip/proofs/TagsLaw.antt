@@ -3,8 +3,8 @@ use Rattle.std.specs.List.{AllByRecursion}
 use Rattle.std.proofs.Common.{◌≡◌, ◌≤◌, ◌/◌, ◌%◌, ◌∙◌, ℕ, Bool, true, false, List, [], ◌∷◌, ◌++◌, length, drop, ap, sym, arith, length-append}
 use Rattle.std.proofs.Math.Seq.{drop-append_seam}
 use Rattle.std.proofs.lemmas.List.Elements.{recursion_from_All}
-use Rattle.cap_numbers.specs.Number.{number}
-use Rattle.cap_numbers.specs.declared.numbers.Order.TheVariants.{Big}
+use Rattle.cap_bytes.specs.Number.{number}
+use Rattle.cap_bytes.specs.declared.numbers.Order.TheVariants.{Big}
 use Rattle.cap_ip.specs.Tags.{is_tag, payload, carried}
 use Rattle.cap_ip.specs.Links.{typed, network_of, is_whole}
 use Rattle.cap_ip.specs.Tagged.{Tag, tagged, TagsLaw}

@@ -1,7 +1,7 @@
 -- The checksum of an IPv4 header (RFC 791, 3.1; RFC 1071, 1).
 use Rattle.std.specs.Prelude.{◌≡◌, ℕ, List, [], ◌∷◌, ◌++◌, ◌+◌, ◌-◌, ◌/◌, ◌%◌, ◌<◌, All, length}
-use Rattle.cap_numbers.specs.Number.{number}
-use Rattle.cap_numbers.specs.declared.numbers.Order.TheVariants.{Big}
+use Rattle.cap_bytes.specs.Number.{number}
+use Rattle.cap_bytes.specs.declared.numbers.Order.TheVariants.{Big}
 
 -- the 16 bit words that an even number of bytes spell, one after the other
 unfoldable pub words : List ℕ → List ℕ

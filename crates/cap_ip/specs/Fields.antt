@@ -1,7 +1,7 @@
 -- The fields of an IPv4 header, by their places in its bytes (RFC 791, 3.1). Numbers are big-endian.
 use Rattle.std.specs.Prelude.{ℕ, List, Bool, ◌*◌, ◌-◌, ◌/◌, ◌%◌, ◌==◌, ◌||◌, drop, slice_index, not}
-use Rattle.cap_numbers.specs.Number.{number}
-use Rattle.cap_numbers.specs.declared.numbers.Order.TheVariants.{Big}
+use Rattle.cap_bytes.specs.Number.{number}
+use Rattle.cap_bytes.specs.declared.numbers.Order.TheVariants.{Big}
 
 -- the high four bits of byte 0
 unfoldable pub version : List ℕ → ℕ

@@ -1,7 +1,7 @@
 -- The network part of a frame, by its link type (LINKTYPE registry).
 use Rattle.std.specs.Prelude.{ℕ, List, Bool, ◌==◌, ◌/◌, nat_le, nat_lt, length, drop, slice_index, if◌then◌else◌}
-use Rattle.cap_numbers.specs.Number.{number}
-use Rattle.cap_numbers.specs.declared.numbers.Order.TheVariants.{Big}
+use Rattle.cap_bytes.specs.Number.{number}
+use Rattle.cap_bytes.specs.declared.numbers.Order.TheVariants.{Big}
 use Rattle.cap_ip.specs.Seen.{Carried}
 use Rattle.cap_ip.specs.Tags.{carried, ended}
 

@@ -1,7 +1,7 @@
 -- The ports of a datagram's data, of which a part was captured. Numbers are big-endian.
 use Rattle.std.specs.Prelude.{ℕ, List, ◌*◌, ◌/◌, ◌==◌, ◌||◌, length, drop, slice_index, nat_lt, if◌then◌else◌}
-use Rattle.cap_numbers.specs.Number.{number}
-use Rattle.cap_numbers.specs.declared.numbers.Order.TheVariants.{Big}
+use Rattle.cap_bytes.specs.Number.{number}
+use Rattle.cap_bytes.specs.declared.numbers.Order.TheVariants.{Big}
 use Rattle.cap_ip.specs.declared.transports.Transport.{Transport}
 use Rattle.cap_ip.specs.declared.transports.Transport.TheVariants.{Ports, NoPorts, Bad, Cut}
 

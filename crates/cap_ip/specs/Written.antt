@@ -1,7 +1,7 @@
 -- How the header of a whole datagram is written, without options (RFC 791, 3.1).
 use Rattle.std.specs.Prelude.{ℕ, ◌+◌, List, [], ◌∷◌, ◌++◌}
-use Rattle.cap_numbers.specs.Number.{bytes_of}
-use Rattle.cap_numbers.specs.declared.numbers.Order.TheVariants.{Big}
+use Rattle.cap_bytes.specs.Number.{bytes_of}
+use Rattle.cap_bytes.specs.declared.numbers.Order.TheVariants.{Big}
 use Rattle.cap_ip.specs.Checksum.{checked, checksum_of}
 use Rattle.cap_ip.specs.Header.{HeaderFields}
 

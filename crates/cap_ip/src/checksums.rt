@@ -2,7 +2,7 @@
 ghost use Rattle.std.specs.Prelude.{◌≡◌, ◌+◌, ◌%◌, ◌/◌};
 ghost use Rattle.cap_ip.specs.Checksum.{checksum_of, ChecksumLaw};
 
-use cap_numbers::{Order, u16_at};
+use cap_bytes::{Order, u16_at};
 
 // The words of a header without options.
 const WORDS: usize = 10;

@@ -2,7 +2,7 @@
 ghost use Rattle.std.specs.Prelude.{◌≡◌, ◌+◌, ◌*◌, ◌≤◌, length};
 ghost use Rattle.cap_ip.specs.Fields.{version, header_length, service, total_length, identification, more_fragments, offset, time_to_live, protocol, source, destination, data_length, is_fragment};
 
-use cap_numbers::{Order, u16_at, u32_at};
+use cap_bytes::{Order, u16_at, u32_at};
 
 #[tactic(auto, unfolding(crate::specs::Fields::version))]
 pub(crate) fn version(bytes: &[u8]) -> u8

@@ -6,7 +6,7 @@ ghost use Rattle.cap_ip.specs.Tagged.{TagsLaw};
 
 use crate::networks::Network;
 use crate::tags::{carried, ended};
-use cap_numbers::{Order, u16_at};
+use cap_bytes::{Order, u16_at};
 
 // LINKTYPE_ETHERNET: destination 6, source 6, type 2.
 const ETHERNET: u16 = 1;

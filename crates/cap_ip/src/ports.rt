@@ -3,7 +3,7 @@ ghost use Rattle.std.specs.Prelude.{◌≡◌, ◌≤◌, length};
 ghost use Rattle.cap_ip.specs.Transport.{ports_of, udp_length, udp_of, tcp_header_length, tcp_of, transport_of};
 
 use crate::transports::Transport;
-use cap_numbers::{Order, u16_at};
+use cap_bytes::{Order, u16_at};
 
 // The protocol's number of UDP.
 const UDP: u8 = 17;

@@ -4,7 +4,7 @@ ghost use Rattle.cap_ip.specs.Seen.{seen};
 ghost use Rattle.cap_ip.specs.Tags.{is_tag, ended, payload, carried};
 
 use crate::networks::Network;
-use cap_numbers::{Order, u16_at};
+use cap_bytes::{Order, u16_at};
 
 // The type of an IPv4 packet (RFC 894).
 const IPV4: u16 = 0x0800;

@@ -2,8 +2,8 @@
 use Rattle.std.specs.Prelude.{◌&&◌, ◌==◌, ◌≤◌, ℕ, not, Bool, true, false, List, length, codes, count_by, Option, Some, None, is_some, Result, Ok, Err, if◌then◌else◌, nat_lt, option_map, vec_len, IsTrue}
 use Rattle.std.specs.Str.{bytes_eq}
 use Rattle.std.specs.List.{list_any}
-use Rattle.cap_numbers.specs.declared.numbers.Order.{Order}
-use Rattle.cap_numbers.specs.declared.numbers.Order.TheVariants.{Big, Little}
+use Rattle.cap_bytes.specs.declared.numbers.Order.{Order}
+use Rattle.cap_bytes.specs.declared.numbers.Order.TheVariants.{Big, Little}
 use Rattle.cap_feed.specs.declared.packets.Format.{Format}
 use Rattle.cap_feed.specs.declared.packets.Format.TheVariants.{Pcap, Pcapng}
 use Rattle.cap_jobs.specs.declared.jobs.Job.{Job}

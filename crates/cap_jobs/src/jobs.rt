@@ -5,8 +5,8 @@ ghost use Rattle.std.specs.Str.{bytes_eq};
 ghost use Rattle.cap_jobs.specs.Jobs.{files_fault, format_by, is_also_file, is_whole, order_by, task_by};
 
 use crate::faults::LineFault;
+use cap_bytes::Order;
 use cap_feed::Format;
-use cap_numbers::Order;
 
 // How many files a command reads at most.
 const FILES_LIMIT: usize = 32;

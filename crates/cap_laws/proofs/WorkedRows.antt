@@ -1,7 +1,7 @@
 -- The report on a few frames.
 use Rattle.std.proofs.Common.{refl}
 use Rattle.std.specs.Fmt.{digits}
-use Rattle.cap_numbers.specs.Number.{number}
+use Rattle.cap_bytes.specs.Number.{number}
 use Rattle.cap_ip.specs.Fields.{version, header_length, service, total_length, identification, more_fragments, offset, time_to_live, protocol, source, destination, data_length, is_fragment}
 use Rattle.cap_ip.specs.Read.{key_of, fragment_of, fields_of, data_of as header_data, ended, is_malformed, lacks_data, is_overstated, is_misfit, is_partial, read_of}
 use Rattle.cap_ip.specs.Transport.{ports_of, udp_length, udp_of, tcp_header_length, tcp_of, transport_of}

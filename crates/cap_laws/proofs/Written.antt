@@ -4,7 +4,7 @@ use Rattle.std.specs.List.{AllByRecursion}
 use Rattle.cap_blocks.specs.Split.{AreBytes}
 use Rattle.cap_bytes.specs.declared.faults.Refusal.{Refusal}
 use Rattle.cap_bytes.specs.declared.faults.Tail.{Tail}
-use Rattle.cap_numbers.specs.declared.numbers.Order.{Order}
+use Rattle.cap_bytes.specs.declared.numbers.Order.{Order}
 use Rattle.cap_merge.specs.Files.{clocked_run, items_of_files, run_of_files}
 use Rattle.cap_order.specs.Run.{Clocked}
 use Rattle.cap_feed.specs.Feed.{Item, packet, refusal_of}

@@ -4,7 +4,7 @@ use Rattle.std.specs.List.{AllZip}
 use Rattle.std.specs.declared.cmp.Ordering.TheVariants.{Equal}
 use Rattle.cap_blocks.specs.Split.{AreBytes}
 use Rattle.cap_bytes.specs.declared.faults.Tail.{Tail}
-use Rattle.cap_numbers.specs.declared.numbers.Order.{Order}
+use Rattle.cap_bytes.specs.declared.numbers.Order.{Order}
 use Rattle.cap_time.specs.Clock.{clock_cmp}
 use Rattle.cap_merge.specs.Files.{clocked_run}
 use Rattle.cap_order.specs.Run.{Clocked}

@@ -1,11 +1,11 @@
 -- What `capt blocks` prints.
 use Rattle.std.specs.Prelude.{ℕ, ◌+◌, List, [], ◌∷◌, ◌++◌, codes, decimal, Option, Some, None}
 use Rattle.hex.specs.Hex.{encode_lower}
-use Rattle.cap_numbers.specs.Number.{bytes_of}
+use Rattle.cap_bytes.specs.Number.{bytes_of}
 use Rattle.cap_bytes.specs.declared.faults.Refusal.{Refusal}
 use Rattle.cap_bytes.specs.declared.faults.Tail.{Tail}
-use Rattle.cap_numbers.specs.declared.numbers.Order.{Order}
-use Rattle.cap_numbers.specs.declared.numbers.Order.TheVariants.{Big, Little}
+use Rattle.cap_bytes.specs.declared.numbers.Order.{Order}
+use Rattle.cap_bytes.specs.declared.numbers.Order.TheVariants.{Big, Little}
 use Rattle.cap_bytes.specs.Items.{Item, given, stopped}
 use Rattle.cap_blocks.specs.Split.{items_from}
 use Rattle.cap_blocks.specs.declared.blocks.Block.{Block}

@@ -7,8 +7,8 @@ ghost use Rattle.cap_time.specs.Stamp.{printed_of};
 ghost use Rattle.cap_lists.specs.ListText.{packet_text, printed_in};
 
 use cap_blocks::Block;
+use cap_bytes::Order;
 use cap_feed::Meta;
-use cap_numbers::Order;
 use cap_print::Line;
 use cap_time::Stamp;
 use std::cmp::min;
@@ -68,7 +68,7 @@ fn put_order(line: &mut Line, label: &[u8], order: Order)
 
 // Puts a label and a block's kind, in eight lower case hex digits.
 #[inline(always)]
-#[tactic(auto, unfolding(cap_numbers::specs::Number::bytes_of))]
+#[tactic(auto, unfolding(cap_bytes::specs::Number::bytes_of))]
 fn put_kind(line: &mut Line, label: &[u8], kind: u32)
     requires { length label.now + 8 ≤ room_in line.old }
     ensures text { text_in line.new ≡ label.now ++ kind_text kind ++ text_in line.old }

@@ -2,10 +2,10 @@
 use Rattle.std.proofs.Common.{◌≡◌, ℕ, ◌%◌, ◌^◌, ◌<◌, List, [], ◌++◌, length, drop, get_or, None, true, refl, sym, ◌∙◌, ap, subst, arith, append_assoc, append-nil, length-append, ◌||◌}
 use Rattle.std.proofs.Math.Nat.{mod-eq_of_lt}
 use Rattle.std.proofs.lemmas.List.{drop_at}
-use Rattle.cap_numbers.specs.Number.{number, bytes_of}
+use Rattle.cap_bytes.specs.Number.{number, bytes_of}
 use Rattle.cap_bytes.specs.declared.faults.Tail.{Tail}
-use Rattle.cap_numbers.specs.declared.numbers.Order.{Order}
-use Rattle.cap_numbers.specs.declared.numbers.Order.TheVariants.{Big, Little}
+use Rattle.cap_bytes.specs.declared.numbers.Order.{Order}
+use Rattle.cap_bytes.specs.declared.numbers.Order.TheVariants.{Big, Little}
 use Rattle.cap_time.specs.declared.stamps.Unit.{Unit as Fraction}
 use Rattle.cap_time.specs.declared.stamps.Unit.TheVariants.{Micro, Nano}
 use Rattle.cap_pcap.specs.Grammar.{magic_of, SpellsHeader, header_bytes, head_bytes, record_bytes}
@@ -13,8 +13,8 @@ use Rattle.cap_pcap.specs.Laws.{HeaderRead, HeaderAgain, RecordAgain}
 use Rattle.cap_pcap.specs.Split.{is_magic, order_at, unit_at, header_fault, header_at, file_items, items_from}
 use Rattle.cap_pcap.specs.declared.headers.PcapHeader.{PcapHeader}
 use Rattle.cap_pcap.proofs.Faults.{FitsHeader, header_fault-fits}
-use Rattle.cap_numbers.proofs.Spelling.{number-drop_append}
-use Rattle.cap_numbers.proofs.Spelling.{number-append, number-bytes_of, length-bytes_of}
+use Rattle.cap_bytes.proofs.Spelling.{number-drop_append}
+use Rattle.cap_bytes.proofs.Spelling.{number-append, number-bytes_of, length-bytes_of}
 
 -- how a magic reads in the other order
 abbrev pub flipped : Fraction → ℕ

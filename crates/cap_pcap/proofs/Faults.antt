@@ -2,16 +2,16 @@
 use Rattle.std.proofs.Common.{◌≡◌, ℕ, ◌+◌, ◌^◌, ◌≤◌, ◌<◌, List, ◌++◌, length, take, drop, Some, None, true, sym, ◌∙◌, ap, arith, length-append, ◌||◌}
 use Rattle.std.proofs.lemmas.List.{take-append-drop}
 use Rattle.std.proofs.lemmas.Bool.Decides.{nat_tests}
-use Rattle.cap_numbers.specs.Number.{number}
+use Rattle.cap_bytes.specs.Number.{number}
 use Rattle.cap_bytes.specs.declared.faults.Rule.{Rule}
 use Rattle.cap_bytes.specs.declared.faults.Rule.TheVariants.{Cut}
 use Rattle.cap_bytes.specs.declared.faults.Tail.{Tail}
-use Rattle.cap_numbers.specs.declared.numbers.Order.{Order}
-use Rattle.cap_numbers.specs.declared.numbers.Order.TheVariants.{Big, Little}
+use Rattle.cap_bytes.specs.declared.numbers.Order.{Order}
+use Rattle.cap_bytes.specs.declared.numbers.Order.TheVariants.{Big, Little}
 use Rattle.cap_pcap.specs.Split.{is_magic, is_version, order_at, record_fault, captured_at, header_fault, header_at, stop_at}
-use Rattle.cap_numbers.proofs.Spelling.{number-drop_append}
+use Rattle.cap_bytes.proofs.Spelling.{number-drop_append}
 use Rattle.cap_bytes.proofs.Items.{stop_where-whole, no_fault}
-use Rattle.cap_numbers.proofs.Spelling.{number-append}
+use Rattle.cap_bytes.proofs.Spelling.{number-append}
 
 -- no condition is met in a record's place
 pub record Fits (order : Order) (offset : ℕ) (bytes : List ℕ) : Type 0 where

@@ -2,10 +2,10 @@
 use Rattle.std.proofs.Common.{◌≡◌, ℕ, zero, suc, ◌+◌, ◌^◌, ◌≤◌, ◌<◌, List, [], ◌∷◌, ◌++◌, length, take, drop, Option, Some, None, refl, sym, ◌∙◌, ap, subst, arith, length-drop, length-take-le}
 use Rattle.std.proofs.lemmas.List.{take_at, drop_at, take-append-drop}
 use Rattle.cap_bytes.specs.Items.{given, stopped}
-use Rattle.cap_numbers.specs.Number.{number}
+use Rattle.cap_bytes.specs.Number.{number}
 use Rattle.cap_bytes.specs.declared.faults.Tail.{Tail}
 use Rattle.cap_bytes.specs.declared.faults.Tail.TheVariants.{Refuse}
-use Rattle.cap_numbers.specs.declared.numbers.Order.{Order}
+use Rattle.cap_bytes.specs.declared.numbers.Order.{Order}
 use Rattle.cap_time.specs.declared.stamps.Unit.{Unit as Fraction}
 use Rattle.cap_pcap.specs.Grammar.{Packet, packet_size, SpellsRecord}
 use Rattle.cap_pcap.specs.Laws.{OneRecord, OneSplit, EverySplit, SplitItems, RecordRead}
@@ -15,7 +15,7 @@ use Rattle.cap_pcap.specs.declared.headers.PcapHeader.{PcapHeader}
 use Rattle.cap_bytes.specs.declared.stops.Stop.{Stop}
 use Rattle.cap_pcap.proofs.Faults.{Fits-from_stop_at, stop_at-fits}
 use Rattle.cap_pcap.proofs.Items.{items_from-stop, items_from-record}
-use Rattle.cap_numbers.proofs.Spelling.{number-drop_append}
+use Rattle.cap_bytes.proofs.Spelling.{number-drop_append}
 use Rattle.cap_pcap.proofs.Spelling.{SpellsRecord-at, Reads-spelled}
 
 -- how many bytes spell a packet

@@ -1,7 +1,7 @@
 -- Which bytes spell the header and the records of a pcap file, and which bytes are written for them.
 use Rattle.std.specs.Prelude.{◌≡◌, ℕ, ◌+◌, ◌*◌, ◌%◌, ◌≤◌, List, ◌++◌, length, drop}
-use Rattle.cap_numbers.specs.Number.{number, bytes_of}
-use Rattle.cap_numbers.specs.declared.numbers.Order.{Order}
+use Rattle.cap_bytes.specs.Number.{number, bytes_of}
+use Rattle.cap_bytes.specs.declared.numbers.Order.{Order}
 use Rattle.cap_time.specs.Unit.{in_second}
 use Rattle.cap_time.specs.declared.stamps.Unit.{Unit as Fraction}
 use Rattle.cap_time.specs.declared.stamps.Unit.TheVariants.{Micro, Nano}

@@ -6,8 +6,10 @@ ghost use Rattle.cap_pcap.specs.Grammar.{magic_of, header_bytes};
 ghost use Rattle.cap_pcap.specs.Parsing.{HasMagic, ParsesHeader, LooksForHeader};
 ghost use Rattle.cap_pcap.specs.Split.{is_magic, unit_at};
 
-use cap_bytes::{FILE_LIMIT, Fault, Refusal, Rule, Sink, Source, Window, put_all};
-use cap_numbers::{Order, put_u16, put_u32, u16_at, u32_at};
+use cap_bytes::{
+    FILE_LIMIT, Fault, Order, Refusal, Rule, Sink, Source, Window, put_all, put_u16, put_u32,
+    u16_at, u32_at,
+};
 use cap_time::Unit;
 
 /// How many bytes a file's header takes.

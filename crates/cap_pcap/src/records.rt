@@ -9,9 +9,9 @@ ghost use Rattle.cap_pcap.specs.Split.{record_at};
 
 use crate::headers::PcapHeader;
 use cap_bytes::{
-    FILE_LIMIT, Fault, PACKET_LIMIT, Refusal, Rule, Sink, Source, Stop, Tail, Window, put_all,
+    FILE_LIMIT, Fault, Order, PACKET_LIMIT, Refusal, Rule, Sink, Source, Stop, Tail, Window,
+    put_all, put_u32, u32_at,
 };
-use cap_numbers::{Order, put_u32, u32_at};
 use cap_time::Unit;
 
 /// What a record says of its packet. draft-ietf-opsawg-pcap, 5.

@@ -3,7 +3,7 @@ use Rattle.std.proofs.Common.{◌≡◌, ◌≤◌, ◌<◌, ◌+◌, ◌%◌, �
 use Rattle.std.proofs.lemmas.Bool.Decides.{nat_tests}
 use Rattle.cap_bytes.specs.declared.faults.Refusal.{Refusal}
 use Rattle.cap_bytes.specs.declared.faults.Rule.{Rule}
-use Rattle.cap_numbers.specs.declared.numbers.Order.{Order}
+use Rattle.cap_bytes.specs.declared.numbers.Order.{Order}
 use Rattle.cap_time.specs.declared.resolutions.Interface.{Interface}
 use Rattle.cap_blocks.specs.Grammar.{section_kind, interface_kind, obsolete_kind, simple_kind, enhanced_kind, is_known, is_total, least_total}
 use Rattle.cap_bytes.specs.Items.{IsEnd, Item, given, stopped}
@@ -15,7 +15,7 @@ use Rattle.cap_bytes.specs.declared.stops.Stop.{Stop}
 use Rattle.cap_bytes.specs.declared.stops.Stop.TheVariants as stops
 use Rattle.cap_bytes.proofs.Parsing.{from_none}
 use Rattle.cap_source.proofs.Pcaps.{none_stops, cut_is}
-use Rattle.cap_numbers.specs.Number.{number}
+use Rattle.cap_bytes.specs.Number.{number}
 use Rattle.cap_bytes.specs.declared.faults.Rule.TheVariants as rules
 use Rattle.cap_source.specs.TimeBases.{interface_in}
 use Rattle.cap_source.specs.Contents.{fitting, of_interface, timed_in, simple_in, of_body, content_in}

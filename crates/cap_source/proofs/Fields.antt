@@ -13,12 +13,12 @@ use Rattle.cap_blocks.proofs.Bytes.{AreBytes-drop}
 use Rattle.cap_blocks.specs.declared.blocks.Block.{Block}
 use Rattle.cap_bytes.specs.Items as pieces
 use Rattle.cap_bytes.specs.declared.stops.Stop.{Stop}
-use Rattle.cap_numbers.proofs.Spelling.{number-lt}
-use Rattle.cap_numbers.specs.Number.{number}
+use Rattle.cap_bytes.proofs.Spelling.{number-lt}
+use Rattle.cap_bytes.specs.Number.{number}
 use Rattle.cap_bytes.specs.declared.faults.Rule.{Rule}
 use Rattle.cap_bytes.specs.declared.faults.Rule.TheVariants.{InterfaceLimit}
 use Rattle.cap_bytes.specs.declared.faults.Tail.{Tail}
-use Rattle.cap_numbers.specs.declared.numbers.Order.{Order}
+use Rattle.cap_bytes.specs.declared.numbers.Order.{Order}
 use Rattle.cap_pcap.proofs.Splitting.{every_split-law, split_items-law}
 use Rattle.cap_pcap.specs.Grammar.{Packet as Record, packet_size, SpellsRecord}
 use Rattle.cap_pcap.specs.Split as records

@@ -9,7 +9,7 @@ use Rattle.cap_bytes.specs.Items as pieces
 use Rattle.cap_bytes.specs.declared.stops.Stop.{Stop}
 use Rattle.cap_bytes.specs.declared.faults.Rule.{Rule}
 use Rattle.cap_bytes.specs.declared.faults.Tail.{Tail}
-use Rattle.cap_numbers.specs.declared.numbers.Order.{Order}
+use Rattle.cap_bytes.specs.declared.numbers.Order.{Order}
 use Rattle.cap_pcap.proofs.Splitting.{every_split-law, split_items-law}
 use Rattle.cap_pcap.specs.Grammar.{Packet as Record, packet_size}
 use Rattle.cap_pcap.specs.Split as records

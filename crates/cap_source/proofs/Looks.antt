@@ -1,7 +1,7 @@
 -- What the first four bytes tell, and the reader that is made by that.
 use Rattle.std.proofs.Common.{◌≡◌, ◌≤◌, ℕ, true, false, List, ◌++◌, length, None, IsTrue, Result, Ok, refl, sym, ap, ◌∙◌, arith, nat_le, length-append}
 use Rattle.std.proofs.lemmas.Bool.Decides.{nat_tests}
-use Rattle.cap_numbers.proofs.Spelling.{number-append}
+use Rattle.cap_bytes.proofs.Spelling.{number-append}
 use Rattle.cap_bytes.specs.Window.{State as WindowState, Shows, Keeps, coming}
 use Rattle.cap_bytes.specs.declared.faults.Fault.{Fault}
 use Rattle.cap_bytes.specs.declared.faults.Tail.{Tail}

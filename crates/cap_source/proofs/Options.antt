@@ -5,7 +5,7 @@ use Rattle.std.proofs.Common.{Bool, true, false, ◌||◌, ◌&&◌, not, ◌==�
 use Rattle.cap_bytes.specs.declared.faults.Rule.TheVariants as rules
 use Rattle.std.proofs.lemmas.Bool.Decides.{nat_tests}
 use Rattle.cap_bytes.specs.declared.faults.Rule.{Rule}
-use Rattle.cap_numbers.specs.declared.numbers.Order.{Order}
+use Rattle.cap_bytes.specs.declared.numbers.Order.{Order}
 use Rattle.cap_blocks.specs.OptionList.{OptionItem, options_of}
 use Rattle.cap_source.specs.TimeBases.{microseconds, resolution_in, offset_in, value_of, given_or, options_fault, fault_of, with_resolution, with_offset, interface_at, interface_or, interface_by, interface_in, no_base, option_read, options_read, then_read}
 use Rattle.cap_source.specs.declared.interfaces.TimeBase.{TimeBase}

@@ -1,8 +1,8 @@
 -- What is true of the interfaces and of the packets that blocks say.
 use Rattle.std.proofs.Common.{◌≡◌, ◌*◌, ℕ, ◌+◌, ◌^◌, ◌≤◌, drop, slice_get, List, length, Bool, Some, None, Result, Ok, IfOk, arith, if◌then◌else◌}
-use Rattle.cap_numbers.specs.Number.{number}
+use Rattle.cap_bytes.specs.Number.{number}
 use Rattle.cap_bytes.specs.declared.faults.Rule.{Rule}
-use Rattle.cap_numbers.specs.declared.numbers.Order.{Order}
+use Rattle.cap_bytes.specs.declared.numbers.Order.{Order}
 use Rattle.cap_source.specs.TimeBases.{interface_in}
 use Rattle.cap_source.specs.Contents.{fitting, timed_in, simple_in, simple_captured, of_interface, of_body, content_in}
 use Rattle.cap_source.specs.declared.contents.Content.{Content}

@@ -1,9 +1,9 @@
 -- What the blocks of a pcapng file say, and the first rule that their bodies break.
 use Rattle.std.specs.Prelude.{◌==◌, ◌||◌, ◌*◌, ◌+◌, ◌^◌, nat_lt, ℕ, if◌then◌else◌, List, length, drop, slice_get, Option, Some, None, Result, Ok, Err}
-use Rattle.cap_numbers.specs.Number.{number}
+use Rattle.cap_bytes.specs.Number.{number}
 use Rattle.cap_bytes.specs.declared.faults.Rule.{Rule}
 use Rattle.cap_bytes.specs.declared.faults.Rule.TheVariants as rules
-use Rattle.cap_numbers.specs.declared.numbers.Order.{Order}
+use Rattle.cap_bytes.specs.declared.numbers.Order.{Order}
 use Rattle.cap_time.specs.declared.resolutions.Interface.{Interface}
 use Rattle.cap_blocks.specs.Grammar.{section_kind, interface_kind, obsolete_kind, simple_kind, enhanced_kind}
 use Rattle.cap_source.specs.TimeBases.{interface_in}

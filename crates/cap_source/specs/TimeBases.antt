@@ -1,10 +1,10 @@
 -- What the options of an interface block say of its times: their unit, and the offset that is added. draft-ietf-opsawg-pcapng, 4.2.
 use Rattle.std.specs.Prelude.{◌≡◌, ◌==◌, ◌&&◌, ◌||◌, not, nat_le, ℕ, ℤ, pos, Bool, true, false, if◌then◌else◌, List, [], ◌∷◌, length, drop, slice_index, Option, Some, None, is_some, unwrap_or, Result, Ok, Err, refl}
 use Rattle.std.specs.Int.{w64, cast_signed}
-use Rattle.cap_numbers.specs.Number.{number}
+use Rattle.cap_bytes.specs.Number.{number}
 use Rattle.cap_bytes.specs.declared.faults.Rule.{Rule}
 use Rattle.cap_bytes.specs.declared.faults.Rule.TheVariants as rules
-use Rattle.cap_numbers.specs.declared.numbers.Order.{Order}
+use Rattle.cap_bytes.specs.declared.numbers.Order.{Order}
 use Rattle.cap_time.specs.Code.{is_allowed}
 use Rattle.cap_time.specs.declared.resolutions.Resolution.{Resolution}
 use Rattle.cap_time.specs.declared.resolutions.Interface.{Interface}

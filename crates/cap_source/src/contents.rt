@@ -5,8 +5,7 @@ ghost use Rattle.cap_source.specs.Contents.{fitting, timed_in, simple_captured, 
 
 use crate::interfaces::interface_of;
 use cap_blocks::{ENHANCED_PACKET, INTERFACE, OBSOLETE_PACKET, SECTION, SIMPLE_PACKET};
-use cap_bytes::{PACKET_LIMIT, Rule};
-use cap_numbers::{Order, u16_at, u32_at};
+use cap_bytes::{Order, PACKET_LIMIT, Rule, u16_at, u32_at};
 use cap_time::Interface;
 
 // Where the captured bytes begin in the body of a packet with a time, and of a simple one.

@@ -4,8 +4,7 @@ ghost use Rattle.cap_blocks.specs.OptionList.{options_of};
 ghost use Rattle.cap_source.specs.TimeBases.{resolution_of, resolution_in, offset_in, with_resolution, with_offset, option_read, options_read, no_base, microseconds, interface_with, interface_by, interface_in};
 
 use cap_blocks::Options;
-use cap_bytes::Rule;
-use cap_numbers::{Order, u16_at, u32_at, u64_at};
+use cap_bytes::{Order, Rule, u16_at, u32_at, u64_at};
 use cap_time::{Interface, Resolution};
 
 /// The most interfaces that a section may have.

@@ -4,7 +4,7 @@ use Rattle.cap_bytes.specs.Printing.{Prints}
 use Rattle.cap_bytes.specs.declared.faults.Fault.{Fault}
 use Rattle.cap_bytes.specs.declared.faults.Tail.{Tail}
 use Rattle.cap_bytes.specs.declared.faults.Tail.TheVariants.{Accept, Refuse}
-use Rattle.cap_numbers.specs.declared.numbers.Order.{Order}
+use Rattle.cap_bytes.specs.declared.numbers.Order.{Order}
 use Rattle.cap_jobs.specs.declared.jobs.Job.{Job}
 use Rattle.cap_jobs.specs.declared.jobs.Task.{Task}
 use Rattle.cap_jobs.specs.declared.jobs.Task.TheVariants as tasks

@@ -6,8 +6,7 @@ use cap_blocks::{
     Block, BlockReader, Options, PacketFields, is_known, is_section, put_interface, put_packet,
     put_section,
 };
-use cap_bytes::{Device, Pieces, Room, Rule, Sink, Source, Tail, Window};
-use cap_numbers::Order;
+use cap_bytes::{Device, Order, Pieces, Room, Rule, Sink, Source, Tail, Window};
 use cap_time::{Interface, Resolution};
 use std::alloc::Global;
 use std::cmp::max;

@@ -4,9 +4,9 @@ ghost use Rattle.std.specs.Prelude.{◌≤◌};
 
 use crate::checks::{holds, same};
 use cap_bytes::{
-    Broken, Device, Fault, Pieces, Refusal, Room, Rule, Sink, Source, Tracked, Window, put_all,
+    Broken, Device, Fault, Order, Pieces, Refusal, Room, Rule, Sink, Source, Tracked, Window,
+    put_all, put_u16, put_u32, put_u64, u16_at, u32_at, u64_at,
 };
-use cap_numbers::{Order, put_u16, put_u32, put_u64, u16_at, u32_at, u64_at};
 use std::alloc::Global;
 use std::cmp::max;
 use std::io;

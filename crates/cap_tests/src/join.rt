@@ -3,9 +3,9 @@ ghost use Rattle.std.specs.Prelude.{◌≤◌};
 
 use crate::checks::{holds, same};
 use crate::runs::{DATA, FRAGMENTS, Run};
+use cap_bytes::{Order, put_u16};
 use cap_ip::Key;
 use cap_join::{Datagram, JoinFault, Put, places_law, worked_rows};
-use cap_numbers::{Order, put_u16};
 use std::alloc::Global;
 use std::process::Abort;
 

@@ -4,8 +4,7 @@ ghost use Rattle.std.specs.Prelude.{◌≡◌, Some, IsSome};
 
 use crate::checks::{holds, same};
 use crate::vectors::{CARRY_PCAP, refused};
-use cap_bytes::{Device, Pieces, Room, Rule, Sink, Source, Tail, Window};
-use cap_numbers::Order;
+use cap_bytes::{Device, Order, Pieces, Room, Rule, Sink, Source, Tail, Window};
 use cap_pcap::{PcapHeader, PcapReader, Record, RecordTime, put_header, put_record};
 use cap_time::Unit;
 use std::alloc::Global;

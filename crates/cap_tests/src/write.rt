@@ -6,8 +6,7 @@ use crate::hex_vectors::{
     CARRY_PCAP, CARRY_PCAPNG, EARLY, ETHERNET, FRAGMENT_FRAMES, File, HEADER_ONLY, INTERFACE, LATE,
     PACKET, RUNS_BACK, RUNS_ON, SECTION, SIMPLE_PACKET, TAGGED_FRAMES,
 };
-use cap_bytes::{Fault, Rule, Sink, Source, Tail};
-use cap_numbers::Order;
+use cap_bytes::{Fault, Order, Rule, Sink, Source, Tail};
 use cap_source::Capture;
 use cap_write::{to_pcap, to_pcapng, write_joined, write_merged};
 use std::alloc::Global;

@@ -6,7 +6,7 @@ use Rattle.std.specs.Prelude.{OnOk, IfOk, Result, Ok, Err}
 use Rattle.cap_bytes.specs.Printing.{Prints}
 use Rattle.cap_bytes.specs.declared.faults.Fault.{Fault}
 use Rattle.cap_bytes.specs.declared.faults.Rule.{Rule}
-use Rattle.cap_numbers.specs.declared.numbers.Order.{Order}
+use Rattle.cap_bytes.specs.declared.numbers.Order.{Order}
 use Rattle.cap_ip.specs.Read.{Reading, found, bad, cut}
 use Rattle.cap_join.specs.Arrivals.{IsArrived, IsFragmentOf}
 use Rattle.cap_join.specs.Fragments.{Piece}

@@ -5,7 +5,7 @@ use Rattle.cap_bytes.specs.Printing.{Prints}
 use Rattle.cap_bytes.specs.declared.faults.Fault.{Fault}
 use Rattle.cap_bytes.specs.declared.faults.Fault.TheVariants.{Memory}
 use Rattle.cap_bytes.specs.declared.faults.Tail.{Tail}
-use Rattle.cap_numbers.specs.declared.numbers.Order.{Order}
+use Rattle.cap_bytes.specs.declared.numbers.Order.{Order}
 use Rattle.cap_merge.proofs.Unread.{told-readers, bytes-readers, run-items}
 use Rattle.cap_order.specs.Parts.{Part, feed_of, run_of}
 use Rattle.cap_merge.specs.Readers.{Reader, IsUnreadRun}

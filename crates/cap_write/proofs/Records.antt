@@ -5,7 +5,7 @@ use Rattle.cap_bytes.specs.declared.faults.Fault.{Fault}
 use Rattle.cap_bytes.specs.declared.faults.Fault.TheVariants.{Refused}
 use Rattle.cap_bytes.specs.declared.faults.Rule.{Rule}
 use Rattle.cap_bytes.specs.declared.faults.Rule.TheVariants.{NoTime, LinkMixed}
-use Rattle.cap_numbers.specs.declared.numbers.Order.{Order}
+use Rattle.cap_bytes.specs.declared.numbers.Order.{Order}
 use Rattle.cap_pcap.specs.declared.records.RecordTime.{RecordTime}
 use Rattle.cap_feed.proofs.Onward.{Went}
 use Rattle.cap_feed.proofs.Walking.{Plan, IsPlan, GoesOn, GivesUp, Walking}

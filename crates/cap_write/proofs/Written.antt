@@ -7,7 +7,7 @@ use Rattle.cap_bytes.specs.declared.faults.Fault.{Fault}
 use Rattle.cap_bytes.specs.declared.faults.Fault.TheVariants.{Refused, Memory}
 use Rattle.cap_bytes.specs.declared.faults.Refusal.{Refusal}
 use Rattle.cap_bytes.specs.declared.faults.Rule.{Rule}
-use Rattle.cap_numbers.specs.declared.numbers.Order.{Order}
+use Rattle.cap_bytes.specs.declared.numbers.Order.{Order}
 use Rattle.cap_feed.proofs.Walking.{Plan, GoesOn, GivesUp, Prints-whole, Prints-front}
 use Rattle.cap_feed.specs.Feed.{Item, packet}
 use Rattle.cap_feed.specs.declared.packets.Meta.{Meta}

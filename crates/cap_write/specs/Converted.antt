@@ -2,7 +2,7 @@
 use Rattle.std.specs.Prelude.{ℕ, List, Option}
 use Rattle.cap_bytes.specs.declared.faults.Refusal.{Refusal}
 use Rattle.cap_bytes.specs.declared.faults.Tail.{Tail}
-use Rattle.cap_numbers.specs.declared.numbers.Order.{Order}
+use Rattle.cap_bytes.specs.declared.numbers.Order.{Order}
 use Rattle.cap_source.specs.Items.{file_first, file_items}
 use Rattle.cap_feed.specs.declared.packets.Format.{Format}
 use Rattle.cap_feed.specs.declared.packets.Format.TheVariants.{Pcap, Pcapng}

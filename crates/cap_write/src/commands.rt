@@ -11,10 +11,9 @@ ghost use Rattle.cap_write.specs.MergeText.{merge_text, merge_refusal};
 use crate::files::{to_pcap, to_pcapng};
 use crate::joined::write_joined;
 use crate::merged::write_merged;
-use cap_bytes::{Fault, Sink, Source, Tail};
+use cap_bytes::{Fault, Order, Sink, Source, Tail};
 use cap_feed::Format;
 use cap_merge::merge_files;
-use cap_numbers::Order;
 use cap_source::Capture;
 use std::alloc::Global;
 

@@ -11,9 +11,8 @@ ghost use Rattle.cap_source.specs.Captures.{feed_of, number_of, first_of};
 use crate::interfaces::FileStart;
 use crate::pcap::put_pcap;
 use crate::pcapng::put_pcapng;
-use cap_bytes::{Fault, Sink, Source};
+use cap_bytes::{Fault, Order, Sink, Source};
 use cap_feed::PacketFeed;
-use cap_numbers::Order;
 use cap_source::Capture;
 use std::alloc::Global;
 

@@ -9,9 +9,8 @@ ghost use Rattle.cap_write.specs.Texts.{merged_bytes, merged_refusal};
 use crate::interfaces::Origins;
 use crate::packets::put_packets;
 use cap_blocks::put_section;
-use cap_bytes::{Fault, Sink};
+use cap_bytes::{Fault, Order, Sink};
 use cap_feed::PacketFeed;
-use cap_numbers::Order;
 use std::alloc::Global;
 
 /// Writes the packets of a feed as a pcapng file (draft-ietf-opsawg-pcapng, 4) of one section in that byte

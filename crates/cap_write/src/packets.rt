@@ -10,9 +10,8 @@ ghost use Rattle.cap_write.specs.Texts.{text_behind, one_bytes};
 
 use crate::interfaces::{Origins, number_of, units_of};
 use cap_blocks::{PacketFields, put_interface, put_packet};
-use cap_bytes::{Fault, Sink};
+use cap_bytes::{Fault, Order, Sink};
 use cap_feed::{Meta, PacketFeed, next_packet};
-use cap_numbers::Order;
 
 // Writes a packet's interface if it is the next one.
 fn put_new_interface<W: Sink>(

@@ -10,9 +10,8 @@ ghost use Rattle.cap_write.specs.Texts.{text_or};
 ghost use Rattle.cap_write.specs.Numbering.{refusal_by};
 
 use crate::interfaces::{FileStart, refused, units_of};
-use cap_bytes::{Fault, Refusal, Rule, Sink};
+use cap_bytes::{Fault, Order, Refusal, Rule, Sink};
 use cap_feed::{Head, Meta, PacketFeed, next_packet};
-use cap_numbers::Order;
 use cap_pcap::{PcapHeader, RecordTime, put_header, put_record};
 use cap_time::{Interface, Stamp, Unit};
 

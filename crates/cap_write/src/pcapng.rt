@@ -10,9 +10,8 @@ ghost use Rattle.cap_write.specs.Texts.{first_origins, first_bytes, front_bytes,
 use crate::interfaces::{FileStart, Origins};
 use crate::packets::put_packets;
 use cap_blocks::{put_interface, put_section};
-use cap_bytes::{Fault, Sink};
+use cap_bytes::{Fault, Order, Sink};
 use cap_feed::PacketFeed;
-use cap_numbers::Order;
 use cap_time::Interface;
 use std::alloc::Global;
 

@@ -8,10 +8,10 @@ use Rattle.std.specs.Int.{w64, cast_signed, cast_unsigned}
 use Rattle.cap_blocks.proofs.Again.{interface_again-law, packet_again-law}
 use Rattle.cap_blocks.proofs.Parts.{length-packet_body}
 use Rattle.cap_blocks.specs.Grammar.{interface_kind, enhanced_kind, section_kind, interface_body, packet_body}
-use Rattle.cap_numbers.proofs.Spelling.{number-bytes_of, length-bytes_of}
-use Rattle.cap_numbers.specs.Number.{number, bytes_of}
+use Rattle.cap_bytes.proofs.Spelling.{number-bytes_of, length-bytes_of}
+use Rattle.cap_bytes.specs.Number.{number, bytes_of}
 use Rattle.cap_bytes.specs.declared.faults.Rule.TheVariants as rules
-use Rattle.cap_numbers.specs.declared.numbers.Order.{Order}
+use Rattle.cap_bytes.specs.declared.numbers.Order.{Order}
 use Rattle.cap_source.proofs.Options.{interface_read}
 use Rattle.cap_source.proofs.Resolutions.{from_code_is}
 use Rattle.cap_source.specs.TimeBases.{resolution_of, offset_in, no_base, option_read, options_read, interface_in}

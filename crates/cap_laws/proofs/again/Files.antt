@@ -8,11 +8,11 @@ use Rattle.cap_blocks.specs.Grammar.{section_kind, section_body, section_bytes, 
 use Rattle.cap_blocks.specs.Laws.{block_of}
 use Rattle.cap_blocks.specs.Split as blocks
 use Rattle.cap_blocks.specs.Split.{is_section, Piece}
-use Rattle.cap_numbers.proofs.Spelling.{number-append, length-bytes_of}
-use Rattle.cap_numbers.specs.Number.{number, bytes_of}
+use Rattle.cap_bytes.proofs.Spelling.{number-append, length-bytes_of}
+use Rattle.cap_bytes.specs.Number.{number, bytes_of}
 use Rattle.cap_bytes.specs.declared.faults.Tail.{Tail}
-use Rattle.cap_numbers.specs.declared.numbers.Order.{Order}
-use Rattle.cap_numbers.specs.declared.numbers.Order.TheVariants.{Big}
+use Rattle.cap_bytes.specs.declared.numbers.Order.{Order}
+use Rattle.cap_bytes.specs.declared.numbers.Order.TheVariants.{Big}
 use Rattle.cap_source.specs.Items.{fresh, is_pcapng, items_in, first_in, items_from, file_items, first_from, file_first, interface_of, unless_refused}
 use Rattle.cap_pcap.specs.Split as records
 use Rattle.cap_source.specs.declared.contents.Content.TheVariants as contents

@@ -7,7 +7,7 @@ use Rattle.cap_blocks.specs.Split as blocks
 use Rattle.cap_blocks.specs.declared.blocks.Block.{Block}
 use Rattle.cap_bytes.specs.Items as pieces
 use Rattle.cap_bytes.specs.declared.faults.Rule.{Rule}
-use Rattle.cap_numbers.specs.declared.numbers.Order.{Order}
+use Rattle.cap_bytes.specs.declared.numbers.Order.{Order}
 use Rattle.cap_pcap.specs.Split as records
 use Rattle.cap_pcap.specs.declared.records.Record.{Record}
 use Rattle.cap_source.proofs.Saying.{OfContent, content-holds}

@@ -1,7 +1,7 @@
 -- The packets of a pcap file, as they are numbered, read again and kept.
 use Rattle.std.proofs.Common.{arith, ◌≡◌, ℕ, ◌+◌, List, [], ◌∷◌, length, Option, Some, None, refl, ap}
 use Rattle.cap_bytes.specs.declared.faults.Refusal.{Refusal}
-use Rattle.cap_numbers.specs.declared.numbers.Order.{Order}
+use Rattle.cap_bytes.specs.declared.numbers.Order.{Order}
 use Rattle.cap_pcap.specs.Grammar.{Packet, packet_size}
 use Rattle.cap_pcap.specs.Split as records
 use Rattle.cap_bytes.specs.declared.stops.Stop.{Stop}

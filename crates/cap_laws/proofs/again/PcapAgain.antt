@@ -6,7 +6,7 @@ use Rattle.std.specs.Option.{MatchOption, option_map}
 use Rattle.std.specs.Prelude.{nat_abs}
 use Rattle.cap_bytes.specs.declared.faults.Refusal.{Refusal}
 use Rattle.cap_bytes.specs.declared.faults.Tail.{Tail}
-use Rattle.cap_numbers.specs.declared.numbers.Order.{Order}
+use Rattle.cap_bytes.specs.declared.numbers.Order.{Order}
 use Rattle.cap_time.specs.Clock.{clock_cmp}
 use Rattle.cap_pcap.specs.Grammar.{Packet, packet_size, header_bytes, record_bytes}
 use Rattle.cap_pcap.specs.Split.{items_with, record_of}

@@ -5,12 +5,12 @@ use Rattle.std.specs.Int.{w64}
 use Rattle.cap_blocks.proofs.Parts.{length-packet_body}
 use Rattle.cap_blocks.specs.Grammar.{section_kind, block_bytes, section_bytes, interface_bytes}
 use Rattle.cap_blocks.specs.Split.{AreBytes}
-use Rattle.cap_numbers.proofs.Spelling.{number-append, length-bytes_of}
-use Rattle.cap_numbers.specs.Number.{number}
+use Rattle.cap_bytes.proofs.Spelling.{number-append, length-bytes_of}
+use Rattle.cap_bytes.specs.Number.{number}
 use Rattle.cap_bytes.specs.declared.faults.Rule.{Rule}
 use Rattle.cap_bytes.specs.declared.faults.Tail.{Tail}
-use Rattle.cap_numbers.specs.declared.numbers.Order.{Order}
-use Rattle.cap_numbers.specs.declared.numbers.Order.TheVariants.{Big, Little}
+use Rattle.cap_bytes.specs.declared.numbers.Order.{Order}
+use Rattle.cap_bytes.specs.declared.numbers.Order.TheVariants.{Big, Little}
 use Rattle.cap_pcap.proofs.Splitting.{every_split-law, split_items-law}
 use Rattle.cap_pcap.specs.Split as records
 use Rattle.cap_pcap.specs.Split.{items_with}

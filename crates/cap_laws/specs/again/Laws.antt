@@ -1,7 +1,7 @@
 -- What is true of written files, whatever writes or reads them.
 use Rattle.std.specs.Prelude.{◌≡◌, ℕ, ◌+◌, ◌/◌, ◌%◌, ◌^◌, ◌≤◌, ◌<◌, ◌==◌, FitsSigned, List, [], ◌∷◌, ◌++◌, length, map, slice_get, Option, Some, None, option_map, not, pos, int_lt, Bool, ⊤, false, if◌then◌else◌}
 use Rattle.std.specs.Int.{w64}
-use Rattle.cap_numbers.specs.declared.numbers.Order.{Order}
+use Rattle.cap_bytes.specs.declared.numbers.Order.{Order}
 use Rattle.cap_bytes.specs.declared.faults.Refusal.{Refusal}
 use Rattle.cap_bytes.specs.declared.faults.Rule.TheVariants.{TimeRange}
 use Rattle.cap_bytes.specs.declared.faults.Tail.{Tail}

@@ -6,7 +6,7 @@ use Rattle.std.specs.declared.cmp.Ordering.TheVariants.{Equal}
 use Rattle.cap_blocks.specs.Split.{AreBytes}
 use Rattle.cap_bytes.specs.declared.faults.Rule.{Rule}
 use Rattle.cap_bytes.specs.declared.faults.Tail.{Tail}
-use Rattle.cap_numbers.specs.declared.numbers.Order.{Order}
+use Rattle.cap_bytes.specs.declared.numbers.Order.{Order}
 use Rattle.cap_feed.specs.Feed.{Item, packet, refused, refusal_of}
 use Rattle.cap_source.specs.Items.{file_items}
 use Rattle.cap_feed.specs.declared.packets.Format.TheVariants.{Pcapng}

@@ -6,9 +6,8 @@ use crate::commands::captures::{
     CARRIED_BIG, CARRIED_PCAP, CARRY_PCAP, CARRY_PCAPNG, OBSOLETE_PCAPNG,
 };
 use crate::files::{ask_written, reader_of, room_of};
-use cap_bytes::{Rule, Tail};
+use cap_bytes::{Order, Rule, Tail};
 use cap_feed::Format;
-use cap_numbers::Order;
 use cap_write::{Encoding, convert_to};
 use std::alloc::Global;
 use std::process::Abort;

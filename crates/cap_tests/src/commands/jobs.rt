@@ -4,10 +4,9 @@ use crate::commands::captures::{
     CARRIED_BIG, CARRIED_PCAP, CARRY_PCAP, CARRY_PCAPNG, SECTION, TWICE,
 };
 use crate::files::{ask_written, readers_of, room_of};
-use cap_bytes::{Fault, Sink};
+use cap_bytes::{Fault, Order, Sink};
 use cap_feed::Format;
 use cap_jobs::{Job, Task, is_whole};
-use cap_numbers::Order;
 use cap_tasks::job_to;
 use std::alloc::Global;
 use std::process::Abort;

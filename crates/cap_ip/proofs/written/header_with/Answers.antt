@@ -1,5 +1,5 @@
 use Rattle.std.proofs.Common.{arith}
-use Rattle.cap_numbers.specs.Number.{bytes_of}
+use Rattle.cap_bytes.specs.Number.{bytes_of}
 use Rattle.cap_ip.specs.Checksum.{checked}
 use Rattle.cap_ip.specs.Written.{header_with}
 use Rattle.cap_ip.proofs.written.header_with.Goals as goal

@@ -1,6 +1,6 @@
 use Rattle.std.proofs.Common.{rules}
-use Rattle.cap_numbers.specs.Number.{number}
-use Rattle.cap_numbers.proofs.numbers.u16_at.Goals as goal
+use Rattle.cap_bytes.specs.Number.{number}
+use Rattle.cap_bytes.proofs.numbers.u64_at.Goals as goal
 
 pub returns-in-Big : goal.returns-in-Big
 unfolding number

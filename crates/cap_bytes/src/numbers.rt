@@ -1,6 +1,6 @@
 //! Unsigned numbers at a place in bytes, in either byte order.
 ghost use Rattle.std.specs.Prelude.{◌≡◌, ◌+◌, ◌≤◌, ◌++◌, length, take, drop};
-ghost use Rattle.cap_numbers.specs.Number.{number, bytes_of, with_number};
+ghost use Rattle.cap_bytes.specs.Number.{number, bytes_of, with_number};
 
 use byteorder::{BigEndian, ByteOrder, LittleEndian};
 

@@ -1,7 +1,7 @@
 use Rattle.std.proofs.Common.{refl}
-use Rattle.cap_numbers.proofs.Spelled.{spelled-over, spelled-in-front}
-use Rattle.cap_numbers.specs.Number.{with_number, bytes_of}
-use Rattle.cap_numbers.proofs.numbers.put_u32.Goals as goal
+use Rattle.cap_bytes.proofs.Spelled.{spelled-over, spelled-in-front}
+use Rattle.cap_bytes.specs.Number.{with_number, bytes_of}
+use Rattle.cap_bytes.proofs.numbers.put_u32.Goals as goal
 
 pub returns-in-Big-clause-bytes : goal.returns-in-Big-clause-bytes
 unfolding with_number bytes_of
