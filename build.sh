@@ -9,7 +9,7 @@ set -euo pipefail
 cd "$(dirname "$0")"
 program=cap_tool
 # the crates for which others wait longest: they, and those that they stand on, begin before others that could
-first='cap_feed cap_blocks cap_write'
+first='cap_source cap_blocks cap_write'
 # the longest of these, and how many processes they get even if no processor is idle; and the most that a crate gets
 declare -A least=([cap_tally]=2 [cap_write]=3)
 most=4

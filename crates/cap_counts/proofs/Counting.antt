@@ -1,7 +1,7 @@
 -- The packets of a file, counted one by one.
 use Rattle.std.proofs.Common.{◌≡◌, ◌+◌, cond, nat_lt, List, [], ◌∷◌, ◌++◌, arith, Some, option_map, length-append, true}
 use Rattle.std.specs.Option.{option_map_or}
-use Rattle.cap_feed.specs.declared.packets.Meta.{Meta}
+use Rattle.cap_source.specs.declared.packets.Meta.{Meta}
 use Rattle.cap_counts.specs.Counting.{are_in_order, original_bytes, truncated_packets, last_packet, counted, with_packet}
 use Rattle.cap_counts.proofs.Times.{least-more, greatest-more, times-in_order}
 

@@ -3,11 +3,11 @@ use Rattle.std.proofs.Common.{◌≡◌, true, List, [], ◌∷◌, ◌++◌, �
 use Rattle.std.specs.Cmp.{IsTotalOrder}
 use Rattle.std.proofs.lemmas.Cmp.{back_total}
 use Rattle.cap_time.specs.Clock.{later}
-use Rattle.cap_feed.specs.declared.packets.Meta.{Meta}
+use Rattle.cap_source.specs.declared.packets.Meta.{Meta}
 use Rattle.cap_time.specs.Stamp.{stamp_cmp}
 use Rattle.cap_time.specs.StampLaws.{stamp_cmp_total}
 use Rattle.cap_time.specs.declared.stamps.Stamp.{Stamp}
-use Rattle.cap_feed.specs.Times.{meta_time}
+use Rattle.cap_source.specs.Times.{meta_time}
 use Rattle.cap_counts.specs.Counting.{earlier, are_in_order, least_time, greatest_time}
 use Rattle.cap_time.proofs.Chosen.{chosen, chosen-assoc, chosen-alone, not_trans}
 

@@ -3,9 +3,9 @@ use Rattle.std.specs.Prelude.{ℕ, Bool, true, false, not, ◌+◌, nat_lt, List
 use Rattle.std.specs.Option.{option_map_or}
 use Rattle.std.specs.Ordering.{is_lt}
 use Rattle.cap_time.specs.Clock.{later}
-use Rattle.cap_feed.specs.Feed.{Item, packet, refused}
-use Rattle.cap_feed.specs.Times.{meta_time}
-use Rattle.cap_feed.specs.declared.packets.Meta.{Meta}
+use Rattle.cap_source.specs.Feed.{Item, packet, refused}
+use Rattle.cap_source.specs.Times.{meta_time}
+use Rattle.cap_source.specs.declared.packets.Meta.{Meta}
 use Rattle.cap_time.specs.Stamp.{stamp_cmp}
 use Rattle.cap_time.specs.declared.stamps.Stamp.{Stamp}
 use Rattle.cap_counts.specs.declared.counts.Counts.{Counts}

@@ -1,9 +1,9 @@
 -- The lines of files that were counted.
 use Rattle.std.specs.Prelude.{ℕ, ◌+◌, Bool, true, false, List, [], ◌∷◌, ◌++◌, codes, decimal, Option, Some, None, option_map}
 use Rattle.cap_print.specs.Lines.{time_text}
-use Rattle.cap_feed.specs.declared.feeds.Ending.{Ending}
-use Rattle.cap_feed.specs.declared.packets.Format.{Format}
-use Rattle.cap_feed.specs.declared.packets.Format.TheVariants.{Pcap, Pcapng}
+use Rattle.cap_source.specs.declared.feeds.Ending.{Ending}
+use Rattle.cap_source.specs.declared.packets.Format.{Format}
+use Rattle.cap_source.specs.declared.packets.Format.TheVariants.{Pcap, Pcapng}
 use Rattle.cap_time.specs.Stamp.{printed_of}
 use Rattle.cap_counts.specs.declared.counts.Counts.{Counts}
 use Rattle.cap_counts.specs.declared.files.Counted.{Counted}

@@ -1,11 +1,11 @@
 //! Running counts of the packets of one file.
 ghost use Rattle.std.specs.Prelude.{◌≡◌, ◌≤◌, ◌<◌, ◌*◌, ◌^◌, ◌++◌, List, [], ◌∷◌, true};
-ghost use Rattle.cap_feed.specs.declared.packets.Meta.{Meta};
-ghost use Rattle.cap_feed.specs.Times.{meta_time};
+ghost use Rattle.cap_source.specs.declared.packets.Meta.{Meta};
+ghost use Rattle.cap_source.specs.Times.{meta_time};
 ghost use Rattle.cap_counts.specs.Counting.{counted, with_packet, earlier, are_in_order};
 ghost use Rattle.cap_time.specs.Clock.{later};
 
-use cap_feed::{Format, Meta};
+use cap_source::{Format, Meta};
 use cap_time::Stamp;
 use std::cmp::Ordering;
 

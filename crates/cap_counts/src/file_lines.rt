@@ -4,8 +4,8 @@ ghost use Rattle.cap_print.specs.Lines.{room_in, text_in};
 ghost use Rattle.cap_counts.specs.FileLines.{format_text, cut_text, line_text, file_text, files_text};
 
 use crate::counts::Counts;
-use cap_feed::{Ending, Format};
 use cap_print::Line;
+use cap_source::{Ending, Format};
 
 // Puts a label and a format, or `-` if it isn't known.
 fn put_format(line: &mut Line, label: &[u8], format: Option<Format>)

@@ -7,7 +7,7 @@ ghost use Rattle.cap_counts.specs.FileLines.{counted_texts, files_text};
 use crate::counts::Counts;
 use crate::file_lines::{file_line, files_line};
 use cap_bytes::{Fault, Sink, put_all};
-use cap_feed::Ending;
+use cap_source::Ending;
 
 /// What is counted of a file, and how it has ended, if that is told.
 #[derive(Clone, Copy, Default)]

@@ -4,8 +4,8 @@ use Rattle.std.specs.Str.{bytes_eq}
 use Rattle.std.specs.List.{list_any}
 use Rattle.cap_bytes.specs.declared.numbers.Order.{Order}
 use Rattle.cap_bytes.specs.declared.numbers.Order.TheVariants.{Big, Little}
-use Rattle.cap_feed.specs.declared.packets.Format.{Format}
-use Rattle.cap_feed.specs.declared.packets.Format.TheVariants.{Pcap, Pcapng}
+use Rattle.cap_source.specs.declared.packets.Format.{Format}
+use Rattle.cap_source.specs.declared.packets.Format.TheVariants.{Pcap, Pcapng}
 use Rattle.cap_jobs.specs.declared.jobs.Job.{Job}
 use Rattle.cap_jobs.specs.declared.jobs.Task.{Task}
 use Rattle.cap_jobs.specs.declared.jobs.Task.TheVariants as tasks

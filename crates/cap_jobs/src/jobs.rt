@@ -6,7 +6,7 @@ ghost use Rattle.cap_jobs.specs.Jobs.{files_fault, format_by, is_also_file, is_w
 
 use crate::faults::LineFault;
 use cap_bytes::Order;
-use cap_feed::Format;
+use cap_source::Format;
 
 // How many files a command reads at most.
 const FILES_LIMIT: usize = 32;

@@ -13,7 +13,7 @@ use Rattle.cap_join.specs.Joiners.{open_limit}
 use Rattle.cap_join.specs.declared.datagrams.Stamped.{Stamped}
 use Rattle.cap_order.specs.Clocks.{clock_total}
 use Rattle.cap_order.specs.Run.{Clocked}
-use Rattle.cap_feed.specs.Feed.{Item, packet, refused}
+use Rattle.cap_source.specs.Feed.{Item, packet, refused}
 use Rattle.cap_tally.specs.Classes.{classes, classes_in, groups_of}
 use Rattle.cap_tally.specs.CountedUnits.{first_unit, unit_by, unit_at, listed, units_of}
 use Rattle.cap_talks.specs.ReportText.{with_item, taken_after}

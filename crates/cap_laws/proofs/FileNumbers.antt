@@ -13,7 +13,7 @@ use Rattle.cap_blocks.specs.Split as blocks
 use Rattle.cap_blocks.specs.declared.blocks.Block.{Block}
 use Rattle.cap_pcap.specs.declared.records.Record.{Record}
 use Rattle.cap_source.specs.Contents.{content_in}
-use Rattle.cap_feed.specs.Feed.{Item}
+use Rattle.cap_source.specs.Feed.{Item}
 use Rattle.cap_source.specs.Items.{Progress, fresh, behind, items_at, items_of_stop, items_in, pcap_items, interface_of, is_pcapng, items_from, file_items}
 use Rattle.cap_source.specs.declared.contents.Content.{Content}
 use Rattle.cap_laws.specs.again.Rounds.{in_file}

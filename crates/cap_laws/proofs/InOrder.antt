@@ -10,7 +10,7 @@ use Rattle.cap_time.specs.Clock.{clock_cmp}
 use Rattle.cap_order.specs.Clocks.{AtMost, clock_total, at_most-itself, at_most-trans}
 use Rattle.cap_order.specs.Parts.{item_time, is_refusal}
 use Rattle.cap_order.specs.Run.{Clocked, opened, run}
-use Rattle.cap_feed.specs.Feed.{Item, packet, refused}
+use Rattle.cap_source.specs.Feed.{Item, packet, refused}
 use Rattle.cap_time.specs.declared.stamps.Stamp.{Stamp}
 use Rattle.cap_join.proofs.Once.{completed}
 use Rattle.cap_tally.proofs.LoneFragments.{no-lone}

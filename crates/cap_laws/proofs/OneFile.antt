@@ -6,9 +6,9 @@ use Rattle.cap_time.specs.Clock.{later}
 use Rattle.cap_merge.specs.Files.{run_of_lists}
 use Rattle.cap_order.specs.MergedList.{merged-next, merged-none}
 use Rattle.cap_order.specs.Parts.{item_time, is_refusal}
-use Rattle.cap_feed.specs.Times.{meta_time}
+use Rattle.cap_source.specs.Times.{meta_time}
 use Rattle.cap_order.specs.Run.{Clocked, merged, through_first}
-use Rattle.cap_feed.specs.Feed.{Item, packet, refusal_of}
+use Rattle.cap_source.specs.Feed.{Item, packet, refusal_of}
 use Rattle.cap_time.specs.declared.stamps.Stamp.{Stamp}
 
 -- the items of a file, after which it has reached a clock, each with its own

@@ -9,7 +9,7 @@ use Rattle.cap_time.specs.Clock.{clock_cmp, later}
 use Rattle.cap_merge.specs.Files.{clocked_run, run_of_lists}
 use Rattle.cap_order.specs.Parts.{item_time, is_refusal}
 use Rattle.cap_order.specs.Run.{Clocked, opened, run}
-use Rattle.cap_feed.specs.Feed.{Item, packet, refusal_of}
+use Rattle.cap_source.specs.Feed.{Item, packet, refusal_of}
 use Rattle.cap_source.specs.Items.{file_first, file_items}
 use Rattle.cap_time.specs.declared.stamps.Stamp.{Stamp}
 use Rattle.cap_write.specs.Pcap.{pcap_bytes}

@@ -7,7 +7,7 @@ use Rattle.cap_blocks.specs.Grammar.{section_bytes}
 use Rattle.cap_bytes.specs.declared.faults.Refusal.{Refusal}
 use Rattle.cap_bytes.specs.declared.faults.Tail.{Tail}
 use Rattle.cap_merge.specs.Files.{items_of_files, run_of_lists, run_of_files}
-use Rattle.cap_feed.specs.Feed.{Item, packet}
+use Rattle.cap_source.specs.Feed.{Item, packet}
 use Rattle.cap_source.specs.Items.{file_items}
 use Rattle.cap_write.specs.Numbering.{Origin, numbered, refusal_in, with_origin}
 use Rattle.cap_write.specs.Texts.{packets_bytes}

@@ -2,7 +2,7 @@
 use Rattle.std.proofs.Common.{arith, ◌≡◌, List, [], ◌∷◌, refl}
 use Rattle.std.specs.Option.{option_map}
 use Rattle.cap_order.specs.Run.{Clocked}
-use Rattle.cap_feed.specs.Feed.{Item}
+use Rattle.cap_source.specs.Feed.{Item}
 use Rattle.cap_talks.specs.ReportText.{refusal_after, with_item}
 use Rattle.cap_tally.specs.Taken.{Taken}
 use Rattle.cap_laws.specs.Reports.{refused_after, RuleLaw}

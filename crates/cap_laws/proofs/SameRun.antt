@@ -9,7 +9,7 @@ use Rattle.cap_order.specs.Clocks.{clock_total}
 use Rattle.cap_merge.specs.Files.{run_of_lists}
 use Rattle.cap_order.specs.Parts.{item_time, is_refusal}
 use Rattle.cap_order.specs.Run.{Clocked, opened, run}
-use Rattle.cap_feed.specs.Feed.{Item}
+use Rattle.cap_source.specs.Feed.{Item}
 use Rattle.cap_time.specs.declared.stamps.Stamp.{Stamp}
 use Rattle.cap_write.specs.Numbering.{Origin, numbered, refusal_in}
 use Rattle.cap_laws.proofs.Alike.{AlikeItems, RunsAlike, same-report}

@@ -4,8 +4,8 @@ use Rattle.std.specs.List.{AllZip}
 use Rattle.std.specs.Prelude.{is_none, unwrap_or, if◌then◌else◌}
 use Rattle.cap_bytes.specs.declared.faults.Refusal.{Refusal}
 use Rattle.cap_bytes.specs.declared.faults.Rule.TheVariants.{NoTime, InterfaceLimit}
-use Rattle.cap_feed.specs.Feed.{Item, packet, refused}
-use Rattle.cap_feed.specs.declared.packets.Meta.{Meta}
+use Rattle.cap_source.specs.Feed.{Item, packet, refused}
+use Rattle.cap_source.specs.declared.packets.Meta.{Meta}
 use Rattle.cap_write.specs.Numbering.{Origin, with_origin, is_full, write_fault, numbered, numbered_of, refusal_in}
 
 -- Two packets have the same interface, units, lengths and bytes.

@@ -6,7 +6,7 @@ use Rattle.cap_bytes.specs.declared.faults.Rule.{Rule}
 use Rattle.cap_bytes.specs.declared.faults.Tail.{Tail}
 use Rattle.cap_bytes.specs.declared.numbers.Order.{Order}
 use Rattle.cap_merge.specs.Files.{run_of_files}
-use Rattle.cap_feed.specs.Feed.{Item}
+use Rattle.cap_source.specs.Feed.{Item}
 use Rattle.cap_write.specs.Texts.{merged_bytes, merged_refusal}
 
 -- Some files, by their bytes, that are merged, and the byte order that is asked for.

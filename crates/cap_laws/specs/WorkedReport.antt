@@ -1,9 +1,9 @@
 -- The report on a few frames, by computation.
 use Rattle.std.specs.Prelude.{◌≡◌, ℕ, ◌*◌, List, [], ◌∷◌, ◌++◌, codes, Some, None, pos, length, false}
 use Rattle.cap_source.specs.TimeBases.{microseconds}
-use Rattle.cap_feed.specs.declared.feeds.Ending.{Ending}
-use Rattle.cap_feed.specs.declared.packets.Format.TheVariants.{Pcap}
-use Rattle.cap_feed.specs.declared.packets.Meta.{Meta}
+use Rattle.cap_source.specs.declared.feeds.Ending.{Ending}
+use Rattle.cap_source.specs.declared.packets.Format.TheVariants.{Pcap}
+use Rattle.cap_source.specs.declared.packets.Meta.{Meta}
 use Rattle.cap_time.specs.Stamp.{stamp_in}
 use Rattle.cap_time.specs.declared.resolutions.Interface.{Interface}
 use Rattle.cap_tally.specs.Classes.{classes}

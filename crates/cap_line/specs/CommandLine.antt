@@ -4,7 +4,7 @@ use Rattle.clap.specs.Words.{App, Row, Text, all_of, first_of, fault_of, subcomm
 use Rattle.clap.specs.declared.error.kind.ErrorKind.{ErrorKind}
 use Rattle.clap.specs.declared.error.kind.ErrorKind.TheVariants as kind
 use Rattle.cap_line.specs.Command.{IsCapt}
-use Rattle.cap_feed.specs.declared.packets.Format.{Format}
+use Rattle.cap_source.specs.declared.packets.Format.{Format}
 use Rattle.cap_jobs.specs.Jobs.{IsWhole, files_fault, format_by, is_whole, order_by, task_by}
 use Rattle.cap_jobs.specs.declared.jobs.Job.{Job}
 use Rattle.cap_jobs.specs.declared.jobs.Task.{Task}

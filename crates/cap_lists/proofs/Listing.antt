@@ -2,12 +2,12 @@
 use Rattle.std.proofs.Common.{ℕ, ◌+◌, ◌≤◌, List, Bool, refl}
 use Rattle.cap_bytes.proofs.Putting.{}
 use Rattle.cap_bytes.specs.Device.{Writer}
-use Rattle.cap_feed.proofs.Onward.{Went}
-use Rattle.cap_feed.proofs.Walking.{Plan, IsPlan, GoesOn, Walking}
-use Rattle.cap_feed.specs.Feed.{Feed}
-use Rattle.cap_feed.specs.declared.packets.Meta.{Meta}
+use Rattle.cap_source.proofs.Onward.{Went}
+use Rattle.cap_source.proofs.Walking.{Plan, IsPlan, GoesOn, Walking}
+use Rattle.cap_source.specs.Feed.{Feed}
+use Rattle.cap_source.specs.declared.packets.Meta.{Meta}
 use Rattle.cap_lists.specs.ListText.{list_lines, packet_text}
-use Rattle.cap_feed.specs.Feed.{refusal_of}
+use Rattle.cap_source.specs.Feed.{refusal_of}
 
 -- what is to be written from the packet number n on
 abbrev pub plan_of : ℕ → Plan

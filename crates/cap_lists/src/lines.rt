@@ -8,8 +8,8 @@ ghost use Rattle.cap_lists.specs.ListText.{packet_text, printed_in};
 
 use cap_blocks::Block;
 use cap_bytes::Order;
-use cap_feed::Meta;
 use cap_print::Line;
+use cap_source::Meta;
 use cap_time::Stamp;
 use std::cmp::min;
 

@@ -3,15 +3,14 @@ ghost use Rattle.std.specs.Prelude.{◌≤◌, ◌^◌, IsTrue};
 ghost use Rattle.cap_lists.specs.ListText.{list_lines, list_text, list_refusal};
 ghost use Rattle.cap_bytes.specs.Device.{WriterKeeps, writer_of};
 ghost use Rattle.cap_bytes.specs.Printing.{Prints, is_write};
-ghost use Rattle.cap_feed.specs.Feed.{refusal_of};
+ghost use Rattle.cap_source.specs.Feed.{refusal_of};
 ghost use Rattle.cap_source.specs.ReadFaults.{FailsOf};
-ghost use Rattle.cap_feed.specs.Walk.{Walks};
+ghost use Rattle.cap_source.specs.Walk.{Walks};
 
 use crate::lines::write_packet;
 use cap_bytes::{Fault, Sink, Source, Tail, put_all};
-use cap_feed::{PacketFeed, next_packet};
 use cap_print::Line;
-use cap_source::Capture;
+use cap_source::{Capture, PacketFeed, next_packet};
 use std::alloc::Global;
 
 // Prints the packets that a feed still gives, the first of which has the number 1.

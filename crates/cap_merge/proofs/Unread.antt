@@ -9,9 +9,9 @@ use Rattle.cap_merge.specs.Files.{items_of_files, run_of_files, clocked_run, end
 use Rattle.cap_order.specs.Parts.{Part, new_parts, item_time, is_refusal, feed_of, run_of, known_of, broken_of, endings_of, IsNumbered}
 use Rattle.cap_merge.specs.Readers.{Reader, IsUnread, AreUnread, IsUnreadRun}
 use Rattle.cap_order.specs.Run.{opened, run}
-use Rattle.cap_feed.specs.Feed.{Feed}
+use Rattle.cap_source.specs.Feed.{Feed}
 use Rattle.cap_source.specs.ReadFaults.{FailsOf}
-use Rattle.cap_feed.specs.Walk.{Walks}
+use Rattle.cap_source.specs.Walk.{Walks}
 
 -- one more feed after some
 pub AreUnread-more : (tail : Tail) (file : ℕ) (readers : List Reader) (feeds : List Feed) (reader : Reader) (feed : Feed)

@@ -3,10 +3,10 @@ use Rattle.std.specs.Prelude.{ℕ, ◌+◌, ◌==◌, List, [], ◌∷◌, false
 use Rattle.cap_bytes.specs.declared.faults.Tail.{Tail}
 use Rattle.cap_order.specs.Parts.{item_time, is_refusal}
 use Rattle.cap_order.specs.Run.{Clocked, opened, run}
-use Rattle.cap_feed.specs.Feed.{Item}
+use Rattle.cap_source.specs.Feed.{Item}
 use Rattle.cap_source.specs.Items.{file_items, file_ending}
-use Rattle.cap_feed.specs.declared.feeds.Ending.{Ending}
-use Rattle.cap_feed.specs.declared.packets.Format.TheVariants.{Pcap}
+use Rattle.cap_source.specs.declared.feeds.Ending.{Ending}
+use Rattle.cap_source.specs.declared.packets.Format.TheVariants.{Pcap}
 
 -- the items of some files in the order of exact time, up to the first refusal
 abbrev pub run_of_lists : List (List Item) → List Item

@@ -4,9 +4,8 @@ ghost use Rattle.cap_merge.specs.Readers.{AreUnread, IsUnreadRun, reader_of};
 ghost use Rattle.cap_order.specs.View.{parts_of};
 
 use cap_bytes::{Fault, Source, Tail};
-use cap_feed::PacketFeed;
 use cap_order::Merged;
-use cap_source::Capture;
+use cap_source::{Capture, PacketFeed};
 use std::alloc::Global;
 
 // The packets of files, which have the numbers from 1 on. Nothing is read yet.

@@ -4,7 +4,7 @@ use Rattle.std.specs.Prelude.{map, ⊤}
 use Rattle.std.proofs.Common.{inl, inr}
 use Rattle.std.proofs.Math.ListN.{set}
 use Rattle.cap_bytes.specs.declared.faults.Fault.{Fault}
-use Rattle.cap_feed.specs.Feed.{Feed, IsPacket}
+use Rattle.cap_source.specs.Feed.{Feed, IsPacket}
 use Rattle.std.specs.List.{refill}
 use Rattle.std.proofs.lemmas.List.{take_at}
 use Rattle.cap_order.specs.declared.lanes.Lane.{Lane}

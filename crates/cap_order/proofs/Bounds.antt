@@ -4,10 +4,10 @@ use Rattle.std.specs.Prelude.{◌<ℤ◌, replicate, map, is_some}
 use Rattle.std.specs.List.{list_all}
 use Rattle.std.proofs.lemmas.List.{length-map}
 use Rattle.cap_bytes.specs.declared.faults.Fault.{Fault}
-use Rattle.cap_feed.specs.Feed.{Feed, Keeps, SameItems, Knows}
-use Rattle.cap_feed.specs.declared.feeds.Head.TheVariants as heads
-use Rattle.cap_feed.specs.declared.packets.Meta.{Meta}
-use Rattle.cap_feed.specs.Times.{meta_time}
+use Rattle.cap_source.specs.Feed.{Feed, Keeps, SameItems, Knows}
+use Rattle.cap_source.specs.declared.feeds.Head.TheVariants as heads
+use Rattle.cap_source.specs.declared.packets.Meta.{Meta}
+use Rattle.cap_source.specs.Times.{meta_time}
 use Rattle.cap_time.specs.Stamp.{seconds_of}
 use Rattle.cap_time.specs.Clock.{later}
 use Rattle.cap_time.specs.declared.stamps.Stamp.{Stamp}

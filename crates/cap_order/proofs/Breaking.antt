@@ -3,7 +3,7 @@ use Rattle.std.proofs.Common.{◌≡◌, ◌≤◌, ℕ, suc, Bool, true, false,
 use Rattle.std.specs.Prelude.{IfSome, is_some}
 use Rattle.cap_bytes.specs.declared.faults.Fault.{Fault}
 use Rattle.cap_bytes.specs.declared.faults.Fault.TheVariants.{Read, Memory}
-use Rattle.cap_feed.specs.declared.feeds.Head.{Head}
+use Rattle.cap_source.specs.declared.feeds.Head.{Head}
 use Rattle.cap_order.specs.Parts.{Part, has_file, is_known, broken_of, places_of}
 use Rattle.cap_order.specs.Merge.{LearnsBy, Stops, LearnsAll, StopsAt}
 use Rattle.cap_order.specs.Sound.{AreFrom}

@@ -5,7 +5,7 @@ use Rattle.std.specs.Prelude.{map, IsTrue, is_some}
 use Rattle.std.specs.List.{AllByRecursion, list_all, range_with_len, flat_map}
 use Rattle.std.proofs.lemmas.List.{length-map}
 use Rattle.cap_bytes.specs.declared.faults.Fault.{Fault}
-use Rattle.cap_feed.specs.Feed.{Feed, IsFeed, Keeps}
+use Rattle.cap_source.specs.Feed.{Feed, IsFeed, Keeps}
 use Rattle.cap_order.specs.declared.lanes.Lane.{Lane}
 use Rattle.cap_order.specs.Parts.{Part, parts, IsNumbered, Agrees, HasReached, is_known, run_of, feed_of, KeepsRun}
 use Rattle.cap_order.specs.Merge.{LearnsAll, StopsAt, AsksAll}

@@ -3,7 +3,7 @@ use Rattle.std.proofs.Common.{◌≡◌, ℕ, ◌≤◌, true, List, length, map
 use Rattle.std.specs.Prelude.{IsTrue, IfSome, ◌<ℤ◌, pos, ◌^◌}
 use Rattle.cap_time.specs.declared.stamps.Stamp.{Stamp}
 use Rattle.cap_time.specs.Stamp.{seconds_of}
-use Rattle.cap_feed.specs.Feed.{Feed, IsFeed}
+use Rattle.cap_source.specs.Feed.{Feed, IsFeed}
 use Rattle.cap_order.specs.Clocks.{AtMost}
 use Rattle.cap_order.specs.First.{has_next, lane_at, first_place}
 use Rattle.cap_order.specs.Parts.{Part, parts, turns, feed_of, clock_of, run_of, ClocksFrom, BeginsAt, HasReached, AreBounded}

@@ -6,12 +6,12 @@ use Rattle.std.proofs.Math.Seq.{take-suc}
 use Rattle.std.proofs.lemmas.Bool.{true≢false}
 use Rattle.std.proofs.lemmas.List.{map-append, take_all}
 use Rattle.cap_time.specs.declared.stamps.Stamp.{Stamp}
-use Rattle.cap_feed.specs.declared.feeds.Head.{Head}
-use Rattle.cap_feed.specs.declared.feeds.Head.TheVariants as heads
-use Rattle.cap_feed.specs.declared.packets.Meta.{Meta}
-use Rattle.cap_feed.specs.declared.feeds.Ending.{Ending}
-use Rattle.cap_feed.specs.declared.feeds.FeedHeld.{FeedHeld}
-use Rattle.cap_feed.specs.Feed.{packet, refused, Feed, IsFeed, IsPacket, Keeps, Passes, HasFile}
+use Rattle.cap_source.specs.declared.feeds.Head.{Head}
+use Rattle.cap_source.specs.declared.feeds.Head.TheVariants as heads
+use Rattle.cap_source.specs.declared.packets.Meta.{Meta}
+use Rattle.cap_source.specs.declared.feeds.Ending.{Ending}
+use Rattle.cap_source.specs.declared.feeds.FeedHeld.{FeedHeld}
+use Rattle.cap_source.specs.Feed.{packet, refused, Feed, IsFeed, IsPacket, Keeps, Passes, HasFile}
 use Rattle.cap_order.specs.Lists.{all-each}
 use Rattle.cap_order.specs.declared.lanes.Lane.{Lane}
 use Rattle.cap_order.specs.First.{has_next, fresh_lane, lane_at, first_place}

@@ -6,9 +6,9 @@ use Rattle.std.proofs.lemmas.Bool.{true≢false}
 use Rattle.cap_bytes.specs.declared.faults.Fault.{Fault}
 use Rattle.cap_bytes.specs.declared.faults.Fault.TheVariants.{Refused, Read, Write, Memory}
 use Rattle.cap_time.specs.declared.stamps.Stamp.{Stamp}
-use Rattle.cap_feed.specs.declared.feeds.Head.{Head}
-use Rattle.cap_feed.specs.declared.feeds.Head.TheVariants as heads
-use Rattle.cap_feed.specs.Feed.{IsFeed, SameItems, Knows, Breaks, Waits, GivesHead, KeepsItems}
+use Rattle.cap_source.specs.declared.feeds.Head.{Head}
+use Rattle.cap_source.specs.declared.feeds.Head.TheVariants as heads
+use Rattle.cap_source.specs.Feed.{IsFeed, SameItems, Knows, Breaks, Waits, GivesHead, KeepsItems}
 use Rattle.cap_order.specs.Lists.{and-both, and-none, any-back, any-front, or-back}
 use Rattle.cap_time.specs.Clock.{later}
 use Rattle.cap_order.specs.Parts.{Part, LaneState, head_time, has_file, is_known, known_of, head_by, first_of, feed_of, ClocksFrom}

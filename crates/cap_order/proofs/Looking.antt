@@ -4,10 +4,10 @@ use Rattle.std.specs.List.{AllByRecursion}
 use Rattle.cap_bytes.specs.declared.faults.Fault.{Fault}
 use Rattle.cap_bytes.specs.declared.faults.Fault.TheVariants.{Refused}
 use Rattle.cap_bytes.specs.declared.faults.Refusal.{Refusal}
-use Rattle.cap_feed.specs.declared.feeds.Head.{Head}
-use Rattle.cap_feed.specs.declared.feeds.Head.TheVariants as heads
-use Rattle.cap_feed.specs.declared.packets.Meta.{Meta}
-use Rattle.cap_feed.specs.Feed.{Feed, IsFeed, IsPacket, GivesHead, Keeps, KeepsItems, FindsPacket, FindsItem}
+use Rattle.cap_source.specs.declared.feeds.Head.{Head}
+use Rattle.cap_source.specs.declared.feeds.Head.TheVariants as heads
+use Rattle.cap_source.specs.declared.packets.Meta.{Meta}
+use Rattle.cap_source.specs.Feed.{Feed, IsFeed, IsPacket, GivesHead, Keeps, KeepsItems, FindsPacket, FindsItem}
 use Rattle.cap_order.specs.declared.lanes.Coming.TheVariants as comings
 use Rattle.cap_order.specs.First.{coming_of}
 use Rattle.cap_order.specs.Merge.{LearnsAll, StopsAt, AsksAll, LooksAll}

@@ -4,8 +4,8 @@ use Rattle.std.specs.Prelude.{map, ⊤, IsTrue}
 use Rattle.std.specs.List.{AllByRecursion, list_all, list_any, flat_map}
 use Rattle.cap_bytes.specs.declared.faults.Fault.{Fault}
 use Rattle.cap_bytes.specs.declared.faults.Fault.TheVariants.{Memory}
-use Rattle.cap_feed.specs.declared.feeds.Head.{Head}
-use Rattle.cap_feed.specs.Feed.{IsFeed, Keeps, SameItems}
+use Rattle.cap_source.specs.declared.feeds.Head.{Head}
+use Rattle.cap_source.specs.Feed.{IsFeed, Keeps, SameItems}
 use Rattle.cap_order.specs.Run.{placed_from, placed_all, in_order}
 use Rattle.cap_order.specs.Parts.{Part, item_time, tracks, run_of, endings_of, places_of, left_of, feed_of}
 use Rattle.cap_order.specs.Merge.{Learns, LearnsBy, Stops, LearnsAll, StopsAt}

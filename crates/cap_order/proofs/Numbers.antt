@@ -2,7 +2,7 @@
 use Rattle.std.proofs.Common.{ℕ, zero, suc, ◌+◌, ◌≤◌, ◌<◌, arith}
 use Rattle.std.specs.List.{range_with_len}
 use Rattle.std.proofs.lemmas.Bool.{false≢true}
-use Rattle.cap_feed.specs.Feed.{HasFile}
+use Rattle.cap_source.specs.Feed.{HasFile}
 
 -- a file that is one of some has a number of theirs
 pub numbers-within : (file count n : ℕ) → HasFile (range_with_len file count) n → (file ≤ n) × (n < file + count)

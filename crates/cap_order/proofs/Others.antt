@@ -4,7 +4,7 @@ use Rattle.std.specs.Prelude.{map, is_some}
 use Rattle.std.proofs.Math.ListN.{set}
 use Rattle.std.proofs.lemmas.Bool.{true≢false}
 use Rattle.cap_bytes.specs.declared.faults.Fault.{Fault}
-use Rattle.cap_feed.specs.Feed.{Feed, IsPacket}
+use Rattle.cap_source.specs.Feed.{Feed, IsPacket}
 use Rattle.cap_order.specs.Lists.{and-both}
 use Rattle.cap_order.specs.declared.lanes.Lane.{Lane}
 use Rattle.cap_order.specs.Parts.{Part, part, parts, is_known, known_but, OthersKnown, feed_of}

@@ -5,10 +5,10 @@ use Rattle.std.specs.List.{AllByRecursion, list_all, list_any}
 use Rattle.std.specs.Ordering.{is_lt, is_gt}
 use Rattle.std.proofs.lemmas.List.{map-append}
 use Rattle.cap_time.specs.declared.stamps.Stamp.{Stamp}
-use Rattle.cap_feed.specs.declared.feeds.Head.{Head}
-use Rattle.cap_feed.specs.declared.feeds.Head.TheVariants as heads
-use Rattle.cap_feed.specs.declared.packets.Meta.{Meta}
-use Rattle.cap_feed.specs.Feed.{packet, IsFeed, Keeps, Passes, IfPacket}
+use Rattle.cap_source.specs.declared.feeds.Head.{Head}
+use Rattle.cap_source.specs.declared.feeds.Head.TheVariants as heads
+use Rattle.cap_source.specs.declared.packets.Meta.{Meta}
+use Rattle.cap_source.specs.Feed.{packet, IsFeed, Keeps, Passes, IfPacket}
 use Rattle.cap_order.specs.Lists.{All-both, all-back, all-each, and-none}
 use Rattle.cap_time.specs.Clock.{clock_cmp}
 use Rattle.cap_order.specs.Run.{run}

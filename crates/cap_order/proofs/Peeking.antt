@@ -7,8 +7,8 @@ use Rattle.std.proofs.Math.ListN.{set}
 use Rattle.std.proofs.lemmas.Bool.{true≢false}
 use Rattle.cap_bytes.specs.declared.faults.Fault.{Fault}
 use Rattle.cap_bytes.specs.declared.faults.Fault.TheVariants.{Refused, Read, Write, Memory}
-use Rattle.cap_feed.specs.declared.feeds.Head.TheVariants as heads
-use Rattle.cap_feed.specs.Feed.{Feed, IsFeed}
+use Rattle.cap_source.specs.declared.feeds.Head.TheVariants as heads
+use Rattle.cap_source.specs.Feed.{Feed, IsFeed}
 use Rattle.cap_order.specs.declared.lanes.Coming.TheVariants as comings
 use Rattle.cap_order.specs.declared.lanes.Lane.{Lane}
 use Rattle.cap_time.specs.Clock.{clock_cmp}

@@ -6,7 +6,7 @@ use Rattle.std.specs.Option.{option_and_then}
 use Rattle.std.proofs.Math.Seq.{get_or-append_seam}
 use Rattle.std.proofs.lemmas.List.{length-map, length-replicate}
 use Rattle.std.proofs.lemmas.Option.{slice_get-get_or}
-use Rattle.cap_feed.specs.Feed.{Feed}
+use Rattle.cap_source.specs.Feed.{Feed}
 use Rattle.cap_order.specs.declared.lanes.Lane.{Lane}
 use Rattle.cap_order.specs.declared.lanes.Coming.{Coming}
 use Rattle.cap_order.specs.declared.lanes.Coming.TheVariants as comings

@@ -2,7 +2,7 @@
 use Rattle.std.proofs.Common.{◌≡◌, List, ◌∷◌, drop, map, refl, arith, Option}
 use Rattle.cap_order.specs.Parts.{Part, feed_of, run_of, BeginsAt}
 use Rattle.cap_order.specs.Run.{Clocked}
-use Rattle.cap_feed.specs.Feed.{Item}
+use Rattle.cap_source.specs.Feed.{Item}
 use Rattle.cap_time.specs.declared.stamps.Stamp.{Stamp}
 
 -- the items to come are those of the run

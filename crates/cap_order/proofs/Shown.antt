@@ -3,10 +3,10 @@ use Rattle.std.proofs.Common.{arith, ◌≡◌, IsTrue, true, Some, None, Ok, Er
 use Rattle.cap_bytes.specs.declared.faults.Fault.{Fault}
 use Rattle.cap_bytes.specs.declared.faults.Fault.TheVariants.{Refused}
 use Rattle.cap_bytes.specs.declared.faults.Refusal.{Refusal}
-use Rattle.cap_feed.specs.Feed.{Feed, SameItems, FindsPacket, FindsItem, IsFeed}
-use Rattle.cap_feed.specs.Walk.{ShowsItem, GivesPacket}
-use Rattle.cap_feed.specs.declared.feeds.Head.TheVariants as heads
-use Rattle.cap_feed.specs.declared.packets.Meta.{Meta}
+use Rattle.cap_source.specs.Feed.{Feed, SameItems, FindsPacket, FindsItem, IsFeed}
+use Rattle.cap_source.specs.Walk.{ShowsItem, GivesPacket}
+use Rattle.cap_source.specs.declared.feeds.Head.TheVariants as heads
+use Rattle.cap_source.specs.declared.packets.Meta.{Meta}
 
 -- a packet that was found is the one that is known
 pub gives-packet : (old new : Feed) (meta : Meta) → FindsPacket old (Ok true) new → new.known ≡ Some (heads.Packet meta) → GivesPacket old (Ok (Some meta)) new

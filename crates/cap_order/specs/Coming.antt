@@ -5,8 +5,8 @@ use Rattle.std.specs.List.{AllByRecursion}
 use Rattle.std.specs.Ordering.{is_lt, is_gt}
 use Rattle.std.proofs.lemmas.List.{map-append}
 use Rattle.cap_time.specs.declared.stamps.Stamp.{Stamp}
-use Rattle.cap_feed.specs.declared.feeds.Head.{Head}
-use Rattle.cap_feed.specs.Feed.{Item, Leads, IsFeed}
+use Rattle.cap_source.specs.declared.feeds.Head.{Head}
+use Rattle.cap_source.specs.Feed.{Item, Leads, IsFeed}
 use Rattle.cap_order.specs.Lists.{all-back, all-front}
 use Rattle.cap_time.specs.Clock.{clock_cmp, later}
 use Rattle.cap_order.specs.Run.{Track, Clocked, run, through_first, HeadClock, IsFirst}

@@ -3,8 +3,8 @@ use Rattle.std.specs.Prelude.{◌≡◌, ℕ, zero, suc, Bool, true, false, List
 use Rattle.std.specs.Coded.{Coded-set, coded_ℕ, coded_option}
 use Rattle.std.specs.Ordering.{is_lt}
 use Rattle.cap_time.specs.declared.stamps.Stamp.{Stamp}
-use Rattle.cap_feed.specs.declared.feeds.Head.{Head}
-use Rattle.cap_feed.specs.declared.feeds.Head.TheVariants as heads
+use Rattle.cap_source.specs.declared.feeds.Head.{Head}
+use Rattle.cap_source.specs.declared.feeds.Head.TheVariants as heads
 use Rattle.cap_order.specs.declared.lanes.Coming.{Coming}
 use Rattle.cap_order.specs.declared.lanes.Coming.TheVariants.{Packet, Refused, End}
 use Rattle.cap_order.specs.declared.lanes.Front.{Front}

@@ -4,10 +4,10 @@ use Rattle.std.specs.Prelude.{◌||◌, ◌==◌, map, IfSome, is_some}
 use Rattle.std.specs.List.{AllByRecursion, list_all, flat_map}
 use Rattle.std.proofs.lemmas.Bool.{true≢false}
 use borrow.Author.Tests.{eqb-true}
-use Rattle.cap_feed.specs.declared.feeds.Head.{Head}
-use Rattle.cap_feed.specs.declared.feeds.Head.TheVariants as heads
-use Rattle.cap_feed.specs.declared.packets.Meta.{Meta}
-use Rattle.cap_feed.specs.Feed.{Item, packet, refused, Leads, IsFeed, IsPacketOf, IfPacket, IsRefusedOf, HasFile}
+use Rattle.cap_source.specs.declared.feeds.Head.{Head}
+use Rattle.cap_source.specs.declared.feeds.Head.TheVariants as heads
+use Rattle.cap_source.specs.declared.packets.Meta.{Meta}
+use Rattle.cap_source.specs.Feed.{Item, packet, refused, Leads, IsFeed, IsPacketOf, IfPacket, IsRefusedOf, HasFile}
 use Rattle.cap_order.specs.Lists.{all-back, all-each, any-back, any-front}
 use Rattle.cap_order.specs.First.{has_next}
 use Rattle.cap_order.specs.Parts.{Part, has_file, is_known, head_by, known_of, frame_by, first_of, run_of, broken_of, places_of, most_of, left_of, feed_of}

@@ -1,5 +1,5 @@
 -- Why the feeds as one are a lawful feed.
-use Rattle.cap_feed.specs.Feed.{IsFeed}
+use Rattle.cap_source.specs.Feed.{IsFeed}
 use Rattle.cap_order.specs.declared.merging.Merged.{Merged}
 use Rattle.cap_order.specs.Parts.{feed_of}
 use Rattle.cap_order.specs.Sound.{sound-parts, lawful-each, numbered-from}

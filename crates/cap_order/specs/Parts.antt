@@ -7,13 +7,13 @@ use Rattle.cap_bytes.specs.declared.faults.Fault.{Fault}
 use Rattle.cap_bytes.specs.declared.faults.Fault.TheVariants.{Refused, Read, Write, Memory}
 use Rattle.cap_time.specs.declared.stamps.Stamp.{Stamp}
 use Rattle.cap_time.specs.Stamp.{seconds_of}
-use Rattle.cap_feed.specs.declared.feeds.Head.{Head}
-use Rattle.cap_feed.specs.declared.feeds.Head.TheVariants as heads
-use Rattle.cap_feed.specs.declared.feeds.Ending.{Ending}
-use Rattle.cap_feed.specs.declared.feeds.FeedHeld.{FeedHeld}
-use Rattle.cap_feed.specs.declared.packets.Format.TheVariants.{Pcap}
-use Rattle.cap_feed.specs.Feed.{Item, packet, refused, Feed}
-use Rattle.cap_feed.specs.Times.{meta_time}
+use Rattle.cap_source.specs.declared.feeds.Head.{Head}
+use Rattle.cap_source.specs.declared.feeds.Head.TheVariants as heads
+use Rattle.cap_source.specs.declared.feeds.Ending.{Ending}
+use Rattle.cap_source.specs.declared.feeds.FeedHeld.{FeedHeld}
+use Rattle.cap_source.specs.declared.packets.Format.TheVariants.{Pcap}
+use Rattle.cap_source.specs.Feed.{Item, packet, refused, Feed}
+use Rattle.cap_source.specs.Times.{meta_time}
 use Rattle.cap_order.specs.declared.lanes.Lane.{Lane}
 use Rattle.cap_time.specs.Clock.{clock_cmp}
 use Rattle.cap_order.specs.First.{Turn, coming_of, has_next, first_place}

@@ -3,7 +3,7 @@ use Rattle.std.specs.Prelude.{ℕ, List, Option}
 use Rattle.std.specs.Coded.{Coded-set, coded_ℕ, coded_list, coded_option, coded_bool}
 use Rattle.cap_order.specs.contracts.lanes.Coming as coming
 use Rattle.cap_order.specs.declared.lanes.Lane.{Lane}
-use Rattle.cap_feed.specs.Feed.{Feed}
+use Rattle.cap_source.specs.Feed.{Feed}
 use Rattle.cap_order.specs.Parts.{Part, IsNumbered, Agrees, HasReached, AreBounded, OthersKnown}
 
 pub IsNumbered-prop : (feeds : List Feed) → IsProp (IsNumbered feeds)

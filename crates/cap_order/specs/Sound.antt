@@ -4,8 +4,8 @@ use Rattle.std.specs.Prelude.{not, map, ⊤, is_some, IfSome}
 use Rattle.std.specs.List.{AllByRecursion, range_with_len}
 use Rattle.std.specs.Ordering.{is_lt}
 use Rattle.std.proofs.lemmas.List.{length-map}
-use Rattle.cap_feed.specs.declared.feeds.Head.{Head}
-use Rattle.cap_feed.specs.Feed.{Feed, IsFeed}
+use Rattle.cap_source.specs.declared.feeds.Head.{Head}
+use Rattle.cap_source.specs.Feed.{Feed, IsFeed}
 use Rattle.cap_order.specs.Lists.{all-each, each-all}
 use Rattle.cap_order.specs.declared.lanes.Lane.{Lane}
 use Rattle.cap_time.specs.Clock.{clock_cmp}

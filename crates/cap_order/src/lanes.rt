@@ -1,14 +1,14 @@
 //! What is known of each feed, and which of them comes first.
 ghost use Rattle.std.specs.Prelude.{◌≡◌, ◌<◌, ◌≤◌, List, replicate, length, true, is_some, None, Some, IfSome, map};
 ghost use Rattle.std.specs.List.{list_all};
-ghost use Rattle.cap_feed.specs.Feed.{Feed, IsPacket};
+ghost use Rattle.cap_source.specs.Feed.{Feed, IsPacket};
 ghost use Rattle.cap_order.specs.Parts.{part, parts, known_of, both_held, known_but, OthersKnown, Matches, Agrees};
 ghost use Rattle.cap_order.specs.First.{coming_of, fresh_lane, lane_at, has_item, lane_turn, lane_turns, comes_before, sooner_place, first_place, IsFound};
 ghost use Rattle.cap_order.specs.Merge.{Answers, Asks, AsksAll, Shows, ShowsAt, IsPacketAt, PassesAt, PassesPart};
 
 use arrayvec::ArrayVec;
 use cap_bytes::{Fault, Refusal};
-use cap_feed::{FeedHeld, PacketFeed};
+use cap_source::{FeedHeld, PacketFeed};
 use cap_time::{Stamp, reach};
 
 /// What comes next of a feed, which keeps it.

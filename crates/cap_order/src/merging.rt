@@ -5,8 +5,8 @@ ghost use Rattle.std.specs.Ordering.{is_gt};
 ghost use Rattle.cap_time.specs.declared.stamps.Stamp.{Stamp};
 ghost use Rattle.cap_time.specs.Stamp.{seconds_of};
 ghost use Rattle.cap_time.specs.Clock.{clock_cmp};
-ghost use Rattle.cap_feed.specs.declared.feeds.Head.{Head};
-ghost use Rattle.cap_feed.specs.Feed.{GivesHead, Keeps, KeepsItems, FindsPacket, FindsItem, Passes, IsPacket};
+ghost use Rattle.cap_source.specs.declared.feeds.Head.{Head};
+ghost use Rattle.cap_source.specs.Feed.{GivesHead, Keeps, KeepsItems, FindsPacket, FindsItem, Passes, IsPacket};
 ghost use Rattle.cap_order.specs.Run.{opened, run};
 ghost use Rattle.cap_order.specs.Parts.{item_time, is_refusal, parts, IsNumbered, Agrees, HasReached, AreBounded, feed_of, new_parts, clock_of, run_of, OthersKnown, ClocksFrom, MovesClocks, KeepsRun, ShowsRun, BeginsAt, turns};
 ghost use Rattle.cap_order.specs.First.{coming_of, has_next, first_place, found_of, passed_of, IsFound, IsFound-prop};
@@ -19,7 +19,7 @@ use crate::lanes::{
 };
 use arrayvec::ArrayVec;
 use cap_bytes::Fault;
-use cap_feed::{Ending, FeedHeld, Head, Meta, PacketFeed};
+use cap_source::{Ending, FeedHeld, Head, Meta, PacketFeed};
 use cap_time::Stamp;
 
 /// The packets of several feeds in the order of exact time: by the greatest time so far in a packet's

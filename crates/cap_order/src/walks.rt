@@ -2,12 +2,12 @@
 ghost use Rattle.std.specs.Prelude.{IsTrue};
 ghost use Rattle.cap_order.specs.Parts.{ShowsRun, feed_of};
 ghost use Rattle.cap_order.specs.View.{parts_of};
-ghost use Rattle.cap_feed.specs.Feed.{Keeps};
-ghost use Rattle.cap_feed.specs.Walk.{GivesPacket, ShowsItem};
+ghost use Rattle.cap_source.specs.Feed.{Keeps};
+ghost use Rattle.cap_source.specs.Walk.{GivesPacket, ShowsItem};
 
 use crate::merging::Merged;
 use cap_bytes::Fault;
-use cap_feed::{Meta, PacketFeed};
+use cap_source::{Meta, PacketFeed};
 
 /// What comes next of a run: a packet, which stays until it is passed, or none at the end. `Refused` comes
 /// if a refusal comes next, `Read` if a device failed, and `Memory` if a growth was refused. The run stays

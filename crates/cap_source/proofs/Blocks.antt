@@ -19,14 +19,14 @@ use Rattle.cap_bytes.specs.Number.{number}
 use Rattle.cap_bytes.specs.declared.faults.Rule.TheVariants as rules
 use Rattle.cap_source.specs.TimeBases.{interface_in}
 use Rattle.cap_source.specs.Contents.{fitting, of_interface, timed_in, simple_in, of_body, content_in}
-use Rattle.cap_feed.specs.Feed as feeds
+use Rattle.cap_source.specs.Feed as feeds
 use Rattle.cap_source.specs.Items.{Progress, behind, frame_in, items_at, items_in, ending_with, ending_in, unless_faulty, first_in, unless_item, is_cut}
 use Rattle.cap_source.specs.FileState.{FileState, pcapng_state, size_of, part_of, Learns, FileKeeps, GoesOn, StepsTo, TakesShown, next_at}
 use Rattle.cap_source.specs.Reached.{counted}
 use Rattle.cap_source.specs.declared.contents.Content.{Content}
 use Rattle.cap_source.specs.declared.contents.Content.TheVariants as contents
 use Rattle.cap_source.specs.declared.contents.Packet.{Packet}
-use Rattle.cap_feed.specs.declared.feeds.Ending.{Ending}
+use Rattle.cap_source.specs.declared.feeds.Ending.{Ending}
 use Rattle.cap_source.specs.declared.readers.Next.{Next}
 use Rattle.cap_source.specs.declared.readers.Next.TheVariants as nexts
 

@@ -2,8 +2,8 @@
 use Rattle.std.proofs.Common.{arith, ◌≡◌, Option, Some, Result, Ok, Err, IsTrue}
 use Rattle.std.specs.Bool.{⊤}
 use Rattle.cap_bytes.specs.declared.faults.Fault.{Fault}
-use Rattle.cap_feed.specs.Feed.{Knows, SameItems, Keeps, GivesHead, KeepsItems, FindsPacket, FindsItem}
-use Rattle.cap_feed.specs.declared.feeds.Head.{Head}
+use Rattle.cap_source.specs.Feed.{Knows, SameItems, Keeps, GivesHead, KeepsItems, FindsPacket, FindsItem}
+use Rattle.cap_source.specs.declared.feeds.Head.{Head}
 use Rattle.cap_source.specs.Items.{Progress}
 use Rattle.cap_source.specs.FileState.{FileState, FileKeeps, feed_of, head_of, first_by, is_whole, LearnsOr, LearnsNext}
 use Rattle.cap_source.specs.Readers.{state_of, is_there}

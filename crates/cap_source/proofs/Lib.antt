@@ -1,3 +1,6 @@
+pub mod Lists
+pub mod Onward
+pub mod Walking
 pub mod Blocks
 pub mod Bodies
 pub mod Fields

@@ -11,7 +11,7 @@ use Rattle.cap_blocks.specs.Split.{is_section}
 use Rattle.cap_source.specs.Items.{Progress, interface_of, is_pcapng, items_in, ending_in, first_in, pcap_items, pcap_ending, unless_refused, items_from, ending_from, first_from}
 use Rattle.cap_source.specs.FileState.{FileKeeps, unread_state, Waits}
 use Rattle.cap_source.specs.Readers.{state_of, reader_by, has_format, LooksAtWindow}
-use Rattle.cap_feed.specs.declared.packets.Format.{Format}
+use Rattle.cap_source.specs.declared.packets.Format.{Format}
 use Rattle.cap_source.specs.declared.readers.Reader.{Reader}
 use Rattle.cap_source.specs.declared.readers.Reader.TheVariants as readers
 

@@ -15,7 +15,7 @@ use Rattle.cap_pcap.specs.declared.headers.PcapHeader.{PcapHeader}
 use Rattle.cap_pcap.specs.declared.records.Record.{Record}
 use Rattle.cap_bytes.specs.declared.stops.Stop.{Stop}
 use Rattle.cap_bytes.specs.declared.stops.Stop.TheVariants as stops
-use Rattle.cap_feed.specs.Feed as feeds
+use Rattle.cap_source.specs.Feed as feeds
 use Rattle.cap_source.specs.Items.{Progress, interface_of, meta_of, pcap_items, pcap_ending, pcap_ending_with, is_cut}
 use Rattle.cap_source.specs.FileState.{pcap_state, noted_by, header_or, first_of, size_of, part_of, Learns, Waits, FileKeeps}
 use Rattle.cap_source.specs.declared.readers.Next.TheVariants as nexts

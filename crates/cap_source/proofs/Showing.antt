@@ -1,6 +1,6 @@
 -- Whether a packet comes next that is shown already.
 use Rattle.std.proofs.Common.{◌≡◌, IsTrue, Bool, true, false, Option, Some, None, is_some, refl, sym, ap, subst, ◌∙◌, inl, inr, arith}
-use Rattle.cap_feed.specs.Feed.{Knows, ShowsPacket}
+use Rattle.cap_source.specs.Feed.{Knows, ShowsPacket}
 use Rattle.cap_source.specs.FileState.{FileState, feed_of, head_of, is_packet, is_whole, Learns, LearnsOr, ShowsNext, TakesShown}
 use Rattle.cap_source.specs.declared.readers.Next.{Next}
 use Rattle.cap_source.specs.declared.readers.Next.TheVariants as nexts

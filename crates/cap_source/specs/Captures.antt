@@ -3,7 +3,7 @@ use Rattle.std.specs.Prelude.{ℕ, Option}
 use Rattle.cap_bytes.specs.declared.devices.Device as Device
 use Rattle.cap_bytes.specs.declared.devices.Source as Source
 use Rattle.cap_time.specs.declared.resolutions.Interface.{Interface}
-use Rattle.cap_feed.specs.Feed.{Feed}
+use Rattle.cap_source.specs.Feed.{Feed}
 use Rattle.cap_source.specs.FileState.{feed_of as file_feed, first_by}
 use Rattle.cap_source.specs.Reached.{progress_of}
 use Rattle.cap_source.specs.Readers.{state_of}

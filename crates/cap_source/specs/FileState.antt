@@ -14,16 +14,16 @@ use Rattle.cap_pcap.specs.Split as records
 use Rattle.cap_pcap.specs.declared.headers.PcapHeader.{PcapHeader}
 use Rattle.cap_bytes.specs.declared.stops.Stop.{Stop}
 use Rattle.cap_blocks.specs.Reader as blocks
-use Rattle.cap_feed.specs.Feed.{Feed, Item, packet, refused, Knows, GivesHead, SameItems}
+use Rattle.cap_source.specs.Feed.{Feed, Item, packet, refused, Knows, GivesHead, SameItems}
 use Rattle.cap_blocks.specs.declared.blocks.Block.{Block}
 use Rattle.cap_source.specs.declared.contents.Content.{Content}
-use Rattle.cap_feed.specs.declared.packets.Meta.{Meta}
+use Rattle.cap_source.specs.declared.packets.Meta.{Meta}
 use Rattle.cap_source.specs.declared.contents.Content.TheVariants as contents
 use Rattle.cap_source.specs.Items.{Progress, meta_in, ending_with, items_in, ending_in, first_in, interface_of, pcap_items, pcap_ending, unless_refused, items_from, ending_from, first_from}
 use Rattle.cap_source.specs.Reached.{counted}
-use Rattle.cap_feed.specs.declared.feeds.Ending.{Ending}
-use Rattle.cap_feed.specs.declared.feeds.Head.{Head}
-use Rattle.cap_feed.specs.declared.feeds.Head.TheVariants as heads
+use Rattle.cap_source.specs.declared.feeds.Ending.{Ending}
+use Rattle.cap_source.specs.declared.feeds.Head.{Head}
+use Rattle.cap_source.specs.declared.feeds.Head.TheVariants as heads
 use Rattle.cap_source.specs.declared.readers.Next.{Next}
 use Rattle.cap_source.specs.declared.readers.Next.TheVariants as nexts
 

@@ -1,8 +1,8 @@
 -- What the fields of a `Known` say comes next of a file.
 use Rattle.std.specs.Prelude.{ℕ, Option, Some, None}
 use Rattle.cap_bytes.specs.declared.faults.Refusal.{Refusal}
-use Rattle.cap_feed.specs.declared.feeds.Ending.{Ending}
-use Rattle.cap_feed.specs.declared.packets.Meta.{Meta}
+use Rattle.cap_source.specs.declared.feeds.Ending.{Ending}
+use Rattle.cap_source.specs.declared.packets.Meta.{Meta}
 use Rattle.cap_source.specs.declared.known.Kind.{Kind}
 use Rattle.cap_source.specs.declared.known.Kind.TheVariants as kinds
 use Rattle.cap_source.specs.declared.known.Known.TheInside.{Inside}

@@ -2,7 +2,7 @@
 use Rattle.std.proofs.Common.{◌≡◌, ◌≤◌, ◌+◌, ◌^◌, ℕ, false, true, IsTrue, IfSome, List, [], ◌∷◌, length, drop, Option, Some, None, refl, sym, subst, arith, length-drop}
 use Rattle.std.proofs.lemmas.List.{length-take-le}
 use Rattle.std.proofs.lemmas.Bool.Decides.{nat_tests}
-use Rattle.cap_feed.specs.Feed.{HasFile, Leads, IfPacket, IsPacketOf, IsRefusedOf, IsFeed}
+use Rattle.cap_source.specs.Feed.{HasFile, Leads, IfPacket, IsPacketOf, IsRefusedOf, IsFeed}
 use Rattle.cap_source.specs.FileState.{FileState, IsSound, feed_of, items_by, end_of, size_of, captured_of, behind_of, file_of, part_of, frame_of, head_by, is_whole, break_at}
 use Rattle.cap_source.specs.declared.readers.Next.{Next}
 use Rattle.cap_source.specs.declared.readers.Next.TheVariants as nexts

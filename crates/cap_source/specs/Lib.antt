@@ -1,3 +1,7 @@
+pub mod Feed
+pub mod Listed
+pub mod Times
+pub mod Walk
 pub mod Captures
 pub mod TimeBases
 pub mod Contents

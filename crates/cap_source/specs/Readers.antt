@@ -5,8 +5,8 @@ use Rattle.cap_bytes.specs.declared.faults.Fault.{Fault}
 use Rattle.cap_bytes.specs.declared.faults.Fault.TheVariants.{Refused, Read, Write, Memory}
 use Rattle.cap_bytes.specs.Reader.{opened}
 use Rattle.cap_source.specs.Items.{is_pcapng}
-use Rattle.cap_feed.specs.declared.packets.Format.{Format}
-use Rattle.cap_feed.specs.declared.packets.Format.TheVariants.{Pcap, Pcapng}
+use Rattle.cap_source.specs.declared.packets.Format.{Format}
+use Rattle.cap_source.specs.declared.packets.Format.TheVariants.{Pcap, Pcapng}
 use Rattle.cap_source.specs.Items.{Progress, ending_with}
 use Rattle.cap_source.specs.FileState.{FileState, Fails, Waits, unread_state, pcap_state, pcapng_state}
 use Rattle.cap_source.specs.Reached.{has_room}

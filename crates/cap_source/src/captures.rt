@@ -1,19 +1,20 @@
 //! The packets of one capture file.
 ghost use Rattle.std.specs.Prelude.{◌≡◌, [], ◌∷◌, ℕ, None, IsTrue};
 ghost use Rattle.std.proofs.Props.{props};
-ghost use Rattle.cap_feed.specs.Feed.{Keeps};
+ghost use Rattle.cap_source.specs.Feed.{Keeps};
 ghost use Rattle.cap_source.specs.Items.{file_items, file_ending, file_first};
 ghost use Rattle.cap_source.specs.FileState.{feed_of, GivesFirst, KeepsFirst, IsSound};
 ghost use Rattle.cap_source.specs.Laws.{captures_lawful};
 ghost use Rattle.cap_source.specs.Reached.{progress_of};
 ghost use Rattle.cap_source.specs.Readers.{state_of, is_there, reader_room};
 
+use crate::feeds::{Ending, FeedHeld, Head, PacketFeed};
 use crate::known::Known;
 use crate::learning::{learn, shows};
+use crate::packets::Meta;
 use crate::reached::{Reached, nothing_reached};
 use crate::readers::{Next, Reader, ending_of, failed_of, held_of, noted_of, number_of, part_of};
 use cap_bytes::{Fault, Source, Tail, Window};
-use cap_feed::{Ending, FeedHeld, Head, Meta, PacketFeed};
 use cap_time::Interface;
 use std::alloc::Global;
 

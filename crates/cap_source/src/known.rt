@@ -1,13 +1,14 @@
 //! What is known of what comes next of a file, as it is kept.
 ghost use Rattle.std.specs.Prelude.{◌≡◌, Some, None, is_some};
-ghost use Rattle.cap_feed.specs.Feed.{IsPacket};
-ghost use Rattle.cap_feed.specs.declared.feeds.Head.TheVariants as heads;
+ghost use Rattle.cap_source.specs.Feed.{IsPacket};
+ghost use Rattle.cap_source.specs.declared.feeds.Head.TheVariants as heads;
 ghost use Rattle.cap_source.specs.FileState.{head_by, is_packet, start_of};
 ghost use Rattle.cap_source.specs.declared.readers.Next.TheVariants.{Packet, Refused, End};
 
+use crate::feeds::Ending;
+use crate::packets::{Format, Meta};
 use crate::readers::Next;
 use cap_bytes::{Refusal, Rule};
-use cap_feed::{Ending, Format, Meta};
 use cap_time::{Interface, Resolution};
 use std::marker::Model;
 

@@ -8,6 +8,7 @@ ghost use Rattle.cap_source.specs.Readers.{state_of, is_there, IsReady, is_stopp
 ghost use Rattle.cap_source.specs.declared.reached.Reached.{Reached};
 
 use crate::known::Known;
+use crate::packets::Format;
 use crate::pcap::next_of_pcap;
 use crate::pcapng::next_of_blocks;
 use crate::reached::Reached;
@@ -15,7 +16,6 @@ use crate::readers::Reader;
 use crate::{pcap, pcapng};
 use cap_blocks::{BlockReader, is_section};
 use cap_bytes::{Fault, Source, Window};
-use cap_feed::Format;
 use cap_pcap::PcapReader;
 use std::mem;
 

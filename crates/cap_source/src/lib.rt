@@ -1,15 +1,23 @@
-//! One packet list from a capture file of either format.
+//! One packet list, which comes packet by packet: what such a feed is, and the one of a capture file of either format.
 #![tactic(auto)]
 
 mod captures;
 mod contents;
+mod feeds;
 mod interfaces;
 mod known;
 pub mod laws;
 mod learning;
+mod listed;
+mod packets;
 mod pcap;
 mod pcapng;
 mod reached;
 mod readers;
+mod walks;
 
 pub use crate::captures::Capture;
+pub use crate::feeds::{Ending, FeedHeld, Head, PacketFeed};
+pub use crate::listed::Listed;
+pub use crate::packets::{Format, Meta};
+pub use crate::walks::next_packet;

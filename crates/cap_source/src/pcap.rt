@@ -3,9 +3,10 @@ ghost use Rattle.std.specs.Prelude.{◌≡◌, None, Some, false};
 ghost use Rattle.cap_source.specs.Items.{Progress, resolution_of_unit, interface_of, pcap_ending_with, meta_of};
 ghost use Rattle.cap_source.specs.FileState.{Answers, TakesShown, FileKeeps, noted_by, pcap_state};
 
+use crate::feeds::Ending;
 use crate::known::Known;
+use crate::packets::{Format, Meta};
 use cap_bytes::{Fault, Source};
-use cap_feed::{Ending, Format, Meta};
 use cap_pcap::{PcapHeader, PcapReader, Record};
 use cap_time::{Interface, Resolution, Unit};
 

@@ -7,11 +7,12 @@ ghost use Rattle.cap_source.specs.FileState.{Answers, TakesShown, FileKeeps, Ste
 ghost use Rattle.cap_source.specs.Reached.{progress_of, counted, has_room};
 
 use crate::contents::{Content, Packet, content_of, enhanced_packet};
+use crate::feeds::Ending;
 use crate::known::Known;
+use crate::packets::{Format, Meta};
 use crate::reached::{Reached, go_on};
 use cap_blocks::{Block, BlockReader, is_known};
 use cap_bytes::{Fault, Refusal, Rule, Source};
-use cap_feed::{Ending, Format, Meta};
 use cap_time::Interface;
 
 // How a pcapng file ended of which that much was read.

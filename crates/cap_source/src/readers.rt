@@ -1,17 +1,18 @@
 //! What a reader of a file of either format is, and what it lends.
 ghost use Rattle.std.specs.Prelude.{◌≡◌, ◌≤◌, IsTrue, IsSome, Some};
-ghost use Rattle.cap_feed.specs.Feed.{IsPacket};
+ghost use Rattle.cap_source.specs.Feed.{IsPacket};
 ghost use Rattle.cap_source.specs.Items.{Progress};
 ghost use Rattle.cap_source.specs.FileState.{head_by, end_of, size_of, frame_of, ending_by};
 ghost use Rattle.cap_source.specs.Reached.{progress_of};
 ghost use Rattle.cap_source.specs.Readers.{state_of, is_there, lent_of};
 
+use crate::feeds::{Ending, Head};
 use crate::known::Known;
+use crate::packets::Meta;
 use crate::pcap::noted_of_pcap;
 use crate::reached::Reached;
 use cap_blocks::BlockReader;
 use cap_bytes::{Refusal, Source, Tail, Window};
-use cap_feed::{Ending, Head, Meta};
 use cap_pcap::PcapReader;
 use cap_time::Interface;
 

@@ -4,11 +4,11 @@ use Rattle.cap_bytes.specs.declared.faults.Fault.{Fault}
 use Rattle.cap_counts.proofs.Counting.{counted-more}
 use Rattle.cap_counts.specs.Counting.{packets_of, counted, with_packet}
 use Rattle.cap_counts.specs.declared.counts.Counts.{Counts}
-use Rattle.cap_feed.proofs.Onward.{Went, Went-none, Went-more}
-use Rattle.cap_feed.specs.Feed.{Feed, Item, packet, Keeps, Passes, SameItems, FindsPacket, FindsItem, IsFeed, refusal_of}
-use Rattle.cap_feed.specs.Walk.{GivesPacket, ShowsItem}
-use Rattle.cap_feed.specs.declared.feeds.Head.TheVariants as heads
-use Rattle.cap_feed.specs.declared.packets.Meta.{Meta}
+use Rattle.cap_source.proofs.Onward.{Went, Went-none, Went-more}
+use Rattle.cap_source.specs.Feed.{Feed, Item, packet, Keeps, Passes, SameItems, FindsPacket, FindsItem, IsFeed, refusal_of}
+use Rattle.cap_source.specs.Walk.{GivesPacket, ShowsItem}
+use Rattle.cap_source.specs.declared.feeds.Head.TheVariants as heads
+use Rattle.cap_source.specs.declared.packets.Meta.{Meta}
 use Rattle.cap_talks.specs.Reading.{CountsAll}
 
 -- The packets that were given by a feed, which was `old`, are counted.

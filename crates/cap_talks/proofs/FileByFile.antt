@@ -7,7 +7,7 @@ use Rattle.cap_bytes.specs.declared.faults.Fault.{Fault}
 use Rattle.cap_bytes.specs.declared.faults.Tail.{Tail}
 use Rattle.cap_source.specs.ReadFaults.{FailsAs, FailsOf}
 use Rattle.cap_source.specs.Items.{file_items}
-use Rattle.cap_feed.specs.Feed.{refusal_of}
+use Rattle.cap_source.specs.Feed.{refusal_of}
 use Rattle.cap_talks.specs.InfoText.{first_refusal}
 use Rattle.cap_talks.specs.Reading.{counted_files, CountsFile, CountsFiles}
 use Rattle.cap_counts.specs.declared.files.Counted.{Counted}

@@ -9,13 +9,13 @@ use Rattle.cap_bytes.specs.declared.faults.Fault.{Fault}
 use Rattle.cap_bytes.specs.declared.faults.Fault.TheVariants.{Write}
 use Rattle.cap_bytes.specs.declared.faults.Refusal.{Refusal}
 use Rattle.cap_bytes.specs.declared.faults.Tail.{Tail}
-use Rattle.cap_feed.proofs.Onward.{Lasts-goes}
+use Rattle.cap_source.proofs.Onward.{Lasts-goes}
 use Rattle.cap_merge.proofs.Unread.{told-readers, bytes-readers}
 use Rattle.cap_merge.specs.Files.{clocked_run, endings_of_files}
 use Rattle.cap_order.specs.Parts.{Part, feed_of, run_of}
 use Rattle.cap_merge.specs.Readers.{Reader, IsUnreadRun}
-use Rattle.cap_feed.specs.Feed.{Feed}
-use Rattle.cap_feed.specs.Walk.{Walks}
+use Rattle.cap_source.specs.Feed.{Feed}
+use Rattle.cap_source.specs.Walk.{Walks}
 use Rattle.cap_talks.specs.Reporting.{TookAll, TakesAll, TellsReport}
 use Rattle.cap_talks.specs.ReportText.{taken_after, report_text, report_refusal}
 use Rattle.cap_tally.specs.TakenText.{text_of}

@@ -4,10 +4,10 @@ use Rattle.std.specs.Prelude.{if◌then◌else◌}
 use Rattle.cap_bytes.specs.declared.faults.Fault.{Fault}
 use Rattle.cap_bytes.specs.declared.faults.Fault.TheVariants.{Refused, Read, Write, Memory}
 use Rattle.cap_bytes.specs.declared.faults.Refusal.{Refusal}
-use Rattle.cap_feed.proofs.Onward.{Went, Went-none, Keeps-trans, Lasts-trans, Lasts-goes}
+use Rattle.cap_source.proofs.Onward.{Went, Went-none, Keeps-trans, Lasts-trans, Lasts-goes}
 use Rattle.cap_order.specs.Parts.{feed_of, run_of}
 use Rattle.cap_order.specs.Run.{Clocked}
-use Rattle.cap_feed.specs.Feed.{Item, refused}
+use Rattle.cap_source.specs.Feed.{Item, refused}
 use Rattle.cap_time.specs.declared.stamps.Stamp.{Stamp}
 use Rattle.cap_tally.specs.CountedUnits.{refusal_at}
 use Rattle.cap_talks.specs.ReportText.{taken_after, refusal_after}

@@ -4,7 +4,7 @@ use Rattle.cap_bytes.specs.declared.faults.Refusal.{Refusal}
 use Rattle.cap_bytes.specs.declared.faults.Tail.{Tail}
 use Rattle.cap_counts.specs.Counting.{packets_of, counted}
 use Rattle.cap_counts.specs.FileLines.{file_text, files_text}
-use Rattle.cap_feed.specs.Feed.{refusal_of}
+use Rattle.cap_source.specs.Feed.{refusal_of}
 use Rattle.cap_source.specs.Items.{file_items, file_ending}
 
 -- the lines of files of those bytes, from that number on

@@ -4,7 +4,7 @@ use Rattle.std.specs.declared.alloc.Global.{Global}
 use Rattle.cap_bytes.specs.declared.faults.Fault.{Fault}
 use Rattle.cap_bytes.specs.declared.faults.Fault.TheVariants.{Refused, Read, Write, Memory}
 use Rattle.cap_bytes.specs.declared.faults.Tail.{Tail}
-use Rattle.cap_feed.specs.Feed.{Feed, refusal_of}
+use Rattle.cap_source.specs.Feed.{Feed, refusal_of}
 use Rattle.cap_source.specs.Items.{file_items, file_ending}
 use Rattle.cap_counts.specs.Counting.{packets_of, counted}
 use Rattle.cap_counts.specs.declared.counts.Counts.{Counts}

@@ -3,8 +3,8 @@ ghost use Rattle.std.specs.Prelude.{◌≡◌, ◌≤◌, ◌^◌, false, IsTrue
 ghost use Rattle.std.specs.List.{list_all, list_any};
 ghost use Rattle.cap_bytes.specs.Device.{WriterKeeps, writer_of};
 ghost use Rattle.cap_bytes.specs.Printing.{is_write};
-ghost use Rattle.cap_feed.specs.Feed.{Keeps};
-ghost use Rattle.cap_feed.specs.Walk.{Walks};
+ghost use Rattle.cap_source.specs.Feed.{Keeps};
+ghost use Rattle.cap_source.specs.Walk.{Walks};
 ghost use Rattle.cap_source.specs.ReadFaults.{FailsAs, FailsOf};
 ghost use Rattle.cap_talks.specs.InfoText.{info_text, first_refusal};
 ghost use Rattle.cap_talks.specs.Reading.{CountsAll, CountsFile, CountsFiles, FailsFirst};
@@ -12,8 +12,7 @@ ghost use Rattle.cap_talks.specs.Telling.{Tells};
 
 use cap_bytes::{Fault, Sink, Source, Tail};
 use cap_counts::{Counted, Counts, put_files};
-use cap_feed::{Head, PacketFeed};
-use cap_source::Capture;
+use cap_source::{Capture, Head, PacketFeed};
 use std::alloc::Global;
 
 // Takes all packets that a feed still gives.

@@ -7,8 +7,8 @@ ghost use Rattle.cap_merge.specs.Files.{clocked_run, endings_of_files};
 ghost use Rattle.cap_order.specs.Parts.{feed_of};
 ghost use Rattle.cap_order.specs.View.{parts_of};
 ghost use Rattle.cap_source.specs.ReadFaults.{FailsOf};
-ghost use Rattle.cap_feed.specs.Feed.{Feed};
-ghost use Rattle.cap_feed.specs.Walk.{Walks};
+ghost use Rattle.cap_source.specs.Feed.{Feed};
+ghost use Rattle.cap_source.specs.Walk.{Walks};
 ghost use Rattle.cap_talks.specs.Reporting.{TakesAll, TellsReport};
 ghost use Rattle.cap_talks.specs.ReportText.{report_text, report_refusal};
 ghost use Rattle.cap_tally.specs.Stepping.{IsMore, TableStands};
@@ -16,9 +16,9 @@ ghost use Rattle.cap_tally.specs.TableView.{table_of};
 ghost use Rattle.cap_talks.specs.Telling.{Tells};
 
 use cap_bytes::{Fault, Sink, Source, Tail};
-use cap_feed::PacketFeed;
 use cap_merge::merge_files;
 use cap_order::Merged;
+use cap_source::PacketFeed;
 use cap_tally::{Step, Table};
 use std::alloc::Global;
 

@@ -11,10 +11,10 @@ use Rattle.cap_order.proofs.RunItems.{items-of-run, first-of-run}
 use Rattle.cap_order.specs.Merge.{LearnsBy, LearnsAll, LooksAll}
 use Rattle.cap_order.specs.Parts.{Part, feed_of, run_of, clock_of, known_of, is_known, head_by, first_of, BeginsAt, ShowsRun}
 use Rattle.cap_order.specs.Run.{Clocked}
-use Rattle.cap_feed.specs.Feed.{Feed, Item, packet, refused, Leads, IsFeed, GivesHead, FindsPacket, FindsItem, Keeps, Knows, IsPacket, IsPacketOf, IfPacket, HasFile}
-use Rattle.cap_feed.specs.declared.feeds.Head.{Head}
-use Rattle.cap_feed.specs.declared.feeds.Head.TheVariants as heads
-use Rattle.cap_feed.specs.declared.packets.Meta.{Meta}
+use Rattle.cap_source.specs.Feed.{Feed, Item, packet, refused, Leads, IsFeed, GivesHead, FindsPacket, FindsItem, Keeps, Knows, IsPacket, IsPacketOf, IfPacket, HasFile}
+use Rattle.cap_source.specs.declared.feeds.Head.{Head}
+use Rattle.cap_source.specs.declared.feeds.Head.TheVariants as heads
+use Rattle.cap_source.specs.declared.packets.Meta.{Meta}
 use Rattle.cap_time.specs.declared.stamps.Stamp.{Stamp}
 use Rattle.cap_tally.specs.Stepping.{AnswersAgain, next_by, next_taken, TableStands, Steps}
 use Rattle.cap_tally.specs.Taken.{Taken}

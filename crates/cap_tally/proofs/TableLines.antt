@@ -1,8 +1,8 @@
 -- The lines of the files of a table.
 use Rattle.std.proofs.Common.{◌≡◌, ◌<◌, ◌+◌, ◌==◌, ◌||◌, ℕ, zero, suc, Bool, List, [], ◌∷◌, ◌++◌, length, IsTrue, refl, ap, subst, arith, Option}
 use Rattle.std.specs.List.{flat_map, list_any, range_with_len}
-use Rattle.cap_feed.specs.Feed.{HasFile}
-use Rattle.cap_feed.specs.declared.feeds.Ending.{Ending}
+use Rattle.cap_source.specs.Feed.{HasFile}
+use Rattle.cap_source.specs.declared.feeds.Ending.{Ending}
 use Rattle.cap_counts.specs.Counting.{counted}
 use Rattle.cap_counts.specs.FileLines.{file_text, ending_at}
 use Rattle.cap_counts.specs.FileLines.{ended_from, counted_texts}

@@ -1,6 +1,6 @@
 -- The text of what a table stands for.
 use Rattle.std.proofs.Common.{arith, ◌≡◌, ℕ, List, ◌++◌, length, Option, refl, ◌∙◌, append_assoc}
-use Rattle.cap_feed.specs.declared.feeds.Ending.{Ending}
+use Rattle.cap_source.specs.declared.feeds.Ending.{Ending}
 use Rattle.cap_tally.specs.Classes.{classes, counts_of}
 use Rattle.cap_tally.specs.CountedUnits.{units_of, joined_in, given_up_in}
 use Rattle.cap_counts.specs.FileLines.{files_text}

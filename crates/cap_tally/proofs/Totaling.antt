@@ -3,7 +3,7 @@ use Rattle.std.proofs.Common.{rules, ◌≡◌, ℕ, zero, suc, ◌+◌, ◌*◌
 use Rattle.std.specs.Prelude.{replicate, slice_set, slice_index_or, if◌then◌else◌}
 use Rattle.std.specs.List.{AllByRecursion, refill}
 use Rattle.std.proofs.lemmas.Bool.Decides.{nat_tests}
-use Rattle.cap_feed.specs.declared.packets.Meta.{Meta}
+use Rattle.cap_source.specs.declared.packets.Meta.{Meta}
 use Rattle.cap_counts.specs.Counting.{counted, with_packet, are_in_order, original_bytes, truncated_packets}
 use Rattle.cap_tally.specs.TakenText.{metas_of, bytes_of, truncated_of}
 use Rattle.cap_tally.specs.Taken.{Taken}

@@ -2,7 +2,7 @@
 use Rattle.std.specs.Prelude.{◌≡◌, ℕ, List, length, IsSome, Option, ⊤}
 use Rattle.cap_join.specs.Fragments.{piece_of}
 use Rattle.cap_join.specs.declared.datagrams.Stamped.{Stamped}
-use Rattle.cap_feed.specs.declared.packets.Meta.{Meta}
+use Rattle.cap_source.specs.declared.packets.Meta.{Meta}
 use Rattle.cap_time.specs.declared.stamps.Stamp.{Stamp}
 use Rattle.cap_tally.specs.Taken.{Taken, Look, plain, datagram, fragment}
 use Rattle.cap_tally.specs.declared.looks.Seen.{Seen}

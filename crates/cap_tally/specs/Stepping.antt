@@ -5,10 +5,10 @@ use Rattle.cap_bytes.specs.declared.faults.Fault.TheVariants.{Refused, Read, Wri
 use Rattle.cap_bytes.specs.declared.faults.Refusal.{Refusal}
 use Rattle.cap_order.specs.Parts.{Part, feed_of, run_of, clock_of}
 use Rattle.cap_order.specs.Run.{Clocked}
-use Rattle.cap_feed.specs.Feed.{Item, packet, refused, Keeps, Breaks, Waits, Goes, IsPacket}
-use Rattle.cap_feed.specs.declared.feeds.Ending.{Ending}
-use Rattle.cap_feed.specs.declared.feeds.Head.{Head}
-use Rattle.cap_feed.specs.declared.feeds.Head.TheVariants as heads
+use Rattle.cap_source.specs.Feed.{Item, packet, refused, Keeps, Breaks, Waits, Goes, IsPacket}
+use Rattle.cap_source.specs.declared.feeds.Ending.{Ending}
+use Rattle.cap_source.specs.declared.feeds.Head.{Head}
+use Rattle.cap_source.specs.declared.feeds.Head.TheVariants as heads
 use Rattle.cap_time.specs.declared.stamps.Stamp.{Stamp}
 use Rattle.cap_tally.specs.CountedUnits.{is_limit_at}
 use Rattle.cap_tally.specs.CountedUnits.{refusal_at}

@@ -1,8 +1,8 @@
 -- The report over the packets that were taken so far.
 use Rattle.std.specs.Prelude.{ℕ, List, [], ◌∷◌, ◌++◌, ◌+◌, ◌==◌, nat_lt, codes, decimal, length, Option, if◌then◌else◌}
 use Rattle.std.specs.List.{flat_map, range_with_len}
-use Rattle.cap_feed.specs.declared.feeds.Ending.{Ending}
-use Rattle.cap_feed.specs.declared.packets.Meta.{Meta}
+use Rattle.cap_source.specs.declared.feeds.Ending.{Ending}
+use Rattle.cap_source.specs.declared.packets.Meta.{Meta}
 use Rattle.cap_counts.specs.Counting.{counted}
 use Rattle.cap_counts.specs.FileLines.{file_text, files_text, ending_at}
 use Rattle.cap_tally.specs.TalkLines.{talk_texts, talks_text}

@@ -1,7 +1,7 @@
 //! Units that packets complete, and how they are added to the conversations.
 ghost use Rattle.std.specs.Prelude.{◌≡◌, ◌+◌, ◌++◌, ◌<◌, ◌≤◌, ◌^◌, List, length, IfSome, OnOk, OnErr};
 ghost use Rattle.cap_ip.specs.Transport.{transport_of};
-ghost use Rattle.cap_feed.specs.Times.{meta_time};
+ghost use Rattle.cap_source.specs.Times.{meta_time};
 ghost use Rattle.cap_tally.specs.Rows.{StandsFor, IsUnitInOrder, frames_in, bytes_in};
 ghost use Rattle.cap_tally.specs.Talks.{frames_of, bytes_of};
 ghost use Rattle.cap_tally.specs.declared.units.CountedUnit.{CountedUnit};
@@ -14,9 +14,9 @@ ghost use Rattle.cap_tally.specs.CountedUnits.{listed, timed_frame, whole_unit};
 use crate::classes::Class;
 use crate::talks::{Talks, TalksFault};
 use crate::units::{CountedUnit, TimedFrame, ends_of};
-use cap_feed::Meta;
 use cap_ip::{Header, Transport, transport};
 use cap_join::{Datagram, Stamped};
+use cap_source::Meta;
 use cap_time::Stamp;
 
 /// What is told of a packet's frame, which has that place in the run and that time.

@@ -5,7 +5,7 @@ ghost use Rattle.cap_bytes.specs.Device.{WriterKeeps, writer_of};
 ghost use Rattle.cap_bytes.specs.Printing.{Prints, is_write};
 ghost use Rattle.cap_order.specs.Parts.{feed_of, is_end};
 ghost use Rattle.cap_order.specs.View.{parts_of};
-ghost use Rattle.cap_feed.specs.Feed.{HasFile};
+ghost use Rattle.cap_source.specs.Feed.{HasFile};
 ghost use Rattle.cap_tally.specs.Props.{IsNumbered-prop};
 ghost use Rattle.cap_counts.specs.FileLines.{ended_from, ending_at};
 ghost use Rattle.cap_tally.specs.Holding.{held_of};
@@ -22,8 +22,8 @@ use crate::totals::Totals;
 use arrayvec::ArrayVec;
 use cap_bytes::{Fault, Refusal, Rule, Sink, put_all};
 use cap_counts::{Counted, Counts, put_files};
-use cap_feed::{Ending, Meta, PacketFeed};
 use cap_order::Merged;
+use cap_source::{Ending, Meta, PacketFeed};
 use std::alloc::Global;
 
 /// What a step did.

@@ -11,7 +11,7 @@ ghost use Rattle.cap_tally.specs.Looking.{taken_of};
 ghost use Rattle.cap_tally.specs.TakenText.{frames_text, joined_text};
 ghost use Rattle.cap_tally.specs.Taken.{Taken, datagram, fragment, look, stamped_of};
 ghost use Rattle.cap_tally.specs.Tallies.{Stands, LimitBy, one_if, tally_text, waiting_bytes, counted_one, Looks, WaitsIf, with_frames, with_group};
-ghost use Rattle.cap_feed.specs.Times.{meta_time};
+ghost use Rattle.cap_source.specs.Times.{meta_time};
 ghost use Rattle.cap_tally.specs.declared.talks.TalksFault.TheVariants.{Memory};
 ghost use Rattle.cap_tally.specs.Classes.{sum_of};
 ghost use Rattle.cap_tally.specs.CountedUnits.{is_limit_at};

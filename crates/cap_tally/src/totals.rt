@@ -1,6 +1,6 @@
 //! What is counted of the packets that were taken: of each file, and of all.
 ghost use Rattle.std.specs.Prelude.{◌≡◌, ◌+◌, ◌-◌, ◌≤◌, ◌<◌, ◌^◌, List, [], ◌∷◌, Option, true, length, replicate, slice_index_or, slice_set, if◌then◌else◌};
-ghost use Rattle.cap_feed.specs.Times.{meta_time};
+ghost use Rattle.cap_source.specs.Times.{meta_time};
 ghost use Rattle.cap_counts.specs.Counting.{counted, with_packet};
 ghost use Rattle.cap_tally.specs.Looking.{taken};
 ghost use Rattle.cap_tally.specs.Taken.{Taken};
@@ -9,7 +9,7 @@ ghost use Rattle.cap_time.specs.declared.stamps.Stamp.{Stamp};
 
 use arrayvec::ArrayVec;
 use cap_counts::Counts;
-use cap_feed::Meta;
+use cap_source::Meta;
 use cap_time::Stamp;
 use std::marker::Model;
 

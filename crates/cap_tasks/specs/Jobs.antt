@@ -9,7 +9,7 @@ use Rattle.cap_jobs.specs.declared.jobs.Job.{Job}
 use Rattle.cap_jobs.specs.declared.jobs.Task.{Task}
 use Rattle.cap_jobs.specs.declared.jobs.Task.TheVariants as tasks
 use Rattle.cap_merge.specs.Files.{clocked_run, endings_of_files}
-use Rattle.cap_feed.specs.declared.packets.Format.{Format}
+use Rattle.cap_source.specs.declared.packets.Format.{Format}
 use Rattle.cap_talks.specs.InfoText.{first_refusal, info_text}
 use Rattle.cap_talks.specs.ReportText.{report_refusal, report_text}
 use Rattle.cap_talks.specs.Telling.{Tells}

@@ -1,8 +1,8 @@
 //! Jobs: the names of their parts, what a task takes, the files that are named.
 use crate::checks::same;
 use cap_bytes::Order;
-use cap_feed::Format;
 use cap_jobs::{LineFault, Task, check_files, format_of, is_whole, order_of, task_of};
+use cap_source::Format;
 
 const TASKS: [(&str, Option<Task>); 10] = [
     ("list", Some(Task::List)),

@@ -9,9 +9,8 @@ use crate::report::{
     BINARY, BINARY_REPORT, FRAGMENT_REPORT, TAGGED_REPORT, TENTHS, UNTIMED_THEN_TIMED,
 };
 use cap_bytes::{Fault, Pieces, Room, Tail};
-use cap_feed::PacketFeed;
 use cap_merge::merge_files;
-use cap_source::Capture;
+use cap_source::{Capture, PacketFeed};
 use cap_tally::{Held, Step, Table};
 use std::alloc::{AllocError, Global};
 use std::process::Abort;

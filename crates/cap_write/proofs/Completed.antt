@@ -14,8 +14,8 @@ use Rattle.cap_join.specs.History.{Event}
 use Rattle.cap_join.specs.declared.arrivals.Arrived.{Arrived}
 use Rattle.cap_join.specs.declared.arrivals.Arrived.TheVariants as as_
 use Rattle.cap_join.specs.declared.datagrams.Stamped.{Stamped}
-use Rattle.cap_feed.specs.Feed.{Item, packet}
-use Rattle.cap_feed.specs.declared.packets.Meta.{Meta}
+use Rattle.cap_source.specs.Feed.{Item, packet}
+use Rattle.cap_source.specs.declared.packets.Meta.{Meta}
 use Rattle.cap_time.specs.declared.stamps.Stamp.{Stamp}
 use Rattle.cap_write.proofs.Feeding.{plan_of-is, plan_of-next, plan_of-refused}
 use Rattle.cap_write.proofs.Written.{Prints-untimed}

@@ -4,10 +4,10 @@ use Rattle.std.proofs.lemmas.Bool.{eq-eqb, ne_eqb}
 use Rattle.cap_bytes.specs.Device.{Writer}
 use Rattle.cap_bytes.specs.declared.faults.Rule.{Rule}
 use Rattle.cap_bytes.specs.declared.numbers.Order.{Order}
-use Rattle.cap_feed.proofs.Onward.{Went}
-use Rattle.cap_feed.proofs.Walking.{Plan, IsPlan, GoesOn, GivesUp, Walking}
-use Rattle.cap_feed.specs.Feed.{Feed}
-use Rattle.cap_feed.specs.declared.packets.Meta.{Meta}
+use Rattle.cap_source.proofs.Onward.{Went}
+use Rattle.cap_source.proofs.Walking.{Plan, IsPlan, GoesOn, GivesUp, Walking}
+use Rattle.cap_source.specs.Feed.{Feed}
+use Rattle.cap_source.specs.declared.packets.Meta.{Meta}
 use Rattle.cap_write.proofs.Places.{position_or_len-none, position_or_len-some}
 use Rattle.cap_write.specs.Numbering.{Origin, numbered_of, numbered, with_origin, write_fault, refusal_at, refusal_in}
 use Rattle.cap_write.specs.Texts.{packets_bytes, count_after, text_behind, one_bytes}

@@ -12,11 +12,11 @@ use Rattle.cap_join.specs.Joiners.{JoinerState, StandsFor}
 use Rattle.cap_order.proofs.RunItems.{items-of-run, first-of-run}
 use Rattle.cap_order.specs.Parts.{Part, feed_of, run_of, BeginsAt}
 use Rattle.cap_order.specs.Run.{Clocked}
-use Rattle.cap_feed.proofs.Onward.{Went, Went-more}
-use Rattle.cap_feed.proofs.Walking.{Walking, Walking-by, Prints-whole, Prints-front}
-use Rattle.cap_feed.specs.Feed.{Feed, Item, packet, refused, Keeps, Passes}
-use Rattle.cap_feed.specs.Walk.{GivesPacket, ShowsItem}
-use Rattle.cap_feed.specs.declared.packets.Meta.{Meta}
+use Rattle.cap_source.proofs.Onward.{Went, Went-more}
+use Rattle.cap_source.proofs.Walking.{Walking, Walking-by, Prints-whole, Prints-front}
+use Rattle.cap_source.specs.Feed.{Feed, Item, packet, refused, Keeps, Passes}
+use Rattle.cap_source.specs.Walk.{GivesPacket, ShowsItem}
+use Rattle.cap_source.specs.declared.packets.Meta.{Meta}
 use Rattle.cap_time.specs.declared.stamps.Stamp.{Stamp}
 use Rattle.cap_write.proofs.Feeding.{plan_of, plan_of-is, plan_of-next, plan_of-refused}
 use Rattle.cap_write.specs.Datagrams.{origins_behind}

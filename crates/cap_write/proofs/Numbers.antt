@@ -1,7 +1,7 @@
 -- What refuses a packet, and what doesn't.
 use Rattle.std.proofs.Common.{◌≡◌, List, [], ◌∷◌, true, false, Some, None, IsSome, arith}
 use Rattle.cap_bytes.specs.declared.faults.Rule.TheVariants.{NoTime, InterfaceLimit}
-use Rattle.cap_feed.specs.declared.packets.Meta.{Meta}
+use Rattle.cap_source.specs.declared.packets.Meta.{Meta}
 use Rattle.cap_write.specs.Numbering.{Origin, is_first, is_full, number_of, with_origin, write_fault}
 
 -- the second is that of the number of interfaces

@@ -7,10 +7,10 @@ use Rattle.cap_bytes.specs.declared.faults.Rule.{Rule}
 use Rattle.cap_bytes.specs.declared.faults.Rule.TheVariants.{NoTime, LinkMixed}
 use Rattle.cap_bytes.specs.declared.numbers.Order.{Order}
 use Rattle.cap_pcap.specs.declared.records.RecordTime.{RecordTime}
-use Rattle.cap_feed.proofs.Onward.{Went}
-use Rattle.cap_feed.proofs.Walking.{Plan, IsPlan, GoesOn, GivesUp, Walking}
-use Rattle.cap_feed.specs.Feed.{Feed}
-use Rattle.cap_feed.specs.declared.packets.Meta.{Meta}
+use Rattle.cap_source.proofs.Onward.{Went}
+use Rattle.cap_source.proofs.Walking.{Plan, IsPlan, GoesOn, GivesUp, Walking}
+use Rattle.cap_source.specs.Feed.{Feed}
+use Rattle.cap_source.specs.declared.packets.Meta.{Meta}
 use Rattle.cap_time.specs.declared.resolutions.Interface.{Interface}
 use Rattle.cap_time.specs.declared.stamps.Unit.{Unit as Fraction}
 use Rattle.cap_write.specs.Interfaces.{HasUnits}

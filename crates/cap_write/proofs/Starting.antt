@@ -6,14 +6,14 @@ use Rattle.cap_bytes.specs.Printing.{Prints, is_write}
 use Rattle.cap_bytes.specs.declared.faults.Fault.{Fault}
 use Rattle.cap_bytes.specs.declared.faults.Fault.TheVariants.{Refused, Read, Write, Memory}
 use Rattle.cap_bytes.specs.declared.faults.Refusal.{Refusal}
-use Rattle.cap_feed.proofs.Walking.{Plan, Walking}
+use Rattle.cap_source.proofs.Walking.{Plan, Walking}
 use Rattle.cap_source.specs.ReadFaults.{FailsOf}
 use Rattle.std.proofs.lemmas.Bool.Decides.{nat_tests}
-use Rattle.cap_feed.specs.Feed.{Feed, GivesHead, IsFeed, IfPacket, IsPacket, IsPacketOf}
-use Rattle.cap_feed.specs.Walk.{GivesPacket, Walks}
-use Rattle.cap_feed.specs.declared.feeds.Head.{Head}
-use Rattle.cap_feed.specs.declared.feeds.Head.TheVariants as heads
-use Rattle.cap_feed.specs.declared.packets.Meta.{Meta}
+use Rattle.cap_source.specs.Feed.{Feed, GivesHead, IsFeed, IfPacket, IsPacket, IsPacketOf}
+use Rattle.cap_source.specs.Walk.{GivesPacket, Walks}
+use Rattle.cap_source.specs.declared.feeds.Head.{Head}
+use Rattle.cap_source.specs.declared.feeds.Head.TheVariants as heads
+use Rattle.cap_source.specs.declared.packets.Meta.{Meta}
 
 pub Walking-none : (plan : Plan) (feed : Feed) (failed : Bool) (w : Writer) → Walking plan plan feed feed failed failed w w
 Walking-none plan feed failed w = record {

@@ -8,9 +8,9 @@ use Rattle.cap_bytes.specs.declared.faults.Fault.TheVariants.{Refused, Memory}
 use Rattle.cap_bytes.specs.declared.faults.Refusal.{Refusal}
 use Rattle.cap_bytes.specs.declared.faults.Rule.{Rule}
 use Rattle.cap_bytes.specs.declared.numbers.Order.{Order}
-use Rattle.cap_feed.proofs.Walking.{Plan, GoesOn, GivesUp, Prints-whole, Prints-front}
-use Rattle.cap_feed.specs.Feed.{Item, packet}
-use Rattle.cap_feed.specs.declared.packets.Meta.{Meta}
+use Rattle.cap_source.proofs.Walking.{Plan, GoesOn, GivesUp, Prints-whole, Prints-front}
+use Rattle.cap_source.specs.Feed.{Item, packet}
+use Rattle.cap_source.specs.declared.packets.Meta.{Meta}
 use Rattle.cap_write.proofs.Numbers.{write_fault-untimed}
 use Rattle.cap_write.specs.Interfaces.{HasUnits, Numbers}
 use Rattle.cap_write.specs.Numbering.{Origin, refusal_at, refusal_by, write_fault}

@@ -4,7 +4,7 @@ use Rattle.cap_join.specs.History.{Event}
 use Rattle.cap_join.specs.Joiners.{JoinerState, StandsFor}
 use Rattle.cap_join.specs.declared.arrivals.Arrived.{Arrived}
 use Rattle.cap_join.specs.declared.arrivals.Arrived.TheVariants as as_
-use Rattle.cap_feed.specs.Feed.{Item, packet, refused}
+use Rattle.cap_source.specs.Feed.{Item, packet, refused}
 use Rattle.cap_write.specs.Joined.{Complete, complete_of, datagram_bytes}
 use Rattle.cap_write.specs.Numbering.{Origin, with_origin}
 

@@ -5,8 +5,8 @@ use Rattle.indexmap.specs.IndexSet.{insert_key}
 use Rattle.cap_bytes.specs.declared.faults.Refusal.{Refusal}
 use Rattle.cap_bytes.specs.declared.faults.Rule.{Rule}
 use Rattle.cap_bytes.specs.declared.faults.Rule.TheVariants.{NoTime, InterfaceLimit}
-use Rattle.cap_feed.specs.Feed.{Item, packet, refused}
-use Rattle.cap_feed.specs.declared.packets.Meta.{Meta}
+use Rattle.cap_source.specs.Feed.{Item, packet, refused}
+use Rattle.cap_source.specs.declared.packets.Meta.{Meta}
 use Rattle.cap_time.specs.declared.resolutions.Interface.{Interface}
 
 -- An interface's origin: the number of its file, and how many interface blocks of the file stand before its own.

@@ -4,8 +4,8 @@ use Rattle.cap_bytes.specs.declared.faults.Refusal.{Refusal}
 use Rattle.cap_bytes.specs.declared.faults.Rule.{Rule}
 use Rattle.cap_bytes.specs.declared.numbers.Order.{Order}
 use Rattle.cap_blocks.specs.Grammar.{section_bytes, interface_bytes, packet_bytes}
-use Rattle.cap_feed.specs.Feed.{Item}
-use Rattle.cap_feed.specs.declared.packets.Meta.{Meta}
+use Rattle.cap_source.specs.Feed.{Item}
+use Rattle.cap_source.specs.declared.packets.Meta.{Meta}
 use Rattle.cap_time.specs.declared.resolutions.Interface.{Interface}
 use Rattle.cap_write.specs.Numbering.{Origin, Numbered, numbered_of, numbered, write_fault, refusal_in}
 

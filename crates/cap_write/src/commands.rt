@@ -12,9 +12,8 @@ use crate::files::{to_pcap, to_pcapng};
 use crate::joined::write_joined;
 use crate::merged::write_merged;
 use cap_bytes::{Fault, Order, Sink, Source, Tail};
-use cap_feed::Format;
 use cap_merge::merge_files;
-use cap_source::Capture;
+use cap_source::{Capture, Format};
 use std::alloc::Global;
 
 /// How packets are written.

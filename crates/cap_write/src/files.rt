@@ -4,16 +4,15 @@ ghost use Rattle.cap_bytes.specs.Device.{WriterKeeps, writer_of};
 ghost use Rattle.cap_bytes.specs.Printing.{Prints, is_write};
 ghost use Rattle.cap_write.specs.Pcap.{pcap_bytes, pcap_refusal};
 ghost use Rattle.cap_write.specs.Texts.{pcapng_bytes, pcapng_refusal};
-ghost use Rattle.cap_feed.specs.Feed.{Keeps};
-ghost use Rattle.cap_feed.specs.Walk.{Walks};
+ghost use Rattle.cap_source.specs.Feed.{Keeps};
+ghost use Rattle.cap_source.specs.Walk.{Walks};
 ghost use Rattle.cap_source.specs.Captures.{feed_of, number_of, first_of};
 
 use crate::interfaces::FileStart;
 use crate::pcap::put_pcap;
 use crate::pcapng::put_pcapng;
 use cap_bytes::{Fault, Order, Sink, Source};
-use cap_feed::PacketFeed;
-use cap_source::Capture;
+use cap_source::{Capture, PacketFeed};
 use std::alloc::Global;
 
 /// Writes a file as a pcapng file (draft-ietf-opsawg-pcapng, 4) of one section in that byte order: its first

@@ -4,7 +4,7 @@ ghost use Rattle.cap_write.specs.Numbering.{is_first, is_full, refusal_at};
 ghost use Rattle.cap_write.specs.Interfaces.{HasUnits, Numbers};
 
 use cap_bytes::{Fault, Refusal, Rule};
-use cap_feed::Meta;
+use cap_source::Meta;
 use cap_time::Interface;
 use indexmap::IndexSet;
 

@@ -2,15 +2,15 @@
 ghost use Rattle.std.specs.Prelude.{IsTrue};
 ghost use Rattle.cap_bytes.specs.Device.{WriterKeeps, writer_of};
 ghost use Rattle.cap_bytes.specs.Printing.{Prints, is_write};
-ghost use Rattle.cap_feed.specs.Feed.{Keeps};
-ghost use Rattle.cap_feed.specs.Walk.{Walks};
+ghost use Rattle.cap_source.specs.Feed.{Keeps};
+ghost use Rattle.cap_source.specs.Walk.{Walks};
 ghost use Rattle.cap_write.specs.Texts.{merged_bytes, merged_refusal};
 
 use crate::interfaces::Origins;
 use crate::packets::put_packets;
 use cap_blocks::put_section;
 use cap_bytes::{Fault, Order, Sink};
-use cap_feed::PacketFeed;
+use cap_source::PacketFeed;
 use std::alloc::Global;
 
 /// Writes the packets of a feed as a pcapng file (draft-ietf-opsawg-pcapng, 4) of one section in that byte

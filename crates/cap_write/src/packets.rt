@@ -3,15 +3,15 @@ ghost use Rattle.std.specs.Prelude.{◌≡◌, ◌+◌, ◌≤◌, ◌++◌, len
 ghost use Rattle.cap_bytes.specs.Device.{Puts, WriterKeeps, writer_of};
 ghost use Rattle.cap_bytes.specs.Printing.{Prints, IsRead, is_write};
 ghost use Rattle.cap_blocks.specs.Grammar.{interface_bytes, packet_bytes};
-ghost use Rattle.cap_feed.specs.Feed.{Keeps};
-ghost use Rattle.cap_feed.specs.Walk.{Walks};
+ghost use Rattle.cap_source.specs.Feed.{Keeps};
+ghost use Rattle.cap_source.specs.Walk.{Walks};
 ghost use Rattle.cap_write.specs.Numbering.{number_of, with_origin, refusal_in, refusal_by, write_fault};
 ghost use Rattle.cap_write.specs.Texts.{text_behind, one_bytes};
 
 use crate::interfaces::{Origins, number_of, units_of};
 use cap_blocks::{PacketFields, put_interface, put_packet};
 use cap_bytes::{Fault, Order, Sink};
-use cap_feed::{Meta, PacketFeed, next_packet};
+use cap_source::{Meta, PacketFeed, next_packet};
 
 // Writes a packet's interface if it is the next one.
 fn put_new_interface<W: Sink>(

@@ -2,8 +2,8 @@
 ghost use Rattle.std.specs.Prelude.{◌≡◌, ◌≤◌, length, IsTrue, IsFalse, OnOk, Some, None};
 ghost use Rattle.cap_bytes.specs.Device.{WriterKeeps, writer_of};
 ghost use Rattle.cap_bytes.specs.Printing.{Prints, IsRead, is_write};
-ghost use Rattle.cap_feed.specs.Feed.{Keeps};
-ghost use Rattle.cap_feed.specs.Walk.{Walks};
+ghost use Rattle.cap_source.specs.Feed.{Keeps};
+ghost use Rattle.cap_source.specs.Walk.{Walks};
 ghost use Rattle.cap_write.specs.Pcap.{fraction_of, header_of, packet_record, record_fault, records_bytes, records_refusal, pcap_bytes, pcap_refusal};
 ghost use Rattle.cap_write.specs.Times.{HasTime, HasRecord, IsBare};
 ghost use Rattle.cap_write.specs.Texts.{text_or};
@@ -11,8 +11,8 @@ ghost use Rattle.cap_write.specs.Numbering.{refusal_by};
 
 use crate::interfaces::{FileStart, refused, units_of};
 use cap_bytes::{Fault, Order, Refusal, Rule, Sink};
-use cap_feed::{Head, Meta, PacketFeed, next_packet};
 use cap_pcap::{PcapHeader, RecordTime, put_header, put_record};
+use cap_source::{Head, Meta, PacketFeed, next_packet};
 use cap_time::{Interface, Stamp, Unit};
 
 // How many microseconds there are in a second.

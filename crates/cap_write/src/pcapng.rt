@@ -2,8 +2,8 @@
 ghost use Rattle.std.specs.Prelude.{IsTrue, is_err, IsOkUnless};
 ghost use Rattle.cap_bytes.specs.Device.{Puts, WriterKeeps, writer_of};
 ghost use Rattle.cap_bytes.specs.Printing.{Prints, is_write};
-ghost use Rattle.cap_feed.specs.Feed.{Keeps};
-ghost use Rattle.cap_feed.specs.Walk.{Walks};
+ghost use Rattle.cap_source.specs.Feed.{Keeps};
+ghost use Rattle.cap_source.specs.Walk.{Walks};
 ghost use Rattle.cap_write.specs.Interfaces.{Holds};
 ghost use Rattle.cap_write.specs.Texts.{first_origins, first_bytes, front_bytes, pcapng_bytes, pcapng_refusal};
 
@@ -11,7 +11,7 @@ use crate::interfaces::{FileStart, Origins};
 use crate::packets::put_packets;
 use cap_blocks::{put_interface, put_section};
 use cap_bytes::{Fault, Order, Sink};
-use cap_feed::PacketFeed;
+use cap_source::PacketFeed;
 use cap_time::Interface;
 use std::alloc::Global;
 

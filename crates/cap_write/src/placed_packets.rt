@@ -3,8 +3,8 @@ ghost use Rattle.std.specs.Prelude.{◌<◌, ◌<ℤ◌, ◌^◌, pos, IfSome};
 ghost use Rattle.std.proofs.Props.{props};
 ghost use Rattle.cap_time.specs.Stamp.{seconds_of};
 
-use cap_feed::Meta;
 use cap_join::Joiner;
+use cap_source::Meta;
 use cap_time::Stamp;
 
 /// A packet of a run.

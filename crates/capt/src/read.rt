@@ -1,6 +1,5 @@
 //! The packets of a file of either format; below them the records of a pcap file and the blocks of a pcapng file.
 
 pub use cap_blocks::{Block, BlockReader, Options};
-pub use cap_feed::{Ending, FeedHeld, Format, Head, Meta, PacketFeed, next_packet};
 pub use cap_pcap::{PcapHeader, PcapReader, Record};
-pub use cap_source::Capture;
+pub use cap_source::{Capture, Ending, FeedHeld, Format, Head, Meta, PacketFeed, next_packet};

@@ -17,7 +17,7 @@ use Rattle.cap_bytes.specs.declared.faults.Rule.{Rule}
 use Rattle.cap_bytes.specs.declared.faults.Tail.{Tail}
 use Rattle.cap_bytes.specs.declared.numbers.Order.{Order}
 use Rattle.cap_source.specs.Contents.{content_in}
-use Rattle.cap_feed.specs.Feed.{packet}
+use Rattle.cap_source.specs.Feed.{packet}
 use Rattle.cap_source.specs.Items.{Progress, after, behind, items_at, items_in, meta_in, first_or, unless_item, first_in}
 use Rattle.cap_source.specs.declared.contents.Content.{Content}
 use Rattle.cap_source.specs.declared.contents.Content.TheVariants as contents

@@ -15,7 +15,7 @@ use Rattle.cap_pcap.specs.declared.records.Record.{Record}
 use Rattle.cap_source.proofs.Fields.{FitsPacket, one_more, content-fits, IsOfBytes, blocks-bytes, header-fits}
 use Rattle.cap_source.proofs.Saying.{OfContent}
 use Rattle.cap_source.specs.Contents.{content_in}
-use Rattle.cap_feed.specs.Feed.{Item, packet, refused}
+use Rattle.cap_source.specs.Feed.{Item, packet, refused}
 use Rattle.cap_source.specs.Fields.{FitsInterface}
 use Rattle.cap_source.specs.Items.{Progress, fresh, behind, first_or, first_in, first_from, unless_item, unless_refused, items_at, items_in, items_from, is_pcapng, pcap_items, interface_of, file_items, file_first}
 use Rattle.cap_source.specs.declared.contents.Content.{Content}

@@ -12,7 +12,7 @@ use Rattle.cap_pcap.specs.Split as records
 use Rattle.cap_pcap.specs.declared.records.Record.{Record}
 use Rattle.cap_source.proofs.Saying.{OfContent, content-holds}
 use Rattle.cap_source.specs.Contents.{content_in}
-use Rattle.cap_feed.specs.Feed.{Item}
+use Rattle.cap_source.specs.Feed.{Item}
 use Rattle.cap_source.specs.Items.{Progress, fresh, behind, items_at, items_in, items_from, is_pcapng, pcap_items, interface_of}
 use Rattle.cap_source.specs.declared.contents.Content.{Content}
 use Rattle.cap_source.specs.declared.contents.Content.TheVariants as contents

@@ -7,7 +7,7 @@ use Rattle.cap_order.specs.Parts.{item_time, is_refusal}
 use Rattle.cap_order.specs.Run.{Clocked, opened, merged, through_first}
 use Rattle.cap_source.proofs.Fields.{fields_fit-law}
 use Rattle.cap_source.proofs.Frames.{frames_fit-law}
-use Rattle.cap_feed.specs.Feed.{Item, packet, refused}
+use Rattle.cap_source.specs.Feed.{Item, packet, refused}
 use Rattle.cap_source.specs.Fields.{HasFrame, ItemFits}
 use Rattle.cap_source.specs.Items.{file_items}
 use Rattle.cap_time.specs.declared.resolutions.Interface.{Interface}

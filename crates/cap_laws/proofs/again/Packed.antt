@@ -8,7 +8,7 @@ use Rattle.cap_bytes.specs.declared.stops.Stop.{Stop}
 use Rattle.cap_bytes.specs.declared.stops.Stop.TheVariants as stops
 use Rattle.cap_source.specs.Items.{pcap_items}
 use Rattle.cap_time.specs.declared.resolutions.Interface.{Interface}
-use Rattle.cap_feed.specs.Feed.{refusal_of}
+use Rattle.cap_source.specs.Feed.{refusal_of}
 use Rattle.cap_write.specs.Numbering.{Origin, Numbered, numbered, refusal_in, write_fault}
 use Rattle.cap_write.specs.Texts.{interface_part, packet_part, count_after}
 use Rattle.cap_laws.specs.again.Laws.{Kept, kept, read_items, IsNumbered, all_described}

@@ -14,10 +14,10 @@ use Rattle.cap_pcap.specs.declared.headers.PcapHeader.{PcapHeader}
 use Rattle.cap_bytes.specs.declared.stops.Stop.TheVariants as stops
 use Rattle.cap_pcap.specs.Split as records
 use Rattle.cap_source.proofs.Fields.{fields_fit-law}
-use Rattle.cap_feed.specs.Feed.{Item, packet, refused}
+use Rattle.cap_source.specs.Feed.{Item, packet, refused}
 use Rattle.cap_source.specs.Fields.{ItemFits}
 use Rattle.cap_source.specs.Items.{file_items, file_first, first_from, interface_of, meta_of, pcap_items}
-use Rattle.cap_feed.specs.declared.packets.Meta.{Meta}
+use Rattle.cap_source.specs.declared.packets.Meta.{Meta}
 use Rattle.cap_time.proofs.WholeUnits.{whole_of_pair, in_second_positive}
 use Rattle.cap_time.specs.Stamp.{stamp_cmp, stamp_in, time_of}
 use Rattle.cap_time.specs.Resolution.{units_of}

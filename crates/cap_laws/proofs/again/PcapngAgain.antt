@@ -8,7 +8,7 @@ use Rattle.cap_bytes.specs.declared.numbers.Order.{Order}
 use Rattle.cap_blocks.proofs.Items.{items_from-none}
 use Rattle.cap_source.proofs.Fields.{fields_fit-law}
 use Rattle.cap_source.proofs.Frames.{frames_fit-law}
-use Rattle.cap_feed.specs.Feed.{Item, packet, refusal_of}
+use Rattle.cap_source.specs.Feed.{Item, packet, refusal_of}
 use Rattle.cap_source.specs.Fields.{ItemFits}
 use Rattle.cap_source.specs.Items.{file_items, file_first, first_in}
 use Rattle.cap_time.specs.declared.resolutions.Interface.{Interface}

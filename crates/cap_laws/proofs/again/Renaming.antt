@@ -3,8 +3,8 @@ use Rattle.std.proofs.Common.{arith, ◌≡◌, ℕ, suc, ◌+◌, cond, List, [
 use Rattle.std.specs.Prelude.{◌||◌, not}
 use Rattle.std.specs.List.{AllZip, list_any, position_or_len}
 use Rattle.std.specs.Option.{option_map}
-use Rattle.cap_feed.specs.Feed.{Item, packet, refused}
-use Rattle.cap_feed.specs.declared.packets.Meta.{Meta}
+use Rattle.cap_source.specs.Feed.{Item, packet, refused}
+use Rattle.cap_source.specs.declared.packets.Meta.{Meta}
 use Rattle.cap_write.specs.Numbering.{Origin, origin_of, is_origin, with_origin, write_fault, numbered_of, numbered_or, numbered, refusal_in}
 
 -- Equal origins on one side belong to equal origins on the other, and only these.

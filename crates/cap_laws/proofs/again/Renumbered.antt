@@ -8,12 +8,12 @@ use Rattle.indexmap.specs.IndexSet.{insert_key}
 use Rattle.cap_bytes.specs.declared.faults.Rule.{Rule}
 use Rattle.cap_bytes.specs.declared.faults.Rule.TheVariants.{InterfaceLimit}
 use Rattle.cap_bytes.specs.declared.numbers.Order.{Order}
-use Rattle.cap_feed.specs.Feed.{Item, packet, refused}
+use Rattle.cap_source.specs.Feed.{Item, packet, refused}
 use Rattle.cap_source.specs.Items.{file_items}
-use Rattle.cap_feed.specs.declared.packets.Meta.{Meta}
+use Rattle.cap_source.specs.declared.packets.Meta.{Meta}
 use Rattle.cap_write.proofs.Feeding.{count_after-is}
 use Rattle.cap_write.proofs.Places.{position_or_len-none, position_or_len-some}
-use Rattle.cap_feed.specs.Feed.{refusal_of}
+use Rattle.cap_source.specs.Feed.{refusal_of}
 use Rattle.cap_write.specs.Numbering.{Origin, origin_of, is_origin, is_used, number_of, with_origin, write_fault, Numbered, numbered_of, numbered_or, numbered, refusal_or, refusal_in}
 use Rattle.cap_write.specs.Texts.{interface_part, packet_part, count_after, merged_bytes}
 use Rattle.cap_laws.proofs.again.Files.{merged-again}

@@ -22,13 +22,13 @@ use Rattle.cap_pcap.specs.declared.headers.PcapHeader.{PcapHeader}
 use Rattle.cap_blocks.proofs.Bytes.{AreBytes-drop}
 use Rattle.cap_source.proofs.Fields.{AllHeld, held-splits, below_header}
 use Rattle.cap_source.proofs.Frames.{read_header}
-use Rattle.cap_feed.specs.Feed.{Item}
+use Rattle.cap_source.specs.Feed.{Item}
 use Rattle.cap_source.specs.Items.{is_pcapng, pcap_items, interface_of, unless_refused, items_from, first_from, file_items, file_first}
 use Rattle.cap_time.specs.declared.resolutions.Interface.{Interface}
 use Rattle.cap_time.specs.declared.stamps.Unit.{Unit as Fraction}
 use Rattle.cap_write.specs.Numbering.{Numbered}
 use Rattle.cap_write.specs.Pcap.{pcap_bytes, pcap_refusal, records_refusal}
-use Rattle.cap_feed.specs.Feed.{refusal_of}
+use Rattle.cap_source.specs.Feed.{refusal_of}
 use Rattle.cap_write.specs.Texts.{packet_part, count_after, packets_bytes, front_bytes, pcapng_bytes, pcapng_refusal}
 use Rattle.cap_laws.proofs.again.Files.{length-section_bytes, pcapng-again}
 use Rattle.cap_laws.proofs.again.Held.{AllFit-held, held-written, early-written, records-again}

@@ -10,10 +10,10 @@ use Rattle.cap_pcap.specs.Grammar.{Packet, header_bytes, record_bytes}
 use Rattle.cap_pcap.specs.declared.headers.PcapHeader.{PcapHeader}
 use Rattle.std.specs.List.{AllZip}
 use Rattle.std.specs.declared.cmp.Ordering.TheVariants.{Equal}
-use Rattle.cap_feed.specs.Feed.{Item, packet, refused, refusal_of}
+use Rattle.cap_source.specs.Feed.{Item, packet, refused, refusal_of}
 use Rattle.cap_source.specs.Items.{is_pcapng, file_items, file_first, resolution_of_unit}
-use Rattle.cap_feed.specs.declared.packets.Format.TheVariants.{Pcapng}
-use Rattle.cap_feed.specs.declared.packets.Meta.{Meta}
+use Rattle.cap_source.specs.declared.packets.Format.TheVariants.{Pcapng}
+use Rattle.cap_source.specs.declared.packets.Meta.{Meta}
 use Rattle.cap_time.specs.declared.resolutions.Interface.{Interface}
 use Rattle.cap_time.specs.Stamp.{seconds_of, stamp_in}
 use Rattle.cap_time.specs.Unit.{in_second}
@@ -21,7 +21,7 @@ use Rattle.cap_time.specs.declared.stamps.Unit.{Unit as Fraction}
 use Rattle.cap_write.specs.Numbering.{Origin, origin_of, Numbered, numbered_of, numbered, refusal_in, refusal_at}
 use Rattle.cap_write.specs.Pcap.{fraction_of, pcap_bytes, pcap_refusal}
 use Rattle.cap_time.specs.Clock.{clock_cmp}
-use Rattle.cap_feed.specs.Times.{meta_time}
+use Rattle.cap_source.specs.Times.{meta_time}
 use Rattle.cap_write.specs.Texts.{interface_part, packet_part, count_after, first_origins, pcapng_bytes, pcapng_refusal, merged_bytes}
 
 -- The fields of a packet and of its interface fit in their widths, and that many bytes may be captured.

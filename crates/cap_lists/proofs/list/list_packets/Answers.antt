@@ -1,9 +1,9 @@
 use Rattle.std.proofs.Common.{◌≡◌, ◌+◌, ◌++◌, ◌∙◌, Some, None, Ok, drop, sym, ap, arith, rules}
 use Rattle.std.proofs.lemmas.Result.{err_from_is_err_and}
 use Rattle.cap_bytes.proofs.Putting.{Putting-front}
-use Rattle.cap_feed.proofs.Onward.{Went-more, Walks-end, Walks-fault, Walks-stop}
-use Rattle.cap_feed.proofs.Walking.{Walking-more, Prints-fault, Prints-end}
-use Rattle.cap_feed.specs.Walk.{ShowsItem}
+use Rattle.cap_source.proofs.Onward.{Went-more, Walks-end, Walks-fault, Walks-stop}
+use Rattle.cap_source.proofs.Walking.{Walking-more, Prints-fault, Prints-end}
+use Rattle.cap_source.specs.Walk.{ShowsItem}
 use Rattle.cap_lists.proofs.Listing.{plan_of, plan_of-is, plan_of-next}
 use Rattle.cap_lists.specs.ListText.{list_lines, packet_text}
 use Rattle.cap_lists.proofs.list.list_packets.Goals as goal

@@ -1,5 +1,5 @@
 use Rattle.std.proofs.Common.{arith, ◌∙◌, sym, ap, subst, Bool, IsTrue, Some}
-use Rattle.cap_feed.specs.Feed.{refusal_of}
+use Rattle.cap_source.specs.Feed.{refusal_of}
 use Rattle.cap_source.specs.Captures.{feed_of}
 use Rattle.cap_counts.specs.Counting.{packets_of, counted}
 use Rattle.cap_talks.proofs.files.count_file.Goals as goal

@@ -1,5 +1,5 @@
 use Rattle.std.proofs.Common.{IsTrue, ℕ, List, sym, subst}
-use Rattle.cap_feed.specs.Walk.{Walks}
+use Rattle.cap_source.specs.Walk.{Walks}
 use Rattle.cap_order.specs.Parts.{Part, feed_of}
 use Rattle.cap_tally.specs.TableView.{table_of}
 use Rattle.cap_talks.specs.Reporting.{TellsReport}

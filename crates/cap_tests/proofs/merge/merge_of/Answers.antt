@@ -1,6 +1,6 @@
 use Rattle.std.proofs.Common.{◌≡◌, ◌++◌, ◌∷◌, [], drop, refl, sym, subst, List}
-use Rattle.cap_feed.specs.Feed.{Feed, HasFile}
-use Rattle.cap_feed.specs.Listed.{list_feed}
+use Rattle.cap_source.specs.Feed.{Feed, HasFile}
+use Rattle.cap_source.specs.Listed.{list_feed}
 use Rattle.cap_order.specs.Parts.{feed_of, new_parts}
 use Rattle.cap_tests.proofs.merge.merge_of.Goals as goal
 

@@ -1,5 +1,5 @@
 use Rattle.std.proofs.Common.{arith, ◌∙◌, ap, Err}
-use Rattle.cap_feed.proofs.Onward.{Keeps-trans}
+use Rattle.cap_source.proofs.Onward.{Keeps-trans}
 use Rattle.std.proofs.lemmas.Result.{err_from_is_err_and}
 use Rattle.cap_source.specs.Captures.{feed_of, first_of}
 use Rattle.cap_write.specs.Pcap.{pcap_bytes}

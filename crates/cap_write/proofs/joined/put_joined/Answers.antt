@@ -3,9 +3,9 @@ use Rattle.std.proofs.lemmas.Result.{err_from_is_err_and}
 use Rattle.cap_order.specs.MergedLaws.{merged-is-feed}
 use Rattle.cap_order.specs.Parts.{feed_of}
 use Rattle.cap_order.specs.View.{parts_of}
-use Rattle.cap_feed.proofs.Onward.{Keeps-trans, Went-none}
-use Rattle.cap_feed.specs.Walk.{ShowsItem}
-use Rattle.cap_feed.proofs.Walking.{Prints-fault, Prints-end}
+use Rattle.cap_source.proofs.Onward.{Keeps-trans, Went-none}
+use Rattle.cap_source.specs.Walk.{ShowsItem}
+use Rattle.cap_source.proofs.Walking.{Prints-fault, Prints-end}
 use Rattle.cap_write.proofs.Feeding.{plan_of, plan_of-is}
 use Rattle.cap_write.proofs.Joining.{Joining-more, Joining-part, feeding, shows-fault, shows-end, place-small}
 use Rattle.cap_write.proofs.Starting.{Walking-none, Walking-writer, unwritten, known-packet}

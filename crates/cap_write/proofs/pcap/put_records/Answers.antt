@@ -1,8 +1,8 @@
 use Rattle.std.proofs.Common.{arith, Some, None, Ok, drop, rules, refl}
 use Rattle.std.proofs.lemmas.Result.{err_from_is_err_and}
-use Rattle.cap_feed.proofs.Onward.{Went-more, Went-none}
-use Rattle.cap_feed.proofs.Walking.{Walking-more, Prints-fault, Prints-end}
-use Rattle.cap_feed.specs.Walk.{ShowsItem}
+use Rattle.cap_source.proofs.Onward.{Went-more, Went-none}
+use Rattle.cap_source.proofs.Walking.{Walking-more, Prints-fault, Prints-end}
+use Rattle.cap_source.specs.Walk.{ShowsItem}
 use Rattle.cap_write.proofs.Records.{plan_of, plan_of-is, plan_of-next, plan_of-refused}
 use Rattle.cap_write.proofs.Written.{Prints-one}
 use Rattle.cap_write.specs.Pcap.{record_fault, packet_record}

@@ -1,5 +1,5 @@
 use Rattle.std.proofs.Common.{sym, ◌∙◌, map, subst}
-use Rattle.cap_feed.specs.Feed.{IsPacket}
+use Rattle.cap_source.specs.Feed.{IsPacket}
 use Rattle.cap_order.specs.Parts.{parts, feed_of}
 use Rattle.cap_order.proofs.FirstClock.{first-clock}
 use Rattle.cap_order.proofs.Firsts.{known-there, frame-here, no-packet, packet-next}

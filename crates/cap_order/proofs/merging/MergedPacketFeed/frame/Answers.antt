@@ -1,5 +1,5 @@
 use Rattle.std.proofs.Common.{sym, ◌∙◌, subst}
-use Rattle.cap_feed.specs.Feed.{IsPacket}
+use Rattle.cap_source.specs.Feed.{IsPacket}
 use Rattle.cap_order.proofs.Firsts.{known-there, frame-here, frame-none}
 use Rattle.cap_order.proofs.merging.MergedPacketFeed.frame.Goals as goal
 

@@ -1,6 +1,6 @@
 use Rattle.std.proofs.Common.{map}
 use Rattle.std.proofs.lemmas.Result.{err_from_is_err_and}
-use Rattle.cap_feed.specs.declared.feeds.Head.TheVariants.{Packet, Refused, End}
+use Rattle.cap_source.specs.declared.feeds.Head.TheVariants.{Packet, Refused, End}
 use Rattle.cap_order.specs.Parts.{parts, feed_of}
 use Rattle.cap_order.specs.Sound.{lawful-each, numbered-from}
 use Rattle.cap_order.proofs.Looking.{heads-known, heads-stopped, is-packet, refusal-comes, end-comes}

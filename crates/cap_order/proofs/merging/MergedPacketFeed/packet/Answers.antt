@@ -1,5 +1,5 @@
 use Rattle.std.proofs.Common.{sym, ◌∙◌, map, subst}
-use Rattle.cap_feed.specs.Feed.{IsPacket}
+use Rattle.cap_source.specs.Feed.{IsPacket}
 use Rattle.cap_order.specs.Parts.{parts}
 use Rattle.cap_order.proofs.Firsts.{known-there, no-packet}
 use Rattle.cap_order.proofs.Placing.{none-placed}

@@ -1,6 +1,6 @@
 use Rattle.std.proofs.Common.{ap, arith, rules}
 use Rattle.cap_order.specs.MergedLaws.{merged-is-feed}
-use Rattle.cap_feed.specs.declared.feeds.FeedHeld.{FeedHeld}
+use Rattle.cap_source.specs.declared.feeds.FeedHeld.{FeedHeld}
 use Rattle.cap_tally.proofs.tables.Table.held.Goals as goal
 
 pub returns-clause-window : goal.returns-clause-window

@@ -1,10 +1,10 @@
 use Rattle.std.proofs.Common.{◌∷◌, drop, length, List, Option, Err, inr, sym, ap, ◌∙◌, subst, arith, refl}
 use Rattle.std.proofs.lemmas.Result.{err_from_is_err_and}
-use Rattle.cap_feed.proofs.Onward.{Keeps-trans}
+use Rattle.cap_source.proofs.Onward.{Keeps-trans}
 use Rattle.cap_order.specs.MergedLaws.{merged-is-feed}
 use Rattle.cap_order.specs.Parts.{feed_of}
 use Rattle.cap_order.specs.View.{parts_of}
-use Rattle.cap_feed.specs.declared.feeds.FeedHeld.{FeedHeld}
+use Rattle.cap_source.specs.declared.feeds.FeedHeld.{FeedHeld}
 use Rattle.cap_tally.specs.Looking.{taken}
 use Rattle.cap_tally.specs.Stepping.{next_taken, clocked}
 use Rattle.cap_tally.specs.Taken.{Taken}

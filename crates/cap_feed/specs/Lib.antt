@@ -1,4 +1,0 @@
-pub mod Feed
-pub mod Listed
-pub mod Times
-pub mod Walk

@@ -1,0 +1,51 @@
+-- Going through a feed: what it was at first, on the way, and where the call ends.
+use Rattle.std.proofs.Common.{Some, None, Ok, Err, refl, sym, ◌∙◌, arith}
+use Rattle.cap_bytes.specs.Printing.{IsRead}
+use Rattle.cap_bytes.specs.declared.faults.Fault.{Fault}
+use Rattle.cap_source.specs.Feed.{Feed, Keeps, Goes, Passes}
+use Rattle.cap_source.specs.Walk.{GivesPacket, Lasts, Walks}
+use Rattle.cap_source.specs.declared.packets.Meta.{Meta}
+
+-- What is true of a feed on the way: all that every answer keeps, and no read has failed.
+pub record Went (old new : Feed) : Type 0 where
+  pub keeps : Keeps old new
+  pub lasts : Lasts old new
+
+pub Keeps-refl : (a : Feed) → Keeps a a
+Keeps-refl a = record { files = refl; told = λ t. t; can_fail = λ c. c; places = λ file. omega arith; left = omega arith }
+
+pub Keeps-trans : (a b c : Feed) → Keeps a b → Keeps b c → Keeps a c
+Keeps-trans a b c k l = grind arith
+
+pub Lasts-refl : (a : Feed) → Lasts a a
+Lasts-refl a = record { broken = refl; failed = refl }
+
+pub Lasts-goes : (a b : Feed) → Goes a b → Lasts a b
+Lasts-goes a b g = record { broken = g.after ∙ sym g.before; failed = g.failed }
+
+pub Lasts-trans : (a b c : Feed) → Lasts a b → Lasts b c → Lasts a c
+Lasts-trans a b c k l = record { broken = l.broken ∙ k.broken; failed = l.failed ∙ k.failed }
+
+pub Goes-behind : (a b c : Feed) → Lasts a b → Goes b c → Goes a c
+Goes-behind a b c l g = record { before = sym l.broken ∙ g.before; after = g.after; failed = g.failed ∙ l.failed }
+
+pub Went-none : (a : Feed) → Went a a
+Went-none a = record { keeps = Keeps-refl a; lasts = Lasts-refl a }
+
+-- one more packet
+pub Went-more : (old mid shown new : Feed) (meta : Meta) → Went old mid → GivesPacket mid (Ok (Some meta)) shown → Keeps mid shown
+    → Passes shown new → Keeps shown new → Went old new
+Went-more old mid shown new meta p gives asked passes passed = grind arith
+
+-- the call for the next packet answers a fault
+pub Walks-fault : (old mid new : Feed) (fault : Fault) → Went old mid → GivesPacket mid (Err fault) new → Walks {A = Unit {0}} old (Err fault) new
+Walks-fault old mid new fault w p = grind arith
+
+-- it answers that there is none
+pub Walks-end : (old mid new : Feed) → Went old mid → GivesPacket mid (Ok None) new → Walks {A = Unit {0}} old (Ok tt) new
+Walks-end old mid new w p = (p.known, Goes-behind old mid new w.lasts p.goes)
+
+-- A packet that came isn't written.
+pub Walks-stop : (old mid new : Feed) (meta : Meta) (fault : Fault) → Went old mid → GivesPacket mid (Ok (Some meta)) new
+    → (IsRead {A = Unit {0}} (Err fault) → ⊥) → Walks {A = Unit {0}} old (Err fault) new
+Walks-stop old mid new meta fault w p other = grind arith

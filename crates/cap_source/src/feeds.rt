@@ -1,0 +1,100 @@
+//! A list of packets that comes one by one, from wherever it comes.
+ghost use Rattle.std.specs.Prelude.{◌≡◌, IsTrue, Some};
+ghost use Rattle.cap_source.specs.Feed.{Feed, GivesHead, Keeps, KeepsItems, SameItems, FindsPacket, ShowsPacket, FindsItem, Passes, IsPacket, HasFile, IsFeed};
+
+use crate::packets::{Format, Meta};
+use cap_bytes::{Fault, Refusal};
+
+/// What comes next of a feed.
+#[derive(Clone, Copy, Debug, PartialEq, Eq)]
+pub enum Head {
+    /// A packet.
+    Packet(Meta),
+    /// A refusal, which comes again and again.
+    Refused(Refusal),
+    /// The end of all its files.
+    End,
+}
+
+/// How a file ended.
+#[derive(Clone, Copy, Debug, PartialEq, Eq)]
+pub struct Ending {
+    /// How many of its blocks were skipped; 0 in a pcap file.
+    pub skipped: u64,
+    /// The format of the file.
+    pub format: Format,
+    /// Whether it ended in a rest that was cut, and that was dropped.
+    pub was_cut: bool,
+}
+
+/// What a feed holds of its files, each number being the greatest of any of them.
+#[derive(Clone, Copy, Debug, PartialEq, Eq)]
+pub struct FeedHeld {
+    /// The bytes of a window's buffer.
+    pub window: u64,
+    /// The interfaces of the section that is being read; 0 for a pcap file.
+    pub interfaces: u64,
+    /// Whether a device has failed.
+    pub failed: bool,
+}
+
+/// A list of packets, which come one by one.
+pub trait PacketFeed: Drop {
+    /// What it is at this moment.
+    ghost feed: { Self → Feed };
+
+    /// What comes next. It stays until it is passed, and can't fail once it is known; a refusal and the
+    /// end stay for good. The packets to come stay the same, unless `Read` is answered. `Read` comes if
+    /// a device failed, with the file's number and the offset in bytes at which the header, the record or the
+    /// block begins that was being read; from then on the same comes, and nothing else. `Memory` comes if
+    /// a growth was refused, and no other fault comes.
+    fn head(&mut self) -> Result<Head, Fault>
+        ensures answer { GivesHead (feed self.old) result (feed self.new) }
+        ensures keeps { Keeps (feed self.old) (feed self.new) }
+        ensures items { IsTrue (feed self.old).told
+            → KeepsItems (feed self.old) result (feed self.new) };
+
+    /// Whether a packet comes next, which is known then: what `head` answers, without a copy of the packet. A refusal is
+    /// answered as a fault, again and again.
+    fn has_packet(&mut self) -> Result<bool, Fault>
+        ensures answer { FindsPacket (feed self.old) result (feed self.new) }
+        ensures keeps { Keeps (feed self.old) (feed self.new) }
+        ensures items { IsTrue (feed self.old).told
+            → FindsItem (feed self.old) result (feed self.new) };
+
+    /// Whether a packet comes next that is known already, or that is at hand without a read: it is known then. `false` says
+    /// nothing of what comes next. It can't fail, so whoever takes many packets asks it first.
+    fn shows_packet(&mut self) -> bool
+        ensures answer { ShowsPacket (feed self.old) result (feed self.new) }
+        ensures keeps { Keeps (feed self.old) (feed self.new) }
+        ensures items { IsTrue (feed self.old).told → SameItems (feed self.old) (feed self.new) };
+
+    /// The packet that comes next, without its bytes.
+    fn packet(&self) -> &Meta
+        requires packet { IsPacket (feed self.now).known }
+        ensures packet { (feed self.now).known ≡ Some (Head.Packet result.now) };
+
+    /// The captured bytes of the packet that comes next.
+    fn frame(&self) -> &[u8]
+        requires packet { IsPacket (feed self.now).known }
+        ensures frame { result.now ≡ (feed self.now).frame };
+
+    /// Drops the packet that comes next.
+    fn pass(&mut self)
+        requires packet { IsPacket (feed self.old).known }
+        ensures passes { Passes (feed self.old) (feed self.new) }
+        ensures keeps { Keeps (feed self.old) (feed self.new) };
+
+    /// How a file of that number, which is one of the feed's, ended.
+    fn ending(&self, file: u32) -> Ending
+        requires end { (feed self.now).known ≡ Some Head.End }
+        requires file { HasFile (feed self.now).files file }
+        ensures ending { result ≡ (feed self.now).endings file };
+
+    /// What it holds.
+    fn feed_held(&self) -> FeedHeld
+        ensures held { result ≡ (feed self.now).held };
+
+    /// What is always true of it.
+    ghost lawful: { (x : Self) → IsFeed (feed x) };
+}
