@@ -11,8 +11,8 @@ use Rattle.cap_join.specs.Fragments.{Piece}
 use Rattle.cap_join.specs.History.{Event}
 use Rattle.cap_join.specs.Joiners.{open_limit}
 use Rattle.cap_join.specs.declared.datagrams.Stamped.{Stamped}
-use Rattle.cap_order.specs.Clocks.{clock_total}
-use Rattle.cap_order.specs.Run.{Clocked}
+use Rattle.cap_merge.specs.Clocks.{clock_total}
+use Rattle.cap_merge.specs.Run.{Clocked}
 use Rattle.cap_source.specs.Feed.{Item, packet, refused}
 use Rattle.cap_tally.specs.Classes.{classes, classes_in, groups_of}
 use Rattle.cap_tally.specs.CountedUnits.{first_unit, unit_by, unit_at, listed, units_of}

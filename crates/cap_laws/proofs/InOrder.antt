@@ -5,11 +5,11 @@ use Rattle.std.specs.Ordering.{is_lt, is_gt, ordering_reverse}
 use Rattle.cap_join.specs.Frames.{is_before}
 use Rattle.cap_join.specs.Joiners.{open_limit}
 use Rattle.cap_join.specs.Places.{latest_clock, next_place, AreInOrder}
-use Rattle.cap_order.proofs.RunLaws.{NeverFalls, run-rises}
+use Rattle.cap_merge.proofs.RunLaws.{NeverFalls, run-rises}
 use Rattle.cap_time.specs.Clock.{clock_cmp}
-use Rattle.cap_order.specs.Clocks.{AtMost, clock_total, at_most-itself, at_most-trans}
-use Rattle.cap_order.specs.Parts.{item_time, is_refusal}
-use Rattle.cap_order.specs.Run.{Clocked, opened, run}
+use Rattle.cap_merge.specs.Clocks.{AtMost, clock_total, at_most-itself, at_most-trans}
+use Rattle.cap_merge.specs.Parts.{item_time, is_refusal}
+use Rattle.cap_merge.specs.Run.{Clocked, opened, run}
 use Rattle.cap_source.specs.Feed.{Item, packet, refused}
 use Rattle.cap_time.specs.declared.stamps.Stamp.{Stamp}
 use Rattle.cap_join.proofs.Once.{completed}

@@ -16,7 +16,7 @@ use Rattle.cap_join.specs.Joiners.{open_limit}
 use Rattle.cap_join.specs.declared.datagrams.Stamped.{Stamped}
 use Rattle.cap_ip.specs.Seen.{Carried, ipv4, other_link, not_ipv4, short, cut as ends}
 use Rattle.cap_source.specs.Times.{meta_time}
-use Rattle.cap_order.specs.Run.{Clocked}
+use Rattle.cap_merge.specs.Run.{Clocked}
 use Rattle.cap_source.specs.Feed.{Item, packet, refused}
 use Rattle.cap_tally.specs.Classes.{class_by, class_in, class_of, classes, classes_in, counts_of, group_class, groups_of, has_place}
 use Rattle.cap_tally.specs.CountedUnits.{unit_by, unit_at, listed, units_of, is_limit_at, counted_in}

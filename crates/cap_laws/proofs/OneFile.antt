@@ -4,10 +4,10 @@ use Rattle.std.specs.Prelude.{map}
 use Rattle.cap_bytes.specs.declared.faults.Refusal.{Refusal}
 use Rattle.cap_time.specs.Clock.{later}
 use Rattle.cap_merge.specs.Files.{run_of_lists}
-use Rattle.cap_order.specs.MergedList.{merged-next, merged-none}
-use Rattle.cap_order.specs.Parts.{item_time, is_refusal}
+use Rattle.cap_merge.specs.MergedList.{merged-next, merged-none}
+use Rattle.cap_merge.specs.Parts.{item_time, is_refusal}
 use Rattle.cap_source.specs.Times.{meta_time}
-use Rattle.cap_order.specs.Run.{Clocked, merged, through_first}
+use Rattle.cap_merge.specs.Run.{Clocked, merged, through_first}
 use Rattle.cap_source.specs.Feed.{Item, packet, refusal_of}
 use Rattle.cap_time.specs.declared.stamps.Stamp.{Stamp}
 

@@ -4,11 +4,11 @@ use Rattle.std.specs.List.{AllZip}
 use Rattle.std.specs.Ordering.{is_lt}
 use Rattle.std.specs.Prelude.{map, if◌then◌else◌}
 use Rattle.cap_join.proofs.AlikeGroups.{cmp_same}
-use Rattle.cap_order.proofs.RunLaws.{ClocksAreTold, run-clocks}
+use Rattle.cap_merge.proofs.RunLaws.{ClocksAreTold, run-clocks}
 use Rattle.cap_time.specs.Clock.{clock_cmp, later}
 use Rattle.cap_merge.specs.Files.{clocked_run, run_of_lists}
-use Rattle.cap_order.specs.Parts.{item_time, is_refusal}
-use Rattle.cap_order.specs.Run.{Clocked, opened, run}
+use Rattle.cap_merge.specs.Parts.{item_time, is_refusal}
+use Rattle.cap_merge.specs.Run.{Clocked, opened, run}
 use Rattle.cap_source.specs.Feed.{Item, packet, refusal_of}
 use Rattle.cap_source.specs.Items.{file_first, file_items}
 use Rattle.cap_time.specs.declared.stamps.Stamp.{Stamp}

@@ -1,7 +1,7 @@
 -- The rule by which a run is refused at a place is that of its first refusal.
 use Rattle.std.proofs.Common.{arith, ◌≡◌, List, [], ◌∷◌, refl}
 use Rattle.std.specs.Option.{option_map}
-use Rattle.cap_order.specs.Run.{Clocked}
+use Rattle.cap_merge.specs.Run.{Clocked}
 use Rattle.cap_source.specs.Feed.{Item}
 use Rattle.cap_talks.specs.ReportText.{refusal_after, with_item}
 use Rattle.cap_tally.specs.Taken.{Taken}

@@ -3,12 +3,12 @@ use Rattle.std.proofs.Common.{arith, ◌≡◌, Bool, List, ◌∷◌, sym, ap, 
 use Rattle.std.specs.List.{AllZip}
 use Rattle.std.specs.Ordering.{is_lt}
 use Rattle.std.specs.Prelude.{map, if◌then◌else◌}
-use Rattle.cap_order.proofs.RunLaws.{ClocksAreTold, run-clocks}
+use Rattle.cap_merge.proofs.RunLaws.{ClocksAreTold, run-clocks}
 use Rattle.cap_time.specs.Clock.{clock_cmp, later}
-use Rattle.cap_order.specs.Clocks.{clock_total}
+use Rattle.cap_merge.specs.Clocks.{clock_total}
 use Rattle.cap_merge.specs.Files.{run_of_lists}
-use Rattle.cap_order.specs.Parts.{item_time, is_refusal}
-use Rattle.cap_order.specs.Run.{Clocked, opened, run}
+use Rattle.cap_merge.specs.Parts.{item_time, is_refusal}
+use Rattle.cap_merge.specs.Run.{Clocked, opened, run}
 use Rattle.cap_source.specs.Feed.{Item}
 use Rattle.cap_time.specs.declared.stamps.Stamp.{Stamp}
 use Rattle.cap_write.specs.Numbering.{Origin, numbered, refusal_in}

@@ -6,7 +6,7 @@ use Rattle.cap_bytes.specs.declared.faults.Refusal.{Refusal}
 use Rattle.cap_bytes.specs.declared.faults.Tail.{Tail}
 use Rattle.cap_bytes.specs.declared.numbers.Order.{Order}
 use Rattle.cap_merge.specs.Files.{clocked_run, items_of_files, run_of_files}
-use Rattle.cap_order.specs.Run.{Clocked}
+use Rattle.cap_merge.specs.Run.{Clocked}
 use Rattle.cap_source.specs.Feed.{Item, packet, refusal_of}
 use Rattle.cap_source.specs.Items.{file_first, file_items}
 use Rattle.cap_write.specs.Numbering.{Origin, refusal_in, with_origin}

@@ -2,8 +2,8 @@
 use Rattle.std.specs.Prelude.{◌≡◌, List, [], map}
 use Rattle.cap_join.specs.Joiners.{open_limit}
 use Rattle.cap_join.specs.Places.{marks}
-use Rattle.cap_order.specs.Parts.{item_time, is_refusal}
-use Rattle.cap_order.specs.Run.{opened, run}
+use Rattle.cap_merge.specs.Parts.{item_time, is_refusal}
+use Rattle.cap_merge.specs.Run.{opened, run}
 use Rattle.cap_source.specs.Feed.{Item}
 use Rattle.cap_tally.specs.declared.classes.Class.{Class}
 use Rattle.cap_tally.specs.Classes.{classes, classes_in}

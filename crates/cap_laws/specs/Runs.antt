@@ -7,7 +7,7 @@ use Rattle.cap_bytes.specs.declared.faults.Tail.{Tail}
 use Rattle.cap_bytes.specs.declared.numbers.Order.{Order}
 use Rattle.cap_time.specs.Clock.{clock_cmp}
 use Rattle.cap_merge.specs.Files.{clocked_run, run_of_files}
-use Rattle.cap_order.specs.Run.{Clocked}
+use Rattle.cap_merge.specs.Run.{Clocked}
 use Rattle.cap_source.specs.Feed.{Item, packet, refused}
 use Rattle.cap_source.specs.Items.{file_first, file_items}
 use Rattle.cap_source.specs.declared.packets.Meta.{Meta}

@@ -1,8 +1,8 @@
 -- The packets of several files in the order of exact time.
 use Rattle.std.specs.Prelude.{ℕ, ◌+◌, ◌==◌, List, [], ◌∷◌, false, map, if◌then◌else◌}
 use Rattle.cap_bytes.specs.declared.faults.Tail.{Tail}
-use Rattle.cap_order.specs.Parts.{item_time, is_refusal}
-use Rattle.cap_order.specs.Run.{Clocked, opened, run}
+use Rattle.cap_merge.specs.Parts.{item_time, is_refusal}
+use Rattle.cap_merge.specs.Run.{Clocked, opened, run}
 use Rattle.cap_source.specs.Feed.{Item}
 use Rattle.cap_source.specs.Items.{file_items, file_ending}
 use Rattle.cap_source.specs.declared.feeds.Ending.{Ending}

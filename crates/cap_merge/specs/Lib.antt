@@ -1,2 +1,17 @@
+pub mod Run
+pub mod Parts
+pub mod First
+pub mod Merge
+pub mod PartsProps
+pub mod MergedLaws
+pub mod Ordered
+pub mod Clocks
+pub mod MergedList
+pub mod Leading
+pub mod Sound
+pub mod Coming
+pub mod Lawful
+pub mod View
+pub mod Lists
 pub mod Files
 pub mod Readers

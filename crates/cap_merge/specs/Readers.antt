@@ -3,7 +3,7 @@ use Rattle.std.specs.Prelude.{◌≡◌, ℕ, ◌+◌, Bool, List, [], ◌∷◌
 use Rattle.std.specs.List.{list_all, list_any, range_with_len}
 use Rattle.cap_bytes.specs.declared.faults.Tail.{Tail}
 use Rattle.cap_merge.specs.Files.{clocked_run, endings_of_files}
-use Rattle.cap_order.specs.Parts.{Part, feed_of, run_of}
+use Rattle.cap_merge.specs.Parts.{Part, feed_of, run_of}
 use Rattle.cap_source.specs.Feed.{Feed}
 use Rattle.cap_source.specs.Items.{file_items, file_ending}
 

@@ -1,10 +1,10 @@
 //! The packets of several capture files as one feed.
 ghost use Rattle.std.specs.Prelude.{◌≤◌, IfOk, IsOkUnless, map, vec_len};
 ghost use Rattle.cap_merge.specs.Readers.{AreUnread, IsUnreadRun, reader_of};
-ghost use Rattle.cap_order.specs.View.{parts_of};
+ghost use Rattle.cap_merge.specs.View.{parts_of};
 
+use crate::merging::Merged;
 use cap_bytes::{Fault, Source, Tail};
-use cap_order::Merged;
 use cap_source::{Capture, PacketFeed};
 use std::alloc::Global;
 

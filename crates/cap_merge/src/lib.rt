@@ -2,5 +2,10 @@
 #![tactic(auto)]
 
 mod files;
+mod lanes;
+mod merging;
+mod walks;
 
 pub use crate::files::merge_files;
+pub use crate::merging::{Merged, NextPacket};
+pub use crate::walks::next_of;

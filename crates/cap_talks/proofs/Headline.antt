@@ -12,7 +12,7 @@ use Rattle.cap_bytes.specs.declared.faults.Tail.{Tail}
 use Rattle.cap_source.proofs.Onward.{Lasts-goes}
 use Rattle.cap_merge.proofs.Unread.{told-readers, bytes-readers}
 use Rattle.cap_merge.specs.Files.{clocked_run, endings_of_files}
-use Rattle.cap_order.specs.Parts.{Part, feed_of, run_of}
+use Rattle.cap_merge.specs.Parts.{Part, feed_of, run_of}
 use Rattle.cap_merge.specs.Readers.{Reader, IsUnreadRun}
 use Rattle.cap_source.specs.Feed.{Feed}
 use Rattle.cap_source.specs.Walk.{Walks}

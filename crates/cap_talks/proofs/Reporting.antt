@@ -5,8 +5,8 @@ use Rattle.cap_bytes.specs.declared.faults.Fault.{Fault}
 use Rattle.cap_bytes.specs.declared.faults.Fault.TheVariants.{Refused, Read, Write, Memory}
 use Rattle.cap_bytes.specs.declared.faults.Refusal.{Refusal}
 use Rattle.cap_source.proofs.Onward.{Went, Went-none, Keeps-trans, Lasts-trans, Lasts-goes}
-use Rattle.cap_order.specs.Parts.{feed_of, run_of}
-use Rattle.cap_order.specs.Run.{Clocked}
+use Rattle.cap_merge.specs.Parts.{feed_of, run_of}
+use Rattle.cap_merge.specs.Run.{Clocked}
 use Rattle.cap_source.specs.Feed.{Item, refused}
 use Rattle.cap_time.specs.declared.stamps.Stamp.{Stamp}
 use Rattle.cap_tally.specs.CountedUnits.{refusal_at}

@@ -1,7 +1,7 @@
 -- The report of a run of packets.
 use Rattle.std.specs.Prelude.{ℕ, List, [], ◌∷◌, Option, Some, None, if◌then◌else◌}
 use Rattle.cap_bytes.specs.declared.faults.Refusal.{Refusal}
-use Rattle.cap_order.specs.Run.{Clocked}
+use Rattle.cap_merge.specs.Run.{Clocked}
 use Rattle.cap_source.specs.Feed.{Item, packet, refused}
 use Rattle.cap_source.specs.declared.feeds.Ending.{Ending}
 use Rattle.cap_time.specs.declared.stamps.Stamp.{Stamp}

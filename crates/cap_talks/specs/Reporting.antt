@@ -2,7 +2,7 @@
 use Rattle.std.specs.Prelude.{◌≡◌, ℕ, List, [], true, IsTrue, Some, None, Result, Ok, Err, ⊤, length}
 use Rattle.cap_bytes.specs.declared.faults.Fault.{Fault}
 use Rattle.cap_bytes.specs.declared.faults.Fault.TheVariants.{Refused, Read, Write, Memory}
-use Rattle.cap_order.specs.Parts.{Part, feed_of, run_of}
+use Rattle.cap_merge.specs.Parts.{Part, feed_of, run_of}
 use Rattle.cap_source.specs.declared.feeds.Head.TheVariants as heads
 use Rattle.cap_talks.specs.ReportText.{taken_after, refusal_after, report_text, report_refusal}
 use Rattle.cap_talks.specs.Telling.{Tells}

@@ -7,10 +7,10 @@ use Rattle.cap_bytes.specs.declared.faults.Fault.TheVariants.{Refused, Read, Wri
 use Rattle.cap_bytes.specs.declared.faults.Refusal.{Refusal}
 use Rattle.cap_join.specs.declared.datagrams.Datagram.{Datagram}
 use Rattle.cap_join.specs.Joiners.{JoinerState}
-use Rattle.cap_order.proofs.RunItems.{items-of-run, first-of-run}
-use Rattle.cap_order.specs.Merge.{LearnsBy, LearnsAll, LooksAll}
-use Rattle.cap_order.specs.Parts.{Part, feed_of, run_of, clock_of, known_of, is_known, head_by, first_of, BeginsAt, ShowsRun}
-use Rattle.cap_order.specs.Run.{Clocked}
+use Rattle.cap_merge.proofs.RunItems.{items-of-run, first-of-run}
+use Rattle.cap_merge.specs.Merge.{LearnsBy, LearnsAll, LooksAll}
+use Rattle.cap_merge.specs.Parts.{Part, feed_of, run_of, clock_of, known_of, is_known, head_by, first_of, BeginsAt, ShowsRun}
+use Rattle.cap_merge.specs.Run.{Clocked}
 use Rattle.cap_source.specs.Feed.{Feed, Item, packet, refused, Leads, IsFeed, GivesHead, FindsPacket, FindsItem, Keeps, Knows, IsPacket, IsPacketOf, IfPacket, HasFile}
 use Rattle.cap_source.specs.declared.feeds.Head.{Head}
 use Rattle.cap_source.specs.declared.feeds.Head.TheVariants as heads

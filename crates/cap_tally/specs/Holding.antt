@@ -1,7 +1,7 @@
 -- What a table holds: the lengths of its buffers and tables themselves.
 use Rattle.std.specs.Prelude.{◌+◌, length, max}
 use Rattle.cap_join.specs.Joiners.{most_bytes}
-use Rattle.cap_order.specs.Parts.{feed_of}
+use Rattle.cap_merge.specs.Parts.{feed_of}
 use Rattle.cap_tally.specs.Stepping.{TableState}
 use Rattle.cap_tally.specs.Tallies.{one_if, waiting_bytes}
 use Rattle.cap_tally.specs.declared.tables.Held.{Held}

@@ -1,5 +1,5 @@
 -- What contracts see of a `Table`.
-use Rattle.cap_order.specs.View.{parts_of}
+use Rattle.cap_merge.specs.View.{parts_of}
 use Rattle.cap_tally.specs.Stepping.{TableState}
 use Rattle.cap_tally.specs.declared.tables.Table.{Table}
 

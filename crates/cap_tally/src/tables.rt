@@ -3,8 +3,8 @@ ghost use Rattle.std.specs.Prelude.{◌≡◌, ◌+◌, ◌≤◌, ◌^◌, ◌|
 ghost use Rattle.std.specs.List.{range_with_len};
 ghost use Rattle.cap_bytes.specs.Device.{WriterKeeps, writer_of};
 ghost use Rattle.cap_bytes.specs.Printing.{Prints, is_write};
-ghost use Rattle.cap_order.specs.Parts.{feed_of, is_end};
-ghost use Rattle.cap_order.specs.View.{parts_of};
+ghost use Rattle.cap_merge.specs.Parts.{feed_of, is_end};
+ghost use Rattle.cap_merge.specs.View.{parts_of};
 ghost use Rattle.cap_source.specs.Feed.{HasFile};
 ghost use Rattle.cap_tally.specs.Props.{IsNumbered-prop};
 ghost use Rattle.cap_counts.specs.FileLines.{ended_from, ending_at};
@@ -22,7 +22,7 @@ use crate::totals::Totals;
 use arrayvec::ArrayVec;
 use cap_bytes::{Fault, Refusal, Rule, Sink, put_all};
 use cap_counts::{Counted, Counts, put_files};
-use cap_order::Merged;
+use cap_merge::Merged;
 use cap_source::{Ending, Meta, PacketFeed};
 use std::alloc::Global;
 

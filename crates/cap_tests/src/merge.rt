@@ -1,14 +1,14 @@
 //! Packets of several files in the order of exact time: lists of packets, and files that are read.
 ghost use Rattle.std.specs.Prelude.{◌≡◌, ◌∷◌, [], IfOk};
 ghost use Rattle.cap_source.specs.Feed.{HasFile};
-ghost use Rattle.cap_order.specs.Parts.{feed_of};
-ghost use Rattle.cap_order.specs.View.{parts_of};
+ghost use Rattle.cap_merge.specs.Parts.{feed_of};
+ghost use Rattle.cap_merge.specs.View.{parts_of};
 
 use crate::checks::{holds, same};
 use crate::files::{bytes_of, fails_twice, merged_of, pair_of, reader_of, sources_of};
 use crate::hex_vectors::{File, PACKET, RUNS_BACK, RUNS_ON, SECTION};
 use cap_bytes::{Fault, Pieces, Refusal, Rule};
-use cap_order::Merged;
+use cap_merge::Merged;
 use cap_source::{Ending, Format, Head, Listed, PacketFeed};
 use cap_time::{Interface, Resolution, Stamp};
 use std::alloc::{AllocError, Global};

@@ -9,9 +9,9 @@ use Rattle.cap_bytes.specs.declared.faults.Rule.{Rule}
 use Rattle.cap_bytes.specs.declared.numbers.Order.{Order}
 use Rattle.cap_join.specs.History.{Event}
 use Rattle.cap_join.specs.Joiners.{JoinerState, StandsFor}
-use Rattle.cap_order.proofs.RunItems.{items-of-run, first-of-run}
-use Rattle.cap_order.specs.Parts.{Part, feed_of, run_of, BeginsAt}
-use Rattle.cap_order.specs.Run.{Clocked}
+use Rattle.cap_merge.proofs.RunItems.{items-of-run, first-of-run}
+use Rattle.cap_merge.specs.Parts.{Part, feed_of, run_of, BeginsAt}
+use Rattle.cap_merge.specs.Run.{Clocked}
 use Rattle.cap_source.proofs.Onward.{Went, Went-more}
 use Rattle.cap_source.proofs.Walking.{Walking, Walking-by, Prints-whole, Prints-front}
 use Rattle.cap_source.specs.Feed.{Feed, Item, packet, refused, Keeps, Passes}

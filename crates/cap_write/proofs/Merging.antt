@@ -7,7 +7,7 @@ use Rattle.cap_bytes.specs.declared.faults.Fault.TheVariants.{Memory}
 use Rattle.cap_bytes.specs.declared.faults.Tail.{Tail}
 use Rattle.cap_bytes.specs.declared.numbers.Order.{Order}
 use Rattle.cap_merge.proofs.Unread.{told-readers, bytes-readers, run-items}
-use Rattle.cap_order.specs.Parts.{Part, feed_of, run_of}
+use Rattle.cap_merge.specs.Parts.{Part, feed_of, run_of}
 use Rattle.cap_merge.specs.Readers.{Reader, IsUnreadRun}
 use Rattle.cap_write.specs.JoinText.{join_text, join_refusal}
 use Rattle.cap_write.specs.MergeText.{merge_text, merge_refusal}

@@ -18,7 +18,7 @@ use Rattle.cap_join.specs.declared.datagrams.Stamped.{Stamped}
 use Rattle.cap_ip.specs.Links.{network_of, is_whole}
 use Rattle.cap_ip.specs.Seen.{Carried, ipv4, other_link, not_ipv4, short, cut as ends}
 use Rattle.cap_source.specs.Times.{meta_time}
-use Rattle.cap_order.specs.Run.{Clocked}
+use Rattle.cap_merge.specs.Run.{Clocked}
 use Rattle.cap_source.specs.Feed.{Item, packet, refused}
 use Rattle.cap_source.specs.declared.packets.Meta.{Meta}
 use Rattle.cap_time.specs.declared.resolutions.Interface.{Interface}

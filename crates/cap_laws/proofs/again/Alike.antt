@@ -3,9 +3,9 @@ use Rattle.std.proofs.Common.{◌≡◌, List, [], ◌∷◌, refl, sym, ap, ◌
 use Rattle.std.specs.Prelude.{map}
 use Rattle.std.specs.List.{AllZip, AllByRecursion}
 use Rattle.cap_time.specs.declared.stamps.Stamp.{Stamp}
-use Rattle.cap_order.specs.Run.{Clocked, opened, merged}
-use Rattle.cap_order.specs.Lists.{map-twice}
-use Rattle.cap_order.proofs.Rounds.{map_track, map_clocked, merged-mapped}
+use Rattle.cap_merge.specs.Run.{Clocked, opened, merged}
+use Rattle.cap_merge.specs.Lists.{map-twice}
+use Rattle.cap_merge.proofs.Rounds.{map_track, map_clocked, merged-mapped}
 
 -- the items of some files, merged
 abbrev pub merge_of : {A : Type 0} → (A → Option Stamp) → List (List A) → List A

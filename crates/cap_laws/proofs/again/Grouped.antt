@@ -10,11 +10,11 @@ use Rattle.cap_bytes.specs.declared.faults.Rule.TheVariants.{NoTime, InterfaceLi
 use Rattle.cap_source.specs.Feed.{Item, packet, refused}
 use Rattle.cap_source.specs.declared.packets.Meta.{Meta}
 use Rattle.cap_write.specs.Numbering.{Origin, Numbered, with_origin, is_full, write_fault, numbered_of, numbered_or, numbered, refusal_or, refusal_in}
-use Rattle.cap_order.specs.Run.{Clocked, opened, merged, through_first}
-use Rattle.cap_order.specs.Parts.{item_time, is_refusal}
-use Rattle.cap_order.proofs.Rounds.{files_in}
-use Rattle.cap_order.proofs.Rounds as merged_rounds
-use Rattle.cap_order.proofs.RunLaws as run_laws
+use Rattle.cap_merge.specs.Run.{Clocked, opened, merged, through_first}
+use Rattle.cap_merge.specs.Parts.{item_time, is_refusal}
+use Rattle.cap_merge.proofs.Rounds.{files_in}
+use Rattle.cap_merge.proofs.Rounds as merged_rounds
+use Rattle.cap_merge.proofs.RunLaws as run_laws
 use Rattle.cap_laws.specs.again.Rounds.{in_file, numbered_files, run_of, merged_packets, IsItemOf, IsMergeOf, FileRoundsLaw, RoundsLaw, file_of, ClockLaw}
 use Rattle.cap_laws.proofs.again.Renaming.{IsOneToOne, Renamed, numbered-renamed, refusal-renamed}
 use Rattle.cap_laws.proofs.again.UsedOrigins.{all_origins, number-given, number-kept, GroupOrigins, IsOfGroup, IsOfGroups, groups-apart}

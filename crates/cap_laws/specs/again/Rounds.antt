@@ -15,8 +15,8 @@ use Rattle.cap_time.specs.Clock.{clock_cmp, greatest}
 use Rattle.cap_write.specs.Numbering.{Numbered, numbered, refusal_in}
 use Rattle.cap_write.specs.Texts.{merged_bytes}
 use Rattle.cap_merge.specs.Files.{run_of_files, run_of_lists}
-use Rattle.cap_order.specs.Run.{Clocked, opened, run}
-use Rattle.cap_order.specs.Parts.{item_time, is_refusal}
+use Rattle.cap_merge.specs.Run.{Clocked, opened, run}
+use Rattle.cap_merge.specs.Parts.{item_time, is_refusal}
 use Rattle.cap_laws.specs.again.Laws.{instances, numbers}
 
 -- ---- the merge law

@@ -1,6 +1,6 @@
 use Rattle.cap_merge.proofs.Unread.{Fails-merged}
 use Rattle.cap_merge.specs.Readers.{reader_of}
-use Rattle.cap_order.specs.View.{parts_of}
+use Rattle.cap_merge.specs.View.{parts_of}
 use Rattle.cap_talks.proofs.Headline.{tells-files}
 use Rattle.cap_talks.proofs.reports.report.Goals as goal
 

@@ -1,6 +1,6 @@
 use Rattle.std.proofs.Common.{IsTrue, ℕ, List, sym, subst}
 use Rattle.cap_source.specs.Walk.{Walks}
-use Rattle.cap_order.specs.Parts.{Part, feed_of}
+use Rattle.cap_merge.specs.Parts.{Part, feed_of}
 use Rattle.cap_tally.specs.TableView.{table_of}
 use Rattle.cap_talks.specs.Reporting.{TellsReport}
 use Rattle.cap_talks.proofs.reports.report_merged.Goals as goal

@@ -1,5 +1,5 @@
-use Rattle.cap_order.specs.Parts.{feed_of}
-use Rattle.cap_order.specs.View.{parts_of}
+use Rattle.cap_merge.specs.Parts.{feed_of}
+use Rattle.cap_merge.specs.View.{parts_of}
 use Rattle.cap_tally.specs.TableView.{table_of}
 use Rattle.cap_talks.proofs.Reporting.{Reporting}
 use Rattle.cap_talks.proofs.reports.take_all.Given as goal

@@ -1,7 +1,7 @@
 use Rattle.std.proofs.Common.{◌≡◌, ◌++◌, ◌∷◌, [], drop, refl, sym, subst, List}
 use Rattle.cap_source.specs.Feed.{Feed, HasFile}
 use Rattle.cap_source.specs.Listed.{list_feed}
-use Rattle.cap_order.specs.Parts.{feed_of, new_parts}
+use Rattle.cap_merge.specs.Parts.{feed_of, new_parts}
 use Rattle.cap_tests.proofs.merge.merge_of.Goals as goal
 
 two_files : (one two : Feed) → one.files ≡ 1 ∷ [] → two.files ≡ 2 ∷ [] → HasFile (feed_of (new_parts (one ∷ (two ∷ [])))).files 2

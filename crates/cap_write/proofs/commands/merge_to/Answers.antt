@@ -1,9 +1,9 @@
 use Rattle.std.proofs.lemmas.Result.{err_from_is_err_and}
 use Rattle.std.proofs.Common.{arith}
 use Rattle.cap_merge.proofs.Unread.{Fails-merged}
-use Rattle.cap_order.specs.Parts.{feed_of}
+use Rattle.cap_merge.specs.Parts.{feed_of}
 use Rattle.cap_merge.specs.Readers.{reader_of}
-use Rattle.cap_order.specs.View.{parts_of}
+use Rattle.cap_merge.specs.View.{parts_of}
 use Rattle.cap_write.proofs.Merging.{Prints-merged, Prints-nothing}
 use Rattle.cap_write.proofs.commands.merge_to.Goals as goal
 

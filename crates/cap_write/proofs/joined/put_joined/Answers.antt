@@ -1,8 +1,8 @@
 use Rattle.std.proofs.Common.{Some, None, Ok, arith, rules, refl, []}
 use Rattle.std.proofs.lemmas.Result.{err_from_is_err_and}
-use Rattle.cap_order.specs.MergedLaws.{merged-is-feed}
-use Rattle.cap_order.specs.Parts.{feed_of}
-use Rattle.cap_order.specs.View.{parts_of}
+use Rattle.cap_merge.specs.MergedLaws.{merged-is-feed}
+use Rattle.cap_merge.specs.Parts.{feed_of}
+use Rattle.cap_merge.specs.View.{parts_of}
 use Rattle.cap_source.proofs.Onward.{Keeps-trans, Went-none}
 use Rattle.cap_source.specs.Walk.{ShowsItem}
 use Rattle.cap_source.proofs.Walking.{Prints-fault, Prints-end}

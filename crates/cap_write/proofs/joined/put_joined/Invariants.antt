@@ -1,5 +1,5 @@
-use Rattle.cap_order.specs.Parts.{feed_of}
-use Rattle.cap_order.specs.View.{parts_of}
+use Rattle.cap_merge.specs.Parts.{feed_of}
+use Rattle.cap_merge.specs.View.{parts_of}
 use Rattle.cap_write.proofs.Joining.{Joining}
 use Rattle.cap_write.proofs.joined.put_joined.Given as goal
 

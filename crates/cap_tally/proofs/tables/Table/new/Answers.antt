@@ -1,7 +1,7 @@
 use Rattle.std.proofs.Common.{◌∙◌, ap, None, refl, sym, arith}
 use Rattle.std.specs.List.{range_with_len}
-use Rattle.cap_order.specs.MergedLaws.{merged-is-feed}
-use Rattle.cap_order.specs.View.{parts_of}
+use Rattle.cap_merge.specs.MergedLaws.{merged-is-feed}
+use Rattle.cap_merge.specs.View.{parts_of}
 use Rattle.cap_tally.specs.Stepping.{next_taken}
 use Rattle.cap_tally.proofs.tables.Table.new.Goals as goal
 

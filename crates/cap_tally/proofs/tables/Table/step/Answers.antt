@@ -1,9 +1,9 @@
 use Rattle.std.proofs.Common.{◌∷◌, drop, length, List, Option, Err, inr, sym, ap, ◌∙◌, subst, arith, refl}
 use Rattle.std.proofs.lemmas.Result.{err_from_is_err_and}
 use Rattle.cap_source.proofs.Onward.{Keeps-trans}
-use Rattle.cap_order.specs.MergedLaws.{merged-is-feed}
-use Rattle.cap_order.specs.Parts.{feed_of}
-use Rattle.cap_order.specs.View.{parts_of}
+use Rattle.cap_merge.specs.MergedLaws.{merged-is-feed}
+use Rattle.cap_merge.specs.Parts.{feed_of}
+use Rattle.cap_merge.specs.View.{parts_of}
 use Rattle.cap_source.specs.declared.feeds.FeedHeld.{FeedHeld}
 use Rattle.cap_tally.specs.Looking.{taken}
 use Rattle.cap_tally.specs.Stepping.{next_taken, clocked}
@@ -11,7 +11,7 @@ use Rattle.cap_tally.specs.Taken.{Taken}
 use Rattle.cap_tally.specs.Tallies.{LimitBy, Stands}
 use Rattle.cap_tally.specs.CountedUnits.{is_limit_at}
 use Rattle.cap_tally.proofs.Stepping.{known-packet, known-end, faulted, stands-asked, next-is, first-asked, run-packet, run-end, of-file, is-left, is-packet, found-packet, again-packet, again-end, again-fault, stayed, went}
-use Rattle.cap_order.proofs.Numbers.{numbers-within}
+use Rattle.cap_merge.proofs.Numbers.{numbers-within}
 use Rattle.cap_tally.proofs.tables.Table.step.Goals as goal
 
 pub returns-in_err-has_packet-clause-step : goal.returns-in_err-has_packet-clause-step

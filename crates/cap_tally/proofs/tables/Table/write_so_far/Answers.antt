@@ -3,8 +3,8 @@ use Rattle.std.specs.Prelude.{if◌then◌else◌}
 use Rattle.std.proofs.lemmas.Result.{err_from_is_err_and}
 use Rattle.cap_bytes.proofs.Putting.{Prints-head, Prints-behind}
 use Rattle.cap_bytes.specs.Printing.{Prints}
-use Rattle.cap_order.specs.Parts.{feed_of}
-use Rattle.cap_order.specs.View.{parts_of}
+use Rattle.cap_merge.specs.Parts.{feed_of}
+use Rattle.cap_merge.specs.View.{parts_of}
 use Rattle.cap_counts.specs.FileLines.{files_text}
 use Rattle.cap_counts.specs.FileLines.{ended_from, counted_texts}
 use Rattle.cap_tally.specs.TakenText.{total_text}

@@ -1,0 +1,27 @@
+use Rattle.std.proofs.Common.{map, Ok, true}
+use Rattle.cap_merge.specs.Parts.{parts}
+use Rattle.cap_merge.specs.Sound.{lawful-each, numbered-from}
+use Rattle.cap_merge.proofs.Peeking.{finds-all}
+use Rattle.cap_merge.proofs.merging.MergedPacketFeed.has_packet.Goals as goal
+
+pub returns-then-shows_first : goal.returns-then-shows_first
+returns-then-shows_first g c =
+    let m = c.args.self.now in
+    let n = c.shows_first.new.self in
+    let ps = parts m.lanes.items (map g.F.PacketFeed.feed m.feeds.items) in
+    let qs = parts n.lanes.items (map g.F.PacketFeed.feed n.feeds.items) in
+    let lawful = lawful-each g.F.PacketFeed.feed g.met.F.PacketFeed.lawful n.lanes.items n.feeds.items in
+    let shows = rw c.if-shows_first.true at c.shows_first.ensures in
+    let h = finds-all ps qs (Ok true) (numbered-from g.F.PacketFeed.feed m.lanes.items m.feeds.items m.alike m.numbered) shows.0 shows.1 lawful in
+    record { answer = h.answer; keeps = h.keeps; items = h.items; asks = h.asks; run = h.run; clocks = h.clocks }
+
+pub returns : goal.returns
+returns g c =
+    let m = c.args.self.now in
+    let n = c.find.new.self in
+    let ps = parts m.lanes.items (map g.F.PacketFeed.feed m.feeds.items) in
+    let qs = parts n.lanes.items (map g.F.PacketFeed.feed n.feeds.items) in
+    let lawful = lawful-each g.F.PacketFeed.feed g.met.F.PacketFeed.lawful n.lanes.items n.feeds.items in
+    let asks = (rw c.if-shows_first.false at c.shows_first.ensures) c.find.result qs c.find.ensures.asks in
+    let h = finds-all ps qs c.find.result (numbered-from g.F.PacketFeed.feed m.lanes.items m.feeds.items m.alike m.numbered) asks c.find.ensures.next lawful in
+    record { answer = h.answer; keeps = h.keeps; items = h.items; asks = h.asks; run = h.run; clocks = h.clocks }

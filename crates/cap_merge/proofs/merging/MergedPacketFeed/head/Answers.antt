@@ -1,0 +1,54 @@
+use Rattle.std.proofs.Common.{map}
+use Rattle.std.proofs.lemmas.Result.{err_from_is_err_and}
+use Rattle.cap_source.specs.declared.feeds.Head.TheVariants.{Packet, Refused, End}
+use Rattle.cap_merge.specs.Parts.{parts, feed_of}
+use Rattle.cap_merge.specs.Sound.{lawful-each, numbered-from}
+use Rattle.cap_merge.proofs.Looking.{heads-known, heads-stopped, is-packet, refusal-comes, end-comes}
+use Rattle.cap_merge.proofs.merging.MergedPacketFeed.head.Goals as goal
+
+pub returns-in_err-look : goal.returns-in_err-look
+returns-in_err-look g c =
+    let m = c.args.self.now in
+    let n = c.look.new.self in
+    let ps = parts m.lanes.items (map g.F.PacketFeed.feed m.feeds.items) in
+    let qs = parts n.lanes.items (map g.F.PacketFeed.feed n.feeds.items) in
+    let lawful = lawful-each g.F.PacketFeed.feed g.met.F.PacketFeed.lawful n.lanes.items n.feeds.items in
+    let p = err_from_is_err_and c.from_residual.result c.from_residual.ensures.1 in
+    let h = heads-stopped ps qs c.in_err-look.field-0.0 (numbered-from g.F.PacketFeed.feed m.lanes.items m.feeds.items m.alike m.numbered) c.in_err-look.ensures.asks lawful in
+    rw (p.1, p.2) (record { answer = h.answer; keeps = h.keeps; items = h.items; asks = h.asks; run = h.run; clocks = h.clocks })
+
+pub packet-requires : goal.packet-requires
+packet-requires g c =
+    let n = c.look.new.self in
+    record { packet = is-packet (feed_of (parts n.lanes.items (map g.F.PacketFeed.feed n.feeds.items))).known (rw c.in-Packet.is at c.in_ok-look.ensures.next) }
+
+pub returns-in-Packet : goal.returns-in-Packet
+returns-in-Packet g c =
+    let m = c.args.self.now in
+    let n = c.look.new.self in
+    let ps = parts m.lanes.items (map g.F.PacketFeed.feed m.feeds.items) in
+    let qs = parts n.lanes.items (map g.F.PacketFeed.feed n.feeds.items) in
+    let lawful = lawful-each g.F.PacketFeed.feed g.met.F.PacketFeed.lawful n.lanes.items n.feeds.items in
+    let h = heads-known ps qs (Packet c.packet.result.now) c.in_ok-look.ensures.asks c.packet.ensures.packet lawful in
+    record { answer = h.answer; keeps = h.keeps; items = h.items; asks = h.asks; run = h.run; clocks = h.clocks }
+
+pub returns-in-Refused : goal.returns-in-Refused
+returns-in-Refused g c =
+    let m = c.args.self.now in
+    let n = c.look.new.self in
+    let ps = parts m.lanes.items (map g.F.PacketFeed.feed m.feeds.items) in
+    let qs = parts n.lanes.items (map g.F.PacketFeed.feed n.feeds.items) in
+    let lawful = lawful-each g.F.PacketFeed.feed g.met.F.PacketFeed.lawful n.lanes.items n.feeds.items in
+    let known = refusal-comes (feed_of qs).known c.in-Refused.refusal (rw c.in-Refused.is at c.in_ok-look.ensures.next) in
+    let h = heads-known ps qs (Refused c.in-Refused.refusal) c.in_ok-look.ensures.asks known lawful in
+    record { answer = h.answer; keeps = h.keeps; items = h.items; asks = h.asks; run = h.run; clocks = h.clocks }
+
+pub returns-in-End : goal.returns-in-End
+returns-in-End g c =
+    let m = c.args.self.now in
+    let n = c.look.new.self in
+    let ps = parts m.lanes.items (map g.F.PacketFeed.feed m.feeds.items) in
+    let qs = parts n.lanes.items (map g.F.PacketFeed.feed n.feeds.items) in
+    let lawful = lawful-each g.F.PacketFeed.feed g.met.F.PacketFeed.lawful n.lanes.items n.feeds.items in
+    let h = heads-known ps qs End c.in_ok-look.ensures.asks (end-comes (feed_of qs).known (rw c.in-End.is at c.in_ok-look.ensures.next)) lawful in
+    record { answer = h.answer; keeps = h.keeps; items = h.items; asks = h.asks; run = h.run; clocks = h.clocks }

@@ -1,0 +1,287 @@
+//! Several feeds as one.
+ghost use Rattle.std.specs.Prelude.{◌≡◌, ◌<◌, ◌≤◌, ◌<ℤ◌, ◌^◌, pos, length, map, drop, vec_len, true, false, IsTrue, Some, Option, IfSome, IfOk};
+ghost use Rattle.std.specs.List.{range_with_len};
+ghost use Rattle.std.specs.Ordering.{is_gt};
+ghost use Rattle.cap_time.specs.declared.stamps.Stamp.{Stamp};
+ghost use Rattle.cap_time.specs.Stamp.{seconds_of};
+ghost use Rattle.cap_time.specs.Clock.{clock_cmp};
+ghost use Rattle.cap_source.specs.declared.feeds.Head.{Head};
+ghost use Rattle.cap_source.specs.Feed.{GivesHead, Keeps, KeepsItems, FindsPacket, FindsItem, Passes, IsPacket};
+ghost use Rattle.cap_merge.specs.Run.{opened, run};
+ghost use Rattle.cap_merge.specs.Parts.{item_time, is_refusal, parts, IsNumbered, Agrees, HasReached, AreBounded, feed_of, new_parts, clock_of, run_of, OthersKnown, ClocksFrom, MovesClocks, KeepsRun, ShowsRun, BeginsAt, turns};
+ghost use Rattle.cap_merge.specs.First.{coming_of, has_next, first_place, found_of, passed_of, IsFound, IsFound-prop};
+ghost use Rattle.cap_merge.specs.Merge.{AsksAll, LooksAll, TellsNext, ShowsFirst};
+ghost use Rattle.cap_merge.specs.PartsProps.{IsNumbered-prop, Agrees-prop, HasReached-prop, AreBounded-prop, OthersKnown-prop};
+
+use crate::lanes::{
+    Coming, Front, Lane, ask_all, clock_at, coming_at, first_lane, found, greater, is_packet_at,
+    new_lanes, pass_first, show_next,
+};
+use arrayvec::ArrayVec;
+use cap_bytes::Fault;
+use cap_source::{Ending, FeedHeld, Head, Meta, PacketFeed};
+use cap_time::Stamp;
+
+/// The packets of several feeds in the order of exact time: by the greatest time so far in a packet's
+/// file, of equal ones by file, then by place in the file, up to the first refusal.
+#[derive(Drop)]
+pub struct Merged<F: PacketFeed> {
+    feeds: Vec<F>,
+    lanes: ArrayVec<Lane, 32>,
+    front: Front,
+    ghost alike: { length lanes.items ≡ length feeds.items },
+    ghost some: { 1 ≤ length feeds.items },
+    ghost most: { length feeds.items ≤ 32 },
+    ghost numbered: { IsNumbered (map F.feed feeds.items) } by { IsNumbered-prop (map F.feed feeds.items) },
+    ghost agrees: { Agrees lanes.items (map F.feed feeds.items) } by { Agrees-prop lanes.items (map F.feed feeds.items) },
+    ghost reached: { HasReached (parts lanes.items (map F.feed feeds.items)) } by { HasReached-prop (parts lanes.items (map F.feed feeds.items)) },
+    ghost bounded: { AreBounded (parts lanes.items (map F.feed feeds.items)) } by { AreBounded-prop (parts lanes.items (map F.feed feeds.items)) },
+    ghost found: { IsFound lanes.items (found_of front) } by { IsFound-prop lanes.items (found_of front) },
+    ghost others: { OthersKnown (parts lanes.items (map F.feed feeds.items)) (passed_of front) } by { OthersKnown-prop (parts lanes.items (map F.feed feeds.items)) (passed_of front) },
+}
+
+/// The packet that comes next of a merge.
+#[derive(Clone, Copy)]
+pub struct NextPacket<'a> {
+    /// Its clock: the greatest time of the packets of its file up to it, and none if there is no such time.
+    pub clock: &'a Option<Stamp>,
+    /// What is told of it.
+    pub meta: &'a Meta,
+    /// Its captured bytes.
+    pub frame: &'a [u8],
+}
+
+impl<F: PacketFeed> Merged<F> {
+    ghost use Rattle.cap_merge.specs.View.{parts_of};
+
+    /// The feeds as one, the first being file 1, and so on. It asks them nothing yet.
+    pub fn new(feeds: Vec<F>) -> Merged<F>
+        requires some { 1 ≤ vec_len feeds }
+        requires most { vec_len feeds ≤ 32 }
+        requires numbered { IsNumbered (map F.feed feeds.items) }
+        ensures parts { parts_of result ≡ new_parts (map F.feed feeds.items) }
+        ensures run { run_of (parts_of result)
+            ≡ run item_time is_refusal (map (λ f. opened f.items) (map F.feed feeds.items)) }
+    {
+        let lanes = new_lanes(feeds.len());
+        Merged {
+            feeds,
+            lanes,
+            front: Front::Unknown,
+        }
+    }
+
+    /// How many feeds there are, each of one file: at most 32. The files are numbered from 1 on.
+    pub fn files(&self) -> u32
+        ensures files { result ≡ length (feed_of (parts_of self.now)).files }
+        ensures numbered { (feed_of (parts_of self.now)).files ≡ range_with_len 1 result }
+        ensures most { result ≤ 32 }
+    {
+        self.feeds.len() as u32
+    }
+
+    /// The clock of what comes next: the greatest time of the packets of its file up to it, and none
+    /// if there is no such time. Its seconds are below 2^65.
+    pub fn clock(&self) -> Option<Stamp>
+        requires { has_next (feed_of (parts_of self.now)).known ≡ true }
+        ensures clock { result ≡ clock_of (parts_of self.now) }
+        ensures bounded { IfSome result (λ clock. seconds_of clock <ℤ pos (2 ^ 65)) }
+        ensures from { ClocksFrom result (parts_of self.now) }
+        ensures not_below { (clock : Option Stamp) → ClocksFrom clock (parts_of self.now)
+            → is_gt (clock_cmp clock result) ≡ false }
+        ensures run { IsTrue (feed_of (parts_of self.now)).told
+            → BeginsAt result (run_of (parts_of self.now)) }
+    {
+        match self.first_place() {
+            Some(place) => *clock_at(self.lanes.as_slice(), place),
+            None => unreachable!(),
+        }
+    }
+
+    /// The packet that comes next: what `clock`, `packet` and `frame` answer, each of which looks anew for the file that it is of.
+    #[inline(always)]
+    pub fn next_packet(&self) -> NextPacket<'_>
+        requires { IsPacket (feed_of (parts_of self.now)).known }
+        ensures clock { result.clock.now ≡ clock_of (parts_of self.now) }
+        ensures bounded { IfSome result.clock.now (λ clock. seconds_of clock <ℤ pos (2 ^ 65)) }
+        ensures from { ClocksFrom result.clock.now (parts_of self.now) }
+        ensures not_below { (clock : Option Stamp) → ClocksFrom clock (parts_of self.now)
+            → is_gt (clock_cmp clock result.clock.now) ≡ false }
+        ensures run { IsTrue (feed_of (parts_of self.now)).told
+            → BeginsAt result.clock.now (run_of (parts_of self.now)) }
+        ensures packet { (feed_of (parts_of self.now)).known ≡ Some (Head.Packet result.meta.now) }
+        ensures frame { result.frame.now ≡ (feed_of (parts_of self.now)).frame }
+    {
+        match self.first_place() {
+            Some(place) => NextPacket {
+                clock: clock_at(self.lanes.as_slice(), place),
+                meta: self.feeds[place].packet(),
+                frame: self.feeds[place].frame(),
+            },
+            None => unreachable!(),
+        }
+    }
+
+    // The place of the feed whose item comes first.
+    #[inline(always)]
+    fn first_place(&self) -> Option<usize>
+        ensures place { result ≡ first_place (turns (parts_of self.now)) }
+        ensures within { IfSome result (λ n. n < length self.now.feeds.items) }
+    {
+        found(self.lanes.as_slice(), self.front.found())
+    }
+
+    // Asks each feed what comes next, unless that is known, and finds whose item comes first.
+    #[inline(always)]
+    fn look(&mut self) -> Result<Coming, Fault>
+        ensures asks { AsksAll (parts_of self.old) result (parts_of self.new) }
+        ensures next { IfOk result (λ coming. coming_of (feed_of (parts_of self.new)).known ≡ Some coming) }
+    {
+        let passed = self.front.passed();
+        self.front = Front::Unknown;
+        ask_all(&mut self.lanes, &mut self.feeds, passed)?;
+        let first = first_lane(self.lanes.as_slice());
+        self.front = Front::at(first);
+        Ok(coming_at(self.lanes.as_slice(), first))
+    }
+
+    // Whether the packet that comes first of all is at hand, after one was passed: it is known then.
+    #[inline(always)]
+    fn shows_first(&mut self) -> bool
+        ensures { ShowsFirst (parts_of self.old) result (parts_of self.new) }
+    {
+        let Some(place) = self.front.passed() else {
+            return false;
+        };
+        if !show_next(&mut self.lanes, &mut self.feeds, place) {
+            self.front = Front::Unknown;
+            return false;
+        }
+        // The packet at hand of the only file comes first.
+        if self.lanes.len() == 1 {
+            self.front = Front::At(place);
+            return true;
+        }
+        let first = first_lane(self.lanes.as_slice());
+        self.front = Front::at(first);
+        is_packet_at(self.lanes.as_slice(), first)
+    }
+
+    // What `has_packet` answers of a packet that isn't at hand. It isn't inlined, so that what it answers takes no room where
+    // packets are at hand.
+    #[inline(never)]
+    fn find(&mut self) -> Result<bool, Fault>
+        ensures asks { LooksAll (parts_of self.old) result (parts_of self.new) }
+        ensures next { TellsNext (feed_of (parts_of self.new)).known result }
+    {
+        match self.look()? {
+            Coming::Packet => Ok(true),
+            Coming::Refused(refusal) => Err(Fault::Refused(refusal)),
+            Coming::End => Ok(false),
+        }
+    }
+}
+
+impl<F: PacketFeed> PacketFeed for Merged<F> {
+    ghost use Rattle.cap_merge.specs.MergedLaws.{merged-is-feed};
+    ghost use Rattle.cap_merge.specs.View.{parts_of};
+
+    ghost feed = { λ m. feed_of (parts_of m) };
+
+    ghost lawful = { λ m. merged-is-feed m F.lawful };
+
+    fn head(&mut self) -> Result<Head, Fault>
+        ensures answer { GivesHead (feed_of (parts_of self.old)) result
+            (feed_of (parts_of self.new)) }
+        ensures keeps { Keeps (feed_of (parts_of self.old))
+            (feed_of (parts_of self.new)) }
+        ensures items { IsTrue (feed_of (parts_of self.old)).told
+            → KeepsItems (feed_of (parts_of self.old)) result
+            (feed_of (parts_of self.new)) }
+        ensures asks { AsksAll (parts_of self.old) result (parts_of self.new) }
+        ensures run { IsTrue (feed_of (parts_of self.old)).told
+            → KeepsRun (parts_of self.old) result (parts_of self.new) }
+        ensures clocks { MovesClocks (parts_of self.old) (parts_of self.new) }
+    {
+        match self.look()? {
+            Coming::Packet => Ok(Head::Packet(*self.packet())),
+            Coming::Refused(refusal) => Ok(Head::Refused(refusal)),
+            Coming::End => Ok(Head::End),
+        }
+    }
+
+    #[inline(always)]
+    fn has_packet(&mut self) -> Result<bool, Fault>
+        ensures answer { FindsPacket (feed_of (parts_of self.old)) result
+            (feed_of (parts_of self.new)) }
+        ensures keeps { Keeps (feed_of (parts_of self.old))
+            (feed_of (parts_of self.new)) }
+        ensures items { IsTrue (feed_of (parts_of self.old)).told
+            → FindsItem (feed_of (parts_of self.old)) result
+            (feed_of (parts_of self.new)) }
+        ensures asks { LooksAll (parts_of self.old) result (parts_of self.new) }
+        ensures run { IsTrue (feed_of (parts_of self.old)).told
+            → ShowsRun (parts_of self.old) result (parts_of self.new) }
+        ensures clocks { MovesClocks (parts_of self.old) (parts_of self.new) }
+    {
+        if self.shows_first() {
+            return Ok(true);
+        }
+        self.find()
+    }
+
+    // It asks its feeds what they have at hand, and has nothing at hand itself before it is asked.
+    fn shows_packet(&mut self) -> bool {
+        false
+    }
+
+    #[inline(always)]
+    fn packet(&self) -> &Meta {
+        match self.first_place() {
+            Some(place) => self.feeds[place].packet(),
+            None => unreachable!(),
+        }
+    }
+
+    fn frame(&self) -> &[u8] {
+        match self.first_place() {
+            Some(place) => self.feeds[place].frame(),
+            None => &[],
+        }
+    }
+
+    fn pass(&mut self)
+        requires packet { IsPacket (feed_of (parts_of self.old)).known }
+        ensures passes { Passes (feed_of (parts_of self.old))
+            (feed_of (parts_of self.new)) }
+        ensures keeps { Keeps (feed_of (parts_of self.old))
+            (feed_of (parts_of self.new)) }
+        ensures run { IsTrue (feed_of (parts_of self.old)).told
+            → run_of (parts_of self.new) ≡ drop 1 (run_of (parts_of self.old)) }
+        ensures clocks { ClocksFrom (clock_of (parts_of self.old)) (parts_of self.new) }
+    {
+        match self.first_place() {
+            Some(place) => {
+                self.front = Front::Passed(place);
+                pass_first(&mut self.lanes, &mut self.feeds, place);
+            }
+            None => {}
+        }
+    }
+
+    fn ending(&self, file: u32) -> Ending {
+        self.feeds[file as usize - 1].ending(file)
+    }
+
+    fn feed_held(&self) -> FeedHeld {
+        let mut held = FeedHeld {
+            window: 0,
+            interfaces: 0,
+            failed: false,
+        };
+        for feed in self.feeds.iter() {
+            held = greater(held, feed.feed_held());
+        }
+        held
+    }
+}

@@ -1,0 +1,28 @@
+//! Going through a run, packet by packet.
+ghost use Rattle.std.specs.Prelude.{IsTrue};
+ghost use Rattle.cap_merge.specs.Parts.{ShowsRun, feed_of};
+ghost use Rattle.cap_merge.specs.View.{parts_of};
+ghost use Rattle.cap_source.specs.Feed.{Keeps};
+ghost use Rattle.cap_source.specs.Walk.{GivesPacket, ShowsItem};
+
+use crate::merging::Merged;
+use cap_bytes::Fault;
+use cap_source::{Meta, PacketFeed};
+
+/// What comes next of a run: a packet, which stays until it is passed, or none at the end. `Refused` comes
+/// if a refusal comes next, `Read` if a device failed, and `Memory` if a growth was refused. The run stays
+/// the same, unless `Read` is answered.
+#[inline(always)]
+pub fn next_of<F: PacketFeed>(merged: &mut Merged<F>) -> Result<Option<Meta>, Fault>
+    ensures answer { GivesPacket (feed_of (parts_of merged.old)) result (feed_of (parts_of merged.new)) }
+    ensures keeps { Keeps (feed_of (parts_of merged.old)) (feed_of (parts_of merged.new)) }
+    ensures items { IsTrue (feed_of (parts_of merged.old)).told
+        → ShowsItem (feed_of (parts_of merged.old)) result (feed_of (parts_of merged.new)) }
+    ensures run { IsTrue (feed_of (parts_of merged.old)).told → ShowsRun (parts_of merged.old) result (parts_of merged.new) }
+{
+    if merged.has_packet()? {
+        Ok(Some(*merged.packet()))
+    } else {
+        Ok(None)
+    }
+}

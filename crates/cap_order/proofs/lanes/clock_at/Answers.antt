@@ -1,6 +1,0 @@
-use Rattle.std.proofs.lemmas.Grind.{common_steps}
-use Rattle.std.proofs.Common.{arith}
-use Rattle.cap_order.proofs.lanes.clock_at.Goals as goal
-
-pub returns : goal.returns
-returns c = grind (arith, common_steps)

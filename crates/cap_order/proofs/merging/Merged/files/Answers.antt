@@ -1,6 +1,0 @@
-use Rattle.std.proofs.Common.{arith}
-use Rattle.cap_order.proofs.Calls.{files-counted, files-numbered}
-use Rattle.cap_order.proofs.merging.Merged.files.Goals as goal
-
-pub returns : goal.returns
-returns g c = grind (arith, files-counted, files-numbered)
