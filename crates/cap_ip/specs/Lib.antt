@@ -5,7 +5,3 @@ pub mod Read
 pub mod Transport
 pub mod Checksum
 pub mod Written
-pub mod Seen
-pub mod Tags
-pub mod Links
-pub mod Tagged

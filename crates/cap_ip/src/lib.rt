@@ -5,16 +5,11 @@
 mod checksums;
 mod fields;
 mod headers;
-mod links;
-mod networks;
 mod ports;
-mod tags;
 mod transports;
 mod written;
 
 pub use crate::checksums::{checksum_law, header_checksum};
 pub use crate::headers::{Fragment, Header, HeaderOr, Key};
-pub use crate::links::{network, tags_law};
-pub use crate::networks::Network;
 pub use crate::ports::transport;
 pub use crate::transports::Transport;

@@ -8,8 +8,8 @@ use Rattle.cap_ip.specs.Transport.{ports_of, udp_length, udp_of, tcp_header_leng
 use Rattle.cap_join.specs.ByteMap.{completes, data_of}
 use Rattle.cap_join.specs.Fragments.{piece_of}
 use Rattle.cap_join.specs.History.{joined_pieces, step, state_of}
-use Rattle.cap_ip.specs.Links.{typed, raw, network_of}
-use Rattle.cap_ip.specs.Tags.{is_tag, ended as tag_ended, payload, carried}
+use Rattle.cap_link.specs.Links.{typed, raw, network_of}
+use Rattle.cap_link.specs.Tags.{is_tag, ended as tag_ended, payload, carried}
 use Rattle.cap_counts.specs.Counting.{counted}
 use Rattle.cap_tally.specs.Talks.{rows_of}
 use Rattle.cap_time.specs.Code.{units_of_code}

@@ -7,7 +7,8 @@ ghost use Rattle.cap_tally.specs.Looking.{look_of, IsAll, taken};
 ghost use Rattle.cap_tally.specs.Taken.{look_in, look, stamped_of};
 
 use crate::classes::Class;
-use cap_ip::{Header, HeaderOr, Network, network};
+use cap_ip::{Header, HeaderOr};
+use cap_link::{Network, network};
 use cap_source::Meta;
 
 /// What a packet is by itself.

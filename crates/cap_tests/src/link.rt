@@ -6,7 +6,7 @@ use crate::link::vectors::{
     CAPTURED_FRAME, COOKED_2_FRAME, COOKED_2_TAGGED_FRAME, COOKED_FRAME, FRAGMENT, IPV6_FRAME,
     LENGTH_FRAME, PACKET, TAG_FRAME, TAGGED_FRAME,
 };
-use cap_ip::{Network, network, tags_law};
+use cap_link::{Network, network, tags_law};
 use std::process::Abort;
 
 // A link type, a frame, its original length, how many of its bytes come before the IPv4 packet, and the packet's length.

@@ -2,7 +2,7 @@
 use Rattle.std.specs.Prelude.{List, Bool}
 use Rattle.cap_join.specs.History.{Event}
 use Rattle.cap_join.specs.declared.datagrams.Stamped.{Stamped}
-use Rattle.cap_ip.specs.Links.{is_whole}
+use Rattle.cap_link.specs.Links.{is_whole}
 use Rattle.cap_source.specs.Feed.{Item}
 use Rattle.cap_write.specs.Joined.{items_of_packet, stamped_of}
 use Rattle.cap_write.specs.declared.placed_packets.PlacedPacket.{PlacedPacket}

@@ -12,8 +12,9 @@ ghost use Rattle.cap_write.specs.Joined.{has_form, complete_of, completed_in, co
 
 use crate::placed_packets::{Joining, PlacedPacket};
 use cap_bytes::Fault;
-use cap_ip::{Header, Network, Transport, network, transport};
+use cap_ip::{Header, Transport, transport};
 use cap_join::{Arrived, Joiner, Stamped};
+use cap_link::{Network, network};
 use cap_source::Meta;
 use cap_time::Stamp;
 

@@ -2,7 +2,7 @@
 use Rattle.std.specs.Prelude.{ℕ, List, [], ◌∷◌, Bool, ◌||◌, ◌==◌, if◌then◌else◌}
 use Rattle.cap_bytes.specs.Number.{number}
 use Rattle.cap_bytes.specs.declared.numbers.Order.TheVariants.{Big}
-use Rattle.cap_ip.specs.Seen.{Carried}
+use Rattle.cap_link.specs.Seen.{Carried}
 
 -- a type field that says that a tag follows: a C-VLAN tag or an S-VLAN tag (IEEE 802.1Q, 9.5)
 unfoldable pub is_tag : ℕ → Bool

@@ -1,6 +1,6 @@
 use Rattle.std.proofs.Common.{sym, ◌∙◌, arith}
-use Rattle.cap_ip.proofs.TagSteps.{carried-tag, carried-ended, carried-payload}
-use Rattle.cap_ip.proofs.tags.carried.Goals as goal
+use Rattle.cap_link.proofs.TagSteps.{carried-tag, carried-ended, carried-payload}
+use Rattle.cap_link.proofs.tags.carried.Goals as goal
 
 pub returns-then-rest-lt-TAG : goal.returns-then-rest-lt-TAG
 returns-then-rest-lt-TAG c = grind (arith, carried-ended)

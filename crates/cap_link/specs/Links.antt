@@ -2,8 +2,8 @@
 use Rattle.std.specs.Prelude.{ℕ, List, Bool, ◌==◌, ◌/◌, nat_le, nat_lt, length, drop, slice_index, if◌then◌else◌}
 use Rattle.cap_bytes.specs.Number.{number}
 use Rattle.cap_bytes.specs.declared.numbers.Order.TheVariants.{Big}
-use Rattle.cap_ip.specs.Seen.{Carried}
-use Rattle.cap_ip.specs.Tags.{carried, ended}
+use Rattle.cap_link.specs.Seen.{Carried}
+use Rattle.cap_link.specs.Tags.{carried, ended}
 
 -- a link header of that many bytes, whose type field stands at a place
 unfoldable pub typed : Bool → ℕ → ℕ → List ℕ → Carried

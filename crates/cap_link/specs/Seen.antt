@@ -1,7 +1,7 @@
 -- What a frame carries, as a value of its own: the same for equal bytes, wherever they lie.
 use Rattle.std.specs.Prelude.{ℕ, List}
-use Rattle.cap_ip.specs.declared.networks.Network.{Network}
-use Rattle.cap_ip.specs.declared.networks.Network.TheVariants as variant
+use Rattle.cap_link.specs.declared.networks.Network.{Network}
+use Rattle.cap_link.specs.declared.networks.Network.TheVariants as variant
 
 pub data Carried : Type 0 where
   ipv4 : List ℕ → Carried

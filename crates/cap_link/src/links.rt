@@ -1,8 +1,8 @@
 //! The link headers of the five link types (LINKTYPE registry).
 ghost use Rattle.std.specs.Prelude.{◌≡◌, ◌+◌, ◌≤◌};
-ghost use Rattle.cap_ip.specs.Seen.{seen};
-ghost use Rattle.cap_ip.specs.Links.{typed, raw, network_of};
-ghost use Rattle.cap_ip.specs.Tagged.{TagsLaw};
+ghost use Rattle.cap_link.specs.Seen.{seen};
+ghost use Rattle.cap_link.specs.Links.{typed, raw, network_of};
+ghost use Rattle.cap_link.specs.Tagged.{TagsLaw};
 
 use crate::networks::Network;
 use crate::tags::{carried, ended};

@@ -2,7 +2,7 @@
 use Rattle.std.proofs.Common.{◌≡◌, ◌<◌, ◌≤◌, ℕ, Bool, true, false, List, [], ◌∷◌, length, drop, refl, arith}
 use Rattle.cap_bytes.specs.Number.{number}
 use Rattle.cap_bytes.specs.declared.numbers.Order.TheVariants.{Big}
-use Rattle.cap_ip.specs.Tags.{is_tag, ended, payload, carried}
+use Rattle.cap_link.specs.Tags.{is_tag, ended, payload, carried}
 
 -- a whole tag is passed over
 pub carried-tag : (whole : Bool) (kind : ℕ) (bytes : List ℕ) → is_tag kind ≡ true → 4 ≤ length bytes → carried whole kind bytes ≡ carried whole (number Big 2 (drop 2 bytes)) (drop 4 bytes)

@@ -5,10 +5,10 @@ use Rattle.std.proofs.Math.Seq.{drop-append_seam}
 use Rattle.std.proofs.lemmas.List.Elements.{recursion_from_All}
 use Rattle.cap_bytes.specs.Number.{number}
 use Rattle.cap_bytes.specs.declared.numbers.Order.TheVariants.{Big}
-use Rattle.cap_ip.specs.Tags.{is_tag, payload, carried}
-use Rattle.cap_ip.specs.Links.{typed, network_of, is_whole}
-use Rattle.cap_ip.specs.Tagged.{Tag, tagged, TagsLaw}
-use Rattle.cap_ip.proofs.TagSteps.{carried-tag, carried-payload}
+use Rattle.cap_link.specs.Tags.{is_tag, payload, carried}
+use Rattle.cap_link.specs.Links.{typed, network_of, is_whole}
+use Rattle.cap_link.specs.Tagged.{Tag, tagged, TagsLaw}
+use Rattle.cap_link.proofs.TagSteps.{carried-tag, carried-payload}
 
 -- two bytes of a number spell it
 pub number-two : (n : ℕ) (rest : List ℕ) → number Big 2 (n / 256 ∷ n % 256 ∷ rest) ≡ n

@@ -1,6 +1,6 @@
 use Rattle.std.proofs.Common.{◌≡◌, length}
-use Rattle.cap_ip.specs.Tags.{carried}
-use Rattle.cap_ip.proofs.tags.carried.Given as goal
+use Rattle.cap_link.specs.Tags.{carried}
+use Rattle.cap_link.proofs.tags.carried.Given as goal
 
 abbrev pub invariant-tags : goal.invariant-tags
 invariant-tags l = carried l.whole l.next l.rest ≡ carried l.whole l.kind l.bytes

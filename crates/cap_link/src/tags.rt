@@ -1,7 +1,7 @@
 //! Type fields and the tags that may follow them (IEEE 802.3, 3.2.6; IEEE 802.1Q, 9.3).
 ghost use Rattle.std.specs.Prelude.{◌≡◌};
-ghost use Rattle.cap_ip.specs.Seen.{seen};
-ghost use Rattle.cap_ip.specs.Tags.{is_tag, ended, payload, carried};
+ghost use Rattle.cap_link.specs.Seen.{seen};
+ghost use Rattle.cap_link.specs.Tags.{is_tag, ended, payload, carried};
 
 use crate::networks::Network;
 use cap_bytes::{Order, u16_at};

@@ -1,7 +1,7 @@
 -- Tagged frames, as they are put together, and what they carry.
 use Rattle.std.specs.Prelude.{◌≡◌, ℕ, List, [], ◌∷◌, ◌++◌, ◌/◌, ◌%◌, true, false, All, length}
-use Rattle.cap_ip.specs.Tags.{is_tag, payload}
-use Rattle.cap_ip.specs.Links.{network_of}
+use Rattle.cap_link.specs.Tags.{is_tag, payload}
+use Rattle.cap_link.specs.Links.{network_of}
 
 -- a tag: its protocol identifier and its control information, two bytes each (IEEE 802.1Q, 9.3)
 pub record Tag : Type 0 where

@@ -1,0 +1,2 @@
+pub mod TagSteps
+pub mod TagsLaw

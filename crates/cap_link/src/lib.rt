@@ -1,0 +1,9 @@
+//! What a captured frame carries, by its link header and its tags: an IPv4 packet's bytes, or why there are none.
+#![tactic(auto)]
+
+mod links;
+mod networks;
+mod tags;
+
+pub use crate::links::{network, tags_law};
+pub use crate::networks::Network;
