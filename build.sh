@@ -11,7 +11,7 @@ program=cap_tool
 # the crates for which others wait longest: they, and those that they stand on, begin before others that could
 first='cap_source cap_blocks cap_write'
 # the longest of these, and how many processes they get even if no processor is idle; and the most that a crate gets
-declare -A least=([cap_tally]=2 [cap_write]=3)
+declare -A least=([cap_talks]=2 [cap_write]=3)
 most=4
 kit=$(rt doc)
 kit=${kit%/*}

@@ -10,13 +10,13 @@ Use: checks/trusted.py [COMMAND | --page]
 import pathlib, re, sys
 
 TOP = pathlib.Path(__file__).resolve().parent.parent
-PRINTS, TELLS = "cap_bytes.Printing.Prints", "cap_talks.Telling.Tells"
+PRINTS, TELLS = "cap_bytes.Printing.Prints", "cap_talks.talks.Telling.Tells"
 ROOTS = {
     "list": ["cap_lists.ListText.list_text", "cap_lists.ListText.list_refusal", PRINTS],
     "blocks": ["cap_lists.BlockText.block_list", "cap_lists.BlockText.block_refusal", PRINTS],
-    "info": ["cap_talks.InfoText.info_text", "cap_talks.InfoText.first_refusal", TELLS],
+    "info": ["cap_talks.talks.InfoText.info_text", "cap_talks.talks.InfoText.first_refusal", TELLS],
     "report": [
-        "cap_talks.ReportText.report_text", "cap_talks.ReportText.report_refusal", "cap_merge.Files.clocked_run",
+        "cap_talks.talks.ReportText.report_text", "cap_talks.talks.ReportText.report_refusal", "cap_merge.Files.clocked_run",
         "cap_merge.Files.endings_of_files", TELLS,
     ],
     "convert": ["cap_write.Converted.convert_text", "cap_write.Converted.convert_refusal", PRINTS],

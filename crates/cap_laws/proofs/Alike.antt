@@ -14,11 +14,11 @@ use Rattle.cap_join.specs.declared.datagrams.Stamped.{Stamped}
 use Rattle.cap_merge.specs.Clocks.{clock_total}
 use Rattle.cap_merge.specs.Run.{Clocked}
 use Rattle.cap_source.specs.Feed.{Item, packet, refused}
-use Rattle.cap_tally.specs.Classes.{classes, classes_in, groups_of}
-use Rattle.cap_tally.specs.CountedUnits.{first_unit, unit_by, unit_at, listed, units_of}
-use Rattle.cap_talks.specs.ReportText.{with_item, taken_after}
-use Rattle.cap_tally.specs.TakenText.{body_text, bytes_of, truncated_of}
-use Rattle.cap_tally.specs.Taken.{Taken, Look, plain, datagram, fragment, look, events_with, events_of}
+use Rattle.cap_talks.specs.table.Classes.{classes, classes_in, groups_of}
+use Rattle.cap_talks.specs.table.CountedUnits.{first_unit, unit_by, unit_at, listed, units_of}
+use Rattle.cap_talks.specs.talks.ReportText.{with_item, taken_after}
+use Rattle.cap_talks.specs.table.TakenText.{body_text, bytes_of, truncated_of}
+use Rattle.cap_talks.specs.table.Taken.{Taken, Look, plain, datagram, fragment, look, events_with, events_of}
 use Rattle.cap_time.specs.declared.stamps.Stamp.{Stamp}
 use Rattle.cap_laws.proofs.LikeReports.{LikeItems, RunsLike, refusals-like}
 use Rattle.cap_laws.specs.Reports.{SameReport}

@@ -13,12 +13,12 @@ use Rattle.cap_merge.specs.Run.{Clocked, opened, run}
 use Rattle.cap_source.specs.Feed.{Item, packet, refused}
 use Rattle.cap_time.specs.declared.stamps.Stamp.{Stamp}
 use Rattle.cap_join.proofs.Once.{completed}
-use Rattle.cap_tally.proofs.LoneFragments.{no-lone}
-use Rattle.cap_tally.proofs.Recount.{place_of}
-use Rattle.cap_tally.specs.Classes.{classes, classes_in}
+use Rattle.cap_talks.proofs.LoneFragments.{no-lone}
+use Rattle.cap_talks.proofs.Recount.{place_of}
+use Rattle.cap_talks.specs.table.Classes.{classes, classes_in}
 use Rattle.cap_laws.specs.InOrder.{ByPlaces}
-use Rattle.cap_talks.specs.ReportText.{with_item, taken_after}
-use Rattle.cap_tally.specs.Taken.{Taken, events_with, events_of, Look, plain, datagram, fragment, look}
+use Rattle.cap_talks.specs.talks.ReportText.{with_item, taken_after}
+use Rattle.cap_talks.specs.table.Taken.{Taken, events_with, events_of, Look, plain, datagram, fragment, look}
 
 turned_by : (r s : Ordering) → r ≡ ordering_reverse s → is_gt s ≡ false → is_lt r ≡ false
 turned_by r s e h = grind arith

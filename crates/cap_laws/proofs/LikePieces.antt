@@ -11,7 +11,7 @@ use Rattle.cap_join.specs.Frames.{original_bytes, timed, earlier, later, first_f
 use Rattle.cap_join.specs.History.{Event}
 use Rattle.cap_join.specs.Holes.{is_within}
 use Rattle.cap_join.specs.declared.datagrams.Stamped.{Stamped}
-use Rattle.cap_tally.specs.Classes.{has_place}
+use Rattle.cap_talks.specs.table.Classes.{has_place}
 
 -- ---- frames
 

@@ -18,15 +18,15 @@ use Rattle.cap_link.specs.Seen.{Carried, ipv4, other_link, not_ipv4, short, cut 
 use Rattle.cap_source.specs.Times.{meta_time}
 use Rattle.cap_merge.specs.Run.{Clocked}
 use Rattle.cap_source.specs.Feed.{Item, packet, refused}
-use Rattle.cap_tally.specs.Classes.{class_by, class_in, class_of, classes, classes_in, counts_of, group_class, groups_of, has_place}
-use Rattle.cap_tally.specs.CountedUnits.{unit_by, unit_at, listed, units_of, is_limit_at, counted_in}
-use Rattle.cap_talks.specs.ReportText.{with_item, taken_after, refusal_here}
-use Rattle.cap_tally.specs.TakenText.{body_text, bytes_of, truncated_of}
-use Rattle.cap_tally.specs.Rows.{is_refused, talk_limit}
-use Rattle.cap_tally.specs.Taken.{Taken, Look, plain, datagram, fragment, look_at, look, events_with, events_of}
-use Rattle.cap_tally.specs.Talks.{key_of, rows_of}
-use Rattle.cap_tally.specs.declared.classes.Class.TheVariants as class
-use Rattle.cap_tally.specs.declared.units.CountedUnit.{CountedUnit}
+use Rattle.cap_talks.specs.table.Classes.{class_by, class_in, class_of, classes, classes_in, counts_of, group_class, groups_of, has_place}
+use Rattle.cap_talks.specs.table.CountedUnits.{unit_by, unit_at, listed, units_of, is_limit_at, counted_in}
+use Rattle.cap_talks.specs.talks.ReportText.{with_item, taken_after, refusal_here}
+use Rattle.cap_talks.specs.table.TakenText.{body_text, bytes_of, truncated_of}
+use Rattle.cap_talks.specs.table.Rows.{is_refused, talk_limit}
+use Rattle.cap_talks.specs.table.Taken.{Taken, Look, plain, datagram, fragment, look_at, look, events_with, events_of}
+use Rattle.cap_talks.specs.table.Talks.{key_of, rows_of}
+use Rattle.cap_talks.specs.declared.table.classes.Class.TheVariants as class
+use Rattle.cap_talks.specs.declared.table.units.CountedUnit.{CountedUnit}
 use Rattle.cap_time.specs.declared.stamps.Stamp.{Stamp}
 use Rattle.cap_laws.proofs.LikePieces.{IsLike, IsLikeFrame, Like, LikeEvent, data-like, events-groups, header-like, pieces-alike, place-like}
 use Rattle.cap_laws.proofs.LikeUnits.{LikeUnit, LikeUnits, first_unit-like, key-like, refused-like, rows-like}
@@ -121,7 +121,7 @@ unfolding classes
 classes-like xs ys h = classes-in (groups_of xs) (groups_of ys) xs ys (groups-like xs ys h) h
 
 counted-like : (gs ks : List (List Piece)) → AllZip Like gs ks → counted_in gs ≡ counted_in ks
-counted-like (g ∷ gs) (k ∷ ks) h = λ i. (if Rattle.cap_tally.specs.Classes.is_class class.Counted (group-class g k h.0 i) then 1 else 0) + counted-like gs ks h.1 i
+counted-like (g ∷ gs) (k ∷ ks) h = λ i. (if Rattle.cap_talks.specs.table.Classes.is_class class.Counted (group-class g k h.0 i) then 1 else 0) + counted-like gs ks h.1 i
 counted-like gs ks h = grind arith
 
 -- ---- units

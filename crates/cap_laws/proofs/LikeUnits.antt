@@ -14,14 +14,14 @@ use Rattle.cap_join.specs.Fragments.{Piece}
 use Rattle.cap_join.specs.Frames.{original_bytes, first_frame, last_frame}
 use Rattle.cap_join.specs.declared.datagrams.Stamped.{Stamped}
 use Rattle.cap_time.specs.Clock.{clock_cmp}
-use Rattle.cap_tally.specs.CountedUnits.{first_unit, group_unit, timed_frame, unit_of}
-use Rattle.cap_tally.specs.Rows.{is_refused}
-use Rattle.cap_tally.specs.Talks.{Talk, bytes_of, by_time, by_time_down, earlier_frame, frames_of, greatest_frame, key_of, keys_of, later_frame, least_frame, place_or, row_of, rows_of, same_talk, units_of}
-use Rattle.cap_tally.specs.Units.{ends_of}
-use Rattle.cap_tally.specs.declared.rows.TalkKey.{TalkKey}
-use Rattle.cap_tally.specs.declared.units.CountedUnit.{CountedUnit}
-use Rattle.cap_tally.specs.declared.units.End.{End}
-use Rattle.cap_tally.specs.declared.units.TimedFrame.{TimedFrame}
+use Rattle.cap_talks.specs.table.CountedUnits.{first_unit, group_unit, timed_frame, unit_of}
+use Rattle.cap_talks.specs.table.Rows.{is_refused}
+use Rattle.cap_talks.specs.table.Talks.{Talk, bytes_of, by_time, by_time_down, earlier_frame, frames_of, greatest_frame, key_of, keys_of, later_frame, least_frame, place_or, row_of, rows_of, same_talk, units_of}
+use Rattle.cap_talks.specs.table.Units.{ends_of}
+use Rattle.cap_talks.specs.declared.table.rows.TalkKey.{TalkKey}
+use Rattle.cap_talks.specs.declared.table.units.CountedUnit.{CountedUnit}
+use Rattle.cap_talks.specs.declared.table.units.End.{End}
+use Rattle.cap_talks.specs.declared.table.units.TimedFrame.{TimedFrame}
 use Rattle.cap_laws.proofs.LikePieces.{Like, LikeFrames, data-like, frames-like, header-like, original-like}
 use Rattle.cap_laws.specs.Forms.{IsSameTalk}
 

@@ -3,8 +3,8 @@ use Rattle.std.proofs.Common.{arith, ◌≡◌, List, [], ◌∷◌, refl}
 use Rattle.std.specs.Option.{option_map}
 use Rattle.cap_merge.specs.Run.{Clocked}
 use Rattle.cap_source.specs.Feed.{Item}
-use Rattle.cap_talks.specs.ReportText.{refusal_after, with_item}
-use Rattle.cap_tally.specs.Taken.{Taken}
+use Rattle.cap_talks.specs.talks.ReportText.{refusal_after, with_item}
+use Rattle.cap_talks.specs.table.Taken.{Taken}
 use Rattle.cap_laws.specs.Reports.{refused_after, RuleLaw}
 
 rule-after : (xs : List Taken) (run : List (Clocked Item)) → option_map (λ p. p.rule) (refused_after xs run) ≡ option_map (λ r. r.rule) (refusal_after xs run)

@@ -10,16 +10,16 @@ use Rattle.cap_join.specs.Fragments.{piece_of}
 use Rattle.cap_join.specs.History.{joined_pieces, step, state_of}
 use Rattle.cap_link.specs.Links.{typed, raw, network_of}
 use Rattle.cap_link.specs.Tags.{is_tag, ended as tag_ended, payload, carried}
-use Rattle.cap_counts.specs.Counting.{counted}
-use Rattle.cap_tally.specs.Talks.{rows_of}
+use Rattle.cap_talks.specs.counts.Counting.{counted}
+use Rattle.cap_talks.specs.table.Talks.{rows_of}
 use Rattle.cap_time.specs.Code.{units_of_code}
 use Rattle.cap_time.specs.Stamp.{stamp_cmp, stamp_in, stamp_plus}
 use Rattle.cap_time.specs.Time.{time_cmp, time_at, floor_of, remainder_of}
-use Rattle.cap_tally.specs.Classes.{classes, group_class}
+use Rattle.cap_talks.specs.table.Classes.{classes, group_class}
 use Rattle.cap_join.specs.Completed.{completed_of}
-use Rattle.cap_tally.specs.TakenText.{body_text, files_part}
-use Rattle.cap_tally.specs.Taken.{look, events_of}
-use Rattle.cap_tally.specs.CountedUnits.{group_unit, unit_at, units_of}
+use Rattle.cap_talks.specs.table.TakenText.{body_text, files_part}
+use Rattle.cap_talks.specs.table.Taken.{look, events_of}
+use Rattle.cap_talks.specs.table.CountedUnits.{group_unit, unit_at, units_of}
 use Rattle.cap_laws.specs.WorkedReport.{Overlapped, Tagged}
 
 pub overlapped : Overlapped

@@ -10,13 +10,13 @@ use Rattle.cap_merge.specs.Files.{clocked_run}
 use Rattle.cap_merge.specs.Run.{Clocked}
 use Rattle.cap_source.specs.Feed.{Item}
 use Rattle.cap_source.specs.Items.{file_first, file_items}
-use Rattle.cap_tally.specs.Classes.{classes, counts_of}
-use Rattle.cap_tally.specs.CountedUnits.{units_of, joined_in, given_up_in}
-use Rattle.cap_talks.specs.ReportText.{taken_after}
-use Rattle.cap_tally.specs.TakenText.{body_text, bytes_of, truncated_of, total_text, frames_text, joined_text}
-use Rattle.cap_tally.specs.TalkLines.{talk_texts, talks_text}
-use Rattle.cap_tally.specs.Taken.{Taken}
-use Rattle.cap_tally.specs.Talks.{Talk, rows_of}
+use Rattle.cap_talks.specs.table.Classes.{classes, counts_of}
+use Rattle.cap_talks.specs.table.CountedUnits.{units_of, joined_in, given_up_in}
+use Rattle.cap_talks.specs.talks.ReportText.{taken_after}
+use Rattle.cap_talks.specs.table.TakenText.{body_text, bytes_of, truncated_of, total_text, frames_text, joined_text}
+use Rattle.cap_talks.specs.table.TalkLines.{talk_texts, talks_text}
+use Rattle.cap_talks.specs.table.Taken.{Taken}
+use Rattle.cap_talks.specs.table.Talks.{Talk, rows_of}
 use Rattle.cap_write.specs.Pcap.{pcap_bytes, pcap_refusal}
 use Rattle.cap_laws.specs.Reports.{refused_at}
 

@@ -5,11 +5,11 @@ use Rattle.cap_join.specs.Places.{marks}
 use Rattle.cap_merge.specs.Parts.{item_time, is_refusal}
 use Rattle.cap_merge.specs.Run.{opened, run}
 use Rattle.cap_source.specs.Feed.{Item}
-use Rattle.cap_tally.specs.declared.classes.Class.{Class}
-use Rattle.cap_tally.specs.Classes.{classes, classes_in}
+use Rattle.cap_talks.specs.declared.table.classes.Class.{Class}
+use Rattle.cap_talks.specs.table.Classes.{classes, classes_in}
 use Rattle.cap_join.specs.Completed.{completed_at}
-use Rattle.cap_talks.specs.ReportText.{taken_after}
-use Rattle.cap_tally.specs.Taken.{Taken, events_of}
+use Rattle.cap_talks.specs.talks.ReportText.{taken_after}
+use Rattle.cap_talks.specs.table.Taken.{Taken, events_of}
 
 -- the classes of some packets, if the groups are those by places
 abbrev pub classes_at : List Taken → List Class

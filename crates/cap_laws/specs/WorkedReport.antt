@@ -6,10 +6,10 @@ use Rattle.cap_source.specs.declared.packets.Format.TheVariants.{Pcap}
 use Rattle.cap_source.specs.declared.packets.Meta.{Meta}
 use Rattle.cap_time.specs.Stamp.{stamp_in}
 use Rattle.cap_time.specs.declared.resolutions.Interface.{Interface}
-use Rattle.cap_tally.specs.Classes.{classes}
-use Rattle.cap_tally.specs.TakenText.{text_of}
-use Rattle.cap_tally.specs.Taken.{Taken}
-use Rattle.cap_tally.specs.declared.classes.Class.TheVariants.{Bad, Unjoined, Counted}
+use Rattle.cap_talks.specs.table.Classes.{classes}
+use Rattle.cap_talks.specs.table.TakenText.{text_of}
+use Rattle.cap_talks.specs.table.Taken.{Taken}
+use Rattle.cap_talks.specs.declared.table.classes.Class.TheVariants.{Bad, Unjoined, Counted}
 
 -- an interface of a link type (LINKTYPE registry): 1 is Ethernet, 101 IP alone
 abbrev pub interface_of : ℕ → Interface

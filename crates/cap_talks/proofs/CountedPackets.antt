@@ -1,15 +1,15 @@
 -- The packets of a feed, counted one by one.
 use Rattle.std.proofs.Common.{◌≡◌, ◌≤◌, ◌<◌, ◌+◌, ◌*◌, ◌^◌, ℕ, cond, nat_lt, List, [], ◌∷◌, ◌++◌, drop, sym, ap, ◌∙◌, arith, Some, None, IsTrue, Ok, Err, append-nil, append_assoc, true, false}
 use Rattle.cap_bytes.specs.declared.faults.Fault.{Fault}
-use Rattle.cap_counts.proofs.Counting.{counted-more}
-use Rattle.cap_counts.specs.Counting.{packets_of, counted, with_packet}
-use Rattle.cap_counts.specs.declared.counts.Counts.{Counts}
+use Rattle.cap_talks.proofs.Counting.{counted-more}
+use Rattle.cap_talks.specs.counts.Counting.{packets_of, counted, with_packet}
+use Rattle.cap_talks.specs.declared.counts.counts.Counts.{Counts}
 use Rattle.cap_source.proofs.Onward.{Went, Went-none, Went-more}
 use Rattle.cap_source.specs.Feed.{Feed, Item, packet, Keeps, Passes, SameItems, FindsPacket, FindsItem, IsFeed, refusal_of}
 use Rattle.cap_source.specs.Walk.{GivesPacket, ShowsItem}
 use Rattle.cap_source.specs.declared.feeds.Head.TheVariants as heads
 use Rattle.cap_source.specs.declared.packets.Meta.{Meta}
-use Rattle.cap_talks.specs.Reading.{CountsAll}
+use Rattle.cap_talks.specs.talks.Reading.{CountsAll}
 
 -- The packets that were given by a feed, which was `old`, are counted.
 pub record IsCounted (old new : Feed) (counts : Counts) : Type 0 where

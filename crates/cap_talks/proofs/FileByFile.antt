@@ -8,9 +8,9 @@ use Rattle.cap_bytes.specs.declared.faults.Tail.{Tail}
 use Rattle.cap_source.specs.ReadFaults.{FailsAs, FailsOf}
 use Rattle.cap_source.specs.Items.{file_items}
 use Rattle.cap_source.specs.Feed.{refusal_of}
-use Rattle.cap_talks.specs.InfoText.{first_refusal}
-use Rattle.cap_talks.specs.Reading.{counted_files, CountsFile, CountsFiles}
-use Rattle.cap_counts.specs.declared.files.Counted.{Counted}
+use Rattle.cap_talks.specs.talks.InfoText.{first_refusal}
+use Rattle.cap_talks.specs.talks.Reading.{counted_files, CountsFile, CountsFiles}
+use Rattle.cap_talks.specs.declared.counts.files.Counted.{Counted}
 
 bytes-at : {R : Type 0} (coming : R → List ℕ) (all : List R) (place : ℕ) (x : R) → x ≡ get_or all place x → place < length all
     → drop place (map coming all) ≡ coming x ∷ drop (suc place) (map coming all)

@@ -16,12 +16,12 @@ use Rattle.cap_merge.specs.Parts.{Part, feed_of, run_of}
 use Rattle.cap_merge.specs.Readers.{Reader, IsUnreadRun}
 use Rattle.cap_source.specs.Feed.{Feed}
 use Rattle.cap_source.specs.Walk.{Walks}
-use Rattle.cap_talks.specs.Reporting.{TookAll, TakesAll, TellsReport}
-use Rattle.cap_talks.specs.ReportText.{taken_after, report_text, report_refusal}
-use Rattle.cap_tally.specs.TakenText.{text_of}
-use Rattle.cap_tally.specs.Stepping.{TableState, TableStands, endings_so_far}
-use Rattle.cap_tally.specs.Taken.{Taken}
-use Rattle.cap_talks.specs.Telling.{Tells}
+use Rattle.cap_talks.specs.talks.Reporting.{TookAll, TakesAll, TellsReport}
+use Rattle.cap_talks.specs.talks.ReportText.{taken_after, report_text, report_refusal}
+use Rattle.cap_talks.specs.table.TakenText.{text_of}
+use Rattle.cap_talks.specs.table.Stepping.{TableState, TableStands, endings_so_far}
+use Rattle.cap_talks.specs.table.Taken.{Taken}
+use Rattle.cap_talks.specs.talks.Telling.{Tells}
 use Rattle.cap_talks.proofs.Telling.{tells-printed}
 
 length-range : (first count : ℕ) → length (range_with_len first count) ≡ count

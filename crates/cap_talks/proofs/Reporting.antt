@@ -9,14 +9,14 @@ use Rattle.cap_merge.specs.Parts.{feed_of, run_of}
 use Rattle.cap_merge.specs.Run.{Clocked}
 use Rattle.cap_source.specs.Feed.{Item, refused}
 use Rattle.cap_time.specs.declared.stamps.Stamp.{Stamp}
-use Rattle.cap_tally.specs.CountedUnits.{refusal_at}
-use Rattle.cap_talks.specs.ReportText.{taken_after, refusal_after}
-use Rattle.cap_talks.specs.Reporting.{TookAll, TakesAll}
-use Rattle.cap_tally.specs.Stepping.{clocked, TableState, TableStands, StepKeeps, Takes, Steps, IsMore}
-use Rattle.cap_tally.specs.Taken.{Taken}
-use Rattle.cap_tally.specs.CountedUnits.{is_limit_at}
-use Rattle.cap_tally.specs.declared.tables.Step.{Step}
-use Rattle.cap_tally.specs.declared.tables.Step.TheVariants as steps
+use Rattle.cap_talks.specs.table.CountedUnits.{refusal_at}
+use Rattle.cap_talks.specs.talks.ReportText.{taken_after, refusal_after}
+use Rattle.cap_talks.specs.talks.Reporting.{TookAll, TakesAll}
+use Rattle.cap_talks.specs.table.Stepping.{clocked, TableState, TableStands, StepKeeps, Takes, Steps, IsMore}
+use Rattle.cap_talks.specs.table.Taken.{Taken}
+use Rattle.cap_talks.specs.table.CountedUnits.{is_limit_at}
+use Rattle.cap_talks.specs.declared.table.tables.Step.{Step}
+use Rattle.cap_talks.specs.declared.table.tables.Step.TheVariants as steps
 
 -- Some packets were taken, and others are to come.
 pub record Reporting (old new : TableState) : Type 0 where

@@ -5,11 +5,11 @@ use Rattle.cap_bytes.specs.declared.faults.Fault.{Fault}
 use Rattle.cap_bytes.specs.declared.faults.Fault.TheVariants.{Write}
 use Rattle.cap_bytes.specs.declared.faults.Refusal.{Refusal}
 use Rattle.cap_bytes.specs.declared.faults.Tail.{Tail}
-use Rattle.cap_counts.specs.FileLines.{files_text, counted_texts}
-use Rattle.cap_counts.specs.declared.files.Counted.{Counted}
-use Rattle.cap_talks.specs.InfoText.{file_texts, info_text}
-use Rattle.cap_talks.specs.Reading.{counted_files}
-use Rattle.cap_talks.specs.Telling.{Tells}
+use Rattle.cap_talks.specs.counts.FileLines.{files_text, counted_texts}
+use Rattle.cap_talks.specs.declared.counts.files.Counted.{Counted}
+use Rattle.cap_talks.specs.talks.InfoText.{file_texts, info_text}
+use Rattle.cap_talks.specs.talks.Reading.{counted_files}
+use Rattle.cap_talks.specs.talks.Telling.{Tells}
 
 -- the lines of what was counted of files are those of the files
 pub texts-counted : (tail : Tail) (file : ℕ) (files : List (List ℕ)) → counted_texts file (counted_files tail file files) ≡ file_texts tail file files

@@ -1,5 +1,3 @@
-pub mod InfoText
-pub mod Reading
-pub mod Telling
-pub mod ReportText
-pub mod Reporting
+pub mod counts
+pub mod table
+pub mod talks

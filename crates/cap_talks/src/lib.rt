@@ -1,8 +1,11 @@
 //! What is told of capture files: the lines of the files, and the conversations of their datagrams.
 #![tactic(auto)]
 
-mod files;
-mod reports;
+mod counts;
+mod table;
+mod talks;
 
-pub use crate::files::file_lines;
-pub use crate::reports::report;
+pub use crate::table::{
+    Class, CountedUnit, End, Held, Step, Table, TalkKey, TalkRow, TimedFrame, talk_laws,
+};
+pub use crate::talks::{file_lines, report};

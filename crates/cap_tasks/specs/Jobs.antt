@@ -10,9 +10,9 @@ use Rattle.cap_jobs.specs.declared.jobs.Task.{Task}
 use Rattle.cap_jobs.specs.declared.jobs.Task.TheVariants as tasks
 use Rattle.cap_merge.specs.Files.{clocked_run, endings_of_files}
 use Rattle.cap_source.specs.declared.packets.Format.{Format}
-use Rattle.cap_talks.specs.InfoText.{first_refusal, info_text}
-use Rattle.cap_talks.specs.ReportText.{report_refusal, report_text}
-use Rattle.cap_talks.specs.Telling.{Tells}
+use Rattle.cap_talks.specs.talks.InfoText.{first_refusal, info_text}
+use Rattle.cap_talks.specs.talks.ReportText.{report_refusal, report_text}
+use Rattle.cap_talks.specs.talks.Telling.{Tells}
 use Rattle.cap_lists.specs.BlockText.{block_list, block_refusal}
 use Rattle.cap_write.specs.Converted.{convert_refusal, convert_text}
 use Rattle.cap_write.specs.JoinText.{join_refusal, join_text}

@@ -11,7 +11,7 @@ use crate::report::{
 use cap_bytes::{Fault, Pieces, Room, Tail};
 use cap_merge::merge_files;
 use cap_source::{Capture, PacketFeed};
-use cap_tally::{Held, Step, Table};
+use cap_talks::{Held, Step, Table};
 use std::alloc::{AllocError, Global};
 use std::process::Abort;
 

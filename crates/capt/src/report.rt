@@ -1,4 +1,3 @@
 //! What files hold, and the conversations in them.
 
-pub use cap_talks::{file_lines, report};
-pub use cap_tally::{Held, Step, Table};
+pub use cap_talks::{Held, Step, Table, file_lines, report};

@@ -1,5 +1,5 @@
 use Rattle.cap_laws.proofs.InOrder.{by-places}
-use Rattle.cap_tally.proofs.Steps.{one-class}
+use Rattle.cap_talks.proofs.Steps.{one-class}
 use Rattle.cap_laws.proofs.laws.one_class.Goals as goal
 
 pub returns-clause-classes : goal.returns-clause-classes

@@ -1,3 +1,0 @@
-pub mod Times
-pub mod Counting
-pub mod FilePrinting

@@ -1,6 +1,0 @@
-use Rattle.std.proofs.Common.{arith}
-use Rattle.cap_counts.proofs.Counting.{counted-more}
-use Rattle.cap_counts.proofs.counts.Counts.take.Goals as goal
-
-pub returns-clause-counts : goal.returns-clause-counts
-returns-clause-counts c = grind (arith, counted-more)

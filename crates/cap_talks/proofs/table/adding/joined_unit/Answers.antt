@@ -1,0 +1,7 @@
+use Rattle.std.proofs.Common.{rules}
+use Rattle.cap_talks.specs.table.Adding.{datagram_unit}
+use Rattle.cap_talks.proofs.table.adding.joined_unit.Goals as goal
+
+pub returns : goal.returns
+unfolding datagram_unit
+returns c = search rules

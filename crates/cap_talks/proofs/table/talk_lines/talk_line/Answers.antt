@@ -1,0 +1,28 @@
+use Rattle.std.specs.Prelude.{option_map}
+use Rattle.cap_print.specs.Lines.{time_text}
+use Rattle.cap_time.specs.Stamp.{printed_of}
+use Rattle.cap_talks.specs.table.TalkLines.{protocol_text, end_text, traffic_text}
+use Rattle.cap_talks.proofs.TalkPrinting.{line_parts}
+use Rattle.cap_talks.proofs.table.talk_lines.talk_line.Goals as goal
+
+pub returns : goal.returns
+returns c =
+    let key = c.args.key.now in
+    let row = c.args.row.now in
+    rw (
+      c.put_text-4.ensures.text,
+      c.put_protocol.ensures.text,
+      c.put_text-3.ensures.text,
+      c.put_end-2.ensures.text,
+      c.put_text-2.ensures.text,
+      c.put_end.ensures.text,
+      c.put_traffic-2.ensures.text,
+      c.put_traffic.ensures.text,
+      c.put_time-2.ensures.text,
+      c.put_time.ensures.text,
+      c.put_text.ensures.text,
+      c.new-line.ensures.text,
+      line_parts (protocol_text key.protocol) (end_text key.lesser) (end_text key.greater)
+          (traffic_text row.forward_frames row.forward_bytes) (traffic_text row.backward_frames row.backward_bytes)
+          (time_text (option_map printed_of row.first)) (time_text (option_map printed_of row.last)),
+    )

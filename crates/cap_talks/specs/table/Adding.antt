@@ -1,0 +1,25 @@
+-- The unit of a joined datagram, and whether a unit's conversation is one too many.
+use Rattle.std.specs.Prelude.{List, Bool, false, length, Option}
+use Rattle.std.specs.Option.{option_map, option_map_or}
+use Rattle.cap_ip.specs.Transport.{transport_of}
+use Rattle.cap_join.specs.declared.datagrams.Datagram.{Datagram}
+use Rattle.cap_talks.specs.table.Rows.{is_refused, talk_limit}
+use Rattle.cap_talks.specs.table.Talks.{Talk, key_of}
+use Rattle.cap_talks.specs.table.Units.{ends_of}
+use Rattle.cap_talks.specs.declared.table.units.CountedUnit.{CountedUnit}
+use Rattle.cap_talks.specs.table.Classes.{class_of}
+use Rattle.cap_talks.specs.table.CountedUnits.{timed_frame, unit_of}
+use Rattle.cap_talks.specs.declared.table.classes.Class.{Class}
+
+-- the unit that a joined datagram is, and its class
+unfoldable pub datagram_unit : Datagram → Option CountedUnit
+datagram_unit d =
+    option_map (unit_of d.header.key.protocol d.frames d.bytes (timed_frame d.first) (timed_frame d.last))
+    (ends_of d.header.key.source d.header.key.destination (transport_of d.header.key.protocol d.payload.items (length d.payload.items)))
+
+unfoldable pub datagram_class : Datagram → Class
+datagram_class d = class_of (transport_of d.header.key.protocol d.payload.items (length d.payload.items))
+
+-- its conversation is one too many
+abbrev pub is_over : List Talk → Option CountedUnit → Bool
+is_over rows unit = option_map_or (λ u. is_refused talk_limit rows (key_of u)) unit false

@@ -1,0 +1,93 @@
+-- The class of each packet of a run, and how many packets of each class there are. Lists have the latest first.
+use Rattle.std.specs.Prelude.{◌≡◌, ℕ, List, [], ◌∷◌, Bool, ◌+◌, ◌==◌, length, if◌then◌else◌}
+use Rattle.std.specs.List.{find, list_any}
+use Rattle.std.specs.Option.{option_map_or}
+use Rattle.cap_ip.specs.Transport.{transport_of}
+use Rattle.cap_ip.specs.declared.transports.Transport.{Transport}
+use Rattle.cap_ip.specs.declared.transports.Transport.TheVariants as transport
+use Rattle.cap_join.specs.ByteMap.{header_of, data_of}
+use Rattle.cap_join.specs.Fragments.{Piece}
+use Rattle.cap_join.specs.Joiners.{open_limit}
+use Rattle.cap_join.specs.Completed.{completed_of}
+use Rattle.cap_talks.specs.table.Taken.{Taken, Look, plain, datagram, fragment, look, events_of}
+use Rattle.cap_talks.specs.declared.table.classes.Class.{Class}
+use Rattle.cap_talks.specs.declared.table.classes.Class.TheVariants as class
+use Rattle.cap_talks.specs.declared.table.classes.ClassCounts.{ClassCounts}
+
+-- a datagram's class, by what its data says of its ports
+abbrev pub class_of : Transport → Class
+class_of (transport.Ports source destination) = class.Counted
+class_of transport.NoPorts = class.Counted
+class_of transport.Bad = class.Bad
+class_of transport.Cut = class.Cut
+
+-- what the data of a joined datagram says of its ports: its header is that of the latest fragment that begins at 0
+abbrev pub joined_transport : List Piece → Transport
+joined_transport pieces =
+    option_map_or (λ h. transport_of h.key.protocol (data_of pieces) (length (data_of pieces))) (header_of pieces) transport.Bad
+
+unfoldable pub group_class : List Piece → Class
+group_class pieces = class_of (joined_transport pieces)
+
+-- a fragment of that place is among some
+abbrev pub has_place : ℕ → List Piece → Bool
+has_place place pieces = list_any (λ p. p.stamped.place == place) pieces
+
+-- A fragment is unjoined, unless it is in a group that was completed: then it has the class of the joined datagram.
+abbrev pub class_in : List (List Piece) → ℕ → Class
+class_in groups place = option_map_or group_class (find (has_place place) groups) class.Unjoined
+
+abbrev pub class_by : List (List Piece) → Look → Class
+class_by groups (plain c) = c
+class_by groups (datagram header captured) = class_of (transport_of header.key.protocol captured header.data_length)
+class_by groups (fragment p) = class_in groups p.stamped.place
+
+abbrev pub classes_in : List (List Piece) → List Taken → List Class
+classes_in groups [] = []
+classes_in groups (x ∷ xs) = class_by groups (look (length xs) x) ∷ classes_in groups xs
+
+-- the groups that were completed among some packets
+abbrev pub groups_of : List Taken → List (List Piece)
+groups_of xs = completed_of open_limit (events_of xs)
+
+-- the classes of some packets, one of each
+unfoldable pub classes : List Taken → List Class
+classes xs = classes_in (groups_of xs) xs
+
+-- the classes as they are printed
+abbrev pub rank : Class → ℕ
+rank class.OtherLink = 0
+rank class.NotIpv4 = 1
+rank class.Short = 2
+rank class.Cut = 3
+rank class.Bad = 4
+rank class.Unjoined = 5
+rank class.Counted = 6
+
+abbrev pub is_class : Class → Class → Bool
+is_class a b = rank a == rank b
+
+abbrev pub times : Class → List Class → ℕ
+times c [] = 0
+times c (k ∷ ks) = (if is_class c k then 1 else 0) + times c ks
+
+-- how many packets of each class there are
+abbrev pub counts_of : List Class → ClassCounts
+counts_of cs =
+    record {
+      other_link = times class.OtherLink cs;
+      not_ipv4 = times class.NotIpv4 cs;
+      short = times class.Short cs;
+      cut = times class.Cut cs;
+      bad = times class.Bad cs;
+      unjoined = times class.Unjoined cs;
+      counted = times class.Counted cs;
+    }
+
+abbrev pub sum_of : ClassCounts → ℕ
+sum_of n = n.other_link + n.not_ipv4 + n.short + n.cut + n.bad + n.unjoined + n.counted
+
+-- Each packet has one class, and the seven counts add up to the number of packets.
+pub record OneClass (xs : List Taken) : Type 0 where
+  pub each : length (classes xs) ≡ length xs
+  pub sum : sum_of (counts_of (classes xs)) ≡ length xs

@@ -1,0 +1,90 @@
+-- The counted units of a run: whole datagrams, and groups of fragments that were completed, each at the place of the packet that
+-- completes it. Lists of packets have the latest first, units stand in their order.
+use Rattle.std.specs.Prelude.{ℕ, List, [], ◌∷◌, ◌++◌, Bool, false, ◌+◌, length, if◌then◌else◌, Option, Some, None, option_and_then}
+use Rattle.std.specs.Option.{option_map, option_map_or}
+use Rattle.cap_bytes.specs.declared.faults.Refusal.{Refusal}
+use Rattle.cap_bytes.specs.declared.faults.Rule.TheVariants.{TalkLimit}
+use Rattle.cap_source.specs.declared.packets.Meta.{Meta}
+use Rattle.cap_ip.specs.Header.{HeaderFields}
+use Rattle.cap_ip.specs.Transport.{transport_of}
+use Rattle.cap_join.specs.ByteMap.{header_of, data_of}
+use Rattle.cap_join.specs.Fragments.{Piece}
+use Rattle.cap_join.specs.Frames.{original_bytes, first_frame, last_frame}
+use Rattle.cap_join.specs.History.{Event, joined_pieces, state_of}
+use Rattle.cap_join.specs.Joiners.{open_limit}
+use Rattle.cap_join.specs.declared.datagrams.Stamped.{Stamped}
+use Rattle.cap_talks.specs.table.Rows.{is_refused, talk_limit}
+use Rattle.cap_talks.specs.table.Talks.{key_of, rows_of}
+use Rattle.cap_talks.specs.table.Units.{ends_of}
+use Rattle.cap_talks.specs.declared.table.units.CountedUnit.{CountedUnit}
+use Rattle.cap_talks.specs.declared.table.units.End.{End}
+use Rattle.cap_talks.specs.declared.table.units.TimedFrame.{TimedFrame}
+use Rattle.cap_time.specs.declared.stamps.Stamp.{Stamp}
+use Rattle.cap_talks.specs.table.Classes.{group_class, groups_of, is_class}
+use Rattle.cap_join.specs.Completed.{if_complete}
+use Rattle.cap_talks.specs.table.Taken.{Taken, Look, plain, datagram, fragment, look, events_of, stamped_of}
+use Rattle.cap_talks.specs.declared.table.classes.Class.TheVariants as class
+
+-- a frame, if it has a time
+abbrev pub timed_frame : Option Stamped → Option TimedFrame
+timed_frame None = None
+timed_frame (Some frame) = option_map (λ time. record { time = time; place = frame.place }) frame.time
+
+-- a unit between two ends, with the number of its frames, their bytes, and the first and the last of those that have a time
+abbrev pub unit_of : ℕ → ℕ → ℕ → Option TimedFrame → Option TimedFrame → End × End → CountedUnit
+unit_of protocol frames bytes first last ends =
+    record { protocol = protocol; source = ends.0; destination = ends.1; frames = frames; bytes = bytes; first = first; last = last }
+
+-- a whole datagram, which came in one frame
+abbrev pub whole_unit : HeaderFields → List ℕ → Stamped → Option CountedUnit
+whole_unit header captured stamped =
+    option_map (unit_of header.key.protocol 1 stamped.original (timed_frame (Some stamped)) (timed_frame (Some stamped)))
+    (ends_of header.key.source header.key.destination (transport_of header.key.protocol captured header.data_length))
+
+-- a joined datagram
+unfoldable pub group_unit : List Piece → Option CountedUnit
+group_unit pieces =
+    option_and_then (λ h. option_map (unit_of h.key.protocol (length pieces) (original_bytes pieces) (timed_frame (first_frame pieces)) (timed_frame (last_frame pieces)))
+    (ends_of h.key.source h.key.destination (transport_of h.key.protocol (data_of pieces) (length (data_of pieces)))))
+    (header_of pieces)
+
+abbrev pub first_unit : List (List Piece) → Option CountedUnit
+first_unit [] = None
+first_unit (pieces ∷ groups) = group_unit pieces
+
+-- the unit that a packet completes, which has that clock and comes after some events
+abbrev pub unit_by : Look → Stamped → Option Stamp → List Event → Option CountedUnit
+unit_by (plain c) stamped clock events = None
+unit_by (datagram header captured) stamped clock events = whole_unit header captured stamped
+unit_by (fragment p) stamped clock events = first_unit (if_complete (joined_pieces clock p (state_of open_limit events)))
+
+unfoldable pub unit_at : List Taken → Taken → Option CountedUnit
+unit_at xs x = unit_by (look (length xs) x) (stamped_of (length xs) x.meta) x.clock (events_of xs)
+
+abbrev pub listed : {A : Type 0} → Option A → List A
+listed None = []
+listed (Some it) = it ∷ []
+
+unfoldable pub units_of : List Taken → List CountedUnit
+units_of [] = []
+units_of (x ∷ xs) = units_of xs ++ listed (unit_at xs x)
+
+-- how many datagrams were joined that count
+abbrev pub counted_in : List (List Piece) → ℕ
+counted_in [] = 0
+counted_in (pieces ∷ groups) = (if is_class class.Counted (group_class pieces) then 1 else 0) + counted_in groups
+
+abbrev pub joined_in : List Taken → ℕ
+joined_in xs = counted_in (groups_of xs)
+
+-- how many groups were given up
+abbrev pub given_up_in : List Taken → ℕ
+given_up_in xs = (state_of open_limit (events_of xs)).given_up
+
+-- after some packets, the next one completes a unit of a new conversation, and 1,048,576 conversations stand
+abbrev pub is_limit_at : List Taken → Taken → Bool
+is_limit_at xs x = option_map_or (λ unit. is_refused talk_limit (rows_of (units_of xs)) (key_of unit)) (unit_at xs x) false
+
+-- the refusal of such a packet: rule 16, talk-limit
+abbrev pub refusal_at : Meta → Refusal
+refusal_at meta = record { file = meta.file; offset = meta.offset; rule = TalkLimit }

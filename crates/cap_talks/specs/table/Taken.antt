@@ -1,0 +1,62 @@
+-- The packets of a run that were taken, and what each is by itself (RFC 791, 3.1 and 3.2). Lists have the latest first, so the place of a
+-- packet in the run is the number of packets that follow it in the list.
+use Rattle.std.specs.Prelude.{ℕ, List, [], ◌∷◌, Bool, length, Option, None, Some}
+use Rattle.cap_ip.specs.Header.{HeaderFields}
+use Rattle.cap_ip.specs.Read.{Reading, found, bad, cut, read_of}
+use Rattle.cap_ip.specs.declared.headers.Fragment.{Fragment}
+use Rattle.cap_join.specs.Fragments.{Piece, piece_of}
+use Rattle.cap_join.specs.History.{Event, arrives, flushes}
+use Rattle.cap_join.specs.declared.datagrams.Stamped.{Stamped}
+use Rattle.cap_link.specs.Links.{network_of, is_whole}
+use Rattle.cap_link.specs.Seen.{Carried, ipv4, other_link, not_ipv4, short, cut as ends}
+use Rattle.cap_source.specs.Times.{meta_time}
+use Rattle.cap_source.specs.declared.packets.Meta.{Meta}
+use Rattle.cap_time.specs.declared.stamps.Stamp.{Stamp}
+use Rattle.cap_talks.specs.declared.table.classes.Class.{Class}
+use Rattle.cap_talks.specs.declared.table.classes.Class.TheVariants as class
+
+-- A packet that was taken: its clock, what is told of it, and its captured bytes.
+pub record Taken : Type 0 where
+  pub clock : Option Stamp
+  pub meta : Meta
+  pub frame : List ℕ
+
+-- What a packet is by itself: one of a class, a whole datagram with the captured part of its data, or a fragment.
+pub data Look : Type 0 where
+  plain : Class → Look
+  datagram : HeaderFields → List ℕ → Look
+  fragment : Piece → Look
+
+abbrev pub look_by : Option Fragment → HeaderFields → List ℕ → Stamped → Look
+look_by None header captured stamped = datagram header captured
+look_by (Some it) header captured stamped = fragment (piece_of header captured stamped)
+
+abbrev pub look_in : Reading → Stamped → Look
+look_in (found header captured) stamped = look_by header.fragment header captured stamped
+look_in bad stamped = plain class.Bad
+look_in cut stamped = plain class.Cut
+
+abbrev pub look_at : Carried → Bool → Stamped → Look
+look_at (ipv4 bytes) whole stamped = look_in (read_of bytes whole) stamped
+look_at other_link whole stamped = plain class.OtherLink
+look_at not_ipv4 whole stamped = plain class.NotIpv4
+look_at short whole stamped = plain class.Short
+look_at ends whole stamped = plain class.Cut
+
+-- what is told of a packet's frame, that has a place in the run
+abbrev pub stamped_of : ℕ → Meta → Stamped
+stamped_of place meta = record { time = meta_time meta; place = place; original = meta.original }
+
+unfoldable pub look : ℕ → Taken → Look
+look place x =
+    look_at (network_of x.meta.interface.link x.frame x.meta.original) (is_whole x.frame x.meta.original) (stamped_of place x.meta)
+
+-- what a packet of that clock does to the groups of fragments: one comes, or a whole datagram of a key
+abbrev pub events_with : Look → Option Stamp → List Event → List Event
+events_with (plain c) clock events = events
+events_with (datagram header captured) clock events = flushes header.key ∷ events
+events_with (fragment p) clock events = arrives clock p ∷ events
+
+unfoldable pub events_of : List Taken → List Event
+events_of [] = []
+events_of (x ∷ xs) = events_with (look (length xs) x) x.clock (events_of xs)

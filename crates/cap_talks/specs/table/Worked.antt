@@ -1,0 +1,67 @@
+-- The definitions on a few units, by computation.
+use Rattle.std.specs.Prelude.{◌≡◌, ℕ, List, [], ◌∷◌, true, false, None, Some, Option, codes, pos}
+use Rattle.std.proofs.Common.{lit<}
+use Rattle.cap_talks.specs.declared.table.units.TimedFrame.{TimedFrame}
+use Rattle.cap_time.specs.declared.stamps.Stamp.{Stamp}
+use Rattle.cap_talks.specs.table.Rows.{is_refused}
+use Rattle.cap_talks.specs.table.TalkLines.{talk_texts}
+use Rattle.cap_talks.specs.table.Talks.{key_of, rows_of}
+use Rattle.cap_talks.specs.table.Units.{end_at}
+use Rattle.cap_talks.specs.declared.table.units.CountedUnit.{CountedUnit}
+use Rattle.cap_talks.specs.declared.table.units.End.{End}
+
+-- a time of that many seconds in millionths, and half a second in 1,024ths and in tenths
+abbrev pub at_second : ℕ → Stamp
+at_second n = record { units = 0; denominator = 1000000; low = n; high = pos 0; positive = lit< tt }
+
+abbrev pub half_binary : Stamp
+half_binary = record { units = 512; denominator = 1024; low = 0; high = pos 0; positive = lit< tt }
+
+abbrev pub half_tenths : Stamp
+half_tenths = record { units = 5; denominator = 10; low = 0; high = pos 0; positive = lit< tt }
+
+abbrev pub frame_at : ℕ → Stamp → Option TimedFrame
+frame_at place time = Some (record { time = time; place = place })
+
+-- 10.0.0.1 and 10.0.0.2, with a port
+abbrev pub one : ℕ → End
+one port = end_at 167772161 (Some port)
+
+abbrev pub two : ℕ → End
+two port = end_at 167772162 (Some port)
+
+-- a UDP datagram of that many frames and bytes
+abbrev pub unit_of : End → End → ℕ → ℕ → Option TimedFrame → Option TimedFrame → CountedUnit
+unit_of source destination frames bytes first last =
+    record { protocol = 17; source = source; destination = destination; frames = frames; bytes = bytes; first = first; last = last }
+
+-- a datagram and its answer, at 1 and 2 seconds
+abbrev pub answered : List CountedUnit
+answered =
+    unit_of (one 1000) (two 2000) 1 60 (frame_at 0 (at_second 1)) (frame_at 0 (at_second 1))
+    ∷ unit_of (two 2000) (one 1000) 1 60 (frame_at 1 (at_second 2)) (frame_at 1 (at_second 2)) ∷ []
+
+-- a datagram that was joined from four frames at 1 to 4 seconds
+abbrev pub joined : List CountedUnit
+joined = unit_of (one 1001) (two 2001) 4 112 (frame_at 0 (at_second 1)) (frame_at 3 (at_second 4)) ∷ []
+
+-- a datagram in tenths of a second, and one that was joined after it, but began before it
+abbrev pub begun_before : List CountedUnit
+begun_before =
+    unit_of (one 1) (two 2) 1 60 (frame_at 1 half_tenths) (frame_at 1 half_tenths)
+    ∷ unit_of (one 1) (two 2) 2 120 (frame_at 0 half_binary) (frame_at 0 half_binary) ∷ []
+
+-- The lines of those units.
+pub record TalkLines : Type 0 where
+  pub answered_line : talk_texts (rows_of answered)
+      ≡ codes "talk udp 10.0.0.1:1000 10.0.0.2:2000 forward 1 60 backward 1 60 first 1+0/1000000 last 2+0/1000000\n"
+  pub joined_line : talk_texts (rows_of joined)
+      ≡ codes "talk udp 10.0.0.1:1001 10.0.0.2:2001 forward 4 112 backward 0 0 first 1+0/1000000 last 4+0/1000000\n"
+  pub begun_line : talk_texts (rows_of begun_before)
+      ≡ codes "talk udp 10.0.0.1:1 10.0.0.2:2 forward 3 180 backward 0 0 first 0+512/1024 last 0+512/1024\n"
+
+-- If one conversation may stand a second is refused, and what belongs to the first one isn't.
+pub record TalkLimit : Type 0 where
+  pub second : is_refused 1 (rows_of answered) (key_of (unit_of (one 1) (two 2) 1 60 None None)) ≡ true
+  pub first : is_refused 1 (rows_of answered) (key_of (unit_of (two 2000) (one 1000) 1 60 None None)) ≡ false
+  pub below : is_refused 2 (rows_of answered) (key_of (unit_of (one 1) (two 2) 1 60 None None)) ≡ false

@@ -1,0 +1,5 @@
+pub mod InfoText
+pub mod Reading
+pub mod Telling
+pub mod ReportText
+pub mod Reporting

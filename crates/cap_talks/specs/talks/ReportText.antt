@@ -1,0 +1,38 @@
+-- The report of a run of packets.
+use Rattle.std.specs.Prelude.{ℕ, List, [], ◌∷◌, Option, Some, None, if◌then◌else◌}
+use Rattle.cap_bytes.specs.declared.faults.Refusal.{Refusal}
+use Rattle.cap_merge.specs.Run.{Clocked}
+use Rattle.cap_source.specs.Feed.{Item, packet, refused}
+use Rattle.cap_source.specs.declared.feeds.Ending.{Ending}
+use Rattle.cap_time.specs.declared.stamps.Stamp.{Stamp}
+use Rattle.cap_talks.specs.table.Taken.{Taken}
+use Rattle.cap_talks.specs.table.CountedUnits.{is_limit_at, refusal_at}
+use Rattle.cap_talks.specs.table.TakenText.{text_of}
+use Rattle.cap_talks.specs.talks.InfoText.{or_else}
+
+-- the packets of a run after those that were taken
+abbrev pub with_item : Option Stamp → Item → List Taken → List Taken
+with_item clock (packet meta frame) xs = record { clock = clock; meta = meta; frame = frame } ∷ xs
+with_item clock (refused refusal) xs = xs
+
+unfoldable pub taken_after : List Taken → List (Clocked Item) → List Taken
+taken_after xs [] = xs
+taken_after xs (x ∷ run) = taken_after (with_item x.clock x.item xs) run
+
+-- the refusal of a packet that would open a conversation too many, and the one that ends a run
+abbrev pub refusal_here : List Taken → Option Stamp → Item → Option Refusal
+refusal_here xs clock (packet meta frame) =
+    if is_limit_at xs (record { clock = clock; meta = meta; frame = frame }) then Some (refusal_at meta) else None
+refusal_here xs clock (refused refusal) = Some refusal
+
+-- the first refusal of a run after those that were taken
+unfoldable pub refusal_after : List Taken → List (Clocked Item) → Option Refusal
+refusal_after xs [] = None
+refusal_after xs (x ∷ run) = or_else (refusal_here xs x.clock x.item) (refusal_after (with_item x.clock x.item xs) run)
+
+-- The report of a run of `count` files with those endings, and the refusal that is answered instead, if there is one.
+abbrev pub report_text : ℕ → (ℕ → Ending) → List (Clocked Item) → List ℕ
+report_text count endings run = text_of count (Some endings) (taken_after [] run)
+
+abbrev pub report_refusal : List (Clocked Item) → Option Refusal
+report_refusal run = refusal_after [] run

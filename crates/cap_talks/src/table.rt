@@ -1,0 +1,23 @@
+//! The table of a report: what is counted of the packets of a run, one by one, and step by step of a merge of files; the row of
+//! each conversation; and the lines of files that were counted.
+
+mod adding;
+mod classes;
+mod keys;
+mod laws;
+mod looks;
+mod report_lines;
+mod rows;
+mod run_packets;
+mod tables;
+mod talk_lines;
+mod talks;
+mod tallies;
+mod totals;
+mod units;
+
+pub use crate::table::classes::Class;
+pub use crate::table::laws::talk_laws;
+pub use crate::table::rows::{TalkKey, TalkRow};
+pub use crate::table::tables::{Held, Step, Table};
+pub use crate::table::units::{CountedUnit, End, TimedFrame};

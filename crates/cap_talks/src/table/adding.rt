@@ -1,0 +1,129 @@
+//! Units that packets complete, and how they are added to the conversations.
+ghost use Rattle.std.specs.Prelude.{◌≡◌, ◌+◌, ◌++◌, ◌<◌, ◌≤◌, ◌^◌, List, length, IfSome, OnOk, OnErr};
+ghost use Rattle.cap_ip.specs.Transport.{transport_of};
+ghost use Rattle.cap_source.specs.Times.{meta_time};
+ghost use Rattle.cap_talks.specs.table.Rows.{StandsFor, IsUnitInOrder, frames_in, bytes_in};
+ghost use Rattle.cap_talks.specs.table.Talks.{frames_of, bytes_of};
+ghost use Rattle.cap_talks.specs.declared.table.units.CountedUnit.{CountedUnit};
+ghost use Rattle.cap_talks.specs.table.Adding.{datagram_unit, datagram_class, is_over};
+ghost use Rattle.cap_talks.specs.table.Classes.{class_of};
+ghost use Rattle.cap_talks.specs.table.Taken.{stamped_of};
+ghost use Rattle.cap_talks.specs.table.Tallies.{LimitBy};
+ghost use Rattle.cap_talks.specs.table.CountedUnits.{listed, timed_frame, whole_unit};
+
+use crate::table::classes::Class;
+use crate::table::talks::{Talks, TalksFault};
+use crate::table::units::{CountedUnit, TimedFrame, ends_of};
+use cap_ip::{Header, Transport, transport};
+use cap_join::{Datagram, Stamped};
+use cap_source::Meta;
+use cap_time::Stamp;
+
+/// What is told of a packet's frame, which has that place in the run and that time.
+#[inline(always)]
+pub(crate) fn stamped_of(place: u64, time: Option<Stamp>, meta: &Meta) -> Stamped
+    requires time { time ≡ meta_time meta.now }
+    ensures { result ≡ stamped_of place meta.now }
+{
+    Stamped {
+        time,
+        place,
+        original: meta.original,
+    }
+}
+
+// A frame, if it has a time.
+fn timed_frame(frame: Option<Stamped>) -> Option<TimedFrame>
+    ensures { result ≡ timed_frame frame }
+{
+    let frame = frame?;
+    Some(TimedFrame {
+        time: frame.time?,
+        place: frame.place,
+    })
+}
+
+/// A datagram's class, by what its data says of its ports.
+pub(crate) fn class_of(transport: Transport) -> Class
+    ensures { result ≡ class_of transport }
+{
+    match transport {
+        Transport::Ports(_, _) => Class::Counted,
+        Transport::NoPorts => Class::Counted,
+        Transport::Bad => Class::Bad,
+        Transport::Cut => Class::Cut,
+    }
+}
+
+/// The unit that a whole datagram is, of which some data was captured.
+#[inline(always)]
+pub(crate) fn whole_unit(
+    header: &Header,
+    captured: &[u8],
+    seen: Transport,
+    stamped: Stamped,
+) -> Option<CountedUnit>
+    requires { seen ≡ transport_of header.now.key.protocol captured.now header.now.data_length }
+    ensures { result ≡ whole_unit header.now captured.now stamped }
+{
+    let key = header.key();
+    let (source, destination) = ends_of(key.source, key.destination, seen)?;
+    Some(CountedUnit {
+        protocol: key.protocol,
+        source,
+        destination,
+        frames: 1,
+        bytes: u128::from(stamped.original),
+        first: timed_frame(Some(stamped)),
+        last: timed_frame(Some(stamped)),
+    })
+}
+
+/// The unit that a joined datagram is.
+#[tactic(auto, unfolding(crate::specs::table::Adding::datagram_unit))]
+pub(crate) fn joined_unit(datagram: &Datagram) -> Option<CountedUnit>
+    requires short { length datagram.now.payload.items ≤ 65520 }
+    ensures { result ≡ datagram_unit datagram.now }
+{
+    let key = datagram.header.key();
+    let bytes = datagram.payload.as_slice();
+    let seen = transport(key.protocol, bytes, bytes.len() as u32);
+    let (source, destination) = ends_of(key.source, key.destination, seen)?;
+    Some(CountedUnit {
+        protocol: key.protocol,
+        source,
+        destination,
+        frames: datagram.frames,
+        bytes: datagram.bytes,
+        first: timed_frame(datagram.first),
+        last: timed_frame(datagram.last),
+    })
+}
+
+/// The class of a joined datagram's frames.
+#[tactic(auto, unfolding(crate::specs::table::Adding::datagram_class))]
+pub(crate) fn joined_class(datagram: &Datagram) -> Class
+    requires short { length datagram.now.payload.items ≤ 65520 }
+    ensures { result ≡ datagram_class datagram.now }
+{
+    let bytes = datagram.payload.as_slice();
+    class_of(transport(datagram.header.key().protocol, bytes, bytes.len() as u32))
+}
+
+/// Adds a unit to the conversations, if there is one.
+#[inline(always)]
+pub(crate) fn add_unit(talks: &mut Talks, unit: &Option<CountedUnit>) -> Result<(), TalksFault>
+    requires frames { frames_in talks.old.rows + frames_of (listed unit.now) < 2 ^ 64 }
+    requires bytes { bytes_in talks.old.rows + bytes_of (listed unit.now) < 2 ^ 128 }
+    requires unit { IfSome unit.now IsUnitInOrder }
+    ensures stands { OnOk result ((units : List CountedUnit) → StandsFor talks.old units → StandsFor talks.new (units ++ listed unit.now)) }
+    ensures frames { OnOk result (frames_in talks.new.rows ≡ frames_in talks.old.rows + frames_of (listed unit.now)) }
+    ensures bytes { OnOk result (bytes_in talks.new.rows ≡ bytes_in talks.old.rows + bytes_of (listed unit.now)) }
+    ensures limit { LimitBy result (is_over talks.old.rows unit.now) }
+    ensures err { OnErr result (talks.new ≡ talks.old) }
+{
+    match unit {
+        None => Ok(()),
+        Some(unit) => talks.add(unit),
+    }
+}

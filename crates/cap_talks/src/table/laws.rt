@@ -1,0 +1,19 @@
+//! Laws of conversations.
+ghost use Rattle.std.specs.Prelude.{List};
+ghost use Rattle.cap_talks.specs.table.Laws.{KeyLaw, FrameLaw, SumLaw};
+ghost use Rattle.cap_talks.specs.table.Worked.{TalkLines, TalkLimit};
+ghost use Rattle.cap_talks.specs.declared.table.units.CountedUnit.{CountedUnit};
+
+/// What a conversation is: two units belong to the same one if they have the same protocol and the same two
+/// ends, whichever of these is the source. A row's first time is that of its earliest frame, its last time that of its
+/// latest; of equal times that of the lowest place counts. All rows together count each unit once.
+///
+/// And the definitions on a few units, by computation: the lines of an answered datagram, of a joined one, and
+/// of two at equal times; and the limit.
+pub fn talk_laws()
+    ensures key { KeyLaw }
+    ensures frames { (units : List CountedUnit) → FrameLaw units }
+    ensures sums { (units : List CountedUnit) → SumLaw units }
+    ensures lines { TalkLines }
+    ensures limit { TalkLimit }
+{}

@@ -1,0 +1,46 @@
+//! The lines of a report that aren't those of files and conversations.
+ghost use Rattle.std.specs.Prelude.{◌≡◌};
+ghost use Rattle.cap_print.specs.Lines.{text_in};
+ghost use Rattle.cap_talks.specs.table.TakenText.{total_text, frames_text, joined_text};
+
+use crate::table::classes::ClassCounts;
+use cap_print::Line;
+
+/// `total packets P bytes B truncated Q`.
+pub(crate) fn total_line(packets: u64, bytes: u128, truncated: u64) -> Line
+    ensures { text_in result ≡ total_text packets bytes truncated }
+{
+    let mut line = Line::new();
+    line.put_text(b"\n");
+    line.put_field(b" truncated ", truncated);
+    line.put_integer(b" bytes ", bytes);
+    line.put_field(b"total packets ", packets);
+    line
+}
+
+/// `frames other-link N not-ipv4 N short N cut N bad N unjoined N counted N`.
+pub(crate) fn frames_line(counts: &ClassCounts) -> Line
+    ensures { text_in result ≡ frames_text counts.now }
+{
+    let mut line = Line::new();
+    line.put_text(b"\n");
+    line.put_field(b" counted ", counts.counted);
+    line.put_field(b" unjoined ", counts.unjoined);
+    line.put_field(b" bad ", counts.bad);
+    line.put_field(b" cut ", counts.cut);
+    line.put_field(b" short ", counts.short);
+    line.put_field(b" not-ipv4 ", counts.not_ipv4);
+    line.put_field(b"frames other-link ", counts.other_link);
+    line
+}
+
+/// `joined J given-up G`.
+pub(crate) fn joined_line(joined: u64, given_up: u64) -> Line
+    ensures { text_in result ≡ joined_text joined given_up }
+{
+    let mut line = Line::new();
+    line.put_text(b"\n");
+    line.put_field(b" given-up ", given_up);
+    line.put_field(b"joined ", joined);
+    line
+}

@@ -1,0 +1,203 @@
+//! The table of a report, step by step.
+ghost use Rattle.std.specs.Prelude.{◌≡◌, ◌+◌, ◌≤◌, ◌^◌, ◌||◌, List, [], not, false, length, IsTrue, IsOkUnless, Some, None, if◌then◌else◌};
+ghost use Rattle.std.specs.List.{range_with_len};
+ghost use Rattle.cap_bytes.specs.Device.{WriterKeeps, writer_of};
+ghost use Rattle.cap_bytes.specs.Printing.{Prints, is_write};
+ghost use Rattle.cap_merge.specs.Parts.{feed_of, is_end};
+ghost use Rattle.cap_merge.specs.View.{parts_of};
+ghost use Rattle.cap_source.specs.Feed.{HasFile};
+ghost use Rattle.cap_talks.specs.table.Props.{IsNumbered-prop};
+ghost use Rattle.cap_talks.specs.counts.FileLines.{ended_from, ending_at};
+ghost use Rattle.cap_talks.specs.table.Holding.{held_of};
+ghost use Rattle.cap_talks.specs.table.Stepping.{TableStands, StepKeeps, Steps, AnswersAgain, endings_so_far};
+ghost use Rattle.cap_talks.specs.table.CountedUnits.{refusal_at};
+ghost use Rattle.cap_talks.specs.table.TakenText.{text_of};
+ghost use Rattle.cap_talks.specs.table.Taken.{Taken};
+
+use crate::counts::{Counted, Counts, put_files};
+use crate::table::report_lines::total_line;
+use crate::table::run_packets::RunPacket;
+use crate::table::talks::TalksFault;
+use crate::table::tallies::Tally;
+use crate::table::totals::Totals;
+use arrayvec::ArrayVec;
+use cap_bytes::{Fault, Refusal, Rule, Sink, put_all};
+use cap_merge::Merged;
+use cap_source::{Ending, Meta, PacketFeed};
+use std::alloc::Global;
+
+/// What a step did.
+#[derive(Clone, Copy, Debug, PartialEq, Eq)]
+pub enum Step {
+    /// It took the packet that came next.
+    Took,
+    /// No packet is left.
+    Done,
+}
+
+/// What a table holds: the lengths of its buffers and tables themselves.
+#[derive(Clone, Copy, Debug, PartialEq, Eq)]
+pub struct Held {
+    /// The bytes of the largest window's buffer: at most 524,288.
+    pub window: u64,
+    /// The most interfaces of a file's present section: at most 1,024.
+    pub interfaces: u64,
+    /// The open groups of fragments, and a joined datagram that waits for its conversation: at most 1,024.
+    pub groups: u64,
+    /// The bytes of the largest of these: at most 65,520.
+    pub group_bytes: u64,
+    /// The conversations: at most 1,048,576.
+    pub talks: u64,
+}
+
+/// The table of a report: what is counted of the packets that a merge of files gives, packet by packet.
+#[derive(Drop)]
+pub struct Table<F: PacketFeed> {
+    merged: Merged<F>,
+    totals: Totals,
+    tally: Tally,
+    // whether the files are at their end
+    done: bool,
+    ghost numbered: { (feed_of (parts_of merged)).files ≡ range_with_len 1 (length totals.files) } by { IsNumbered-prop (feed_of (parts_of merged)).files (length totals.files) },
+    ghost finished: { IsTrue (not done || is_end (feed_of (parts_of merged)).known) },
+    ghost counted: { totals.packets ≡ tally.place },
+    ghost places: { tally.place + (feed_of (parts_of merged)).left ≤ 2 ^ 45 },
+}
+
+// The refusal of a packet whose conversation is one too many.
+fn talk_limit(meta: &Meta) -> Refusal
+    ensures { result ≡ refusal_at meta.now }
+{
+    Refusal {
+        file: meta.file,
+        offset: meta.offset,
+        rule: Rule::TalkLimit,
+    }
+}
+
+impl<F: PacketFeed> Table<F> {
+    ghost use Rattle.cap_talks.specs.table.TableView.{table_of};
+
+    /// The table of a merge of files, of which it has taken no packet yet.
+    pub fn new(alloc: Global, merged: Merged<F>) -> Table<F>
+        ensures stands { TableStands (table_of result) [] }
+        ensures parts { (table_of result).parts ≡ parts_of merged }
+        ensures files { length (table_of result).totals.files ≡ length (feed_of (parts_of merged)).files }
+        ensures going { (table_of result).done ≡ false }
+    {
+        let totals = Totals::new(merged.files());
+        Table {
+            merged,
+            totals,
+            tally: Tally::new(alloc),
+            done: false,
+        }
+    }
+
+    /// Takes the packet that comes next, or answers `Done` if none is left, now and at each later call.
+    ///
+    /// `Refused` comes exactly if what comes next is a refusal, or a packet that would open the 1,048,577th
+    /// conversation (rule 16, talk-limit); each later call answers it again. `Read` comes if a device failed, and
+    /// `Memory` if a growth was refused. A step that answers a fault has taken nothing: the table is as it was, and so are the
+    /// packets to come, unless it was `Read`.
+    pub fn step(&mut self) -> Result<Step, Fault>
+        ensures step { Steps (table_of self.old) result (table_of self.new) }
+        ensures keeps { StepKeeps (table_of self.old) (table_of self.new) }
+        ensures again { AnswersAgain (feed_of (table_of self.old).parts).known result }
+    {
+        if !self.merged.has_packet()? {
+            self.done = true;
+            return Ok(Step::Done);
+        }
+        let next = self.merged.next_packet();
+        let (meta, frame) = (next.meta, next.frame);
+        let time = meta.time();
+        let packet = RunPacket {
+            clock: next.clock,
+            meta,
+            frame,
+        };
+        match self.tally.take(packet, time) {
+            Ok(()) => {
+                self.totals.take(time, meta, frame);
+                self.merged.pass();
+                Ok(Step::Took)
+            }
+            Err(TalksFault::Limit) => Err(Fault::Refused(talk_limit(meta))),
+            Err(TalksFault::Memory) => Err(Fault::Memory),
+        }
+    }
+
+    /// Writes the report over the packets that were taken. Until `step` has answered `Done` it doesn't say how the
+    /// files end: a file of which no packet was taken has the format `-`, the blocks that were skipped are those
+    /// before the last packet that was taken, and no line says `cut`. It takes no memory, and can be called at any
+    /// time. After `Write` a prefix of the report is written.
+    pub fn write_so_far<W: Sink>(&self, writer: &mut W) -> Result<(), Fault>
+        ensures text { (xs : List Taken) → TableStands (table_of self.now) xs → IsTrue (W.tells_held writer.old)
+            → Prints (text_of (length (table_of self.now).totals.files) (endings_so_far (table_of self.now)) xs) None
+            (W.held writer.old) result (W.held writer.new) }
+        ensures writer { WriterKeeps (writer_of W.Sink writer.old) (is_write result) (writer_of W.Sink writer.new) }
+        ensures fault { IsOkUnless result Fault.Write }
+    {
+        let totals = &self.totals;
+        let counted = with_endings(&self.merged, totals.files(), self.done);
+        put_files(writer, counted.as_slice())?;
+        let line = total_line(totals.packets(), totals.bytes(), totals.truncated());
+        put_all(writer, line.as_slice())?;
+        self.tally.put_lines(writer)
+    }
+
+    /// What the table holds of its files, of groups of fragments and of conversations.
+    pub fn held(&self) -> Held
+        ensures value { result ≡ held_of (table_of self.now) }
+        ensures window { result.window ≤ 524288 }
+        ensures interfaces { result.interfaces ≤ 1024 }
+        ensures groups { result.groups ≤ 1024 }
+        ensures group_bytes { result.group_bytes ≤ 65520 }
+        ensures talks { result.talks ≤ 1048576 }
+    {
+        let feed = self.merged.feed_held();
+        let tally = &self.tally;
+        Held {
+            window: feed.window,
+            interfaces: feed.interfaces,
+            groups: tally.groups() as u64,
+            group_bytes: tally.group_bytes() as u64,
+            talks: tally.talks() as u64,
+        }
+    }
+}
+
+// How the file of that number ended, once all have.
+fn ending_of<F: PacketFeed>(merged: &Merged<F>, done: bool, file: u32) -> Option<Ending>
+    requires end { IsTrue (not done || is_end (feed_of (parts_of merged.now)).known) }
+    requires file { HasFile (feed_of (parts_of merged.now)).files file }
+    ensures { result ≡ ending_at (if done then Some (feed_of (parts_of merged.now)).endings else None) file }
+{
+    if done {
+        Some(merged.ending(file))
+    } else {
+        None
+    }
+}
+
+// What is counted of each file, by number, with how it ended, once all have.
+fn with_endings<F: PacketFeed>(
+    merged: &Merged<F>,
+    counts: &[Counts],
+    done: bool,
+) -> ArrayVec<Counted, 32>
+    requires end { IsTrue (not done || is_end (feed_of (parts_of merged.now)).known) }
+    requires numbered { (feed_of (parts_of merged.now)).files ≡ range_with_len 1 (length counts.now) }
+    requires few { length counts.now ≤ 32 }
+    ensures { result.items ≡ ended_from (if done then Some (feed_of (parts_of merged.now)).endings else None) 1 counts.now }
+{
+    let mut counted = ArrayVec::new();
+    for (place, each) in counts.iter().enumerate() {
+        counted.push(Counted {
+            counts: *each,
+            ending: ending_of(merged, done, place as u32 + 1),
+        });
+    }
+    counted
+}

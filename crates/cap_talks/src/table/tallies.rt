@@ -1,0 +1,392 @@
+//! What is counted of packets, besides what is told of files.
+ghost use Rattle.std.specs.Prelude.{◌≡◌, ℕ, false, ◌+◌, ◌*◌, ◌++◌, IsOkUnless, max, ◌≤◌, ◌<◌, ◌<ℤ◌, ◌^◌, pos, List, [], ◌∷◌, length, IsTrue, IfSome, IsSome, OnOk, OnErr, IfOk, IfErr, Option, Some, None, Err, if◌then◌else◌};
+ghost use Rattle.cap_bytes.specs.Device.{WriterKeeps, writer_of};
+ghost use Rattle.cap_bytes.specs.Printing.{Prints, is_write};
+ghost use Rattle.cap_join.specs.Fitting.{FitsPut};
+ghost use Rattle.cap_join.specs.Fragments.{piece_of};
+ghost use Rattle.cap_join.specs.History.{Event, arrives, state_of, joined_pieces};
+ghost use Rattle.cap_join.specs.Joiners.{StandsFor, IsAnswer, most_bytes, open_limit};
+ghost use Rattle.cap_time.specs.Stamp.{seconds_of};
+ghost use Rattle.cap_talks.specs.table.Looking.{taken_of};
+ghost use Rattle.cap_talks.specs.table.TakenText.{frames_text, joined_text};
+ghost use Rattle.cap_talks.specs.table.Taken.{Taken, datagram, fragment, look, stamped_of};
+ghost use Rattle.cap_talks.specs.table.Tallies.{Stands, LimitBy, one_if, tally_text, waiting_bytes, counted_one, Looks, WaitsIf, with_frames, with_group};
+ghost use Rattle.cap_source.specs.Times.{meta_time};
+ghost use Rattle.cap_talks.specs.declared.table.talks.TalksFault.TheVariants.{Memory};
+ghost use Rattle.cap_talks.specs.table.Classes.{sum_of};
+ghost use Rattle.cap_talks.specs.table.CountedUnits.{is_limit_at};
+
+use crate::table::adding::{add_unit, class_of, joined_class, joined_unit, stamped_of, whole_unit};
+use crate::table::classes::{Class, ClassCounts};
+use crate::table::looks::{Seen, look};
+use crate::table::report_lines::{frames_line, joined_line};
+use crate::table::run_packets::RunPacket;
+use crate::table::talk_lines::put_talks;
+use crate::table::talks::{Talks, TalksFault};
+use cap_bytes::{Fault, Sink, put_all};
+use cap_ip::{Header, transport};
+use cap_join::{Datagram, Joiner, Put, Stamped};
+use cap_time::Stamp;
+use std::alloc::Global;
+use std::cmp::max;
+use std::marker::Model;
+
+/// What is counted of the packets of a run.
+#[derive(Drop)]
+pub(crate) struct Tally {
+    place: u64,
+    classes: ClassCounts,
+    joined: u64,
+    talks: Talks,
+    joiner: Joiner,
+    // a joined datagram whose conversation got no memory, or is one too many
+    waiting: Option<Datagram>,
+}
+
+impl Model for Tally {
+    ghost use Rattle.cap_talks.specs.table.Tallies.{TallyState};
+
+    ghost Value = { TallyState };
+
+    ghost use Rattle.cap_talks.specs.table.TallyView.{tally_view, IsSoundInside};
+
+    ghost view = { tally_view };
+
+    ghost invariant = { IsSoundInside };
+}
+
+// Counts more packets of a class.
+#[inline(always)]
+fn count_frames(counts: &mut ClassCounts, class: Class, frames: u64)
+    requires few { sum_of counts.old + frames < 2 ^ 64 }
+    ensures { counts.new ≡ with_frames class frames counts.old }
+{
+    match class {
+        Class::OtherLink => counts.other_link += frames,
+        Class::NotIpv4 => counts.not_ipv4 += frames,
+        Class::Short => counts.short += frames,
+        Class::Cut => counts.cut += frames,
+        Class::Bad => counts.bad += frames,
+        Class::Unjoined => counts.unjoined += frames,
+        Class::Counted => counts.counted += frames,
+    }
+}
+
+// The counts with more packets of a class.
+fn with_frames(counts: ClassCounts, class: Class, frames: u64) -> ClassCounts
+    requires few { sum_of counts + frames < 2 ^ 64 }
+    ensures { result ≡ with_frames class frames counts }
+{
+    let mut counts = counts;
+    count_frames(&mut counts, class, frames);
+    counts
+}
+
+// The counts after a packet completes a group of `frames` fragments, itself one of them: they move from the unjoined ones to a class.
+fn with_group(counts: ClassCounts, class: Class, frames: u64) -> ClassCounts
+    requires unjoined { frames ≤ counts.unjoined + 1 }
+    requires few { sum_of counts + 1 < 2 ^ 64 }
+    ensures { result ≡ with_group class frames counts }
+{
+    let mut counts = counts;
+    counts.unjoined = counts.unjoined + 1 - frames;
+    with_frames(counts, class, frames)
+}
+
+// One, of a class that counts.
+fn counted_one(class: Class) -> u64
+    ensures { result ≡ counted_one class }
+{
+    match class {
+        Class::Counted => 1,
+        _ => 0,
+    }
+}
+
+// Puts a fragment into the joiner.
+fn put_fragment(
+    joiner: &mut Joiner,
+    clock: Option<Stamp>,
+    header: &Header,
+    bytes: &[u8],
+    stamped: Stamped,
+) -> Result<Put, TalksFault>
+    requires fragment { IsSome header.now.fragment }
+    requires whole { length bytes.now ≡ header.now.data_length }
+    requires clock { IfSome clock (λ c. seconds_of c <ℤ pos (2 ^ 65)) }
+    requires place { joiner.old.next ≤ stamped.place }
+    requires last { stamped.place < 2 ^ 63 }
+    ensures answer { IfOk result (λ put. (events : List Event) → StandsFor joiner.old events →
+        IsAnswer put (joined_pieces clock (piece_of header.now bytes.now stamped) (state_of open_limit events))) }
+    ensures stands { OnOk result ((events : List Event) → StandsFor joiner.old events →
+        StandsFor joiner.new (arrives clock (piece_of header.now bytes.now stamped) ∷ events)) }
+    ensures next { OnOk result (joiner.new.next ≡ stamped.place + 1) }
+    ensures fits { IfOk result FitsPut }
+    ensures fault { IfErr result (λ e. e ≡ Memory) }
+    ensures err { OnErr result (joiner.new ≡ joiner.old) }
+{
+    match joiner.put(clock, header, bytes, stamped) {
+        Ok(put) => Ok(put),
+        Err(_) => Err(TalksFault::Memory),
+    }
+}
+
+impl Tally {
+    /// Nothing was taken.
+    pub(crate) fn new(alloc: Global) -> Tally
+        ensures stands { (next : Option Taken) → Stands result [] next }
+    {
+        Tally {
+            place: 0,
+            classes: ClassCounts {
+                other_link: 0,
+                not_ipv4: 0,
+                short: 0,
+                cut: 0,
+                bad: 0,
+                unjoined: 0,
+                counted: 0,
+            },
+            joined: 0,
+            talks: Talks::new(alloc),
+            joiner: Joiner::new(alloc),
+            waiting: None,
+        }
+    }
+
+    // Takes a packet that is a fragment, while no datagram waits. It is counted, or it completes a datagram, which waits from then on;
+    // the answer is whether one does. It isn't inlined, so that what it answers takes no room where whole datagrams are taken.
+    #[inline(never)]
+    fn take_fragment(
+        &mut self,
+        packet: RunPacket<'_>,
+        header: Header,
+        bytes: &[u8],
+    ) -> Result<bool, TalksFault>
+        requires none { self.old.waiting ≡ None }
+        requires few { self.old.place < 2 ^ 62 }
+        requires fragment { IsSome header.fragment }
+        requires whole { length bytes.now ≡ header.data_length }
+        requires look { (place : ℕ) → look place (taken_of packet) ≡ fragment (piece_of header bytes.now (stamped_of place packet.meta.now)) }
+        ensures looks { IfOk result (λ waits. Looks self.old (taken_of packet.entry) waits self.new) }
+        ensures waits { IfOk result (λ waits. WaitsIf self.new.waiting waits) }
+        ensures place { IfOk result (λ waits. self.new.place ≡ (if waits then self.old.place else self.old.place + 1)) }
+        ensures fault { IfErr result (λ e. e ≡ Memory) }
+        ensures err { OnErr result (self.new ≡ self.old) }
+    {
+        let stamped = stamped_of(self.place, packet.meta.time(), packet.meta);
+        match put_fragment(&mut self.joiner, *packet.clock, &header, bytes, stamped)? {
+            Put::Kept => {
+                self.classes = with_frames(self.classes, Class::Unjoined, 1);
+                self.place += 1;
+                Ok(false)
+            }
+            Put::Joined(datagram) => {
+                self.waiting = Some(datagram);
+                Ok(true)
+            }
+        }
+    }
+
+    // Counts a whole datagram, while none waits.
+    #[inline(always)]
+    fn take_datagram(
+        &mut self,
+        packet: RunPacket<'_>,
+        time: Option<Stamp>,
+        header: Header,
+        captured: &[u8],
+    ) -> Result<(), TalksFault>
+        requires none { self.old.waiting ≡ None }
+        requires few { self.old.place < 2 ^ 62 }
+        requires time { time ≡ meta_time packet.meta.now }
+        requires look { (place : ℕ) → look place (taken_of packet) ≡ datagram header captured.now }
+        ensures looks { OnOk result (Looks self.old (taken_of packet.entry) false self.new) }
+        ensures none { OnOk result (self.new.waiting ≡ None) }
+        ensures place { OnOk result (self.new.place ≡ self.old.place + 1) }
+        ensures limit { IfErr result (λ e. (xs : List Taken) → Stands self.old xs (Some (taken_of packet.entry))
+            → LimitBy (Err e) (is_limit_at xs (taken_of packet.entry))) }
+        ensures err { OnErr result (self.new ≡ self.old) }
+    {
+        let seen = transport(header.key().protocol, captured, header.data_length());
+        let stamped = stamped_of(self.place, time, packet.meta);
+        add_unit(
+            &mut self.talks,
+            &whole_unit(&header, captured, seen, stamped),
+        )?;
+        self.joiner.flush(header.key());
+        count_frames(&mut self.classes, class_of(seen), 1);
+        self.place += 1;
+        Ok(())
+    }
+
+    // Looks at any packet, while no datagram waits. It is counted, or it completes a datagram, which waits from then on; the answer is
+    // whether one does. It isn't inlined, so that what a fragment takes, and a packet that is none of IPv4, has no room where whole
+    // datagrams are taken.
+    #[inline(never)]
+    fn look_again(&mut self, packet: RunPacket<'_>) -> Result<bool, TalksFault>
+        requires none { self.old.waiting ≡ None }
+        requires few { self.old.place < 2 ^ 62 }
+        ensures looks { IfOk result (λ waits. Looks self.old (taken_of packet.entry) waits self.new) }
+        ensures waits { IfOk result (λ waits. WaitsIf self.new.waiting waits) }
+        ensures place { IfOk result (λ waits. self.new.place ≡ (if waits then self.old.place else self.old.place + 1)) }
+        ensures limit { IfErr result (λ e. (xs : List Taken) → Stands self.old xs (Some (taken_of packet.entry))
+            → LimitBy (Err e) (is_limit_at xs (taken_of packet.entry))) }
+        ensures err { OnErr result (self.new ≡ self.old) }
+    {
+        match look(packet.meta, packet.frame) {
+            Seen::Plain(class) => {
+                self.classes = with_frames(self.classes, class, 1);
+                self.place += 1;
+                Ok(false)
+            }
+            Seen::Datagram(header, captured) => {
+                self.take_datagram(packet, packet.meta.time(), header, captured)?;
+                Ok(false)
+            }
+            Seen::Fragment(header, bytes) => self.take_fragment(packet, header, bytes),
+        }
+    }
+
+    // Counts the datagram that waits, and with it the packet that completed it.
+    fn take_waiting(&mut self) -> Result<(), TalksFault>
+        requires some { IsSome self.old.waiting }
+        requires few { self.old.place < 2 ^ 62 }
+        ensures stands { OnOk result ((xs : List Taken) (x : Taken) → Stands self.old xs (Some x)
+            → (is_limit_at xs x ≡ false) × ((next : Option Taken) → Stands self.new (x ∷ xs) next)) }
+        ensures limit { IfErr result (λ e. (xs : List Taken) (x : Taken) → Stands self.old xs (Some x) → LimitBy (Err e) (is_limit_at xs x)) }
+        ensures none { OnOk result (self.new.waiting ≡ None) }
+        ensures place { OnOk result (self.new.place ≡ self.old.place + 1) }
+        ensures err { OnErr result (self.new ≡ self.old) }
+    {
+        let Some(datagram) = &self.waiting else {
+            unreachable!();
+        };
+        add_unit(&mut self.talks, &joined_unit(datagram))?;
+        let class = joined_class(datagram);
+        let frames = datagram.frames;
+        self.classes = with_group(self.classes, class, frames);
+        self.joined += counted_one(class);
+        self.waiting = None;
+        self.place += 1;
+        Ok(())
+    }
+
+    /// Takes the packet that comes next, which has that time.
+    ///
+    /// `Limit` comes exactly if it completes a unit of a new conversation and there are 1,048,576 already, `Memory` if a
+    /// growth was refused. Both leave the counts as they were, and the same call may be made again; a datagram that the packet joined is kept
+    /// for it.
+    #[inline(always)]
+    pub(crate) fn take(
+        &mut self,
+        packet: RunPacket<'_>,
+        time: Option<Stamp>,
+    ) -> Result<(), TalksFault>
+        requires time { time ≡ meta_time packet.meta.now }
+        requires few { self.old.place < 2 ^ 62 }
+        ensures stands { OnOk result (Looks self.old (taken_of packet.entry) false self.new) }
+        ensures limit { IfErr result (λ e. (xs : List Taken) → Stands self.old xs (Some (taken_of packet.entry))
+            → LimitBy (Err e) (is_limit_at xs (taken_of packet.entry))) }
+        ensures none { OnOk result (self.new.waiting ≡ None) }
+        ensures place { OnOk result (self.new.place ≡ self.old.place + 1) }
+        ensures same { OnErr result (self.new.place ≡ self.old.place) }
+        ensures err { OnErr result ((xs : List Taken) → Stands self.old xs (Some (taken_of packet.entry))
+            → Stands self.new xs (Some (taken_of packet.entry))) }
+    {
+        if self.is_waiting() {
+            return self.take_waiting();
+        }
+        if let Seen::Datagram(header, captured) = look(packet.meta, packet.frame) {
+            return self.take_datagram(packet, time, header, captured);
+        }
+        if self.look_again(packet)? {
+            return self.take_waiting();
+        }
+        Ok(())
+    }
+
+    // Whether a joined datagram waits for its conversation.
+    fn is_waiting(&self) -> bool
+        ensures { WaitsIf self.now.waiting result }
+    {
+        match self.waiting {
+            None => false,
+            Some(_) => true,
+        }
+    }
+
+    /// Writes the lines of the classes, of the joined datagrams and of the conversations: `frames ..`,
+    /// `joined J given-up G`, `talks C` and a line for each conversation. After `Write` a prefix of them is written.
+    pub(crate) fn put_lines<W: Sink>(&self, writer: &mut W) -> Result<(), Fault>
+        ensures text { IsTrue (W.tells_held writer.old)
+            → Prints (tally_text self.now) None (W.held writer.old) result (W.held writer.new) }
+        ensures writer { WriterKeeps (writer_of W.Sink writer.old) (is_write result) (writer_of W.Sink writer.new) }
+        ensures fault { IsOkUnless result Fault.Write }
+    {
+        put_counts(writer, &self.classes, self.joined, self.joiner.given_up())?;
+        put_talks(writer, &self.talks)
+    }
+
+    /// How many groups of fragments are held: the open ones, and a joined datagram that waits. At most 1,024.
+    pub(crate) fn groups(&self) -> usize
+        ensures value { result ≡ length self.now.joiner.groups + one_if self.now.waiting }
+        ensures bound { result ≤ 1024 }
+    {
+        self.joiner.open_count() + waiting_count(&self.waiting)
+    }
+
+    /// The bytes of the largest of them: at most 65,520.
+    pub(crate) fn group_bytes(&self) -> usize
+        ensures value { result ≡ max (most_bytes self.now.joiner.groups) (waiting_bytes self.now.waiting) }
+        ensures bound { result ≤ 65520 }
+    {
+        max(self.joiner.held_bytes(), waiting_bytes(&self.waiting))
+    }
+
+    /// How many conversations there are: at most 1,048,576.
+    pub(crate) fn talks(&self) -> usize
+        ensures value { result ≡ length self.now.talks.rows }
+        ensures bound { result ≤ 1048576 }
+    {
+        self.talks.len()
+    }
+}
+
+// Writes the lines of the classes and of the joined datagrams.
+fn put_counts<W: Sink>(
+    writer: &mut W,
+    classes: &ClassCounts,
+    joined: u64,
+    given_up: u64,
+) -> Result<(), Fault>
+    ensures text { IsTrue (W.tells_held writer.old)
+        → Prints (frames_text classes.now ++ joined_text joined given_up) None (W.held writer.old) result (W.held writer.new) }
+    ensures writer { WriterKeeps (writer_of W.Sink writer.old) (is_write result) (writer_of W.Sink writer.new) }
+    ensures fault { IsOkUnless result Fault.Write }
+{
+    let line = frames_line(classes);
+    put_all(writer, line.as_slice())?;
+    let line = joined_line(joined, given_up);
+    put_all(writer, line.as_slice())
+}
+
+// One, if a datagram waits.
+fn waiting_count(waiting: &Option<Datagram>) -> usize
+    ensures { result ≡ one_if waiting.now }
+{
+    match waiting {
+        None => 0,
+        Some(_) => 1,
+    }
+}
+
+// How many bytes of data a datagram has that waits.
+fn waiting_bytes(waiting: &Option<Datagram>) -> usize
+    ensures { result ≡ waiting_bytes waiting.now }
+{
+    match waiting {
+        None => 0,
+        Some(datagram) => datagram.payload.len(),
+    }
+}

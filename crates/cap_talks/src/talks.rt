@@ -1,0 +1,7 @@
+//! What is told of capture files: the lines of the files, and the conversations of their datagrams.
+
+mod files;
+mod reports;
+
+pub use crate::talks::files::file_lines;
+pub use crate::talks::reports::report;

@@ -1,0 +1,96 @@
+//! The report over capture files.
+ghost use Rattle.std.specs.Prelude.{◌≤◌, [], IsTrue, length, map, vec_len};
+ghost use Rattle.std.specs.List.{list_all, list_any};
+ghost use Rattle.cap_bytes.specs.Device.{WriterKeeps, writer_of};
+ghost use Rattle.cap_bytes.specs.Printing.{is_write};
+ghost use Rattle.cap_merge.specs.Files.{clocked_run, endings_of_files};
+ghost use Rattle.cap_merge.specs.Parts.{feed_of};
+ghost use Rattle.cap_merge.specs.View.{parts_of};
+ghost use Rattle.cap_source.specs.ReadFaults.{FailsOf};
+ghost use Rattle.cap_source.specs.Feed.{Feed};
+ghost use Rattle.cap_source.specs.Walk.{Walks};
+ghost use Rattle.cap_talks.specs.talks.Reporting.{TakesAll, TellsReport};
+ghost use Rattle.cap_talks.specs.talks.ReportText.{report_text, report_refusal};
+ghost use Rattle.cap_talks.specs.table.Stepping.{IsMore, TableStands};
+ghost use Rattle.cap_talks.specs.table.TableView.{table_of};
+ghost use Rattle.cap_talks.specs.talks.Telling.{Tells};
+
+use crate::table::{Step, Table};
+use cap_bytes::{Fault, Sink, Source, Tail};
+use cap_merge::{Merged, merge_files};
+use cap_source::PacketFeed;
+use std::alloc::Global;
+
+// Whether a step took a packet.
+fn is_more(step: Step) -> bool
+    ensures { IsMore step result }
+{
+    match step {
+        Step::Took => true,
+        Step::Done => false,
+    }
+}
+
+// Takes all packets that come.
+fn take_all<F: PacketFeed>(table: &mut Table<F>) -> Result<(), Fault>
+    ensures takes { TakesAll (table_of table.old) result (table_of table.new) }
+    ensures walks { Walks (feed_of (table_of table.old).parts) result (feed_of (table_of table.new).parts) }
+{
+    while is_more(table.step()?) {}
+    Ok(())
+}
+
+// Takes all packets of a table that has taken none, and writes the report over them.
+fn report_table<F: PacketFeed, W: Sink>(table: &mut Table<F>, writer: &mut W) -> Result<(), Fault>
+    requires stands { TableStands (table_of table.old) [] }
+    ensures text { IsTrue (feed_of (table_of table.old).parts).told → IsTrue (W.tells_held writer.old)
+        → TellsReport (length (table_of table.old).totals.files) (table_of table.old).parts (W.held writer.old) result (W.held writer.new) }
+    ensures writer { WriterKeeps (writer_of W.Sink writer.old) (is_write result) (writer_of W.Sink writer.new) }
+    ensures walks { Walks (feed_of (table_of table.old).parts) result (feed_of (table_of table.new).parts) }
+{
+    take_all(table)?;
+    table.write_so_far(writer)
+}
+
+// Writes the report over the packets of a merge.
+fn report_merged<F: PacketFeed, W: Sink>(
+    alloc: Global,
+    merged: Merged<F>,
+    writer: &mut W,
+) -> Result<(), Fault>
+    ensures text { IsTrue (feed_of (parts_of merged)).told → IsTrue (W.tells_held writer.old)
+        → TellsReport (length (feed_of (parts_of merged)).files) (parts_of merged) (W.held writer.old) result (W.held writer.new) }
+    ensures writer { WriterKeeps (writer_of W.Sink writer.old) (is_write result) (writer_of W.Sink writer.new) }
+    ensures walks { (new : Feed) × Walks (feed_of (parts_of merged)) result new }
+{
+    let mut table = Table::new(alloc, merged);
+    report_table(&mut table, writer)
+}
+
+/// Writes the report over 1 to 32 capture files, each of either format: a line for each file, the totals, how
+/// many packets there are of each class, the joined datagrams, and a line for each conversation. Packets are
+/// taken in the order of exact time: by the greatest time so far in a packet's file, of equal ones by file, then
+/// by place in the file.
+///
+/// The whole report is written, or nothing: `Refused` is the first refusal in that order, of a file or of the
+/// packet that would open the 1,048,577th conversation (rule 16, talk-limit). Nothing is written either if a
+/// read fails, which is told by file and offset, or a growth is refused. After `Write` a prefix of the report
+/// is written.
+pub fn report<R: Source, W: Sink>(
+    alloc: Global,
+    sources: Vec<R>,
+    tail: Tail,
+    writer: &mut W,
+) -> Result<(), Fault>
+    requires some { 1 ≤ vec_len sources }
+    requires most { vec_len sources ≤ 32 }
+    ensures text { IsTrue (list_all R.tells_coming sources.items) → IsTrue (W.tells_held writer.old)
+        → Tells (report_text (length sources.items) (endings_of_files tail (map R.coming sources.items)) (clocked_run tail (map R.coming sources.items)))
+        (report_refusal (clocked_run tail (map R.coming sources.items)))
+        (W.held writer.old) result (W.held writer.new) }
+    ensures writer { WriterKeeps (writer_of W.Sink writer.old) (is_write result) (writer_of W.Sink writer.new) }
+    ensures read { FailsOf (vec_len sources) (list_any R.can_fail sources.items) result }
+{
+    let merged = merge_files(alloc, sources, tail)?;
+    report_merged(alloc, merged, writer)
+}

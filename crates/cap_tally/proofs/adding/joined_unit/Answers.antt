@@ -1,7 +1,0 @@
-use Rattle.std.proofs.Common.{rules}
-use Rattle.cap_tally.specs.Adding.{datagram_unit}
-use Rattle.cap_tally.proofs.adding.joined_unit.Goals as goal
-
-pub returns : goal.returns
-unfolding datagram_unit
-returns c = search rules

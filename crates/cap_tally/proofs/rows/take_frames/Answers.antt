@@ -1,6 +1,0 @@
-use Rattle.std.proofs.Common.{arith}
-use Rattle.cap_tally.proofs.RowOrder.{frames-after}
-use Rattle.cap_tally.proofs.rows.take_frames.Goals as goal
-
-pub returns-then-goes_on : goal.returns-then-goes_on
-returns-then-goes_on c = grind (arith, frames-after, c.requires.one)

@@ -1,8 +1,0 @@
-use Rattle.std.proofs.Common.{ap}
-use Rattle.cap_tally.specs.Packed.{unpacked_talks}
-use Rattle.cap_tally.specs.Talks.{rows_of}
-use Rattle.cap_tally.proofs.talks.Talks.new.Goals as goal
-
-pub returns-clause-stands : goal.returns-clause-stands
-unfolding rows_of
-returns-clause-stands c = record { rows = ap unpacked_talks c.new.ensures.empty }

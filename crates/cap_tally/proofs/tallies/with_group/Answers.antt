@@ -1,5 +1,0 @@
-use Rattle.std.proofs.Common.{rules}
-use Rattle.cap_tally.proofs.tallies.with_group.Goals as goal
-
-pub with_frames-requires : goal.with_frames-requires
-with_frames-requires c = search rules
