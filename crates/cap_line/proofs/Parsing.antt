@@ -11,10 +11,10 @@ use Rattle.clap.specs.declared.builder.command.Command.{Command}
 use Rattle.clap.specs.declared.builder.command.Command.TheViews.{out-Command}
 use Rattle.cap_line.specs.Command.{AddsMade, AddsRule, IsCapt, IsConvert, IsJoin, IsMerge, printing_app}
 use Rattle.cap_line.specs.CommandLine.{Parses, IsJobOf, IsRefused, fault_by}
-use Rattle.cap_jobs.specs.Jobs.{IsWhole}
-use Rattle.cap_jobs.specs.declared.jobs.Job.{Job}
-use Rattle.cap_jobs.specs.declared.faults.LineFault.{LineFault}
-use Rattle.cap_jobs.specs.declared.faults.LineFault.TheVariants.{Help, Line, Files, Input, Output, Memory}
+use Rattle.cap_line.specs.Jobs.{IsWhole}
+use Rattle.cap_line.specs.declared.jobs.Job.{Job}
+use Rattle.cap_line.specs.declared.faults.LineFault.{LineFault}
+use Rattle.cap_line.specs.declared.faults.LineFault.TheVariants.{Help, Line, Files, Input, Output, Memory}
 
 -- capt's command is one whose matches and faults clap's definitions give
 pub IsCapt-simple_and_free : (app : App) → IsCapt app → is_simple_and_free app ≡ true

@@ -5,11 +5,11 @@ use Rattle.clap.specs.declared.error.kind.ErrorKind.{ErrorKind}
 use Rattle.clap.specs.declared.error.kind.ErrorKind.TheVariants as kind
 use Rattle.cap_line.specs.Command.{IsCapt}
 use Rattle.cap_source.specs.declared.packets.Format.{Format}
-use Rattle.cap_jobs.specs.Jobs.{IsWhole, files_fault, format_by, is_whole, order_by, task_by}
-use Rattle.cap_jobs.specs.declared.jobs.Job.{Job}
-use Rattle.cap_jobs.specs.declared.jobs.Task.{Task}
-use Rattle.cap_jobs.specs.declared.faults.LineFault.{LineFault}
-use Rattle.cap_jobs.specs.declared.faults.LineFault.TheVariants.{Help, Line, Files, Input, Output, Memory}
+use Rattle.cap_line.specs.Jobs.{IsWhole, files_fault, format_by, is_whole, order_by, task_by}
+use Rattle.cap_line.specs.declared.jobs.Job.{Job}
+use Rattle.cap_line.specs.declared.jobs.Task.{Task}
+use Rattle.cap_line.specs.declared.faults.LineFault.{LineFault}
+use Rattle.cap_line.specs.declared.faults.LineFault.TheVariants.{Help, Line, Files, Input, Output, Memory}
 
 -- what clap's error is to the user
 abbrev pub fault_by : ErrorKind → LineFault

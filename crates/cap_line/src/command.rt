@@ -5,7 +5,7 @@ ghost use Rattle.clap.specs.declared.builder.command.Command.TheViews.{out-Comma
 ghost use Rattle.cap_line.specs.Command.{AddsMade, AddsRule, IsCapt, IsConvert, IsJoin, IsMerge, IsOrderRule, IsToRule, IsWriting, allow_cut_rule, blocks_app, capt_alone, choice_rule, file_rule, files_rule, info_app, list_app, listing_app, out_rule, printing_app, reading_app, report_app};
 
 use crate::texts;
-use cap_jobs::USAGE;
+use crate::usage::USAGE;
 use clap::{Arg, ArgAction, Command};
 use std::alloc::{AllocError, Global};
 

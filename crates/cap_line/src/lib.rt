@@ -1,9 +1,16 @@
-//! The command line of `capt`: the job that its words give, and what clap says of them.
+//! The command line of `capt`: what is asked for, a job with the files that it reads, or why the words give none, and what clap
+//! says of them.
 #![tactic(auto)]
 
 mod command;
+mod faults;
+mod jobs;
 mod texts;
+mod usage;
 mod words;
 
+pub use crate::faults::LineFault;
+pub use crate::jobs::{Job, Task, check_files, format_of, is_whole, order_of, task_of};
 pub use crate::texts::VERSION;
+pub use crate::usage::{NOT_UTF_8, USAGE};
 pub use crate::words::{message, parse};

@@ -2,11 +2,12 @@
 ghost use Rattle.std.specs.Prelude.{◌≡◌, ◌≢◌, IfSome, IsSome, ◌↔◌, map, codes, option_map, IsTrue, IfOk, Some};
 ghost use Rattle.clap.specs.Values.{kind_of};
 ghost use Rattle.clap.specs.Words.{first_of, rows_of, found_of, subcommand_rows_of};
-ghost use Rattle.cap_jobs.specs.Jobs.{IsWhole};
+ghost use Rattle.cap_line.specs.Jobs.{IsWhole};
 ghost use Rattle.cap_line.specs.CommandLine.{fault_by, files_in, IsJobBy, IsJobOf, IsRefused, Parses};
 
 use crate::command::capt;
-use cap_jobs::{Job, LineFault, check_files, format_of, is_whole, order_of, task_of};
+use crate::faults::LineFault;
+use crate::jobs::{Job, check_files, format_of, is_whole, order_of, task_of};
 use clap::error::ErrorKind;
 use clap::{ArgMatches, Error};
 use std::alloc::{AllocError, Global};

@@ -2,8 +2,8 @@
 use Rattle.std.specs.Prelude.{Bool, true, false}
 use Rattle.cap_bytes.specs.declared.faults.Fault.{Fault}
 use Rattle.cap_bytes.specs.declared.faults.Fault.TheVariants as faults
-use Rattle.cap_jobs.specs.declared.faults.LineFault.{LineFault}
-use Rattle.cap_jobs.specs.declared.faults.LineFault.TheVariants as lines
+use Rattle.cap_line.specs.declared.faults.LineFault.{LineFault}
+use Rattle.cap_line.specs.declared.faults.LineFault.TheVariants as lines
 use Rattle.cap_run.specs.declared.outcomes.Outcome.{Outcome}
 use Rattle.cap_run.specs.declared.outcomes.Outcome.TheVariants as outcomes
 

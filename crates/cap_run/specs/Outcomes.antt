@@ -5,9 +5,9 @@ use Rattle.cap_bytes.specs.declared.faults.Fault.{Fault}
 use Rattle.cap_bytes.specs.declared.faults.Fault.TheVariants.{Refused, Read, Write, Memory}
 use Rattle.cap_bytes.specs.declared.faults.Refusal.{Refusal}
 use Rattle.cap_bytes.specs.Printing.{PrintsFront}
-use Rattle.cap_jobs.specs.declared.texts.TheConstants.{USAGE}
-use Rattle.cap_jobs.specs.declared.faults.LineFault.{LineFault}
-use Rattle.cap_jobs.specs.declared.faults.LineFault.TheVariants as lines
+use Rattle.cap_line.specs.declared.usage.TheConstants.{USAGE}
+use Rattle.cap_line.specs.declared.faults.LineFault.{LineFault}
+use Rattle.cap_line.specs.declared.faults.LineFault.TheVariants as lines
 use Rattle.cap_run.specs.declared.outcomes.Outcome.{Outcome}
 use Rattle.cap_run.specs.declared.outcomes.Outcome.TheVariants as outcomes
 

@@ -5,7 +5,7 @@ ghost use Rattle.cap_run.specs.Hints.{is_of_file, is_of_input, is_of_names};
 use crate::outcomes::Outcome;
 use crate::regular::{id_of, is_input, regular_at, regular_file};
 use cap_bytes::{Fault, Rule};
-use cap_jobs::{Job, LineFault};
+use cap_line::{Job, LineFault};
 use std::alloc::Global;
 use std::fmt::Display;
 use std::fs::{File, OpenOptions};

@@ -6,7 +6,7 @@ ghost use Rattle.cap_run.specs.Outcomes.{ends_by, status_after, fault_text, line
 ghost use Rattle.cap_bytes.specs.Printing.{PrintsFront};
 
 use cap_bytes::{Fault, Refusal, Sink, put_all};
-use cap_jobs::{LineFault, USAGE};
+use cap_line::{LineFault, USAGE};
 use cap_print::Line;
 use std::io;
 

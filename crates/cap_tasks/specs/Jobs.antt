@@ -5,9 +5,9 @@ use Rattle.cap_bytes.specs.declared.faults.Fault.{Fault}
 use Rattle.cap_bytes.specs.declared.faults.Tail.{Tail}
 use Rattle.cap_bytes.specs.declared.faults.Tail.TheVariants.{Accept, Refuse}
 use Rattle.cap_bytes.specs.declared.numbers.Order.{Order}
-use Rattle.cap_jobs.specs.declared.jobs.Job.{Job}
-use Rattle.cap_jobs.specs.declared.jobs.Task.{Task}
-use Rattle.cap_jobs.specs.declared.jobs.Task.TheVariants as tasks
+use Rattle.cap_line.specs.declared.jobs.Job.{Job}
+use Rattle.cap_line.specs.declared.jobs.Task.{Task}
+use Rattle.cap_line.specs.declared.jobs.Task.TheVariants as tasks
 use Rattle.cap_merge.specs.Files.{clocked_run, endings_of_files}
 use Rattle.cap_source.specs.declared.packets.Format.{Format}
 use Rattle.cap_talks.specs.talks.InfoText.{first_refusal, info_text}

@@ -1,14 +1,14 @@
 //! What the command line asks for, done over readers and a writer.
 ghost use Rattle.std.specs.Prelude.{◌≡◌, ◌∷◌, [], IsTrue, map, vec_len};
 ghost use Rattle.std.specs.List.{list_all, list_any};
-ghost use Rattle.cap_jobs.specs.Jobs.{IsWhole};
+ghost use Rattle.cap_line.specs.Jobs.{IsWhole};
 ghost use Rattle.cap_tasks.specs.Jobs.{Does, tail_of};
 ghost use Rattle.cap_bytes.specs.Device.{WriterKeeps, writer_of};
 ghost use Rattle.cap_bytes.specs.Printing.{is_write};
 ghost use Rattle.cap_source.specs.ReadFaults.{FailsOf};
 
 use cap_bytes::{Fault, Sink, Source, Tail};
-use cap_jobs::{Job, Task};
+use cap_line::{Job, Task};
 use cap_lists::{blocks_to, list_to};
 use cap_talks::{file_lines, report};
 use cap_write::{Encoding, convert_to, join_to, merge_to};

@@ -1,7 +1,7 @@
 //! Jobs: the names of their parts, what a task takes, the files that are named.
 use crate::checks::same;
 use cap_bytes::Order;
-use cap_jobs::{LineFault, Task, check_files, format_of, is_whole, order_of, task_of};
+use cap_line::{LineFault, Task, check_files, format_of, is_whole, order_of, task_of};
 use cap_source::Format;
 
 const TASKS: [(&str, Option<Task>); 10] = [

@@ -3,7 +3,7 @@
 use crate::checks::same;
 use crate::files::room_of;
 use cap_bytes::{Fault, Refusal, Rule};
-use cap_jobs::{LineFault, USAGE};
+use cap_line::{LineFault, USAGE};
 use cap_run::{Outcome, end_of, outcome_line, status_of, tell};
 use std::alloc::Global;
 use std::io;

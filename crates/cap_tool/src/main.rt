@@ -2,11 +2,10 @@
 #![tactic(auto)]
 
 ghost use Rattle.std.specs.Prelude.{◌≡◌, ◌⊎◌, IfErr, vec_len};
-ghost use Rattle.cap_jobs.specs.Jobs.{IsWhole};
+ghost use Rattle.cap_line.specs.Jobs.{IsWhole};
 
 use cap_bytes::{Fault, Source, Tracked, put_all};
-use cap_jobs::{Job, LineFault, NOT_UTF_8, USAGE};
-use cap_line::{message, parse};
+use cap_line::{Job, LineFault, NOT_UTF_8, USAGE, message, parse};
 use cap_run::{
     Outcome, Output, Progress, Watched, create_output, end_of, hint, open_all, status_of, tell,
     watch_all,

@@ -2,7 +2,7 @@
 ghost use Rattle.std.specs.Prelude.{◌≡◌, map, count_by, codes, option_map};
 ghost use Rattle.std.specs.List.{list_any};
 ghost use Rattle.std.specs.Str.{bytes_eq};
-ghost use Rattle.cap_jobs.specs.Jobs.{files_fault, format_by, is_also_file, is_whole, order_by, task_by};
+ghost use Rattle.cap_line.specs.Jobs.{files_fault, format_by, is_also_file, is_whole, order_by, task_by};
 
 use crate::faults::LineFault;
 use cap_bytes::Order;

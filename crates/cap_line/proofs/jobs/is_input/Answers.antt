@@ -1,6 +1,6 @@
 use Rattle.std.proofs.Common.{◌∙◌, map}
-use Rattle.cap_jobs.proofs.FileNames.{named_among, also_named}
-use Rattle.cap_jobs.proofs.jobs.is_input.Goals as goal
+use Rattle.cap_line.proofs.FileNames.{named_among, also_named}
+use Rattle.cap_line.proofs.jobs.is_input.Goals as goal
 
 pub returns-else-eq : goal.returns-else-eq
 returns-else-eq c =

@@ -3,7 +3,7 @@ use Rattle.std.proofs.Common.{◌≡◌, List, ℕ, [], ◌∷◌, Bool, false, 
 use Rattle.std.specs.Borrow.{Bor}
 use Rattle.std.specs.List.{list_any}
 use Rattle.std.specs.Str.{bytes_eq}
-use Rattle.cap_jobs.specs.Jobs.{is_also_file}
+use Rattle.cap_line.specs.Jobs.{is_also_file}
 
 -- a name is among the files
 pub named_among : (name : List ℕ) (files : List (Bor (List ℕ)))

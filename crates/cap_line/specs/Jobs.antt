@@ -6,11 +6,11 @@ use Rattle.cap_bytes.specs.declared.numbers.Order.{Order}
 use Rattle.cap_bytes.specs.declared.numbers.Order.TheVariants.{Big, Little}
 use Rattle.cap_source.specs.declared.packets.Format.{Format}
 use Rattle.cap_source.specs.declared.packets.Format.TheVariants.{Pcap, Pcapng}
-use Rattle.cap_jobs.specs.declared.jobs.Job.{Job}
-use Rattle.cap_jobs.specs.declared.jobs.Task.{Task}
-use Rattle.cap_jobs.specs.declared.jobs.Task.TheVariants as tasks
-use Rattle.cap_jobs.specs.declared.faults.LineFault.{LineFault}
-use Rattle.cap_jobs.specs.declared.faults.LineFault.TheVariants.{Line, Files, Input, Output}
+use Rattle.cap_line.specs.declared.jobs.Job.{Job}
+use Rattle.cap_line.specs.declared.jobs.Task.{Task}
+use Rattle.cap_line.specs.declared.jobs.Task.TheVariants as tasks
+use Rattle.cap_line.specs.declared.faults.LineFault.{LineFault}
+use Rattle.cap_line.specs.declared.faults.LineFault.TheVariants.{Line, Files, Input, Output}
 
 -- whether the output is one of the files, and not standard output
 abbrev pub is_also_file : Option (List ℕ) → List (List ℕ) → Bool
