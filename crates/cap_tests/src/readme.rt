@@ -1,7 +1,7 @@
 //! The example of the README: the report over a file that is in memory.
 use crate::checks::same;
-use capt::bytes::{Pieces, Room, Tail};
-use capt::report::report;
+use libcapt::bytes::{Pieces, Room, Tail};
+use libcapt::report::report;
 use std::test::Fail;
 
 // A pcap file of one packet of 4 bytes, whose fraction of a second carries.
