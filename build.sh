@@ -7,7 +7,7 @@
 # does beside it is the gate's: the tests, the must-fail edits, a second compiler.
 set -euo pipefail
 cd "$(dirname "$0")"
-program=cap_tool
+program=capt
 # the crates for which others wait longest: they, and those that they stand on, begin before others that could
 first='cap_source cap_blocks cap_write'
 # the longest of these, and how many processes they get even if no processor is idle; and the most that a crate gets

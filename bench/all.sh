@@ -17,11 +17,11 @@
 # Use: bench/all.sh [PROGRAM] [PERCENT OF THE SIZES] [RUNS]
 set -eu
 top=$(cd "$(dirname "$0")/.." && pwd)
-program=$(realpath "${1:-$top/crates/cap_tool/out/cap_tool}")
+program=$(realpath "${1:-$top/crates/capt/out/capt}")
 percent=${2:-100}
 runs=${3:-5}
 if [ ! -x "$program" ]; then
-    (cd "$top/crates/cap_tool" && rt run -- --help > /dev/null)
+    (cd "$top/crates/capt" && rt run -- --help > /dev/null)
 fi
 work=$(mktemp -d "${TMPDIR:-/tmp}/capt-all.XXXXXX")
 trap 'rm -rf "$work"' EXIT

@@ -10,12 +10,12 @@
 # Use: bench/join.sh [PROGRAM] [PERCENT OF THE ROWS' SIZES] [RUNS] [WORDS OF THE ROWS..]
 set -eu
 top=$(cd "$(dirname "$0")/.." && pwd)
-program=${1:-$top/crates/cap_tool/out/cap_tool}
+program=${1:-$top/crates/capt/out/capt}
 percent=${2:-100}
 runs=${3:-3}
 shift $(($# < 3 ? $# : 3))
 if [ ! -x "$program" ]; then
-    (cd "$top/crates/cap_tool" && rt run > /dev/null)
+    (cd "$top/crates/capt" && rt run > /dev/null)
 fi
 work=$(mktemp -d "${TMPDIR:-/tmp}/capt-join.XXXXXX")
 trap 'rm -rf "$work"' EXIT

@@ -9,11 +9,11 @@
 # Use: bench/keys.sh [PROGRAM] [CONVERSATIONS] [RUNS]
 set -eu
 top=$(cd "$(dirname "$0")/.." && pwd)
-program=${1:-$top/crates/cap_tool/out/cap_tool}
+program=${1:-$top/crates/capt/out/capt}
 conversations=${2:-200000}
 runs=${3:-1}
 if [ ! -x "$program" ]; then
-    (cd "$top/crates/cap_tool" && rt run > /dev/null)
+    (cd "$top/crates/capt" && rt run > /dev/null)
 fi
 work=$(mktemp -d "${TMPDIR:-/tmp}/capt-keys.XXXXXX")
 trap 'rm -rf "$work"' EXIT

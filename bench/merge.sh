@@ -10,12 +10,12 @@
 # Use: bench/merge.sh [PROGRAM] [THOUSANDS OF PACKETS] [RUNS] [NUMBERS OF FILES..]
 set -eu
 top=$(cd "$(dirname "$0")/.." && pwd)
-program=${1:-$top/crates/cap_tool/out/cap_tool}
+program=${1:-$top/crates/capt/out/capt}
 thousands=${2:-5000}
 runs=${3:-5}
 shift $(($# < 3 ? $# : 3))
 if [ ! -x "$program" ]; then
-    (cd "$top/crates/cap_tool" && rt run > /dev/null)
+    (cd "$top/crates/capt" && rt run > /dev/null)
 fi
 work=$(mktemp -d "${TMPDIR:-/tmp}/capt-merge.XXXXXX")
 trap 'rm -rf "$work"' EXIT

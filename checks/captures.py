@@ -4,7 +4,7 @@ import fcntl, os, struct, subprocess, sys, threading
 import model
 
 TOP = os.path.dirname(os.path.dirname(os.path.abspath(__file__)))
-PROGRAM = os.path.join(TOP, "crates", "cap_tool", "out", "cap_tool")
+PROGRAM = os.path.join(TOP, "crates", "capt", "out", "capt")
 
 MICRO_LITTLE = "d4c3b2a1 02000400 00000000 00000000 00000400"
 SECTION = "0a0d0d0a 1c000000 4d3c2b1a 01000000 ffffffffffffffff 1c000000"

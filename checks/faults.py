@@ -11,7 +11,7 @@ merge: after all that comes before it); a writer
 that fails, or takes nothing, after any number of bytes, which has just these (one that a signal interrupts is asked
 again); a file without end, which rule 14 stops.
 
-Use: checks/faults.py [growths|devices] [PROGRAM]     (as after `rt run` in crates/cap_tool and `rt test` in the crates
+Use: checks/faults.py [growths|devices] [PROGRAM]     (as after `rt run` in crates/capt and `rt test` in the crates
 below, or `rt ci`; a minute)"""
 import sys
 

@@ -36,7 +36,7 @@ export RT_JOBS=${RT_JOBS:-$((memory < 1 ? 1 : memory < most ? memory : most))}
 
 # are_built: rt ci has built the program and the tests
 are_built() {
-    grep -q '^rt: cap_tool proved' "$logs/rt ci" && grep -q '^rt: cap_tests: its tests are proved' "$logs/rt ci"
+    grep -q '^rt: capt proved' "$logs/rt ci" && grep -q '^rt: cap_tests: its tests are proved' "$logs/rt ci"
 }
 
 # The scripts begin beside the last edits, once a processor has had nothing to do for three seconds, and take only what is left of the processors; begun

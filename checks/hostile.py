@@ -6,7 +6,7 @@ Every length of each worked file, with --allow-cut and without, alone and as one
 each number of each worked file in turn replaced by 0, 1, and numbers at the ends of their range. Every other run is read by
 one byte at a time (faults.c).
 
-Use: checks/hostile.py [PROGRAM]     (as after `rt run` or `rt ci` in crates/cap_tool; under two minutes)"""
+Use: checks/hostile.py [PROGRAM]     (as after `rt run` or `rt ci` in crates/capt; under two minutes)"""
 import sys
 
 sys.dont_write_bytecode = True

@@ -5,7 +5,7 @@
 All lines but those of the files are the same, byte for byte; after `convert --to pcap` times are compared as fractions, since
 they may have another form. A capture that isn't written whole is refused by the rule that is said here.
 
-Use: checks/invariance.py [PROGRAM]     (as after `rt run` or `rt ci` in crates/cap_tool)"""
+Use: checks/invariance.py [PROGRAM]     (as after `rt run` or `rt ci` in crates/capt)"""
 import sys
 
 sys.dont_write_bytecode = True

@@ -2,7 +2,7 @@
 """Each limit of README.md at its edge, on the built program: the last number that is accepted, and the first that is
 refused, with its rule, status and offset; and what memory is taken there.
 
-Use: checks/limits.py [PROGRAM]     (as after `rt run` or `rt ci` in crates/cap_tool; some half a minute, 200 MB of files)"""
+Use: checks/limits.py [PROGRAM]     (as after `rt run` or `rt ci` in crates/capt; some half a minute, 200 MB of files)"""
 import sys
 
 sys.dont_write_bytecode = True

@@ -7,7 +7,7 @@
 # Use: checks/papers.sh [PROGRAM]
 set -u
 top=$(cd "$(dirname "$0")/.." && pwd)
-program=$(realpath "${1:-$top/crates/cap_tool/out/cap_tool}")
+program=$(realpath "${1:-$top/crates/capt/out/capt}")
 work=$(mktemp -d)
 trap 'rm -rf "$work"' EXIT
 mkdir "$work/bin" "$work/files"

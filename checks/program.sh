@@ -2,10 +2,10 @@
 # What the program does with its streams and its status, tried on the built executable: what no stored run
 # and no test over readers and writers can show.
 #
-# Use: checks/program.sh [PROGRAM]     (as after `rt run` or `rt ci` in crates/cap_tool)
+# Use: checks/program.sh [PROGRAM]     (as after `rt run` or `rt ci` in crates/capt)
 set -u
 top=$(cd "$(dirname "$0")/.." && pwd)
-program=$(realpath "${1:-$top/crates/cap_tool/out/cap_tool}")
+program=$(realpath "${1:-$top/crates/capt/out/capt}")
 work=$(mktemp -d)
 trap 'rm -rf "$work"' EXIT
 passed=0

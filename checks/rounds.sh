@@ -6,7 +6,7 @@
 # Use: checks/rounds.sh [PROGRAM]
 set -u
 top=$(cd "$(dirname "$0")/.." && pwd)
-program=${1:-$top/crates/cap_tool/out/cap_tool}
+program=${1:-$top/crates/capt/out/capt}
 work=$(mktemp -d)
 trap 'rm -rf "$work"' EXIT
 

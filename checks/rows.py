@@ -2,7 +2,7 @@
 """Rows of the commands and of the command line on the built program, worked out by hand from the formats: what is printed or written of captures
 in hex, and how it ends. Each capture is read whole and by one byte at a time (faults.c).
 
-Use: checks/rows.py [PROGRAM]     (as after `rt run` or `rt ci` in crates/cap_tool; some seconds)"""
+Use: checks/rows.py [PROGRAM]     (as after `rt run` or `rt ci` in crates/capt; some seconds)"""
 import sys
 
 sys.dont_write_bytecode = True

@@ -7,6 +7,6 @@
 # memory and gives all back, and answers and writes exactly what model.py has; where something failed, that fault and a prefix, or nothing. OUT
 # is read again by `list` up to its end, also after a refusal. A failed case is printed with its files in hex.
 #
-# Use: checks/soak.sh SECONDS [SEED] [PROGRAM]     (as after `rt run` or `rt ci` in crates/cap_tool)
+# Use: checks/soak.sh SECONDS [SEED] [PROGRAM]     (as after `rt run` or `rt ci` in crates/capt)
 set -eu
 exec python3 "$(dirname "$0")/soak.py" "$@"

@@ -2,10 +2,10 @@
 # That joining needs little stack, whatever the order of the fragments: `capt join` with a stack of 128 KiB over
 # datagrams of 8,189 fragments, whose buffer has 4,094 holes at once.
 #
-# Use: checks/stack.sh [PROGRAM]     (as after `rt run` or `rt ci` in crates/cap_tool)
+# Use: checks/stack.sh [PROGRAM]     (as after `rt run` or `rt ci` in crates/capt)
 set -u
 top=$(cd "$(dirname "$0")/.." && pwd)
-program=${1:-$top/crates/cap_tool/out/cap_tool}
+program=${1:-$top/crates/capt/out/capt}
 work=$(mktemp -d)
 trap 'rm -rf "$work"' EXIT
 
