@@ -22,8 +22,8 @@ from threading import Thread
 
 TOP = os.path.dirname(os.path.dirname(os.path.abspath(__file__)))
 KIT = os.path.dirname(subprocess.run(["rt", "doc"], capture_output=True, text=True, check=True).stdout.strip())
-# The crates that take longer than their code is long: cap_line with the types of clap, cap_tasks by four edits of one function.
-LONG = ["cap_write", "cap_talks", "cap_line", "cap_tasks"]
+# The crates that take longer than their code is long: cap_line with the types of clap, cap_tool by four edits of one function.
+LONG = ["cap_write", "cap_talks", "cap_line", "cap_tool"]
 # What a check says of a proof file that names what an edit took away, or what stands on such a line.
 LOST = re.compile(r"has no field|is not in scope|has no `|was not admitted|that depends? on ")
 

@@ -12,8 +12,8 @@ import pathlib, re, sys
 TOP = pathlib.Path(__file__).resolve().parent.parent
 PRINTS, TELLS = "cap_bytes.Printing.Prints", "cap_talks.talks.Telling.Tells"
 ROOTS = {
-    "list": ["cap_lists.ListText.list_text", "cap_lists.ListText.list_refusal", PRINTS],
-    "blocks": ["cap_lists.BlockText.block_list", "cap_lists.BlockText.block_refusal", PRINTS],
+    "list": ["cap_tool.ListText.list_text", "cap_tool.ListText.list_refusal", PRINTS],
+    "blocks": ["cap_tool.BlockText.block_list", "cap_tool.BlockText.block_refusal", PRINTS],
     "info": ["cap_talks.talks.InfoText.info_text", "cap_talks.talks.InfoText.first_refusal", TELLS],
     "report": [
         "cap_talks.talks.ReportText.report_text", "cap_talks.talks.ReportText.report_refusal", "cap_merge.Files.clocked_run",

@@ -4,7 +4,7 @@ use crate::checks::same;
 use crate::files::room_of;
 use cap_bytes::{Fault, Refusal, Rule};
 use cap_line::{LineFault, USAGE};
-use cap_run::{Outcome, end_of, outcome_line, status_of, tell};
+use cap_tool::{Outcome, end_of, outcome_line, status_of, tell};
 use std::alloc::Global;
 use std::io;
 use std::io::{BufWriter, Write};

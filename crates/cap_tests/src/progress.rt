@@ -3,7 +3,7 @@
 use crate::checks::{holds, same};
 use crate::files::room_of;
 use cap_bytes::{Device, Pieces, Sink, Source};
-use cap_run::{Progress, Watched, progress_line};
+use cap_tool::{Progress, Watched, progress_line};
 use std::process::Abort;
 
 // Bytes that are read, of how many, after how many milliseconds, and the line.

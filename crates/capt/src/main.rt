@@ -6,11 +6,10 @@ ghost use Rattle.cap_line.specs.Jobs.{IsWhole};
 
 use cap_bytes::{Fault, Source, Tracked, put_all};
 use cap_line::{Job, LineFault, NOT_UTF_8, USAGE, message, parse};
-use cap_run::{
-    Outcome, Output, Progress, Watched, create_output, end_of, hint, open_all, status_of, tell,
-    watch_all,
+use cap_tool::{
+    Outcome, Output, Progress, Watched, create_output, end_of, hint, job_to, open_all, status_of,
+    tell, watch_all,
 };
-use cap_tasks::job_to;
 use std::alloc::Global;
 use std::env;
 use std::fs::File;

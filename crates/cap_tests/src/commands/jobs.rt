@@ -7,7 +7,7 @@ use crate::files::{ask_written, readers_of, room_of};
 use cap_bytes::{Fault, Order, Sink};
 use cap_line::{Job, Task, is_whole};
 use cap_source::Format;
-use cap_tasks::job_to;
+use cap_tool::job_to;
 use std::alloc::Global;
 use std::process::Abort;
 

@@ -1,2 +1,0 @@
-pub mod BlockListing
-pub mod Listing

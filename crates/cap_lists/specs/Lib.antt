@@ -1,3 +1,0 @@
-pub mod BlockText
-pub mod Lines
-pub mod ListText

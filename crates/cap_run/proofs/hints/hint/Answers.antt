@@ -1,5 +1,0 @@
-use Rattle.std.proofs.Common.{rules}
-use Rattle.cap_run.proofs.hints.hint.Goals as goal
-
-pub returns-in_default-outcome : goal.returns-in_default-outcome
-returns-in_default-outcome g c = search rules

@@ -1,5 +1,0 @@
-use Rattle.std.proofs.Common.{rules}
-use Rattle.cap_run.proofs.streams.Output.create.Goals as goal
-
-pub returns-clause-file : goal.returns-clause-file
-returns-clause-file g c = search rules

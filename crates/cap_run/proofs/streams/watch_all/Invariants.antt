@@ -1,7 +1,0 @@
-use Rattle.std.proofs.Common.{◌≡◌, map}
-use Rattle.cap_run.specs.Watched.{inner_of}
-use Rattle.cap_run.proofs.streams.watch_all.Given as goal
-
--- the inputs so far are watched
-abbrev pub invariant-loop-source : goal.invariant-loop-source
-invariant-loop-source g l = map inner_of l.watched.items ≡ l.yielded

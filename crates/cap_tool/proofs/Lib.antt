@@ -1,0 +1,3 @@
+pub mod BlockListing
+pub mod Listing
+pub mod Telling

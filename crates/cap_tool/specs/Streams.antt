@@ -1,0 +1,47 @@
+-- The opening of a run's files and of its output.
+use Rattle.std.specs.Prelude.{◌≡◌, ◌≤◌, ◌-◌, ℕ, List, [], Bool, true, false, codes, get_or, length, map, IsFalse}
+use Rattle.std.specs.Str.{bytes_eq}
+use Rattle.cap_bytes.specs.Tracked.{inner_of}
+use Rattle.cap_bytes.specs.declared.faults.Fault.TheVariants as faults
+use Rattle.cap_bytes.specs.declared.streams.Tracked.{Tracked}
+use Rattle.cap_tool.specs.declared.outcomes.Outcome.{Outcome}
+use Rattle.cap_tool.specs.declared.outcomes.Outcome.TheVariants as outcomes
+use Rattle.cap_tool.specs.declared.streams.Input.{Input}
+use Rattle.cap_tool.specs.declared.streams.Input.TheVariants as inputs
+use Rattle.cap_tool.specs.declared.streams.Output.{Output}
+use Rattle.cap_tool.specs.declared.streams.Output.TheVariants as outputs
+
+-- whether a name is that of a standard stream
+abbrev pub is_dash : List ℕ → Bool
+is_dash name = bytes_eq name (codes "-")
+
+-- whether it is standard input, and no file that was opened
+abbrev pub is_standard : Input → Bool
+is_standard (inputs.File file) = false
+is_standard (inputs.Standard standard) = true
+
+-- which of some inputs are standard input
+abbrev pub standards_of : List (Tracked Input) → List Bool
+standards_of sources = map (λ source. is_standard (inner_of source)) sources
+
+-- it is a file that was created
+abbrev pub IsOutFile : Output → Type 0
+IsOutFile (outputs.File file) = Unit {0}
+IsOutFile (outputs.Standard standard) = ⊥
+
+-- it is standard output
+abbrev pub IsStandardOut : Output → Type 0
+IsStandardOut (outputs.File file) = ⊥
+IsStandardOut (outputs.Standard standard) = Unit {0}
+
+-- the output could not be created
+abbrev pub StopsCreating : Outcome → Type 0
+StopsCreating outcome = outcome ≡ outcomes.Create
+
+-- the file of one of those names, which isn't `-`, could not be opened, or there was no memory
+abbrev pub StopsOpening : List (List ℕ) → Outcome → Type 0
+StopsOpening names outcomes.Done = ⊥
+StopsOpening names (outcomes.Line fault) = ⊥
+StopsOpening names (outcomes.Fault fault) = fault ≡ faults.Memory
+StopsOpening names (outcomes.Open n) = (1 ≤ n) × (n ≤ length names) × IsFalse (is_dash (get_or names (n - 1) []))
+StopsOpening names outcomes.Create = ⊥

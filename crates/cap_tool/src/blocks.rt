@@ -1,0 +1,67 @@
+//! `capt blocks`: one line for each block of a pcapng file, as it is found.
+ghost use Rattle.std.specs.Prelude.{IsTrue};
+ghost use Rattle.cap_blocks.specs.Reader.{GivesNext, TakesItem, items_of};
+ghost use Rattle.cap_tool.specs.BlockText.{block_lines, block_list, block_refusal, refusal_of};
+ghost use Rattle.cap_bytes.specs.Device.{WriterKeeps, writer_of};
+ghost use Rattle.cap_bytes.specs.Printing.{Prints, is_write};
+ghost use Rattle.cap_bytes.specs.Reader.{Keeps};
+ghost use Rattle.cap_source.specs.ReadFaults.{FailsAs, FailsOf};
+
+use crate::lines::write_block;
+use cap_blocks::{Block, BlockReader};
+use cap_bytes::{Fault, Sink, Source, Tail, Window, put_all};
+use cap_print::Line;
+use std::alloc::Global;
+
+// The next block. Most are packets that the window shows already: to take one of these costs less.
+#[inline(always)]
+fn take_block<R: Source>(reader: &mut BlockReader<R>) -> Result<Option<Block>, Fault>
+    ensures answer { GivesNext reader.old result reader.new }
+    ensures keeps { Keeps reader.old reader.new }
+    ensures items { IsTrue reader.old.told → TakesItem reader.old result reader.new }
+{
+    match reader.take_packet() {
+        Some(block) => Ok(Some(block)),
+        None => reader.next_block(),
+    }
+}
+
+// Prints the blocks that a reader still gives, the first of which has the number 1.
+fn print_blocks<R: Source, W: Sink>(
+    reader: &mut BlockReader<R>,
+    writer: &mut W,
+) -> Result<(), Fault>
+    ensures text { IsTrue reader.old.told → IsTrue (W.tells_held writer.old)
+        → Prints (block_lines 1 (items_of reader.old)) (refusal_of (items_of reader.old))
+        (W.held writer.old) result (W.held writer.new) }
+    ensures writer { WriterKeeps (writer_of W.Sink writer.old) (is_write result) (writer_of W.Sink writer.new) }
+    ensures read { FailsAs reader.old.file reader.old.can_fail result }
+{
+    let mut line = Line::new();
+    let mut n = 1u64;
+    while let Some(block) = take_block(reader)? {
+        write_block(&mut line, n, &block);
+        put_all(writer, line.as_slice())?;
+        n += 1;
+    }
+    Ok(())
+}
+
+/// Prints a line for each block of a pcapng file, each as it is found, up to the first refusal, which
+/// it answers. `Read` comes if a read fails, `Write` if a write does, `Memory` if a growth is refused; after these a
+/// prefix of those lines is written.
+pub fn blocks_to<R: Source, W: Sink>(
+    alloc: Global,
+    source: R,
+    tail: Tail,
+    writer: &mut W,
+) -> Result<(), Fault>
+    ensures text { IsTrue (R.tells_coming source) → IsTrue (W.tells_held writer.old)
+        → Prints (block_list tail (R.coming source)) (block_refusal tail (R.coming source))
+        (W.held writer.old) result (W.held writer.new) }
+    ensures writer { WriterKeeps (writer_of W.Sink writer.old) (is_write result) (writer_of W.Sink writer.new) }
+    ensures read { FailsOf 1 (R.can_fail source) result }
+{
+    let mut reader = BlockReader::new(Window::new(alloc, source, 1), tail);
+    print_blocks(&mut reader, writer)
+}

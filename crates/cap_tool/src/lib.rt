@@ -1,0 +1,25 @@
+//! What the commands of `capt` do over readers and writers, and a run of the program: its files and standard streams, what is
+//! shown of it while it lasts, how it ends, and what a terminal is told of it.
+#![tactic(auto)]
+
+mod blocks;
+mod hints;
+mod jobs;
+mod lines;
+mod list;
+mod outcomes;
+mod progress;
+mod regular;
+mod streams;
+mod watched;
+
+pub use crate::blocks::blocks_to;
+pub use crate::hints::hint;
+pub use crate::jobs::job_to;
+pub use crate::list::list_to;
+pub use crate::outcomes::{Outcome, end_of, outcome_line, status_of, tell};
+pub use crate::progress::{Progress, progress_line};
+pub use crate::regular::{FileId, Regular};
+pub use crate::streams::{Input, Inputs, Output, create_output, open_all, watch_all};
+pub use crate::watched::Watched;
+pub use cap_line::{Job, LineFault, parse};

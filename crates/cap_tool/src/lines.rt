@@ -1,0 +1,92 @@
+//! The lines of packets and blocks.
+ghost use Rattle.std.specs.Prelude.{◌≡◌, ◌+◌, ◌≤◌, ◌++◌, length, option_map};
+ghost use Rattle.cap_print.specs.Lines.{room_in, text_in};
+ghost use Rattle.cap_tool.specs.BlockText.{block_text, kind_text, order_text};
+ghost use Rattle.cap_tool.specs.Lines.{data_text};
+ghost use Rattle.cap_time.specs.Stamp.{printed_of};
+ghost use Rattle.cap_tool.specs.ListText.{packet_text, printed_in};
+
+use cap_blocks::Block;
+use cap_bytes::Order;
+use cap_print::Line;
+use cap_source::Meta;
+use cap_time::Stamp;
+use std::cmp::min;
+
+// Puts a label and the first bytes of a packet, at most 16, in lower case hex, or `-` if there are none.
+#[inline(always)]
+fn put_data(line: &mut Line, label: &[u8], bytes: &[u8])
+    requires { length label.now + 32 ≤ room_in line.old }
+    ensures text { text_in line.new ≡ label.now ++ data_text bytes.now ++ text_in line.old }
+    ensures room { room_in line.old ≤ room_in line.new + length label.now + 32 }
+{
+    if bytes.is_empty() {
+        line.put_text(b"-");
+        line.put_text(label);
+    } else {
+        let (shown, _) = bytes.split_at(min(bytes.len(), 16));
+        line.put_hex(label, shown);
+    }
+}
+
+// The time of a packet, if it has one, as it is printed.
+fn stamp_of(meta: &Meta) -> Option<Stamp>
+    ensures { option_map printed_of result ≡ printed_in meta.now.units meta.now.interface }
+{
+    meta.time()
+}
+
+/// Makes a line that of the packet number n, from 1:
+/// `packet N offset O time T captured C original G link L data X`.
+pub(crate) fn write_packet(line: &mut Line, n: u64, meta: &Meta, bytes: &[u8])
+    ensures { text_in line.new ≡ packet_text n meta.now bytes.now }
+{
+    line.clear();
+    line.put_text(b"\n");
+    put_data(line, b" data ", bytes);
+    line.put_field(b" link ", u64::from(meta.interface.link));
+    line.put_field(b" original ", u64::from(meta.original));
+    line.put_field(b" captured ", u64::from(meta.captured));
+    line.put_time(b" time ", stamp_of(meta));
+    line.put_field(b" offset ", meta.offset);
+    line.put_field(b"packet ", n);
+}
+
+// Puts a label and the order of a block's numbers.
+#[inline(always)]
+fn put_order(line: &mut Line, label: &[u8], order: Order)
+    requires { length label.now + 6 ≤ room_in line.old }
+    ensures text { text_in line.new ≡ label.now ++ order_text order ++ text_in line.old }
+    ensures room { room_in line.old ≤ room_in line.new + length label.now + 6 }
+{
+    match order {
+        Order::Big => line.put_text(b"big"),
+        Order::Little => line.put_text(b"little"),
+    }
+    line.put_text(label);
+}
+
+// Puts a label and a block's kind, in eight lower case hex digits.
+#[inline(always)]
+#[tactic(auto, unfolding(cap_bytes::specs::Number::bytes_of))]
+fn put_kind(line: &mut Line, label: &[u8], kind: u32)
+    requires { length label.now + 8 ≤ room_in line.old }
+    ensures text { text_in line.new ≡ label.now ++ kind_text kind ++ text_in line.old }
+    ensures room { room_in line.new + length label.now + 8 ≡ room_in line.old }
+{
+    line.put_hex(label, &kind.to_be_bytes());
+}
+
+/// Makes a line that of the block number n, from 1:
+/// `block N offset O order little kind 0a0d0d0a total T`, or `order big`.
+pub(crate) fn write_block(line: &mut Line, n: u64, block: &Block)
+    ensures { text_in line.new ≡ block_text n block.now }
+{
+    line.clear();
+    line.put_text(b"\n");
+    line.put_field(b" total ", u64::from(block.total));
+    put_kind(line, b" kind ", block.kind);
+    put_order(line, b" order ", block.order);
+    line.put_field(b" offset ", block.offset);
+    line.put_field(b"block ", n);
+}

@@ -1,0 +1,185 @@
+//! How a run ends: its status, and what is told of it.
+ghost use Rattle.std.specs.Prelude.{◌≡◌, ◌≤◌, ◌++◌, length, is_err, IsTrue, IsFalse, IsOk, IsErr, IsOkUnless};
+ghost use Rattle.cap_bytes.specs.Device.{Puts, WriterKeeps, writer_of};
+ghost use Rattle.cap_print.specs.Lines.{text_in};
+ghost use Rattle.cap_tool.specs.Outcomes.{ends_by, status_after, fault_text, line_text, outcome_text, refusal_text, read_text, open_text, told_text, is_help, HelpEnds};
+ghost use Rattle.cap_bytes.specs.Printing.{PrintsFront};
+
+use cap_bytes::{Fault, Refusal, Sink, put_all};
+use cap_line::{LineFault, USAGE};
+use cap_print::Line;
+use std::io;
+
+/// How a run ended.
+#[derive(Clone, Copy, Debug, PartialEq, Eq)]
+pub enum Outcome {
+    /// All was done.
+    Done,
+    /// The command line was not run.
+    Line(LineFault),
+    /// An input was refused, or a device or memory failed.
+    Fault(Fault),
+    /// The file of that number, from 1, could not be opened.
+    Open(u32),
+    /// The output could not be created, or is one of the files that are read.
+    Create,
+}
+
+/// How a command ends that answered `answer`, once what waited in its writer's buffer was flushed:
+/// a flush that failed comes before the answer.
+pub fn end_of(answer: Result<(), Fault>, flushed: io::Result<()>) -> Result<(), Outcome>
+    ensures flushed { IsOk flushed → result ≡ ends_by answer }
+    ensures write { IsErr flushed → result ≡ Err (Outcome.Fault Fault.Write) }
+{
+    match flushed {
+        Ok(()) => answer.map_err(Outcome::Fault),
+        Err(_) => Err(Outcome::Fault(Fault::Write)),
+    }
+}
+
+/// The status that the process ends with: 0 for a run that is done and for help, 1 if an input
+/// is refused, or a device, an opening, a creation or memory fails, 2 for a faulty command line.
+pub fn status_of(outcome: &Outcome) -> u8
+    ensures { result ≡ status_after outcome.now }
+{
+    match outcome {
+        Outcome::Done | Outcome::Line(LineFault::Help) => 0,
+        Outcome::Fault(_) | Outcome::Open(_) | Outcome::Create | Outcome::Line(LineFault::Memory) =>
+            1,
+        Outcome::Line(LineFault::Line)
+        | Outcome::Line(LineFault::Files)
+        | Outcome::Line(LineFault::Input)
+        | Outcome::Line(LineFault::Output) => 2,
+    }
+}
+
+// `refused: file 2 offset 24 rule 6 block-trailer`
+fn refusal_line(refusal: &Refusal) -> Line
+    ensures { text_in result ≡ refusal_text refusal.now }
+{
+    let mut line = Line::new();
+    line.put_text(b"\n");
+    line.put_text(refusal.rule.name().as_bytes());
+    line.put_text(b" ");
+    line.put_field(b" rule ", u64::from(refusal.rule.number()));
+    line.put_field(b" offset ", refusal.offset);
+    line.put_field(b"refused: file ", u64::from(refusal.file));
+    line
+}
+
+// `fault: read file 1 offset 24`
+fn read_line(file: u32, offset: u64) -> Line
+    ensures { text_in result ≡ read_text file offset }
+{
+    let mut line = Line::new();
+    line.put_text(b"\n");
+    line.put_field(b" offset ", offset);
+    line.put_field(b"fault: read file ", u64::from(file));
+    line
+}
+
+// `fault: open file 1`
+fn open_line(file: u32) -> Line
+    ensures { text_in result ≡ open_text file }
+{
+    let mut line = Line::new();
+    line.put_text(b"\n");
+    line.put_field(b"fault: open file ", u64::from(file));
+    line
+}
+
+// A line of that text alone.
+fn short_line(text: &[u8]) -> Line
+    requires { length text.now ≤ 512 }
+    ensures { text_in result ≡ text.now }
+{
+    let mut line = Line::new();
+    line.put_text(text);
+    line
+}
+
+// What is told of a fault of a run.
+fn fault_line(fault: Fault) -> Line
+    ensures { text_in result ≡ fault_text fault }
+{
+    match fault {
+        Fault::Refused(refusal) => refusal_line(&refusal),
+        Fault::Read { file, offset } => read_line(file, offset),
+        Fault::Write => short_line(b"fault: write\n"),
+        Fault::Memory => short_line(b"fault: memory\n"),
+    }
+}
+
+// What is told of a command line that wasn't run.
+fn line_fault_text(fault: LineFault) -> &'static [u8]
+    ensures { result.now ≡ line_text fault }
+{
+    match fault {
+        LineFault::Help | LineFault::Line => USAGE.as_bytes(),
+        LineFault::Files => b"fault: files\n",
+        LineFault::Input => b"fault: input\n",
+        LineFault::Output => b"fault: output\n",
+        LineFault::Memory => b"fault: memory\n",
+    }
+}
+
+/// Writes what is told of an outcome: nothing of a run that is done, the usage for help and for a
+/// line that isn't of capt, and one line for each other. Answers `Fault::Write`, and no other
+/// fault, if the writer failed: a prefix of the text is written then.
+pub fn outcome_line<W: Sink>(outcome: &Outcome, writer: &mut W) -> Result<(), Fault>
+    ensures text { IsTrue (W.tells_held writer.old)
+        → Puts (W.held writer.old) result (W.held writer.new) (outcome_text outcome.now) }
+    ensures writer { WriterKeeps (writer_of W.Sink writer.old) (is_err result) (writer_of W.Sink writer.new) }
+    ensures fault { IsOkUnless result Fault.Write }
+{
+    match outcome {
+        Outcome::Done => Ok(()),
+        Outcome::Line(fault) => put_all(writer, line_fault_text(*fault)),
+        Outcome::Fault(fault) => put_all(writer, fault_line(*fault).as_slice()),
+        Outcome::Open(file) => put_all(writer, open_line(*file).as_slice()),
+        Outcome::Create => put_all(writer, b"fault: create output\n"),
+    }
+}
+
+// Writes what is told of an outcome if something else than the usage is said of words that give no job.
+fn put_told<W: Sink>(outcome: &Outcome, said: &[u8], writer: &mut W) -> Result<(), Fault>
+    ensures text { IsTrue (W.tells_held writer.old)
+        → Puts (W.held writer.old) result (W.held writer.new) (told_text said.now outcome.now) }
+    ensures writer { WriterKeeps (writer_of W.Sink writer.old) (is_err result) (writer_of W.Sink writer.new) }
+{
+    match outcome {
+        Outcome::Line(LineFault::Help) | Outcome::Line(LineFault::Line) => put_all(writer, said),
+        _ => outcome_line(outcome, writer),
+    }
+}
+
+/// Tells an outcome: help on `output`, all else on `faults`. `said` is what is told of help, and of a line
+/// that isn't of capt. Answers how the run ends: by `Fault::Write` if help could not be written, which is
+/// told then, else by the same outcome. A failure of `faults` changes nothing.
+pub fn tell<O: Sink, E: Sink>(
+    outcome: Outcome,
+    said: &[u8],
+    output: &mut O,
+    faults: &mut E,
+) -> Outcome
+    ensures same { IsFalse (is_help outcome) → result ≡ outcome }
+    ensures silent { IsFalse (is_help outcome) → output.new ≡ output.old }
+    ensures help { IsTrue (is_help outcome) → IsTrue (O.tells_held output.old)
+        → HelpEnds said.now (O.held output.old) (O.held output.new) result }
+    ensures ends { IsTrue (is_help outcome) → IsFalse (O.can_fail output.old) → result ≡ outcome }
+    ensures told { IsTrue (E.tells_held faults.old) → IsFalse (is_help result)
+        → PrintsFront (told_text said.now result) (E.held faults.old) (E.held faults.new) }
+    ensures whole { IsTrue (E.tells_held faults.old) → IsFalse (is_help result)
+        → IsFalse (E.can_fail faults.old)
+        → E.held faults.new ≡ E.held faults.old ++ told_text said.now result }
+{
+    let ending = match outcome {
+        Outcome::Line(LineFault::Help) => match put_told(&outcome, said, output) {
+            Ok(()) => return outcome,
+            Err(_) => Outcome::Fault(Fault::Write),
+        },
+        _ => outcome,
+    };
+    let _ = put_told(&ending, said, faults);
+    ending
+}

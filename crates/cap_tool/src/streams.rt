@@ -1,0 +1,244 @@
+//! The files and the standard streams of a run.
+ghost use Rattle.std.specs.Prelude.{◌≡◌, ◌≢◌, ◌≤◌, ◌+◌, ◌++◌, ◌∷◌, [], codes, length, map, vec_len, IfOk, IfErr, IsErr, IsFalse, IsTrue, option_map, Some, None};
+ghost use Rattle.cap_tool.specs.Watched.{inner_of};
+ghost use Rattle.cap_tool.specs.Streams.{IsOutFile, IsStandardOut, StopsOpening, StopsCreating, is_dash, is_standard, standards_of};
+
+use crate::outcomes::Outcome;
+use crate::progress::Progress;
+use crate::regular::{FileId, Regular, id_of, is_input, regular_at, regular_file, regular_of};
+use crate::watched::Watched;
+use cap_bytes::{Fault, Tracked};
+use std::alloc::{AllocError, Global};
+use std::fs::{File, OpenOptions};
+use std::io;
+use std::io::{ErrorKind, IsTerminal, Read, Stdin, Stdout, Write};
+use std::rt::Files;
+use std::time::Clock;
+
+/// What a capture is read from.
+#[derive(Drop)]
+pub enum Input {
+    /// A file that was opened.
+    File(File),
+    /// Standard input.
+    Standard(Stdin),
+}
+
+impl Input {
+    /// Takes standard input if the name is `-`, and opens the file of that name else.
+    pub fn open<R: Files<File = File>>(files: &R, standard: Stdin, name: &str) -> io::Result<Input>
+        ensures standard { name.now ≡ codes "-" → result ≡ Ok (Input.Standard standard) }
+        ensures which { IfOk result (λ input. is_standard input ≡ is_dash name.now) }
+        ensures fault { IsErr result → IsFalse (is_dash name.now) }
+    {
+        if name == "-" {
+            return Ok(Input::Standard(standard));
+        }
+        Ok(Input::File(File::open(files, name)?))
+    }
+
+    // Which regular file is read, if it is one and that can be found out.
+    fn regular<R: Files<File = File>>(&self, files: &R) -> Option<Regular> {
+        match self {
+            Input::File(file) => regular_file(file),
+            Input::Standard(_) => regular_at(files, "/dev/stdin"),
+        }
+    }
+}
+
+impl Read for Input {
+    fn read(&mut self, buffer: &mut [u8]) -> io::Result<usize> {
+        match self {
+            Input::File(file) => file.read(buffer),
+            Input::Standard(standard) => standard.read(buffer),
+        }
+    }
+}
+
+/// What the packets or the lines are written to.
+#[derive(Drop)]
+pub enum Output {
+    /// A file that was created, or emptied if there was one.
+    File(File),
+    /// Standard output.
+    Standard(Stdout),
+}
+
+// Empties a file that is open, if it is a regular one. One of the inputs is refused, and stays as it is.
+fn empty(file: &File, inputs: &[Option<FileId>]) -> io::Result<()> {
+    let metadata = file.metadata()?;
+    let id = id_of(regular_of(&metadata));
+    if is_input(id, inputs) {
+        return Err(io::Error::from(ErrorKind::AlreadyExists));
+    }
+    match id {
+        Some(_) => file.set_len(0),
+        None => Ok(()),
+    }
+}
+
+// Opens a file to be written and empties it, unless it is one of the inputs: then it stays as it is.
+fn create_file<R: Files<File = File>>(
+    files: &R,
+    name: &str,
+    inputs: &[Option<FileId>],
+) -> io::Result<File> {
+    let file = OpenOptions::new()
+        .write(true)
+        .create(true)
+        .open(files, name)?;
+    empty(&file, inputs)?;
+    Ok(file)
+}
+
+impl Output {
+    /// Takes standard output if the name is `-`, and creates the file of that name else, or empties it
+    /// if there is one. A file that is one of the inputs isn't changed, and is an error.
+    pub fn create<R: Files<File = File>>(
+        files: &R,
+        standard: Stdout,
+        name: &str,
+        inputs: &[Option<FileId>],
+    ) -> io::Result<Output>
+        ensures standard { name.now ≡ codes "-" → result ≡ Ok (Output.Standard standard) }
+        ensures file { name.now ≢ codes "-" → IfOk result IsOutFile }
+    {
+        if name == "-" {
+            return Ok(Output::Standard(standard));
+        }
+        Ok(Output::File(create_file(files, name, inputs)?))
+    }
+
+    /// Whether someone sees what is written as it comes: it goes to a terminal, by standard output.
+    pub fn is_terminal(&self) -> bool
+        ensures { IsTrue result → IsStandardOut self.now }
+    {
+        match self {
+            Output::File(_) => false,
+            Output::Standard(standard) => standard.is_terminal(),
+        }
+    }
+
+    /// Whether it goes to a regular file.
+    pub fn is_regular<R: Files<File = File>>(&self, files: &R) -> bool {
+        match self {
+            Output::File(file) => regular_file(file).is_some(),
+            Output::Standard(_) => regular_at(files, "/dev/stdout").is_some(),
+        }
+    }
+}
+
+impl Write for Output {
+    fn write(&mut self, bytes: &[u8]) -> io::Result<usize> {
+        match self {
+            Output::File(file) => file.write(bytes),
+            Output::Standard(standard) => standard.write(bytes),
+        }
+    }
+
+    fn flush(&mut self) -> io::Result<()> {
+        match self {
+            Output::File(file) => file.flush(),
+            Output::Standard(standard) => standard.flush(),
+        }
+    }
+}
+
+/// Creates the output of a run, which is standard output if none is named. Answers
+/// `Outcome::Create`, and no other outcome, if it can't be created, and if it is one of the inputs,
+/// under whatever name: then it isn't changed.
+pub fn create_output<R: Files<File = File>>(
+    files: &R,
+    standard: Stdout,
+    name: Option<&str>,
+    inputs: &[Option<FileId>],
+) -> Result<Output, Outcome>
+    ensures standard { option_map (λ n. n.now) name.entry ≡ None → result ≡ Ok (Output.Standard standard) }
+    ensures dash { option_map (λ n. n.now) name.entry ≡ Some (codes "-") → result ≡ Ok (Output.Standard standard) }
+    ensures stops { IfErr result StopsCreating }
+{
+    match name {
+        Some(name) => { Output::create(files, standard, name, inputs).map_err(|_| Outcome::Create) }
+        None => Ok(Output::Standard(standard)),
+    }
+}
+
+/// The inputs of a run.
+#[derive(Drop)]
+pub struct Inputs {
+    /// What is read, in the order of the names.
+    pub sources: Vec<Tracked<Input>>,
+    /// Which regular file each of them is, if it is one and that can be found out.
+    pub ids: Vec<Option<FileId>>,
+    /// How many bytes they have together, if each of them is a regular file.
+    pub size: Option<u64>,
+}
+
+// That many bytes and those of one file more, if both are known.
+fn add_size(size: Option<u64>, regular: Option<Regular>) -> Option<u64> {
+    size?.checked_add(regular?.size)
+}
+
+impl Inputs {
+    // Adds an input, of which that is known.
+    fn add(&mut self, input: Input, regular: Option<Regular>) -> Result<(), AllocError>
+        ensures all { IfOk result (λ _. standards_of self.new.sources.items ≡ standards_of self.old.sources.items ++ is_standard input ∷ []) }
+        ensures len { IfOk result (λ _. vec_len self.new.sources ≡ vec_len self.old.sources + 1) }
+    {
+        self.ids.push(id_of(regular))?;
+        self.sources.push(Tracked::new(input))?;
+        self.size = add_size(self.size, regular);
+        Ok(())
+    }
+}
+
+/// Opens every file of a run, in order, and reads none: an input is standard input exactly if its name
+/// is `-`. Answers `Outcome::Open` with the number, from 1, of the first that can't be opened, which is
+/// never one named `-`, or `Fault::Memory` if a growth is refused.
+pub fn open_all<R: Files<File = File>>(
+    files: &R,
+    alloc: Global,
+    standard: Stdin,
+    names: &[&str],
+) -> Result<Inputs, Outcome>
+    requires most { length names.now ≤ 32 }
+    ensures all { IfOk result (λ inputs. standards_of inputs.sources.items ≡ map (λ n. is_dash n.now) names.now) }
+    ensures len { IfOk result (λ inputs. vec_len inputs.sources ≡ length names.now) }
+    ensures stops { IfErr result (StopsOpening (map (λ n. n.now) names.now)) }
+{
+    let mut inputs = Inputs {
+        sources: Vec::new(alloc),
+        ids: Vec::new(alloc),
+        size: Some(0),
+    };
+    for (place, name) in names.iter().enumerate() {
+        let Ok(input) = Input::open(files, standard, name) else {
+            return Err(Outcome::Open(place as u32 + 1));
+        };
+        let regular = input.regular(files);
+        if inputs.add(input, regular).is_err() {
+            return Err(Outcome::Fault(Fault::Memory));
+        }
+    }
+    Ok(inputs)
+}
+
+/// The inputs of a run, watched, in the same order. Answers `Fault::Memory`, and no other outcome, if a growth is
+/// refused.
+pub fn watch_all<'a, C: Clock>(
+    alloc: Global,
+    sources: Vec<Tracked<Input>>,
+    progress: &'a Progress<'a, C>,
+) -> Result<Vec<Watched<'a, Tracked<Input>, C>>, Outcome>
+    ensures same { IfOk result (λ watched. map inner_of watched.items ≡ sources.items) }
+    ensures len { IfOk result (λ watched. vec_len watched ≡ vec_len sources) }
+    ensures stops { IfErr result (λ outcome. outcome ≡ Outcome.Fault Fault.Memory) }
+{
+    let mut watched = Vec::new(alloc);
+    for source in sources {
+        if watched.push(Watched::new(source, progress)).is_err() {
+            return Err(Outcome::Fault(Fault::Memory));
+        }
+    }
+    Ok(watched)
+}

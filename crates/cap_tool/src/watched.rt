@@ -1,0 +1,66 @@
+//! A device whose bytes are counted for the line that shows how far a run is.
+ghost use Rattle.std.specs.Prelude.{◌≡◌};
+ghost use Rattle.cap_tool.specs.Watched.{inner_of};
+
+use crate::progress::Progress;
+use cap_bytes::{Broken, Device, Sink, Source};
+use std::time::Clock;
+
+/// A device that does what `inner` does. Of a reader the progress is told how many bytes came, and of a writer
+/// that something is about to be seen.
+#[derive(Drop)]
+pub struct Watched<'a, T, C: Clock> {
+    inner: T,
+    progress: &'a Progress<'a, C>,
+}
+
+impl<'a, T, C: Clock> Watched<'a, T, C> {
+    /// A device that does what `inner` does, and tells that progress.
+    pub fn new(inner: T, progress: &'a Progress<'a, C>) -> Watched<'a, T, C>
+        ensures inner { inner_of result ≡ inner }
+    {
+        Watched { inner, progress }
+    }
+
+    /// What it reads from or writes to.
+    pub fn into_inner(self) -> T
+        ensures { result ≡ inner_of self.entry }
+    {
+        self.inner
+    }
+}
+
+impl<'a, T: Device, C: Clock> Device for Watched<'a, T, C> {
+    ghost has_failed = { λ w. T.has_failed (inner_of w) };
+
+    ghost can_fail = { λ w. T.can_fail (inner_of w) };
+
+    fn failed(&self) -> bool {
+        self.inner.failed()
+    }
+}
+
+impl<'a, T: Source, C: Clock> Source for Watched<'a, T, C> {
+    ghost tells_coming = { λ w. T.tells_coming (inner_of w) };
+
+    ghost coming = { λ w. T.coming (inner_of w) };
+
+    ghost most = { λ w. T.most (inner_of w) };
+
+    fn take(&mut self, buffer: &mut [u8]) -> Result<usize, Broken> {
+        let count = self.inner.take(buffer)?;
+        self.progress.add(count);
+        Ok(count)
+    }
+}
+
+impl<'a, T: Sink, C: Clock> Sink for Watched<'a, T, C> {
+    ghost tells_held = { λ w. T.tells_held (inner_of w) };
+
+    ghost held = { λ w. T.held (inner_of w) };
+
+    fn give(&mut self, bytes: &[u8]) -> Result<usize, Broken> {
+        self.progress.make_way();
+        self.inner.give(bytes)
+    }
+}
