@@ -19,9 +19,9 @@ ROOTS = {
         "cap_talks.talks.ReportText.report_text", "cap_talks.talks.ReportText.report_refusal", "cap_merge.Files.clocked_run",
         "cap_merge.Files.endings_of_files", TELLS,
     ],
-    "convert": ["cap_write.Converted.convert_text", "cap_write.Converted.convert_refusal", PRINTS],
-    "merge": ["cap_write.MergeText.merge_text", "cap_write.MergeText.merge_refusal", PRINTS],
-    "join": ["cap_write.JoinText.join_text", "cap_write.JoinText.join_refusal", PRINTS],
+    "convert": ["cap_tool.Converted.convert_text", "cap_tool.Converted.convert_refusal", PRINTS],
+    "merge": ["cap_tool.MergeText.merge_text", "cap_tool.MergeText.merge_refusal", PRINTS],
+    "join": ["cap_tool.JoinText.join_text", "cap_tool.JoinText.join_refusal", PRINTS],
 }
 
 

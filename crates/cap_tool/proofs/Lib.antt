@@ -1,3 +1,4 @@
+mod Merging
 pub mod BlockListing
 pub mod Listing
 pub mod Telling

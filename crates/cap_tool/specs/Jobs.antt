@@ -14,10 +14,10 @@ use Rattle.cap_talks.specs.talks.InfoText.{first_refusal, info_text}
 use Rattle.cap_talks.specs.talks.ReportText.{report_refusal, report_text}
 use Rattle.cap_talks.specs.talks.Telling.{Tells}
 use Rattle.cap_tool.specs.BlockText.{block_list, block_refusal}
-use Rattle.cap_write.specs.Converted.{convert_refusal, convert_text}
-use Rattle.cap_write.specs.JoinText.{join_refusal, join_text}
+use Rattle.cap_tool.specs.Converted.{convert_refusal, convert_text}
+use Rattle.cap_tool.specs.JoinText.{join_refusal, join_text}
 use Rattle.cap_tool.specs.ListText.{list_refusal, list_text}
-use Rattle.cap_write.specs.MergeText.{merge_refusal, merge_text}
+use Rattle.cap_tool.specs.MergeText.{merge_refusal, merge_text}
 
 -- what is done with a cut end
 abbrev pub tail_of : Bool → Tail

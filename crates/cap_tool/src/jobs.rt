@@ -8,11 +8,11 @@ ghost use Rattle.cap_bytes.specs.Printing.{is_write};
 ghost use Rattle.cap_source.specs.ReadFaults.{FailsOf};
 
 use crate::blocks::blocks_to;
+use crate::commands::{Encoding, convert_to, join_to, merge_to};
 use crate::list::list_to;
 use cap_bytes::{Fault, Sink, Source, Tail};
 use cap_line::{Job, Task};
 use cap_talks::{file_lines, report};
-use cap_write::{Encoding, convert_to, join_to, merge_to};
 use std::alloc::Global;
 
 // What is done with a cut end.

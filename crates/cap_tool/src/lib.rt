@@ -3,6 +3,7 @@
 #![tactic(auto)]
 
 mod blocks;
+mod commands;
 mod hints;
 mod jobs;
 mod lines;
@@ -14,6 +15,7 @@ mod streams;
 mod watched;
 
 pub use crate::blocks::blocks_to;
+pub use crate::commands::{Encoding, convert_to, join_to, merge_to};
 pub use crate::hints::hint;
 pub use crate::jobs::job_to;
 pub use crate::list::list_to;

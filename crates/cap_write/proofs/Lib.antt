@@ -2,10 +2,9 @@ mod Completed
 pub mod Feeding
 mod Joining
 mod Lengths
-mod Merging
 mod Numbers
 pub mod Places
 pub mod Records
-mod Starting
+pub mod Starting
 mod Writing
 pub mod Written

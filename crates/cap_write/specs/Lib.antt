@@ -1,9 +1,6 @@
-pub mod Converted
 pub mod Datagrams
 pub mod Interfaces
 pub mod Joined
-pub mod JoinText
-pub mod MergeText
 pub mod Numbering
 pub mod Pcap
 pub mod PlacedPackets

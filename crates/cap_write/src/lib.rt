@@ -2,7 +2,6 @@
 //! these; exactly as they were read, or a refusal.
 #![tactic(auto)]
 
-mod commands;
 mod datagrams;
 mod files;
 mod interfaces;
@@ -13,7 +12,6 @@ mod pcap;
 mod pcapng;
 mod placed_packets;
 
-pub use crate::commands::{Encoding, convert_to, join_to, merge_to};
 pub use crate::files::{to_pcap, to_pcapng};
 pub use crate::joined::write_joined;
 pub use crate::merged::write_merged;

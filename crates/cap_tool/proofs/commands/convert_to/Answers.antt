@@ -1,6 +1,6 @@
 use Rattle.std.proofs.Common.{rules}
 use Rattle.cap_write.proofs.Starting.{FailsOf-one}
-use Rattle.cap_write.proofs.commands.convert_to.Goals as goal
+use Rattle.cap_tool.proofs.commands.convert_to.Goals as goal
 
 pub returns-in-Pcap-clause-text : goal.returns-in-Pcap-clause-text
 returns-in-Pcap-clause-text c = search rules

@@ -4,16 +4,14 @@ ghost use Rattle.std.specs.List.{list_all, list_any};
 ghost use Rattle.cap_bytes.specs.Device.{WriterKeeps, writer_of};
 ghost use Rattle.cap_bytes.specs.Printing.{Prints, is_write};
 ghost use Rattle.cap_source.specs.ReadFaults.{FailsOf};
-ghost use Rattle.cap_write.specs.Converted.{convert_text, convert_refusal};
-ghost use Rattle.cap_write.specs.JoinText.{join_text, join_refusal};
-ghost use Rattle.cap_write.specs.MergeText.{merge_text, merge_refusal};
+ghost use Rattle.cap_tool.specs.Converted.{convert_text, convert_refusal};
+ghost use Rattle.cap_tool.specs.JoinText.{join_text, join_refusal};
+ghost use Rattle.cap_tool.specs.MergeText.{merge_text, merge_refusal};
 
-use crate::files::{to_pcap, to_pcapng};
-use crate::joined::write_joined;
-use crate::merged::write_merged;
 use cap_bytes::{Fault, Order, Sink, Source, Tail};
 use cap_merge::merge_files;
 use cap_source::{Capture, Format};
+use cap_write::{to_pcap, to_pcapng, write_joined, write_merged};
 use std::alloc::Global;
 
 /// How packets are written.

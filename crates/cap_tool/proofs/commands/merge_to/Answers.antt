@@ -4,8 +4,8 @@ use Rattle.cap_merge.proofs.Unread.{Fails-merged}
 use Rattle.cap_merge.specs.Parts.{feed_of}
 use Rattle.cap_merge.specs.Readers.{reader_of}
 use Rattle.cap_merge.specs.View.{parts_of}
-use Rattle.cap_write.proofs.Merging.{Prints-merged, Prints-nothing}
-use Rattle.cap_write.proofs.commands.merge_to.Goals as goal
+use Rattle.cap_tool.proofs.Merging.{Prints-merged, Prints-nothing}
+use Rattle.cap_tool.proofs.commands.merge_to.Goals as goal
 
 pub returns-in_err-merged-clause-text : goal.returns-in_err-merged-clause-text
 returns-in_err-merged-clause-text g c = grind (arith, err_from_is_err_and, Prints-nothing)

@@ -9,8 +9,8 @@ use Rattle.cap_bytes.specs.declared.numbers.Order.{Order}
 use Rattle.cap_merge.proofs.Unread.{told-readers, bytes-readers, run-items}
 use Rattle.cap_merge.specs.Parts.{Part, feed_of, run_of}
 use Rattle.cap_merge.specs.Readers.{Reader, IsUnreadRun}
-use Rattle.cap_write.specs.JoinText.{join_text, join_refusal}
-use Rattle.cap_write.specs.MergeText.{merge_text, merge_refusal}
+use Rattle.cap_tool.specs.JoinText.{join_text, join_refusal}
+use Rattle.cap_tool.specs.MergeText.{merge_text, merge_refusal}
 use Rattle.cap_write.specs.Joined.{joined_bytes, joined_refusal}
 use Rattle.cap_write.specs.Texts.{merged_bytes, merged_refusal}
 
