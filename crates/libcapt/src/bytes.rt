@@ -1,5 +1,6 @@
-//! What bytes come from and go to, and the faults that are told of them.
+//! What bytes come from and go to, numbers in them, and the faults that are told of them.
 
 pub use cap_bytes::{
-    Broken, Device, Fault, Order, Pieces, Refusal, Room, Rule, Sink, Source, Tail, Tracked, Window,
+    Broken, Device, FILE_LIMIT, Fault, Order, PACKET_LIMIT, Pieces, Refusal, Room, Rule, Sink,
+    Source, Tail, Tracked, Window, put_all, put_u16, put_u32, put_u64, u16_at, u32_at, u64_at,
 };

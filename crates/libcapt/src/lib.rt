@@ -8,4 +8,5 @@ pub mod order;
 pub mod read;
 pub mod report;
 pub mod time;
+pub mod tool;
 pub mod write;
