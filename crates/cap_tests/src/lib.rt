@@ -16,6 +16,7 @@ mod commands;
 mod file_lines;
 #[cfg(test)]
 mod files;
+pub mod front_door;
 #[cfg(test)]
 mod hex_vectors;
 #[cfg(test)]
@@ -46,6 +47,7 @@ mod runs;
 mod source;
 #[cfg(test)]
 mod steps;
+pub mod surface;
 #[cfg(test)]
 mod time;
 #[cfg(test)]

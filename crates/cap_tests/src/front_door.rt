@@ -1,0 +1,22 @@
+//! Each public name comes from libcapt.
+
+pub use libcapt::bytes::{
+    Broken, Device, Fault, Order, Pieces, Refusal, Room, Rule, Sink, Source, Tail, Window, put_all,
+    put_u16, put_u32, put_u64, u16_at, u32_at, u64_at,
+};
+pub use libcapt::join::{
+    Datagram, Fragment, Header, HeaderOr, JoinFault, Joiner, Key, Network, Put, Stamped, Transport,
+    header_checksum, network, transport,
+};
+pub use libcapt::order::Merged;
+pub use libcapt::read::{
+    Block, BlockReader, Capture, Ending, FeedHeld, Format, Head, Meta, Options, PacketFeed,
+    PcapHeader, PcapReader, Record,
+};
+pub use libcapt::report::{Held, Step, Table, file_lines, report};
+pub use libcapt::time::{Interface, Resolution, Stamp, Unit};
+pub use libcapt::tool::{Job, LineFault, blocks_to, convert_to, join_to, list_to, merge_to, parse};
+pub use libcapt::write::{
+    put_header, put_interface, put_packet, put_record, put_section, to_pcap, to_pcapng,
+    write_joined, write_merged,
+};
