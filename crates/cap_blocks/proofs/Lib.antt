@@ -1,4 +1,5 @@
 pub mod OptionLaws
+pub mod OptionSplits
 pub mod Again
 pub mod Behind
 pub mod Bytes

@@ -1,5 +1,6 @@
 pub mod Grammar
 pub mod Laws
+pub mod OptionGrammar
 pub mod OptionList
 pub mod Options
 pub mod Reader

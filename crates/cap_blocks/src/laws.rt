@@ -1,5 +1,6 @@
 //! The laws of the grammar of pcapng files.
 ghost use Rattle.cap_blocks.specs.Laws.{OneBlock, OneSplit, EverySplit, SplitItems, ItemsAtNone, ItemsAtFault, ItemsAtBlock, BlockRead, BlockThere, SectionAgain, InterfaceAgain, PacketAgain};
+ghost use Rattle.cap_blocks.specs.OptionGrammar.{EveryOptions, OptionsRead};
 
 /// The laws of the grammar, as the contract of a function that does nothing.
 ///
@@ -12,6 +13,8 @@ ghost use Rattle.cap_blocks.specs.Laws.{OneBlock, OneSplit, EverySplit, SplitIte
 ///   ends the blocks one is spelled.
 /// - `section`, `interface`, `packet`: what is written for a section header, an interface or a packet spells it,
 ///   so it is read again as the same values, whatever follows it.
+/// - `every_options`, `options`: every body spells options and a rest that ends them or runs past the body, and what is
+///   read are exactly those, and the fault of the one that runs past.
 pub fn grammar_laws()
     ensures block { OneBlock }
     ensures one { OneSplit }
@@ -25,4 +28,6 @@ pub fn grammar_laws()
     ensures section { SectionAgain }
     ensures interface { InterfaceAgain }
     ensures packet { PacketAgain }
+    ensures every_options { EveryOptions }
+    ensures options { OptionsRead }
 {}

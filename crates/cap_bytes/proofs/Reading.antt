@@ -58,14 +58,15 @@ Filled-more old mid new front whole longer end count k room left n filled few mo
 pub record Dropping (n left : ℕ) (old new : SourceState) : Type 0 where
   pub failed : new.failed ≡ old.failed
   pub fewer : left ≤ n
+  pub some : 0 < n → 0 < left
   pub told : IsTrue old.told → IsTrue new.told
   pub most : new.most ≡ old.most
   pub cannot : IsTrue new.can_fail → IsTrue old.can_fail
   pub size : IsTrue old.told → length old.coming + left ≡ n + length new.coming
   pub bytes : IsTrue old.told → drop left new.coming ≡ drop n old.coming
 
--- a piece came, all of which is dropped
-pub Dropping-more : (n left count : ℕ) (old mid new : SourceState) (piece : List ℕ) → length piece ≡ count → count ≤ left
+-- a piece came, all of which is dropped, and it isn't enough
+pub Dropping-more : (n left count : ℕ) (old mid new : SourceState) (piece : List ℕ) → length piece ≡ count → count < left
     → Dropping n left old mid → Reads mid new [] piece → new.failed ≡ mid.failed → Dropping n (left - count) old new
 Dropping-more n left count old mid new piece size few p r failed = grind (arith, length-append, drop-append-add)
 

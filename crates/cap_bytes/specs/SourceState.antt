@@ -43,15 +43,15 @@ Fills n count Whole old new = (n ≤ count) × (new.failed ≡ old.failed)
 Fills n count Ended old new = (count < n) × (IsTrue old.told → new.coming ≡ []) × (new.failed ≡ old.failed)
 Fills n count Failed old new = IsTrue new.failed × IsTrue old.can_fail × (count < n)
 
--- How dropping the next n bytes of a reader ended: `rest` was read after them.
+-- How dropping the next n bytes of a reader ended: `rest` was read after them, and no read began when they were dropped.
 abbrev pub DiscardsBy : ℕ → Filling → ℕ → SourceState → SourceState → List ℕ → Type 0
 DiscardsBy n Whole left old new rest =
     (left ≡ 0) × (new.failed ≡ old.failed) × (IsTrue old.told → n ≤ length old.coming)
-    × (IsTrue old.told → rest ++ new.coming ≡ drop n old.coming)
+    × (IsTrue old.told → rest ++ new.coming ≡ drop n old.coming) × (0 < n → IsWithin old.most 0 (length rest))
 DiscardsBy n Ended left old new rest =
     (0 < left) × (new.failed ≡ old.failed) × (rest ≡ []) × (IsTrue old.told → n ≡ left + length old.coming)
     × (IsTrue old.told → new.coming ≡ [])
-DiscardsBy n Failed left old new rest = IsTrue new.failed × IsTrue old.can_fail
+DiscardsBy n Failed left old new rest = (0 < left) × IsTrue new.failed × IsTrue old.can_fail
 
 abbrev pub Discards : ℕ → Discarded → SourceState → SourceState → List ℕ → Type 0
 Discards n result old new rest = DiscardsBy n result.filling result.left old new rest

@@ -117,11 +117,11 @@ pub record DropsAll (n : ℕ) (old new : State) : Type 0 where
   pub offset : IsTrue old.told → new.offset ≡ old.offset + length (coming old)
   pub unread : IsTrue old.told → new.unread ≡ []
 
--- The next n bytes are dropped, or all that come, or nothing.
+-- The next n bytes are dropped, or all that come, or nothing. A read fails only before the last of the n came.
 abbrev pub Skips : ℕ → State → Result Bool Fault → State → Type 0
 Skips n old (Ok true) new = Drops n old new
 Skips n old (Ok false) new = DropsAll n old new
-Skips n old (Err (Read file offset)) new = Breaks old file offset new × (new.offset ≤ old.offset + n)
+Skips n old (Err (Read file offset)) new = Breaks old file offset new × (new.offset ≤ old.offset + n) × IfNone old.broken (new.offset < old.offset + n)
 Skips n old (Err Memory) new = Shows old new × (old.room < 12)
 Skips n old (Err Write) new = ⊥
 Skips n old (Err (Refused refusal)) new = ⊥

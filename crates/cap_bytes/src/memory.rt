@@ -1,5 +1,6 @@
 //! Devices over memory, which cut and fail as they are told.
-ghost use Rattle.std.specs.Prelude.{◌≡◌, ◌≤◌, ◌<◌, ◌++◌, [], take, drop, length, true, false, Some, is_some, vec_len, vec_capacity, min, ◌-◌, IfOk, IsErr, ◌↔◌};
+ghost use Rattle.std.specs.Prelude.{◌≡◌, ◌≤◌, ◌<◌, ◌++◌, [], take, drop, length, true, false, Some, is_some, vec_len, vec_capacity, min, ◌-◌, ◌||◌, IfOk, IsErr, IsTrue, is_err, ◌↔◌};
+ghost use Rattle.cap_bytes.specs.Device.{Gives, Takes};
 ghost use Rattle.cap_bytes.specs.Calls.{one_call_less};
 
 use crate::devices::{Broken, Device, Sink, Source};
@@ -55,7 +56,17 @@ impl Source for Pieces {
     ghost most = { λ p. Some p.piece };
 
     #[tactic(auto, using(crate::proofs::Lists::drop_more))]
-    fn take(&mut self, buffer: &mut [u8]) -> Result<usize, Broken> {
+    fn take(&mut self, buffer: &mut [u8]) -> Result<usize, Broken>
+        ensures fails { IsErr result ↔ (self.old.failing ≡ Some 1) }
+        ensures calls { self.new.failing ≡ one_call_less self.old.failing }
+        ensures count { IfOk result (λ n. n ≤ length buffer.new) }
+        ensures few { IfOk result (λ n. n ≤ self.old.piece) }
+        ensures most { self.new.piece ≡ self.old.piece }
+        ensures bytes { Takes (drop self.old.at self.old.bytes.items) result (drop self.new.at self.new.bytes.items) buffer.new }
+        ensures failed { self.new.failed ≡ (self.old.failed || is_err result) }
+        ensures can { IsErr result → IsTrue (is_some self.old.failing) }
+        ensures cannot { IsTrue (is_some self.new.failing) → IsTrue (is_some self.old.failing) }
+    {
         let fails = self.failing == Some(1);
         self.failing = one_call_less(self.failing);
         if fails {
@@ -133,7 +144,13 @@ impl Sink for Room {
 
     ghost held = { λ r. r.bytes.items };
 
-    fn give(&mut self, bytes: &[u8]) -> Result<usize, Broken> {
+    fn give(&mut self, bytes: &[u8]) -> Result<usize, Broken>
+        ensures full { IsErr result ↔ ((0 < length bytes.now) × (vec_capacity self.old.bytes ≡ vec_len self.old.bytes)) }
+        ensures count { IfOk result (λ n. n ≤ length bytes.now) }
+        ensures some { IfOk result (λ n. 0 < length bytes.now → 0 < n) }
+        ensures bytes { Gives self.old.bytes.items result self.new.bytes.items bytes.now }
+        ensures failed { self.new.full ≡ (self.old.full || is_err result) }
+    {
         let answer = append(&mut self.bytes, bytes);
         self.full = self.full || answer.is_err();
         answer

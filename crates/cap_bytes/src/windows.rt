@@ -1,5 +1,5 @@
 //! A window over a reader: the one cursor by which bytes are read.
-ghost use Rattle.std.specs.Prelude.{◌≡◌, ◌+◌, ◌^◌, ◌≤◌, ◌<◌, IsSome, IsTrue, ◌↔◌, None, length};
+ghost use Rattle.std.specs.Prelude.{◌≡◌, ◌+◌, ◌^◌, ◌≤◌, ◌<◌, IsSome, IsTrue, IfOk, ◌↔◌, None, length};
 ghost use Rattle.cap_bytes.specs.SourceState.{source_of, IsWithin};
 ghost use Rattle.cap_bytes.specs.Window.{opened, Keeps, Needs, Passes, Skips, FailsAt};
 
@@ -156,12 +156,15 @@ impl<R: Source> Window<R> {
         self.offset += n as u64;
     }
 
-    /// Drops the next n bytes, a piece at a time. Answers whether there were as many: if not, the
-    /// window stands at the end of the input. `Memory` comes before the first byte is dropped, and
-    /// leaves the bytes to come; after any other answer the next 12 bytes can be shown without it.
+    /// Drops the next n bytes, a piece at a time, and reads no further once they came. Answers whether
+    /// there were as many: if not, the window stands at the end of the input. `Memory` comes before the
+    /// first byte is dropped, and leaves the bytes to come; after any other answer the next 12 bytes can
+    /// be shown without it.
     pub fn skip(&mut self, n: u64) -> Result<bool, Fault>
         requires { self.old.offset + n ≤ 2 ^ 40 }
         ensures answer { Skips n self.old result self.new }
+        ensures asked { length self.old.shown < n
+            → IfOk result (λ all. IsTrue all → IsWithin self.old.most 0 (length self.new.shown)) }
         ensures keeps { Keeps self.old self.new }
     {
         if let Some(offset) = self.broken {

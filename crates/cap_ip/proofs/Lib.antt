@@ -1,3 +1,4 @@
 pub mod Shapes
+mod Putting
 pub mod OnesSum
 pub mod ChecksumLaw

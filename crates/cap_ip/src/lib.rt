@@ -1,5 +1,4 @@
-//! What a captured frame carries, by its link header and its tags: an IPv4 packet's bytes, or why there are none; and IPv4
-//! headers, read and written, the ports after them, and the header checksum.
+//! IPv4 headers, read and written, the ports after them, and the header checksum.
 #![tactic(auto)]
 
 mod checksums;

@@ -4,6 +4,7 @@ ghost use Rattle.cap_ip.specs.Written.{header_with, header_bytes};
 
 use crate::checksums::header_checksum;
 use crate::headers::Header;
+use cap_bytes::{Order, put_u16, put_u32};
 
 // Version 4, and a header of five words of four bytes.
 const VERSION_AND_LENGTH: u8 = 0x45;
@@ -19,32 +20,34 @@ fn header_with(header: &Header, size: u16, checksum: u16) -> [u8; 20]
     ensures { result ≡ header_with header.now size checksum }
 {
     let key = header.key();
-    let total = (HEADER + size).to_be_bytes();
-    let identification = key.identification.to_be_bytes();
-    let source = key.source.to_be_bytes();
-    let destination = key.destination.to_be_bytes();
-    [
+    let mut bytes = [
         VERSION_AND_LENGTH,
         header.service(),
-        total[0],
-        total[1],
-        identification[0],
-        identification[1],
+        0,
+        0,
+        0,
+        0,
         0,
         0,
         header.time_to_live(),
         key.protocol,
-        (checksum / 256) as u8,
-        (checksum % 256) as u8,
-        source[0],
-        source[1],
-        source[2],
-        source[3],
-        destination[0],
-        destination[1],
-        destination[2],
-        destination[3],
-    ]
+        0,
+        0,
+        0,
+        0,
+        0,
+        0,
+        0,
+        0,
+        0,
+        0,
+    ];
+    put_u16(Order::Big, &mut bytes, 2, HEADER + size);
+    put_u16(Order::Big, &mut bytes, 4, key.identification);
+    put_u16(Order::Big, &mut bytes, 10, checksum);
+    put_u32(Order::Big, &mut bytes, 12, key.source);
+    put_u32(Order::Big, &mut bytes, 16, key.destination);
+    bytes
 }
 
 impl Header {

@@ -1,12 +1,14 @@
 -- Chains of holes under writes.
 use Rattle.std.proofs.Common.{◌≡◌, ℕ, ◌+◌, ◌%◌, ◌<◌, ◌≤◌, false, List, [], ◌∷◌, refl, sym, subst, arith, ◌||◌}
+use Rattle.std.proofs.lemmas.List.{get_or-drop}
 use Rattle.std.specs.Prelude.{slice_index}
+use Rattle.cap_bytes.specs.Number.{number}
 use Rattle.cap_join.specs.Holes.{Span, is_within, in_hole, word_at, IsHole, IsChain, kept}
 
 -- a number stays if its four bytes do
 pub word_at-same : (xs ys : List ℕ) (at : ℕ) → ((k : ℕ) → at ≤ k → k < at + 4 → slice_index ys k ≡ slice_index xs k) → word_at ys at ≡ word_at xs at
-unfolding word_at
-word_at-same xs ys at same = grind arith
+unfolding word_at number
+word_at-same xs ys at same = grind (arith, get_or-drop)
 
 -- a hole takes a block at least
 pub IsHole-block : (bytes : List ℕ) (low high at : ℕ) (s : Span) → IsHole bytes low high at s → s.from + 8 ≤ s.to

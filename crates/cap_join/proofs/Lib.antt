@@ -1,3 +1,4 @@
+pub mod Words
 pub mod Changes
 pub mod Chains
 pub mod Punching

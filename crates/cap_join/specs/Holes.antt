@@ -1,6 +1,8 @@
 -- The holes of a group's buffer: the parts that no fragment has filled (RFC 815, 4). A hole is described in its own first 8
 -- bytes, by two little-endian numbers of 32 bits: the place after its last byte, and where the next hole begins.
-use Rattle.std.specs.Prelude.{◌≡◌, ℕ, List, [], ◌∷◌, Bool, true, false, ◌+◌, ◌*◌, ◌%◌, ◌<◌, ◌≤◌, ◌&&◌, ◌||◌, ◌⊎◌, not, length, nat_le, nat_lt, slice_index, if◌then◌else◌}
+use Rattle.std.specs.Prelude.{◌≡◌, ℕ, List, [], ◌∷◌, Bool, true, false, ◌+◌, ◌%◌, ◌<◌, ◌≤◌, ◌&&◌, ◌||◌, ◌⊎◌, not, length, drop, nat_le, nat_lt, slice_index, if◌then◌else◌}
+use Rattle.cap_bytes.specs.Number.{number}
+use Rattle.cap_bytes.specs.declared.numbers.Order.TheVariants.{Little}
 
 -- the places from one up to another
 pub record Span : Type 0 where
@@ -21,8 +23,7 @@ no_hole = 4294967295
 
 -- the little-endian number of 32 bits at a place
 unfoldable pub word_at : List ℕ → ℕ → ℕ
-word_at bytes at =
-    slice_index bytes at + 256 * slice_index bytes (at + 1) + 65536 * slice_index bytes (at + 2) + 16777216 * slice_index bytes (at + 3)
+word_at bytes at = number Little 4 (drop at bytes)
 
 -- A hole that begins at a place, of whole blocks of 8 bytes, from `low` on and up to `high`.
 pub record IsHole (bytes : List ℕ) (low high at : ℕ) (s : Span) : Type 0 where

@@ -107,6 +107,7 @@ pub record Agree (limit : ℕ) (es : List Event) : Type 0 where
   pub groups : (clock : Option Stamp) (p : Piece) → is_before clock (latest_clock es) ≡ false
       → joined_pieces clock p (state_of limit es) ≡ (group_by clock p (goes_on (key_of p) (marks limit es))).pieces
   pub given_up : (state_of limit es).given_up ≡ times_given_up (marks limit es)
+  pub opens : (now : Option Stamp) → is_before now (latest_clock es) ≡ false → live_at now (state_of limit es).opens ≡ open_before now (marks limit es)
 
 abbrev pub PlacesLaw : Type 0
 PlacesLaw = (limit : ℕ) (es : List Event) → 0 < limit → AreInOrder es → Agree limit es

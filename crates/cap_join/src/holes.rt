@@ -14,6 +14,8 @@
 ghost use Rattle.std.specs.Prelude.{◌≡◌, ℕ, List, ◌+◌, ◌-◌, ◌<◌, ◌≤◌, ◌%◌, ◌^◌, length, slice_index, IsTrue, IfSome};
 ghost use Rattle.cap_join.specs.Holes.{Span, word_at, IsChain, HasHoles, Begins, HasCursor, IsBefore, ChangesWithin, kept, Punched, Continues, Appended};
 
+use cap_bytes::{Order, put_u32, u32_at};
+
 /// What names no hole.
 pub(crate) const NO_HOLE: u32 = 4_294_967_295;
 
@@ -31,10 +33,7 @@ fn word_at(bytes: &[u8], at: usize) -> u32
     requires { at + 4 ≤ length bytes.now }
     ensures { result ≡ word_at bytes.now at }
 {
-    u32::from(bytes[at])
-        + 256 * u32::from(bytes[at + 1])
-        + 65_536 * u32::from(bytes[at + 2])
-        + 16_777_216 * u32::from(bytes[at + 3])
+    u32_at(Order::Little, bytes, at)
 }
 
 // Writes a number of 32 bits at a place, little-endian.
@@ -44,10 +43,7 @@ fn put_word(bytes: &mut [u8], at: usize, value: u32)
     ensures word { word_at bytes.new at ≡ value }
     ensures within { ChangesWithin at (at + 4) bytes.old bytes.new }
 {
-    bytes[at] = (value % 256) as u8;
-    bytes[at + 1] = (value / 256 % 256) as u8;
-    bytes[at + 2] = (value / 65_536 % 256) as u8;
-    bytes[at + 3] = (value / 16_777_216) as u8;
+    put_u32(Order::Little, bytes, at, value);
 }
 
 // Describes the part of a hole from a place up to another, if there is one, with the next hole after

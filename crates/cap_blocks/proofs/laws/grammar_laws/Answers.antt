@@ -1,5 +1,6 @@
 use Rattle.cap_blocks.proofs.Again.{section_again-law, interface_again-law, packet_again-law}
 use Rattle.cap_blocks.proofs.Items.{items_from-none}
+use Rattle.cap_blocks.proofs.OptionSplits.{every_options-law, options_read-law}
 use Rattle.cap_blocks.proofs.Splitting.{one_block-law, one_split-law, every_split-law, split_items-law, items_at_fault-law, items_at_block-law, block_read-law, block_there-law}
 use Rattle.cap_blocks.proofs.laws.grammar_laws.Goals as goal
 
@@ -38,3 +39,9 @@ returns-clause-interface c = interface_again-law
 
 pub returns-clause-packet : goal.returns-clause-packet
 returns-clause-packet c = packet_again-law
+
+pub returns-clause-every_options : goal.returns-clause-every_options
+returns-clause-every_options c = every_options-law
+
+pub returns-clause-options : goal.returns-clause-options
+returns-clause-options c = options_read-law

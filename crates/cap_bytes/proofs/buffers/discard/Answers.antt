@@ -1,4 +1,5 @@
 use Rattle.std.proofs.Common.{◌≤◌, refl, take, length, length-take-le, zero-add, rules, arith}
+use Rattle.cap_bytes.proofs.Lists.{length-slice_range}
 use Rattle.cap_bytes.specs.SourceState.{source_of}
 use Rattle.cap_bytes.proofs.Reading.{Dropping-more, Dropping-last}
 use Rattle.cap_bytes.proofs.buffers.discard.Goals as goal
@@ -10,7 +11,7 @@ returns-in-Ok-clause-outcome g c =
     let last = Dropping-last c.args.n c.loop-left.left c.in-Ok.count (source c.args.reader.now) (source c.loop-left.reader)
     (source c.take_more.new.reader) c.take_more.new.buffer within c.if-left-count.true c.loop-left.invariant
     (rw zero-add at c.in-Ok.ensures.reads.1) in
-    (refl, search rules, last.0, last.1)
+    (refl, search rules, last.0, last.1, grind (arith, length-slice_range))
 
 pub loop-left-preserved : goal.loop-left-preserved
 loop-left-preserved g c =
