@@ -1,6 +1,8 @@
 mod Alike
 mod FileNumbers
 mod InOrder
+mod JoinedByPlaces
+mod JoinedUnits
 mod LikePieces
 mod LikeReports
 mod LikeUnits

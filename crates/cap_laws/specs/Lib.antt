@@ -1,6 +1,8 @@
 pub mod again
 pub mod Forms
 pub mod InOrder
+pub mod JoinedByPlaces
+pub mod JoinedUnits
 pub mod Reports
 pub mod Rounds
 pub mod Runs

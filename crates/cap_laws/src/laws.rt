@@ -1,7 +1,9 @@
 //! Laws, each the contract of a function that does nothing.
 ghost use Rattle.std.specs.Prelude.{List};
 ghost use Rattle.cap_laws.specs.Forms.{BodyParts, PcapReport};
-ghost use Rattle.cap_laws.specs.InOrder.{ByPlaces};
+ghost use Rattle.cap_laws.specs.InOrder.{ByPlaces, ReportByPlaces};
+ghost use Rattle.cap_laws.specs.JoinedByPlaces.{JoinedByPlaces};
+ghost use Rattle.cap_laws.specs.JoinedUnits.{JoinedUnits};
 ghost use Rattle.cap_laws.specs.Reports.{MergedReport, PcapngReport, RuleLaw};
 ghost use Rattle.cap_laws.specs.Rounds.{RoundsInBytes};
 ghost use Rattle.cap_laws.specs.Runs.{MergedRun, PcapngRun};
@@ -76,12 +78,17 @@ pub fn pcapng_run()
     pcapng_again();
 }
 
-/// Each packet has one class, and the seven counts add up to the number of packets. In every run the class
-/// of a packet is the one that it has by places: whether its group completes is asked of the fragments that
-/// complete theirs.
+/// Each packet has one class, and the seven counts add up to the number of packets.
 pub fn one_class()
-    ensures classes { (xs : List Taken) → OneClass xs }
-    ensures places { ByPlaces }
+    ensures { (xs : List Taken) → OneClass xs }
+{}
+
+/// In every run of files the groups of fragments are those by places, at each of its packets: so the report and the
+/// refusal that is answered instead are those by places. So are, after each packet, the classes and the units of the
+/// packets so far, how many datagrams were joined and groups given up, and which groups are open.
+pub fn report_by_places()
+    ensures report { ReportByPlaces }
+    ensures after { ByPlaces }
 {}
 
 /// The report on four fragments that overlap, after two of them and after all, and on three tagged frames, by
@@ -89,4 +96,15 @@ pub fn one_class()
 pub fn worked_report()
     ensures overlapped { Overlapped }
     ensures tagged { Tagged }
+{}
+
+/// What is written of a run's datagrams, and the refusal that is answered after it, are those by places.
+pub fn joined_by_places()
+    ensures { JoinedByPlaces }
+{}
+
+/// What `join` writes of a packet is a datagram exactly if the packet completes a counted unit of the report, all of
+/// whose data was captured; and both see the same fragments and datagrams.
+pub fn joined_units()
+    ensures { JoinedUnits }
 {}

@@ -4,7 +4,7 @@ use Rattle.std.specs.Prelude.{IfSome, is_some}
 use Rattle.cap_bytes.specs.declared.faults.Fault.{Fault}
 use Rattle.cap_bytes.specs.declared.faults.Fault.TheVariants.{Read, Memory}
 use Rattle.cap_source.specs.declared.feeds.Head.{Head}
-use Rattle.cap_merge.specs.Parts.{Part, has_file, is_known, broken_of, places_of}
+use Rattle.cap_merge.specs.Parts.{Part, has_file, is_known, broken_of, places_of, can_fail_of}
 use Rattle.cap_merge.specs.Merge.{LearnsBy, Stops, LearnsAll, StopsAt}
 use Rattle.cap_merge.specs.Sound.{AreFrom}
 
@@ -17,6 +17,9 @@ stopped_from n file offset ps qs a s = grind arith
 before_file : (n file : ℕ) (files : List ℕ) → files ≡ n ∷ [] → suc n ≤ file → (b : Bool) → has_file files file ≡ b → b ≡ false
 before_file n file files is l b own = grind arith
 
+learned-files : (p q : Part) (h : Option Head) → LearnsBy h p q → p.feed.files ≡ q.feed.files
+learned-files p q h l = grind arith
+
 -- the offset is the file's place then
 pub stopped-place : (n file offset : ℕ) (ps qs : List Part) → AreFrom n qs → StopsAt (Read file offset) ps qs → offset ≡ places_of qs file
 unfolding places_of
@@ -25,6 +28,15 @@ stopped-place n file offset (p ∷ ps) (q ∷ qs) a (inr s) =
     rw (before_file n file q.feed.files a.0 (stopped_from (suc n) file offset ps qs a.1 s.1) (has_file q.feed.files file) refl)
     (stopped-place (suc n) file offset ps qs a.1 s.1)
 stopped-place n file offset ps qs a s = grind arith
+
+-- the device of the file can fail
+pub stopped-can_fail : (n file offset : ℕ) (ps qs : List Part) → AreFrom n qs → StopsAt (Read file offset) ps qs → can_fail_of ps file ≡ true
+unfolding can_fail_of
+stopped-can_fail n file offset (p ∷ ps) (q ∷ qs) a (inl s) = grind arith
+stopped-can_fail n file offset (p ∷ ps) (q ∷ qs) a (inr s) =
+    rw (before_file n file p.feed.files (learned-files p q p.lane.head s.0 ∙ a.0) (stopped_from (suc n) file offset ps qs a.1 s.1) (has_file p.feed.files file) refl)
+    (stopped-can_fail (suc n) file offset ps qs a.1 s.1)
+stopped-can_fail n file offset ps qs a s = grind arith
 
 pub known_by : (p q : Part) (h : Option Head) → p.lane.head ≡ h → LearnsBy h p q → is_some q.lane.head ≡ true
 known_by p q h e l = grind arith

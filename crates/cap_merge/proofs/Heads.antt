@@ -16,7 +16,7 @@ use Rattle.cap_merge.specs.Merge.{LearnsBy, Stops, LearnsAll, StopsAt, AsksAll}
 use Rattle.cap_merge.specs.Clocks.{AtMost, at_most-trans, later-first}
 use Rattle.cap_merge.specs.Sound.{IsSound, AreFrom}
 use Rattle.cap_merge.specs.Lawful.{whole_known}
-use Rattle.cap_merge.proofs.Breaking.{known_by, stopped-place, stopped-again, stopped-broken, learned-whole, waited-before, waited-after}
+use Rattle.cap_merge.proofs.Breaking.{known_by, stopped-place, stopped-can_fail, stopped-again, stopped-broken, learned-whole, waited-before, waited-after}
 use Rattle.cap_merge.proofs.FromClock.{From, EachFrom, each-from, from-each}
 use Rattle.cap_merge.proofs.Moving.{Each, learns-each, stops-each, Kept, kept-itself, kept-learns_by, ComesAlike, alike-itself, alike-learns_by, alike-waits, items-alike, sound-learns_by, sound-stops, sound-all}
 
@@ -84,19 +84,17 @@ knows-asked ps qs head l k f =
     }
 
 abbrev FailsAt : ℕ → List Part → List Part → Type 0
-FailsAt file ps qs = (has_file (flat_map (λ p. p.feed.files) ps) file ≡ true) × (list_any (λ p. p.feed.held.failed) qs ≡ true) × (list_any (λ p. p.feed.can_fail) ps ≡ true)
+FailsAt file ps qs = (has_file (flat_map (λ p. p.feed.files) ps) file ≡ true) × (list_any (λ p. p.feed.held.failed) qs ≡ true)
 
 fails_at : (file offset : ℕ) (ps qs : List Part) → StopsAt (Read file offset) ps qs → FailsAt file ps qs
 fails_at file offset (p ∷ ps) (q ∷ qs) (inl s) = (
   any-front (λ f. f == file) p.feed.files (flat_map (λ x. x.feed.files) ps) s.0.gives.of,
   rw s.0.gives.failed refl,
-  rw s.0.gives.can_fail refl,
 )
 fails_at file offset (p ∷ ps) (q ∷ qs) (inr s) =
     let rest = fails_at file offset ps qs s.1 in (
       any-back (λ f. f == file) p.feed.files (flat_map (λ x. x.feed.files) ps) rest.0,
       or-back q.feed.held.failed (list_any (λ x. x.feed.held.failed) qs) rest.1,
-      or-back p.feed.can_fail (list_any (λ x. x.feed.can_fail) ps) rest.2,
     )
 fails_at file offset ps qs s = grind arith
 
@@ -134,7 +132,7 @@ breaks-stopped ps qs file offset a h =
       broken = stopped-broken file offset ps qs h;
       place = stopped-place 1 file offset ps qs a h;
       failed = at_fault.1;
-      can_fail = at_fault.2;
+      can_fail = stopped-can_fail 1 file offset ps qs a h;
     }
 
 waits-stopped : (ps qs : List Part) → StopsAt Memory ps qs → AllByRecursion (λ q. IsFeed q.feed) qs → Waits (feed_of ps) (feed_of qs)

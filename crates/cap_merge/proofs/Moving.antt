@@ -1,13 +1,13 @@
 -- Parts that move on one by one, and the feeds as one.
 use Rattle.std.proofs.Common.{◌≡◌, ℕ, suc, ◌≤◌, true, List, [], ◌∷◌, ◌++◌, refl, sym, ap, ◌∙◌, subst, arith, inl, inr, Option}
 use Rattle.std.specs.Prelude.{map, ⊤, IsTrue}
-use Rattle.std.specs.List.{AllByRecursion, list_all, list_any, flat_map}
+use Rattle.std.specs.List.{AllByRecursion, list_all, flat_map}
 use Rattle.cap_bytes.specs.declared.faults.Fault.{Fault}
 use Rattle.cap_bytes.specs.declared.faults.Fault.TheVariants.{Memory}
 use Rattle.cap_source.specs.declared.feeds.Head.{Head}
 use Rattle.cap_source.specs.Feed.{IsFeed, Keeps, SameItems}
 use Rattle.cap_merge.specs.Run.{placed_from, placed_all, in_order}
-use Rattle.cap_merge.specs.Parts.{Part, item_time, tracks, run_of, endings_of, places_of, left_of, feed_of}
+use Rattle.cap_merge.specs.Parts.{Part, item_time, tracks, run_of, endings_of, places_of, can_fail_of, left_of, feed_of}
 use Rattle.cap_merge.specs.Merge.{Learns, LearnsBy, Stops, LearnsAll, StopsAt}
 use Rattle.cap_merge.specs.Clocks.{clock_total}
 use Rattle.cap_merge.specs.Sound.{IsSound, AreFrom}
@@ -42,7 +42,7 @@ abbrev pub Kept : Part → Part → Type 0
 Kept p q = Keeps p.feed q.feed
 
 pub kept-itself : (p : Part) → Kept p p
-kept-itself p = record { files = refl; told = λ t. t; can_fail = λ t. t; places = λ file. omega arith; left = omega arith }
+kept-itself p = record { files = refl; told = λ t. t; can_fail = λ file t. t; places = λ file. omega arith; left = omega arith }
 
 pub kept-learns_by : (p q : Part) (h : Option Head) → LearnsBy h p q → Kept p q
 kept-learns_by p q h l = grind arith
@@ -55,9 +55,10 @@ told_kept : (ps qs : List Part) → Each Kept ps qs → list_all (λ p. p.feed.t
 told_kept (p ∷ ps) (q ∷ qs) k t = grind (arith, told_kept ps qs k.1)
 told_kept ps qs k t = grind arith
 
-can_fail_kept : (ps qs : List Part) → Each Kept ps qs → list_any (λ p. p.feed.can_fail) qs ≡ true → list_any (λ p. p.feed.can_fail) ps ≡ true
-can_fail_kept (p ∷ ps) (q ∷ qs) k t = grind (arith, can_fail_kept ps qs k.1)
-can_fail_kept ps qs k t = grind arith
+can_fail_kept : (ps qs : List Part) (file : ℕ) → Each Kept ps qs → can_fail_of qs file ≡ true → can_fail_of ps file ≡ true
+unfolding can_fail_of
+can_fail_kept (p ∷ ps) (q ∷ qs) file k t = grind (arith, can_fail_kept ps qs file k.1)
+can_fail_kept ps qs file k t = grind arith
 
 places_kept : (ps qs : List Part) (file : ℕ) → Each Kept ps qs → places_of ps file ≤ places_of qs file
 unfolding places_of

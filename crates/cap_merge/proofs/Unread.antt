@@ -1,12 +1,13 @@
 -- The feeds of a merge before anything is read.
-use Rattle.std.proofs.Common.{◌≡◌, ℕ, ◌+◌, ◌≤◌, List, [], ◌∷◌, ◌++◌, length, map, Bool, ◌&&◌, ◌||◌, IsTrue, None, Result, refl, sym, ap, ◌∙◌, subst, arith}
-use Rattle.std.specs.List.{flat_map, list_all, list_any, range_with_len}
+use Rattle.std.proofs.Common.{◌≡◌, ℕ, zero, suc, ◌+◌, ◌-◌, ◌≤◌, ◌<◌, get_or, true, false, if◌then◌else◌, List, [], ◌∷◌, ◌++◌, length, map, Bool, ◌&&◌, IsTrue, None, Result, refl, sym, ap, ◌∙◌, subst, arith}
+use Rattle.std.specs.List.{flat_map, list_all, range_with_len}
+use Rattle.std.proofs.lemmas.Bool.Decides.{nat_tests}
 use Rattle.std.proofs.lemmas.List.{length-map}
 use Rattle.cap_bytes.specs.declared.faults.Fault.{Fault}
 use Rattle.cap_bytes.specs.declared.faults.Tail.{Tail}
 use Rattle.cap_merge.proofs.Numbers.{numbers-within}
 use Rattle.cap_merge.specs.Files.{items_of_files, run_of_files, clocked_run, endings_from, endings_of_files}
-use Rattle.cap_merge.specs.Parts.{Part, new_parts, item_time, is_refusal, feed_of, run_of, known_of, broken_of, endings_of, IsNumbered}
+use Rattle.cap_merge.specs.Parts.{Part, new_parts, item_time, is_refusal, feed_of, run_of, known_of, broken_of, endings_of, can_fail_of, has_file, IsNumbered}
 use Rattle.cap_merge.specs.Readers.{Reader, IsUnread, AreUnread, IsUnreadRun}
 use Rattle.cap_merge.specs.Run.{opened, run}
 use Rattle.cap_source.specs.Feed.{Feed}
@@ -43,10 +44,25 @@ told_same : (tail : Tail) (file : ℕ) (readers : List Reader) (feeds : List Fee
 told_same tail file (r ∷ rs) (f ∷ fs) a = cc (told_same tail (file + 1) rs fs a.1)
 told_same tail file readers feeds a = grind arith
 
-can_fail_same : (tail : Tail) (file : ℕ) (readers : List Reader) (feeds : List Feed) → AreUnread tail file readers feeds
-    → list_any (λ p. p.feed.can_fail) (new_parts feeds) ≡ list_any (λ r. r.can_fail) readers
-can_fail_same tail file (r ∷ rs) (f ∷ fs) a = cc (can_fail_same tail (file + 1) rs fs a.1)
-can_fail_same tail file readers feeds a = grind arith
+own : (files : List ℕ) (file : ℕ) → files ≡ file ∷ [] → has_file files file ≡ true
+own files file is = rw is (grind (arith, nat_tests))
+
+other : (files : List ℕ) (file n : ℕ) → files ≡ file ∷ [] → file < n → has_file files n ≡ false
+other files file n is less = rw is (grind (arith, nat_tests))
+
+can_fail_same : (tail : Tail) (first place : ℕ) (readers : List Reader) (feeds : List Feed) → AreUnread tail first readers feeds
+    → can_fail_of (new_parts feeds) (first + place) ≡ get_or (map (λ r. r.can_fail) readers) place false
+unfolding can_fail_of
+can_fail_same tail first zero (r ∷ rs) (f ∷ fs) a = here
+  where
+    here : (if has_file f.files (first + 0) then f.can_fail (first + 0) else can_fail_of (new_parts fs) (first + 0)) ≡ r.can_fail
+    here =
+        let same : first + 0 ≡ first = omega arith in
+        rw (same, own f.files first a.0.files) a.0.can_fail
+can_fail_same tail first (suc place) (r ∷ rs) (f ∷ fs) a =
+    let next : first + 1 + place ≡ first + suc place = omega arith in
+    rw (other f.files first (first + suc place) a.0.files (omega arith)) (ap (can_fail_of (new_parts fs)) (sym next) ∙ can_fail_same tail (first + 1) place rs fs a.1)
+can_fail_same tail first place readers feeds a = grind arith
 
 files_same : (tail : Tail) (file : ℕ) (readers : List Reader) (feeds : List Feed) → AreUnread tail file readers feeds
     → flat_map (λ p. p.feed.files) (new_parts feeds) ≡ range_with_len file (length readers)
@@ -86,7 +102,7 @@ IsUnreadRun-feeds tail readers feeds ps some a is ran = record {
   endings = λ file. ap (λ p. (feed_of p).endings file) is ∙ endings_same tail 1 readers feeds file a;
   known = ap (λ p. (feed_of p).known) is ∙ unknown tail readers feeds some a;
   broken = ap (λ p. (feed_of p).broken) is ∙ whole tail 1 readers feeds a;
-  can_fail = ap (λ p. (feed_of p).can_fail) is ∙ can_fail_same tail 1 readers feeds a;
+  can_fail = λ place. ap (λ p. (feed_of p).can_fail (1 + place)) is ∙ can_fail_same tail 1 place readers feeds a;
 }
 
 -- ---- the same over any readers, as a caller has them
@@ -94,10 +110,6 @@ IsUnreadRun-feeds tail readers feeds ps some a is ran = record {
 list_all-map : {A B : Type 0} (f : A → B) (p : B → Bool) (xs : List A) → list_all p (map f xs) ≡ list_all (λ x. p (f x)) xs
 list_all-map f p [] = refl
 list_all-map f p (x ∷ xs) = ap (λ b. p (f x) && b) (list_all-map f p xs)
-
-list_any-map : {A B : Type 0} (f : A → B) (p : B → Bool) (xs : List A) → list_any p (map f xs) ≡ list_any (λ x. p (f x)) xs
-list_any-map f p [] = refl
-list_any-map f p (x ∷ xs) = ap (λ b. p (f x) || b) (list_any-map f p xs)
 
 pub bytes-readers : {A : Type 0} (reader : A → Reader) (sources : List A) → map (λ r. r.bytes) (map reader sources) ≡ map (λ s. (reader s).bytes) sources
 bytes-readers reader [] = refl
@@ -107,9 +119,15 @@ pub told-readers : {A : Type 0} (reader : A → Reader) (tail : Tail) (sources :
     → IsTrue (list_all (λ s. (reader s).told) sources) → IsTrue (feed_of ps).told
 told-readers reader tail sources ps u t = subst IsTrue (sym (u.told ∙ list_all-map reader (λ r. r.told) sources)) t
 
-pub can_fail-readers : {A : Type 0} (reader : A → Reader) (tail : Tail) (sources : List A) (ps : List Part) → IsUnreadRun tail (map reader sources) ps
-    → IsTrue (feed_of ps).can_fail → IsTrue (list_any (λ s. (reader s).can_fail) sources)
-can_fail-readers reader tail sources ps u can = subst IsTrue (u.can_fail ∙ list_any-map reader (λ r. r.can_fail) sources) can
+can_fail-sources : {A : Type 0} (reader : A → Reader) (sources : List A) → map (λ r. r.can_fail) (map reader sources) ≡ map (λ s. (reader s).can_fail) sources
+can_fail-sources reader [] = refl
+can_fail-sources reader (s ∷ ss) = ap (λ l. (reader s).can_fail ∷ l) (can_fail-sources reader ss)
+
+pub can_fail-readers : {A : Type 0} (reader : A → Reader) (tail : Tail) (sources : List A) (ps : List Part) (file : ℕ) → IsUnreadRun tail (map reader sources) ps
+    → 1 ≤ file → IsTrue ((feed_of ps).can_fail file) → IsTrue (get_or (map (λ s. (reader s).can_fail) sources) (file - 1) false)
+can_fail-readers reader tail sources ps file u some can =
+    let behind : 1 + (file - 1) ≡ file = omega arith in
+    subst IsTrue (ap (feed_of ps).can_fail (sym behind) ∙ u.can_fail (file - 1) ∙ ap (λ l. get_or l (file - 1) false) (can_fail-sources reader sources)) can
 
 -- the items to come of the feed
 pub run-items : {A : Type 0} (reader : A → Reader) (tail : Tail) (sources : List A) (ps : List Part) → IsUnreadRun tail (map reader sources) ps
@@ -120,5 +138,5 @@ run-items reader tail sources ps u = ap (map (λ x. x.item)) (u.run ∙ ap (cloc
 -- A read that fails as files are gone through as one is told of one of them.
 pub Fails-merged : {A B : Type 0} (reader : A → Reader) (tail : Tail) (sources : List A) (ps : List Part) (new : Feed) (result : Result B Fault)
     → IsUnreadRun tail (map reader sources) ps → Walks (feed_of ps) result new
-    → FailsOf (length sources) (list_any (λ s. (reader s).can_fail) sources) result
+    → FailsOf (map (λ s. (reader s).can_fail) sources) result
 Fails-merged reader tail sources ps new result u w = grind (arith, numbers-within, length-map, can_fail-readers)

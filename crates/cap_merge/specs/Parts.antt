@@ -166,6 +166,11 @@ unfoldable pub places_of : List Part → ℕ → ℕ
 places_of [] file = 0
 places_of (p ∷ ps) file = if has_file p.feed.files file then p.feed.places file else places_of ps file
 
+-- whether the device of a file can fail, as its feed says
+unfoldable pub can_fail_of : List Part → ℕ → Bool
+can_fail_of [] file = false
+can_fail_of (p ∷ ps) file = if has_file p.feed.files file then p.feed.can_fail file else can_fail_of ps file
+
 -- the greatest of some numbers of the parts
 abbrev pub most_of : (Part → ℕ) → List Part → ℕ
 most_of number [] = 0
@@ -197,7 +202,7 @@ feed_of ps =
       broken = broken_of ps;
       places = places_of ps;
       left = left_of ps;
-      can_fail = list_any (λ p. p.feed.can_fail) ps;
+      can_fail = can_fail_of ps;
       held = held_of ps;
     }
 

@@ -1,6 +1,6 @@
 -- A merge of files of which nothing was read yet.
-use Rattle.std.specs.Prelude.{◌≡◌, ℕ, ◌+◌, Bool, List, [], ◌∷◌, length, map, None, ⊤}
-use Rattle.std.specs.List.{list_all, list_any, range_with_len}
+use Rattle.std.specs.Prelude.{◌≡◌, ℕ, ◌+◌, Bool, List, [], ◌∷◌, length, map, get_or, false, None, ⊤}
+use Rattle.std.specs.List.{list_all, range_with_len}
 use Rattle.cap_bytes.specs.declared.faults.Tail.{Tail}
 use Rattle.cap_merge.specs.Files.{clocked_run, endings_of_files}
 use Rattle.cap_merge.specs.Parts.{Part, feed_of, run_of}
@@ -23,7 +23,7 @@ pub record IsUnread (tail : Tail) (file : ℕ) (reader : Reader) (feed : Feed) :
   pub items : feed.items ≡ file_items tail file reader.bytes
   pub endings : (n : ℕ) → feed.endings n ≡ file_ending tail file reader.bytes
   pub broken : feed.broken ≡ None
-  pub can_fail : feed.can_fail ≡ reader.can_fail
+  pub can_fail : feed.can_fail file ≡ reader.can_fail
 
 -- the same of each of some feeds, from that number on
 abbrev pub AreUnread : Tail → ℕ → List Reader → List Feed → Type 0
@@ -41,4 +41,4 @@ pub record IsUnreadRun (tail : Tail) (readers : List Reader) (ps : List Part) : 
   pub endings : (file : ℕ) → (feed_of ps).endings file ≡ endings_of_files tail (map (λ r. r.bytes) readers) file
   pub known : (feed_of ps).known ≡ None
   pub broken : (feed_of ps).broken ≡ None
-  pub can_fail : (feed_of ps).can_fail ≡ list_any (λ r. r.can_fail) readers
+  pub can_fail : (place : ℕ) → (feed_of ps).can_fail (1 + place) ≡ get_or (map (λ r. r.can_fail) readers) place false

@@ -1,3 +1,4 @@
+pub mod Growing
 pub mod Lists
 pub mod Onward
 pub mod Walking
@@ -10,6 +11,8 @@ pub mod Going
 pub mod Looks
 pub mod Options
 pub mod Pcaps
+pub mod Places
 pub mod Resolutions
 pub mod Saying
 pub mod Showing
+pub mod Written

@@ -12,7 +12,7 @@ pub record Went (old new : Feed) : Type 0 where
   pub lasts : Lasts old new
 
 pub Keeps-refl : (a : Feed) → Keeps a a
-Keeps-refl a = record { files = refl; told = λ t. t; can_fail = λ c. c; places = λ file. omega arith; left = omega arith }
+Keeps-refl a = record { files = refl; told = λ t. t; can_fail = λ file c. c; places = λ file. omega arith; left = omega arith }
 
 pub Keeps-trans : (a b c : Feed) → Keeps a b → Keeps b c → Keeps a c
 Keeps-trans a b c k l = grind arith

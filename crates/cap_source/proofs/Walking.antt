@@ -37,7 +37,7 @@ pub record GivesUp (plan : Plan) (meta : Meta) (frame : List ℕ) (r : Refusal) 
 pub record Walking (first plan : Plan) (old new : Feed) (failed_old failed_new : Bool) (from to : Writer) : Type 0 where
   pub failed : failed_new ≡ failed_old
   pub told : IsTrue old.told → IsTrue new.told
-  pub can_fail : IsTrue new.can_fail → IsTrue old.can_fail
+  pub can_fail : (file : ℕ) → IsTrue (new.can_fail file) → IsTrue (old.can_fail file)
   pub left : new.left ≤ old.left
   pub writer_told : IsTrue from.told → IsTrue to.told
   pub writer_cannot : IsTrue to.can_fail → IsTrue from.can_fail
@@ -47,7 +47,7 @@ pub record Walking (first plan : Plan) (old new : Feed) (failed_old failed_new :
 -- more of the text is written
 pub Walking-by : (first plan next : Plan) (old mid new : Feed) (fo fm fn : Bool) (from m to : Writer) (line : List ℕ)
     → Walking first plan old mid fo fm from m
-    → (IsTrue mid.told → IsTrue new.told) → (IsTrue new.can_fail → IsTrue mid.can_fail) → new.left ≤ mid.left
+    → (IsTrue mid.told → IsTrue new.told) → ((file : ℕ) → IsTrue (new.can_fail file) → IsTrue (mid.can_fail file)) → new.left ≤ mid.left
     → (IsTrue mid.told → plan.text mid.items ≡ line ++ next.text new.items) → (IsTrue mid.told → plan.refusal mid.items ≡ next.refusal new.items)
     → (IsTrue m.told → to.held ≡ m.held ++ line)
     → (IsTrue m.told → IsTrue to.told) → (IsTrue to.can_fail → IsTrue m.can_fail) → fn ≡ fm
@@ -57,7 +57,7 @@ Walking-by first plan next old mid new fo fm fn from m to line p tells can less 
     record {
       failed = failed ∙ p.failed;
       told = λ t. tells (p.told t);
-      can_fail = λ c. p.can_fail (can c);
+      can_fail = λ file c. p.can_fail file (can file c);
       left = omega (arith, less, p.left);
       writer_told = λ t. told (p.writer_told t);
       writer_cannot = λ c. p.writer_cannot (cannot c);
@@ -84,7 +84,7 @@ pub Walking-more : (first plan next : Plan) (old mid shown new : Feed) (fo fm fn
 Walking-more first plan next old mid shown new fo fm fn from m to meta line p asked shows passed dropped goes =
     let rest : IsTrue mid.told → drop 1 mid.items ≡ new.items = λ t. sym (dropped (asked.told t) ∙ ap (drop 1) (shows t).0.items) in
     Walking-by first plan next old mid new fo fm fn from m to line p
-    (λ t. passed.told (asked.told t)) (λ c. asked.can_fail (passed.can_fail c)) (omega (arith, passed.left, asked.left))
+    (λ t. passed.told (asked.told t)) (λ file c. asked.can_fail file (passed.can_fail file c)) (omega (arith, passed.left, asked.left))
     (λ t. ap plan.text (shows t).1 ∙ (goes.text (drop 1 mid.items) ∙ ap (λ l. line ++ next.text l) (rest t)))
     (λ t. ap plan.refusal (shows t).1 ∙ (goes.refusal (drop 1 mid.items) ∙ ap next.refusal (rest t)))
 

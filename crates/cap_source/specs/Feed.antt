@@ -25,7 +25,8 @@ refusal_of (refused refusal ∷ items) = Some refusal
 -- their bytes, and `endings` says how each file ends, if no refusal comes before. `known` is what comes
 -- next, once that was asked for, and `frame` are the captured bytes of a packet that comes next. `broken` is
 -- the fault of a read that failed, once `head` has answered it. No packet to come of a file begins before its
--- place of `places`, and at most `left` packets are to come, whatever the devices do.
+-- place of `places`, and at most `left` packets are to come, whatever the devices do. `can_fail` says of each file whether
+-- its device can fail.
 pub record Feed : Type 0 where
   pub files : List ℕ
   pub told : Bool
@@ -36,7 +37,7 @@ pub record Feed : Type 0 where
   pub broken : Option Fault
   pub places : ℕ → ℕ
   pub left : ℕ
-  pub can_fail : Bool
+  pub can_fail : ℕ → Bool
   pub held : FeedHeld
 
 -- the file is one of those
@@ -61,7 +62,7 @@ IfPacket (Some heads.End) Holds = ⊤
 pub record Keeps (old new : Feed) : Type 0 where
   pub files : new.files ≡ old.files
   pub told : IsTrue old.told → IsTrue new.told
-  pub can_fail : IsTrue new.can_fail → IsTrue old.can_fail
+  pub can_fail : (file : ℕ) → IsTrue (new.can_fail file) → IsTrue (old.can_fail file)
   pub places : (file : ℕ) → old.places file ≤ new.places file
   pub left : new.left ≤ old.left
 
@@ -93,7 +94,7 @@ pub record Breaks (old : Feed) (file offset : ℕ) (new : Feed) : Type 0 where
   pub broken : new.broken ≡ Some (Read file offset)
   pub place : offset ≡ new.places file
   pub failed : IsTrue new.held.failed
-  pub can_fail : IsTrue old.can_fail
+  pub can_fail : IsTrue (old.can_fail file)
 
 -- A growth was refused.
 pub record Waits (old new : Feed) : Type 0 where

@@ -283,7 +283,7 @@ feed_of state next =
       broken = break_at state.file state.broken;
       places = λ file. place_of next (offset_at state.broken state.offset);
       left = 2 ^ 40 - place_of next state.offset;
-      can_fail = state.can_fail;
+      can_fail = λ file. state.can_fail;
       held = record { window = state.held; interfaces = state.interfaces; failed = state.failed };
     }
 

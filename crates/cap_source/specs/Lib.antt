@@ -1,4 +1,5 @@
 pub mod Feed
+pub mod Growing
 pub mod Listed
 pub mod Times
 pub mod Walk
@@ -10,6 +11,8 @@ pub mod Items
 pub mod FileState
 pub mod KnownView
 pub mod Laws
+pub mod Places
 pub mod ReadFaults
 pub mod Reached
 pub mod Readers
+pub mod Written

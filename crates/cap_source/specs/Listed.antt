@@ -50,7 +50,7 @@ list_feed file interface end place times known =
       broken = None;
       places = λ f. place;
       left = 2 ^ 40 - place;
-      can_fail = false;
+      can_fail = λ f. false;
       held = record { window = 0; interfaces = 0; failed = false };
     }
 

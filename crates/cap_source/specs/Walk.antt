@@ -38,7 +38,7 @@ pub record Fails (old : Feed) (file offset : ℕ) (new : Feed) : Type 0 where
   pub broken : new.broken ≡ Some (Read file offset)
   pub place : offset ≡ new.places file
   pub failed : IsTrue new.held.failed
-  pub can_fail : IsTrue old.can_fail
+  pub can_fail : IsTrue (old.can_fail file)
 
 -- A call goes through a feed, to the end if it answers no fault. A failed read is answered as such, and no other fault is
 -- answered for it.

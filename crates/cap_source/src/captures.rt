@@ -43,7 +43,7 @@ impl<R: Source> Capture<R> {
         ensures endings { (n : ℕ) → (⟦<Capture<R> as PacketFeed>⟧.feed result).endings n ≡ file_ending tail file (R.coming reader) }
         ensures known { (⟦<Capture<R> as PacketFeed>⟧.feed result).known ≡ None }
         ensures whole { (⟦<Capture<R> as PacketFeed>⟧.feed result).broken ≡ None }
-        ensures can_fail { (⟦<Capture<R> as PacketFeed>⟧.feed result).can_fail ≡ R.can_fail reader }
+        ensures can_fail { (⟦<Capture<R> as PacketFeed>⟧.feed result).can_fail file ≡ R.can_fail reader }
         ensures held { (⟦<Capture<R> as PacketFeed>⟧.feed result).held ≡ record { window = 0; interfaces = 0; failed = R.has_failed reader } }
         ensures first { first_of result ≡ file_first tail file (R.coming reader) }
         ensures number { number_of result ≡ file }

@@ -1,5 +1,7 @@
 //! Laws of capture files, each the contract of a function that does nothing.
 ghost use Rattle.cap_source.specs.Fields.{FieldsFit, FramesFit};
+ghost use Rattle.cap_source.specs.Places.{ItemsByPlaces, EndingByPlaces, FirstByPlaces, NumbersByPlaces};
+ghost use Rattle.cap_source.specs.Written.{InterfaceWritten};
 
 /// In every file, of either format, the fields of a packet and of its interface fit in their widths: the
 /// link type in two bytes, the snaplen and the original length in four, the units and the offset (with its
@@ -8,4 +10,21 @@ ghost use Rattle.cap_source.specs.Fields.{FieldsFit, FramesFit};
 pub fn fields_fit()
     ensures law { FieldsFit }
     ensures frames { FramesFit }
+{}
+
+/// In every pcapng file what counts at a block are the blocks before it, by their kinds: the interfaces are those
+/// of the interface blocks after the last section header, in order; how many stand before that header counts for
+/// the instance; and as many blocks were skipped as are of no known kind. By these go the items, how the file
+/// ends, and its first interface.
+pub fn blocks_by_places()
+    ensures items { ItemsByPlaces }
+    ensures ending { EndingByPlaces }
+    ensures first { FirstByPlaces }
+    ensures numbers { NumbersByPlaces }
+{}
+
+/// What is written for an interface of which the fields fit is read again as that interface: its link type, its
+/// snaplen, its resolution and its offset.
+pub fn interface_written()
+    ensures { InterfaceWritten }
 {}

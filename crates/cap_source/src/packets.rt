@@ -8,7 +8,7 @@ use cap_time::{Interface, Stamp};
 pub enum Format {
     /// Pcap 2.4. draft-ietf-opsawg-pcap.
     Pcap,
-    /// Pcapng 1.0. draft-ietf-opsawg-pcapng.
+    /// Pcapng 1.0 and 1.2. draft-ietf-opsawg-pcapng.
     Pcapng,
 }
 

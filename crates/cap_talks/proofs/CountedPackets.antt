@@ -21,7 +21,7 @@ pub record IsCounted (old new : Feed) (counts : Counts) : Type 0 where
   pub went : Went old new
   pub files : new.files ≡ old.files
   pub told : IsTrue old.told → IsTrue new.told
-  pub can_fail : IsTrue new.can_fail → IsTrue old.can_fail
+  pub can_fail : (file : ℕ) → IsTrue (new.can_fail file) → IsTrue (old.can_fail file)
   pub packets : IsTrue old.told → packets_of old.items ≡ taken ++ packets_of new.items
   pub refusal : IsTrue old.told → refusal_of new.items ≡ refusal_of old.items
   pub endings : IsTrue old.told → (file : ℕ) → new.endings file ≡ old.endings file
@@ -58,7 +58,7 @@ counted-taken old mid shown new counts more meta c gives asked shows passed pass
       went = Went-more old mid shown new meta c.went gives asked passes passed;
       files = passed.files ∙ asked.files ∙ c.files;
       told = λ t. passed.told (asked.told (c.told t));
-      can_fail = λ t. c.can_fail (asked.can_fail (passed.can_fail t));
+      can_fail = λ file t. c.can_fail file (asked.can_fail file (passed.can_fail file t));
       packets = λ t.
           c.packets t ∙ ap (λ l. c.taken ++ l) (packets-first meta shown.frame mid.items (drop 1 mid.items) (shows (c.told t)).1)
           ∙ sym (append_assoc c.taken (meta ∷ []) (packets_of (drop 1 mid.items)))

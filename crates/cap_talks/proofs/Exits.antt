@@ -24,10 +24,11 @@ use Rattle.cap_talks.proofs.Tallying.{unit-waiting, enough-waiting, Stands-joine
 use Rattle.cap_talks.specs.table.Adding.{datagram_unit, datagram_class, is_over}
 use Rattle.cap_join.specs.Completed.{if_complete, completed_of}
 use Rattle.cap_talks.specs.table.Classes.{class_of, sum_of}
+use Rattle.cap_talks.specs.table.Looking.{is_plain}
 use Rattle.cap_talks.specs.table.Taken.{Taken, plain, datagram, fragment, look, stamped_of, events_of}
 use Rattle.std.specs.Prelude.{Err}
 use Rattle.cap_talks.specs.declared.table.talks.TalksFault.{TalksFault}
-use Rattle.cap_talks.specs.table.Tallies.{LimitBy, TallyState, Stands, IsSoundTally, Fits, Looks, one_if, counted_one, with_frames, with_group}
+use Rattle.cap_talks.specs.table.Tallies.{Joins, LimitBy, TallyState, Stands, IsSoundTally, Fits, Looks, one_if, counted_one, with_frames, with_group}
 use Rattle.cap_talks.specs.table.CountedUnits.{counted_in, first_unit, whole_unit, unit_at, listed, units_of, is_limit_at}
 use Rattle.cap_talks.specs.declared.table.classes.Class.{Class}
 use Rattle.cap_talks.specs.declared.table.classes.Class.TheVariants as class
@@ -262,3 +263,17 @@ limit-waiting t d xs x is h =
 
 pub enough-for : (t : TallyState) (d : Datagram) (xs : List Taken) (next : Option Taken) → t.waiting ≡ Some d → Stands t xs next → d.frames ≤ t.classes.unjoined + 1
 enough-for t d xs next is h = enough-waiting t.place t.joined t.classes t.talks t.joiner d xs next (waiting-state t d xs next is h)
+
+-- a datagram waits: the packet that comes next is a fragment
+pub waiting-kept : (t : TallyState) (d : Datagram) (xs : List Taken) (x : Taken) → t.waiting ≡ Some d → Stands t xs (Some x) → is_plain (look (length xs) x) ≡ false
+waiting-kept t d xs x waits s = by t.waiting waits s.joins
+  where
+    by : (w : Option Datagram) → w ≡ Some d → Joins w t.joiner xs (Some x) → is_plain (look (length xs) x) ≡ false
+    by None is j = absurd (clash is)
+      where
+        clash : None ≡ Some d → ⊥
+        clash e = cc
+    by (Some e) is j = same j.packet j.piece j.is_next j.is_fragment
+      where
+        same : (y : Taken) (p : Piece) → Some x ≡ Some y → look (length xs) y ≡ fragment p → is_plain (look (length xs) x) ≡ false
+        same y p next look_is = grind arith

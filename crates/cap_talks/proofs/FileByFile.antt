@@ -1,9 +1,10 @@
 -- Files that are read one by one.
-use Rattle.std.proofs.Common.{◌≡◌, ◌<◌, ◌+◌, ℕ, suc, Bool, true, List, [], ◌∷◌, ◌++◌, length, map, take, drop, get_or, arith, None, Ok, Err, append_assoc}
+use Rattle.std.proofs.Common.{◌≡◌, ◌<◌, ◌+◌, ℕ, suc, Bool, true, false, ◌-◌, List, [], ◌∷◌, ◌++◌, length, map, take, drop, get_or, arith, None, Ok, Err, append_assoc}
 use Rattle.std.specs.Prelude.{◌&&◌, Vec}
-use Rattle.std.specs.List.{list_all, list_any}
+use Rattle.std.specs.List.{list_all}
 use Rattle.std.specs.declared.alloc.Global.{Global}
 use Rattle.cap_bytes.specs.declared.faults.Fault.{Fault}
+use Rattle.cap_bytes.specs.declared.faults.Fault.TheVariants.{Refused, Read, Write, Memory}
 use Rattle.cap_bytes.specs.declared.faults.Tail.{Tail}
 use Rattle.cap_source.specs.ReadFaults.{FailsAs, FailsOf}
 use Rattle.cap_source.specs.Items.{file_items}
@@ -25,10 +26,10 @@ all-at test (y ∷ all) (suc place) x is within t = all-at test all place x is (
     second a b h = grind arith
 all-at test all place x is within t = grind arith
 
-pub any-at : {R : Type 0} (test : R → Bool) (all : List R) (place : ℕ) (x : R) → x ≡ get_or all place x → place < length all
-    → test x ≡ true → list_any test all ≡ true
-any-at test (y ∷ all) (suc place) x is within t = grind (arith, any-at test all place x is (omega arith) t)
-any-at test all place x is within t = grind arith
+can-at : {R : Type 0} (test : R → Bool) (all : List R) (place : ℕ) (x : R) → x ≡ get_or all place x → place < length all
+    → get_or (map test all) place false ≡ test x
+can-at test (y ∷ all) (suc place) x is within = can-at test all place x is (omega arith)
+can-at test all place x is within = grind arith
 
 -- What was read of some files, of which the first n were read, and what is still to be read of the others.
 pub record AreRead (tail : Tail) (all : List (List ℕ)) (place : ℕ) (read : List Counted) : Type 0 where
@@ -57,5 +58,13 @@ read-fault coming tail all place x read fault is within r e = grind (arith, byte
 
 -- a read of one of them fails
 pub fails : {R : Type 0} (can_fail : R → Bool) (all : List R) (place : ℕ) (x : R) (fault : Fault) → x ≡ get_or all place x → place < length all
-    → FailsAs {A = Counted} (1 + place) (can_fail x) (Err fault) → FailsOf {A = Vec Counted Global} (length all) (list_any can_fail all) (Err fault)
-fails can_fail all place x fault is within f = grind (arith, any-at)
+    → FailsAs {A = Counted} (1 + place) (can_fail x) (Err fault) → FailsOf {A = Vec Counted Global} (map can_fail all) (Err fault)
+fails can_fail all place x fault is within f = by fault f
+  where
+    by : (fault : Fault) → FailsAs {A = Counted} (1 + place) (can_fail x) (Err fault) → FailsOf {A = Vec Counted Global} (map can_fail all) (Err fault)
+    by (Refused refusal) f = tt
+    by (Read file offset) f =
+        let behind : file - 1 ≡ place = omega (arith, f.0) in
+        (omega (arith, f.0), rw (behind, can-at can_fail all place x is within) f.1)
+    by Write f = tt
+    by Memory f = tt

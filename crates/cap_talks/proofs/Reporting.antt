@@ -1,18 +1,22 @@
 -- Taking all packets of a run, one by one.
-use Rattle.std.proofs.Common.{◌≡◌, ℕ, Bool, true, false, List, [], ◌∷◌, length, refl, sym, ◌∙◌, ap, arith, true≢false, Option, Some, None, Ok, Err, IsTrue, inl, inr}
-use Rattle.std.specs.Prelude.{if◌then◌else◌}
+use Rattle.std.proofs.Common.{◌≡◌, ℕ, Bool, true, false, List, [], ◌∷◌, length, refl, sym, ◌∙◌, ap, arith, true≢false, Option, Some, None, Result, Ok, Err, IsTrue, inl, inr, ◌⊎◌}
+use Rattle.std.specs.Prelude.{IsOkUnless, if◌then◌else◌}
 use Rattle.cap_bytes.specs.declared.faults.Fault.{Fault}
 use Rattle.cap_bytes.specs.declared.faults.Fault.TheVariants.{Refused, Read, Write, Memory}
 use Rattle.cap_bytes.specs.declared.faults.Refusal.{Refusal}
+use Rattle.cap_source.proofs.Growing.{at-unknown}
 use Rattle.cap_source.proofs.Onward.{Went, Went-none, Keeps-trans, Lasts-trans, Lasts-goes}
-use Rattle.cap_merge.specs.Parts.{feed_of, run_of}
+use Rattle.cap_merge.specs.Parts.{clock_of, feed_of, run_of}
 use Rattle.cap_merge.specs.Run.{Clocked}
-use Rattle.cap_source.specs.Feed.{Item, refused}
+use Rattle.cap_source.specs.Feed.{Item, Waits, refused}
+use Rattle.cap_source.specs.Growing.{IfMemory, IsAtPacket, OfMemory}
+use Rattle.cap_source.specs.declared.feeds.Head.{Head}
+use Rattle.cap_source.specs.declared.feeds.Head.TheVariants as heads
 use Rattle.cap_time.specs.declared.stamps.Stamp.{Stamp}
 use Rattle.cap_talks.specs.table.CountedUnits.{refusal_at}
 use Rattle.cap_talks.specs.talks.ReportText.{taken_after, refusal_after}
 use Rattle.cap_talks.specs.talks.Reporting.{TookAll, TakesAll}
-use Rattle.cap_talks.specs.table.Stepping.{clocked, TableState, TableStands, StepKeeps, Takes, Steps, IsMore}
+use Rattle.cap_talks.specs.table.Stepping.{clocked, next_by, KeepsNext, TableState, TableStands, StepKeeps, Takes, Steps, IsMore}
 use Rattle.cap_talks.specs.table.Taken.{Taken}
 use Rattle.cap_talks.specs.table.CountedUnits.{is_limit_at}
 use Rattle.cap_talks.specs.declared.table.tables.Step.{Step}
@@ -80,6 +84,30 @@ pub TakesAll-end : (old mid new : TableState) (step : Step) (b : Bool) → Repor
 TakesAll-end old mid new steps.Took b p k t m is = absurd (clash (sym m ∙ is))
 TakesAll-end old mid new steps.Done b p k t m is = grind (arith, refusal-none, taken-none)
 
+-- a growth was refused: it isn't known what comes next, or a packet does
+at-cause : (old new : TableState) → Waits (feed_of old.parts) (feed_of new.parts) ⊎ KeepsNext old new → IsAtPacket (feed_of new.parts).known
+at-cause old new (inl w) = at-unknown (feed_of new.parts).known w.after
+at-cause old new (inr k) = by (feed_of new.parts).known k.next
+  where
+    by : (known : Option Head) → next_by known (clock_of new.parts) (feed_of new.parts).frame ≡ Some k.item → IsAtPacket known
+    by None is = tt
+    by (Some (heads.Packet meta)) is = tt
+    by (Some (heads.Refused refusal)) is = absurd (clash is)
+      where
+        clash : None ≡ Some k.item → ⊥
+        clash e = cc
+    by (Some heads.End) is = absurd (clash is)
+      where
+        clash : None ≡ Some k.item → ⊥
+        clash e = cc
+
+-- the same of what taking all answers
+pub taken-memory : (old new : TableState) (fault : Fault) → TakesAll old (Err fault) new → OfMemory fault (IsAtPacket (feed_of new.parts).known)
+taken-memory old new (Refused refusal) t = tt
+taken-memory old new (Read file offset) t = tt
+taken-memory old new Write t = tt
+taken-memory old new Memory t = t
+
 pub TakesAll-fault : (old mid new : TableState) (fault : Fault) → Reporting old mid → Steps mid (Err fault) new → TakesAll old (Err fault) new
 TakesAll-fault old mid new (Refused r) p (inl t) = grind (arith, refusal-refused)
 TakesAll-fault old mid new (Refused r) p (inr t) = λ h s.
@@ -87,4 +115,8 @@ TakesAll-fault old mid new (Refused r) p (inr t) = λ h s.
     ∙ refusal-packet p.taken t.item _ true (t.limit p.taken (p.stands s)) ∙ ap Some (sym t.is)
 TakesAll-fault old mid new (Read file offset) p t = tt
 TakesAll-fault old mid new Write p t = absurd t
-TakesAll-fault old mid new Memory p t = tt
+TakesAll-fault old mid new Memory p t = at-cause mid new t.cause
+
+-- what only writes answers no refused growth
+pub memory-unless : {A : Type 0} (result : Result A Fault) (P : Type 0) → IsOkUnless result Write → IfMemory result P
+memory-unless result P h = grind arith

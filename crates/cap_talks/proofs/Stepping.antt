@@ -201,9 +201,6 @@ pub known-end : (old new : Feed) (found : Bool) → found ≡ false → FindsPac
 known-end old new true e h = absurd (true≢false e)
 known-end old new false e h = h
 
-pub is-packet : (feed : Feed) (meta : Meta) → feed.known ≡ Some (heads.Packet meta) → IsPacket feed.known
-is-packet feed meta known = subst IsPacket (sym known) tt
-
 pub found-packet : (old new : Feed) (found : Bool) → found ≡ true → FindsPacket old (Ok found) new → IsPacket new.known
 found-packet old new true e h = subst IsPacket (sym h.1.known) tt
 found-packet old new false e h = absurd (true≢false (sym e))

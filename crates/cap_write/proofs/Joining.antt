@@ -173,7 +173,7 @@ Joining-more order old mid shown new origins_old origins origins_new joiner join
       walk =
           Walking-by (plan_of order origins_old) (plan_of order origins) (plan_of order origins_new) (feeding old 0 []) (feeding mid place events) (feeding new (place + 1) after) fo fm fn from m to
           (text_behind order origins items) p.walk
-          (λ t. passed.told (asked.told t)) (λ c. asked.can_fail (passed.can_fail c)) (omega (arith, passed.left, asked.left))
+          (λ t. passed.told (asked.told t)) (λ file c. asked.can_fail file (passed.can_fail file c)) (omega (arith, passed.left, asked.left))
           (λ t. ap (text_behind order origins) (split t) ∙ (both.0 ∙ ap (λ n. text_behind order origins items ++ text_behind order n rest) (sym name.0)))
           (λ t. ap (refusal_in origins) (split t) ∙ (both.1 ∙ ap (λ n. refusal_in n rest) (sym name.0)))
           (λ w. wrote w events p.stands) told cannot failed;

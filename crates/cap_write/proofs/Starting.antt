@@ -1,15 +1,18 @@
 -- What holds before anything of a feed is written, and what a writer keeps on the way.
-use Rattle.std.proofs.Common.{◌≡◌, ◌∷◌, [], ℕ, ◌≤◌, List, length, Bool, false, IsTrue, true≢false, Option, Some, Result, Ok, Err, refl, sym, subst, ap, ◌∙◌, append-nil, arith}
+use Rattle.std.proofs.Common.{◌≡◌, ◌∷◌, [], ℕ, ◌≤◌, List, length, Bool, false, IsTrue, IfSome, true≢false, Option, Some, None, Result, Ok, Err, refl, sym, subst, ap, ◌∙◌, append-nil, arith}
 use Rattle.std.proofs.Math.Bool.{or-false}
 use Rattle.cap_bytes.specs.Device.{Writer, WriterKeeps}
 use Rattle.cap_bytes.specs.Printing.{Prints, is_write}
 use Rattle.cap_bytes.specs.declared.faults.Fault.{Fault}
 use Rattle.cap_bytes.specs.declared.faults.Fault.TheVariants.{Refused, Read, Write, Memory}
 use Rattle.cap_bytes.specs.declared.faults.Refusal.{Refusal}
+use Rattle.cap_source.proofs.Growing.{memory-more}
+use Rattle.cap_source.proofs.Onward.{Goes-behind, Lasts-goes, Lasts-trans}
 use Rattle.cap_source.proofs.Walking.{Plan, Walking}
 use Rattle.cap_source.specs.ReadFaults.{FailsOf}
 use Rattle.std.proofs.lemmas.Bool.Decides.{nat_tests}
-use Rattle.cap_source.specs.Feed.{Feed, GivesHead, IsFeed, IfPacket, IsPacket, IsPacketOf}
+use Rattle.cap_source.specs.Feed.{Feed, HasFile, Keeps, Knows, GivesHead, IsFeed, IfPacket, IsPacket, IsPacketOf}
+use Rattle.cap_source.specs.Growing.{OfMemory, IfMemory}
 use Rattle.cap_source.specs.Walk.{GivesPacket, Walks}
 use Rattle.cap_source.specs.declared.feeds.Head.{Head}
 use Rattle.cap_source.specs.declared.feeds.Head.TheVariants as heads
@@ -19,7 +22,7 @@ pub Walking-none : (plan : Plan) (feed : Feed) (failed : Bool) (w : Writer) → 
 Walking-none plan feed failed w = record {
   failed = refl;
   told = λ t. t;
-  can_fail = λ c. c;
+  can_fail = λ file c. c;
   left = omega arith;
   writer_told = λ t. t;
   writer_cannot = λ c. c;
@@ -78,10 +81,45 @@ Walks-unread old new (Read file offset) h = record { of = h.of; again = h.again;
 Walks-unread old new Write h = absurd h
 Walks-unread old new Memory h = record { broken = h.goes.after ∙ sym h.goes.before; failed = h.goes.failed }
 
+pub memory-unread : (old new : Feed) (fault : Fault) → GivesHead old (Err fault) new → OfMemory fault (new.known ≡ None)
+memory-unread old new (Refused r) h = tt
+memory-unread old new (Read file offset) h = tt
+memory-unread old new Write h = tt
+memory-unread old new Memory h = h.after
+
+-- the same of an answer, from more
+pub memory-wider : {A : Type 0} (result : Result A Fault) (P Q : Type 0) → (P → Q) → IfMemory result P → IfMemory result Q
+memory-wider (Ok x) P Q f h = tt
+memory-wider (Err fault) P Q f h = memory-more fault P Q f h
+
+-- a walk after what comes first was asked for
+pub Walks-first : {A : Type 0} (old mid new : Feed) (head : Head) (result : Result A Fault) → Knows old head mid → Keeps old mid → Walks mid result new
+    → Walks old result new
+Walks-first old mid new head (Ok x) k keeps w = (w.0, Goes-behind old mid new (Lasts-goes old mid k.goes) w.1)
+Walks-first old mid new head (Err (Refused refusal)) k keeps w = Goes-behind old mid new (Lasts-goes old mid k.goes) w
+Walks-first old mid new head (Err (Read file offset)) k keeps w = record {
+  of = subst (λ fs. HasFile fs file) keeps.files w.of;
+  again = subst (λ (b : Option Fault). IfSome b (λ first. Read file offset ≡ first)) (sym k.goes.before) tt;
+  after = w.after;
+  broken = w.broken;
+  place = w.place;
+  failed = w.failed;
+  can_fail = keeps.can_fail file w.can_fail;
+}
+Walks-first old mid new head (Err Write) k keeps w = Lasts-trans old mid new (Lasts-goes old mid k.goes) w
+Walks-first old mid new head (Err Memory) k keeps w = Lasts-trans old mid new (Lasts-goes old mid k.goes) w
+
 -- A failed read is of the only file.
-pub FailsOf-one : {A : Type 0} (old new : Feed) (can_fail : Bool) (result : Result A Fault) → Walks old result new → old.files ≡ 1 ∷ [] → old.can_fail ≡ can_fail → FailsOf 1 can_fail result
+pub FailsOf-one : {A : Type 0} (old new : Feed) (can_fail : Bool) (result : Result A Fault) → Walks old result new → old.files ≡ 1 ∷ [] → old.can_fail 1 ≡ can_fail → FailsOf (can_fail ∷ []) result
 FailsOf-one old new can_fail (Ok u) w files can = tt
 FailsOf-one old new can_fail (Err (Refused r)) w files can = tt
-FailsOf-one old new can_fail (Err (Read file offset)) w files can = grind (arith, nat_tests)
+FailsOf-one old new can_fail (Err (Read file offset)) w files can =
+    let only : file ≡ 1 = the-file (subst (λ fs. HasFile fs file) files w.of) in (
+      omega arith,
+      rw only (subst IsTrue (ap old.can_fail only ∙ can) w.can_fail),
+    )
+  where
+    the-file : HasFile (1 ∷ []) file → file ≡ 1
+    the-file has = grind (arith, nat_tests)
 FailsOf-one old new can_fail (Err Write) w files can = tt
 FailsOf-one old new can_fail (Err Memory) w files can = tt

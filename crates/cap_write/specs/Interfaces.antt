@@ -7,7 +7,7 @@ use Rattle.cap_bytes.specs.declared.faults.Rule.TheVariants.{NoTime}
 use Rattle.cap_source.specs.declared.packets.Meta.{Meta}
 use Rattle.cap_write.specs.Numbering.{Origin, number_of, with_origin, write_fault, refusal_at}
 
--- The packet is written with that number; or it is refused; or there was no memory.
+-- The packet is written with that number; or it is refused; or there was no memory for a number that it would have had.
 abbrev pub Numbers : Meta → List Origin → Result ℕ Fault → List Origin → Type 0
 Numbers meta old (Ok number) new =
     (write_fault old meta ≡ None) × (number ≡ number_of old meta) × (new ≡ with_origin old meta)
@@ -15,7 +15,7 @@ Numbers meta old (Err (Refused refusal)) new =
     (rule : Rule) × (write_fault old meta ≡ Some rule) × (refusal ≡ refusal_at meta rule) × (new ≡ old)
 Numbers meta old (Err (Read file offset)) new = ⊥
 Numbers meta old (Err Write) new = ⊥
-Numbers meta old (Err Memory) new = new ≡ old
+Numbers meta old (Err Memory) new = (new ≡ old) × (write_fault old meta ≡ None)
 
 -- The packet has that time, or is refused because it has none.
 abbrev pub HasUnits : Meta → Result ℕ Fault → Type 0

@@ -53,25 +53,37 @@ unfoldable pub joined_of : List Piece → Option Complete
 joined_of pieces =
     if completes pieces then option_and_then (λ h. complete_of h (data_of pieces) (length (data_of pieces))) (header_of pieces) else None
 
--- The datagram that a packet completes, of which that was read at a clock, after some events at a joiner: the packet is a whole
--- datagram, or the last fragment that was missing.
-abbrev pub completed_by : Option Fragment → HeaderFields → List ℕ → Option Stamp → Stamped → List Event → Option Complete
-completed_by None header captured clock stamped events = complete_of header captured header.data_length
-completed_by (Some fragment) header captured clock stamped events =
-    joined_of (joined_pieces clock (piece_of header captured stamped) (state_of open_limit events))
+-- The datagram that a packet completes, of which that was read, if `group` has the fragments of a fragment's group: the packet is a
+-- whole datagram, or the last fragment that was missing.
+abbrev pub datagram_by : Option Fragment → HeaderFields → List ℕ → Stamped → (Piece → List Piece) → Option Complete
+datagram_by None header captured stamped group = complete_of header captured header.data_length
+datagram_by (Some fragment) header captured stamped group = joined_of (group (piece_of header captured stamped))
 
-abbrev pub completed_in : Reading → Option Stamp → Stamped → List Event → Option Complete
-completed_in (found header captured) clock stamped events = completed_by header.fragment header captured clock stamped events
-completed_in bad clock stamped events = None
-completed_in cut clock stamped events = None
+abbrev pub datagram_in : Reading → Stamped → (Piece → List Piece) → Option Complete
+datagram_in (found header captured) stamped group = datagram_by header.fragment header captured stamped group
+datagram_in bad stamped group = None
+datagram_in cut stamped group = None
 
 -- the same of what a frame carries, of which all was captured or not
+abbrev pub datagram_at : Carried → Bool → Stamped → (Piece → List Piece) → Option Complete
+datagram_at (ipv4 bytes) whole stamped group = datagram_in (read_of bytes whole) stamped group
+datagram_at other_link whole stamped group = None
+datagram_at not_ipv4 whole stamped group = None
+datagram_at short whole stamped group = None
+datagram_at ends whole stamped group = None
+
+-- the same at a clock, after some events at a joiner
+abbrev pub group_after : Option Stamp → List Event → Piece → List Piece
+group_after clock events p = joined_pieces clock p (state_of open_limit events)
+
+abbrev pub completed_by : Option Fragment → HeaderFields → List ℕ → Option Stamp → Stamped → List Event → Option Complete
+completed_by fragment header captured clock stamped events = datagram_by fragment header captured stamped (group_after clock events)
+
+abbrev pub completed_in : Reading → Option Stamp → Stamped → List Event → Option Complete
+completed_in reading clock stamped events = datagram_in reading stamped (group_after clock events)
+
 abbrev pub completed_at : Carried → Bool → Option Stamp → Stamped → List Event → Option Complete
-completed_at (ipv4 bytes) whole clock stamped events = completed_in (read_of bytes whole) clock stamped events
-completed_at other_link whole clock stamped events = None
-completed_at not_ipv4 whole clock stamped events = None
-completed_at short whole clock stamped events = None
-completed_at ends whole clock stamped events = None
+completed_at carried whole clock stamped events = datagram_at carried whole stamped (group_after clock events)
 
 -- and the events after it, the latest first
 abbrev pub events_at : Carried → Bool → Option Stamp → Stamped → List Event → List Event
@@ -112,9 +124,11 @@ datagram_items meta (Some d) = datagram_item meta d ∷ []
 
 -- What is to be written of a packet: the datagram that it completes, if it does. A packet without a time stands for itself, so
 -- that its writing is refused.
+abbrev pub items_with : Meta → List ℕ → Option Complete → List Item
+items_with meta frame d = if is_some meta.units then datagram_items meta d else packet meta frame ∷ []
+
 unfoldable pub items_of_packet : ℕ → List Event → Option Stamp → Meta → List ℕ → List Item
-items_of_packet place events clock meta frame =
-    if is_some meta.units then datagram_items meta (completed place events clock meta frame) else packet meta frame ∷ []
+items_of_packet place events clock meta frame = items_with meta frame (completed place events clock meta frame)
 
 -- what is to be written of an item of that clock, and the events after it
 abbrev pub items_here : ℕ → List Event → Option Stamp → Item → List Item

@@ -1,5 +1,5 @@
 //! Files of whole datagrams.
-ghost use Rattle.std.specs.Prelude.{◌≡◌, ◌+◌, ◌≤◌, ◌<◌, ◌^◌, length, List, [], IsTrue, OnOk};
+ghost use Rattle.std.specs.Prelude.{◌≡◌, ◌+◌, ◌≤◌, ◌<◌, ◌^◌, length, List, [], IsSome, IsTrue, OnOk};
 ghost use Rattle.cap_bytes.specs.Device.{WriterKeeps, writer_of};
 ghost use Rattle.cap_bytes.specs.Printing.{Prints, IsRead, is_write};
 ghost use Rattle.cap_join.specs.History.{Event};
@@ -8,6 +8,7 @@ ghost use Rattle.cap_merge.specs.Parts.{feed_of, run_of};
 ghost use Rattle.cap_merge.specs.View.{parts_of};
 ghost use Rattle.cap_source.specs.Feed.{Keeps};
 ghost use Rattle.cap_source.specs.Walk.{Walks};
+ghost use Rattle.cap_source.specs.Growing.{IfMemory, IsAtPacket};
 ghost use Rattle.cap_write.specs.Datagrams.{Stands, origins_behind};
 ghost use Rattle.cap_write.specs.Joined.{datagram_meta, events_after, joined_items, joined_bytes, joined_refusal};
 ghost use Rattle.cap_write.specs.Numbering.{refusal_in};
@@ -75,6 +76,7 @@ fn put_completed<W: Sink>(
     ensures limit { length origins.new.keys ≤ 1024 }
     ensures writer { WriterKeeps (writer_of W.Sink writer.old) (is_write result) (writer_of W.Sink writer.new) }
     ensures read { IsRead result → ⊥ }
+    ensures memory { IfMemory result (IsSome run.now.meta.now.units) }
 {
     units_of(run.meta)?;
     if take_packet(joining, run)? {
@@ -100,6 +102,7 @@ fn put_joined<F: PacketFeed, W: Sink>(
         (W.held writer.old) result (W.held writer.new) }
     ensures writer { WriterKeeps (writer_of W.Sink writer.old) (is_write result) (writer_of W.Sink writer.new) }
     ensures walks { Walks (feed_of (parts_of merged.old)) result (feed_of (parts_of merged.new)) }
+    ensures memory { IfMemory result (IsAtPacket (feed_of (parts_of merged.new)).known) }
     ensures keeps { Keeps (feed_of (parts_of merged.old)) (feed_of (parts_of merged.new)) }
 {
     let mut joining = Joining {
@@ -145,6 +148,7 @@ pub fn write_joined<F: PacketFeed, W: Sink>(
         (W.held writer.old) result (W.held writer.new) }
     ensures writer { WriterKeeps (writer_of W.Sink writer.old) (is_write result) (writer_of W.Sink writer.new) }
     ensures walks { Walks (feed_of (parts_of merged.old)) result (feed_of (parts_of merged.new)) }
+    ensures memory { IfMemory result (IsAtPacket (feed_of (parts_of merged.new)).known) }
     ensures keeps { Keeps (feed_of (parts_of merged.old)) (feed_of (parts_of merged.new)) }
 {
     put_section(writer, order)?;

@@ -4,6 +4,7 @@ ghost use Rattle.cap_bytes.specs.Device.{WriterKeeps, writer_of};
 ghost use Rattle.cap_bytes.specs.Printing.{Prints, IsRead, is_write};
 ghost use Rattle.cap_source.specs.Feed.{Keeps};
 ghost use Rattle.cap_source.specs.Walk.{Walks};
+ghost use Rattle.cap_source.specs.Growing.{IfMemory};
 ghost use Rattle.cap_write.specs.Pcap.{fraction_of, header_of, packet_record, record_fault, records_bytes, records_refusal, pcap_bytes, pcap_refusal};
 ghost use Rattle.cap_write.specs.Times.{HasTime, HasRecord, IsBare};
 ghost use Rattle.cap_write.specs.Texts.{text_or};
@@ -83,6 +84,7 @@ fn put_one<W: Sink>(
     ensures whole { OnOk result (record_fault first.now meta.now ≡ None) }
     ensures writer { WriterKeeps (writer_of W.Sink writer.old) (is_write result) (writer_of W.Sink writer.new) }
     ensures read { IsRead result → ⊥ }
+    ensures memory { IfMemory result ⊥ }
 {
     let time = written_time(first, meta)?;
     put_record(writer, order, time, meta.original, frame)
@@ -101,6 +103,7 @@ fn put_records<F: PacketFeed, W: Sink>(
         (W.held writer.old) result (W.held writer.new) }
     ensures writer { WriterKeeps (writer_of W.Sink writer.old) (is_write result) (writer_of W.Sink writer.new) }
     ensures walks { Walks (F.feed feed.old) result (F.feed feed.new) }
+    ensures memory { IfMemory result ((F.feed feed.new).known ≡ None) }
     ensures keeps { Keeps (F.feed feed.old) (F.feed feed.new) }
 {
     while let Some(meta) = next_packet(feed)? {
@@ -123,6 +126,7 @@ fn put_file<F: PacketFeed, W: Sink>(
         (W.held writer.old) result (W.held writer.new) }
     ensures writer { WriterKeeps (writer_of W.Sink writer.old) (is_write result) (writer_of W.Sink writer.new) }
     ensures walks { Walks (F.feed feed.old) result (F.feed feed.new) }
+    ensures memory { IfMemory result ((F.feed feed.new).known ≡ None) }
     ensures keeps { Keeps (F.feed feed.old) (F.feed feed.new) }
 {
     put_header(writer, &header_of(order, first))?;
@@ -134,6 +138,7 @@ fn refuse_bare<F: PacketFeed>(feed: &mut F, file: u32) -> Result<(), Fault>
     ensures text { IsTrue (F.feed feed.old).told
         → IsBare file (F.feed feed.old).items result }
     ensures walks { Walks (F.feed feed.old) result (F.feed feed.new) }
+    ensures memory { IfMemory result ((F.feed feed.new).known ≡ None) }
     ensures keeps { Keeps (F.feed feed.old) (F.feed feed.new) }
     ensures write { IsFalse (is_write result) }
 {
@@ -166,6 +171,7 @@ pub(crate) fn put_pcap<F: PacketFeed, W: Sink>(
         (W.held writer.old) result (W.held writer.new) }
     ensures writer { WriterKeeps (writer_of W.Sink writer.old) (is_write result) (writer_of W.Sink writer.new) }
     ensures walks { Walks (F.feed feed.old) result (F.feed feed.new) }
+    ensures memory { IfMemory result ((F.feed feed.new).known ≡ None) }
     ensures keeps { Keeps (F.feed feed.old) (F.feed feed.new) }
 {
     match start.first {

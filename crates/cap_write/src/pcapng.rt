@@ -1,9 +1,10 @@
 //! A feed written as a pcapng file.
-ghost use Rattle.std.specs.Prelude.{IsTrue, is_err, IsOkUnless};
+ghost use Rattle.std.specs.Prelude.{◌≡◌, ◌⊎◌, IsErr, IsSome, IsTrue, is_err, IsOkUnless};
 ghost use Rattle.cap_bytes.specs.Device.{Puts, WriterKeeps, writer_of};
 ghost use Rattle.cap_bytes.specs.Printing.{Prints, is_write};
 ghost use Rattle.cap_source.specs.Feed.{Keeps};
 ghost use Rattle.cap_source.specs.Walk.{Walks};
+ghost use Rattle.cap_source.specs.Growing.{IfMemory, IsAtPacket};
 ghost use Rattle.cap_write.specs.Interfaces.{Holds};
 ghost use Rattle.cap_write.specs.Texts.{first_origins, first_bytes, front_bytes, pcapng_bytes, pcapng_refusal};
 
@@ -18,6 +19,7 @@ use std::alloc::Global;
 // The interfaces that are described before the first packet.
 fn first_origins(alloc: Global, start: FileStart) -> Result<Origins, Fault>
     ensures origins { Holds (λ origins. origins.keys) (first_origins start.file start.first) result }
+    ensures some { IsErr result → IsSome start.first }
 {
     let mut origins = Origins::new(alloc);
     match start.first {
@@ -71,6 +73,7 @@ pub(crate) fn put_pcapng<F: PacketFeed, W: Sink>(
         (W.held writer.old) result (W.held writer.new) }
     ensures writer { WriterKeeps (writer_of W.Sink writer.old) (is_write result) (writer_of W.Sink writer.new) }
     ensures walks { Walks (F.feed feed.old) result (F.feed feed.new) }
+    ensures memory { IfMemory result (IsAtPacket (F.feed feed.new).known ⊎ (IsSome start.first × (F.feed feed.new ≡ F.feed feed.old))) }
     ensures keeps { Keeps (F.feed feed.old) (F.feed feed.new) }
 {
     let mut origins = first_origins(alloc, start)?;

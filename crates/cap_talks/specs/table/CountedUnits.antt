@@ -81,9 +81,13 @@ joined_in xs = counted_in (groups_of xs)
 abbrev pub given_up_in : List Taken → ℕ
 given_up_in xs = (state_of open_limit (events_of xs)).given_up
 
--- after some packets, the next one completes a unit of a new conversation, and 1,048,576 conversations stand
+-- a unit, if there is one, is of a new conversation, and 1,048,576 conversations stand of those before it
+abbrev pub is_limit_by : List CountedUnit → Option CountedUnit → Bool
+is_limit_by units unit = option_map_or (λ unit. is_refused talk_limit (rows_of units) (key_of unit)) unit false
+
+-- after some packets, the next one completes such a unit
 abbrev pub is_limit_at : List Taken → Taken → Bool
-is_limit_at xs x = option_map_or (λ unit. is_refused talk_limit (rows_of (units_of xs)) (key_of unit)) (unit_at xs x) false
+is_limit_at xs x = is_limit_by (units_of xs) (unit_at xs x)
 
 -- the refusal of such a packet: rule 16, talk-limit
 abbrev pub refusal_at : Meta → Refusal

@@ -1,5 +1,5 @@
 -- What a packet is by itself, as it is looked at.
-use Rattle.std.specs.Prelude.{◌≡◌, ℕ, List, length, IsSome, Option, ⊤}
+use Rattle.std.specs.Prelude.{◌≡◌, ℕ, Bool, true, false, List, length, IsSome, Option, ⊤}
 use Rattle.cap_join.specs.Fragments.{piece_of}
 use Rattle.cap_join.specs.declared.datagrams.Stamped.{Stamped}
 use Rattle.cap_source.specs.declared.packets.Meta.{Meta}
@@ -14,6 +14,12 @@ abbrev pub look_of : Seen → Stamped → Look
 look_of (seen.Plain c) stamped = plain c
 look_of (seen.Datagram header captured) stamped = datagram header captured.now
 look_of (seen.Fragment header bytes) stamped = fragment (piece_of header bytes.now stamped)
+
+-- a packet of one class, of which nothing is kept
+abbrev pub is_plain : Look → Bool
+is_plain (plain c) = true
+is_plain (datagram header captured) = false
+is_plain (fragment p) = false
 
 -- A fragment comes with all of its data.
 abbrev pub IsAll : Seen → Type 0

@@ -5,14 +5,15 @@ use Rattle.cap_bytes.specs.declared.faults.Fault.TheVariants.{Refused, Read, Wri
 use Rattle.cap_bytes.specs.declared.faults.Refusal.{Refusal}
 use Rattle.cap_merge.specs.Parts.{Part, feed_of, run_of, clock_of}
 use Rattle.cap_merge.specs.Run.{Clocked}
-use Rattle.cap_source.specs.Feed.{Item, packet, refused, Keeps, Breaks, Waits, Goes, IsPacket}
+use Rattle.cap_source.specs.Feed.{Item, packet, refused, Keeps, Breaks, Waits, Goes}
 use Rattle.cap_source.specs.declared.feeds.Ending.{Ending}
 use Rattle.cap_source.specs.declared.feeds.Head.{Head}
 use Rattle.cap_source.specs.declared.feeds.Head.TheVariants as heads
 use Rattle.cap_time.specs.declared.stamps.Stamp.{Stamp}
 use Rattle.cap_talks.specs.table.CountedUnits.{is_limit_at}
 use Rattle.cap_talks.specs.table.CountedUnits.{refusal_at}
-use Rattle.cap_talks.specs.table.Taken.{Taken}
+use Rattle.cap_talks.specs.table.Looking.{is_plain}
+use Rattle.cap_talks.specs.table.Taken.{Taken, look}
 use Rattle.cap_talks.specs.table.Tallies.{TallyState, Stands}
 use Rattle.cap_talks.specs.table.Totals.{TotalsState, TotalsStand}
 use Rattle.cap_talks.specs.declared.table.tables.Step.{Step}
@@ -110,9 +111,15 @@ pub record Fails (file offset : ℕ) (old new : TableState) : Type 0 where
   pub breaks : Breaks (feed_of old.parts) file offset (feed_of new.parts)
   pub stays : Stays old new
 
--- A growth was refused, of the feed or of what is counted of the packet that comes first: the packets to come are the same.
+-- The packet that is known to come first is a datagram or a fragment, of which something is kept.
+pub record KeepsNext (old new : TableState) : Type 0 where
+  pub item : Taken
+  pub next : next_taken new.parts ≡ Some item
+  pub kept : (xs : List Taken) → TableStands old xs → is_plain (look (length xs) item) ≡ false
+
+-- A growth was refused, of the feed or of what is kept of the packet that comes first: the packets to come are the same.
 pub record WaitsAgain (old new : TableState) : Type 0 where
-  pub cause : Waits (feed_of old.parts) (feed_of new.parts) ⊎ IsPacket (feed_of new.parts).known
+  pub cause : Waits (feed_of old.parts) (feed_of new.parts) ⊎ KeepsNext old new
   pub same : IsTrue (feed_of old.parts).told → SameRun old new
   pub goes : Goes (feed_of old.parts) (feed_of new.parts)
   pub stays : Stays old new

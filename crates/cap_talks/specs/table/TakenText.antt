@@ -10,7 +10,9 @@ use Rattle.cap_talks.specs.table.Talks.{rows_of}
 use Rattle.cap_talks.specs.table.Classes.{classes, counts_of}
 use Rattle.cap_talks.specs.table.Taken.{Taken}
 use Rattle.cap_talks.specs.table.CountedUnits.{units_of, joined_in, given_up_in}
+use Rattle.cap_talks.specs.declared.table.classes.Class.{Class}
 use Rattle.cap_talks.specs.declared.table.classes.ClassCounts.{ClassCounts}
+use Rattle.cap_talks.specs.declared.table.units.CountedUnit.{CountedUnit}
 
 -- what is told of the packets of one file, in their order
 abbrev pub metas_of : ℕ → List Taken → List Meta
@@ -43,11 +45,14 @@ frames_text n =
 abbrev pub joined_text : ℕ → ℕ → List ℕ
 joined_text joined given_up = codes "joined " ++ decimal joined ++ codes " given-up " ++ decimal given_up ++ codes "\n"
 
--- all lines but those of the files
+-- all lines but those of the files, by the packets' classes and units, and how many datagrams were joined and how many groups given up
+abbrev pub body_by : List Taken → List Class → List CountedUnit → ℕ → ℕ → List ℕ
+body_by xs of_each units joined given_up =
+    total_text (length xs) (bytes_of xs) (truncated_of xs) ++ frames_text (counts_of of_each) ++ joined_text joined given_up
+    ++ talks_text (length (rows_of units)) ++ talk_texts (rows_of units)
+
 unfoldable pub body_text : List Taken → List ℕ
-body_text xs =
-    total_text (length xs) (bytes_of xs) (truncated_of xs) ++ frames_text (counts_of (classes xs)) ++ joined_text (joined_in xs) (given_up_in xs)
-    ++ talks_text (length (rows_of (units_of xs))) ++ talk_texts (rows_of (units_of xs))
+body_text xs = body_by xs (classes xs) (units_of xs) (joined_in xs) (given_up_in xs)
 
 -- the lines of the files, of which there are `count`
 unfoldable pub files_part : ℕ → Option (ℕ → Ending) → List Taken → List ℕ

@@ -3,6 +3,7 @@ use Rattle.std.specs.Prelude.{◌≡◌, ℕ, List, [], true, IsTrue, Some, None
 use Rattle.cap_bytes.specs.declared.faults.Fault.{Fault}
 use Rattle.cap_bytes.specs.declared.faults.Fault.TheVariants.{Refused, Read, Write, Memory}
 use Rattle.cap_merge.specs.Parts.{Part, feed_of, run_of}
+use Rattle.cap_source.specs.Growing.{IsAtPacket}
 use Rattle.cap_source.specs.declared.feeds.Head.TheVariants as heads
 use Rattle.cap_talks.specs.talks.ReportText.{taken_after, refusal_after, report_text, report_refusal}
 use Rattle.cap_talks.specs.talks.Telling.{Tells}
@@ -23,7 +24,7 @@ TakesAll old (Err (Refused refusal)) new =
     IsTrue (feed_of old.parts).told → TableStands old [] → refusal_after [] (run_of old.parts) ≡ Some refusal
 TakesAll old (Err (Read file offset)) new = ⊤
 TakesAll old (Err Write) new = ⊥
-TakesAll old (Err Memory) new = ⊤
+TakesAll old (Err Memory) new = IsAtPacket (feed_of new.parts).known
 
 -- The report of the run of that many files is told.
 abbrev pub TellsReport : ℕ → List Part → List ℕ → Result (Unit {0}) Fault → List ℕ → Type 0

@@ -7,7 +7,7 @@ ghost use Rattle.cap_join.specs.Fragments.{piece_of};
 ghost use Rattle.cap_join.specs.History.{Event, arrives, state_of, joined_pieces};
 ghost use Rattle.cap_join.specs.Joiners.{StandsFor, IsAnswer, most_bytes, open_limit};
 ghost use Rattle.cap_time.specs.Stamp.{seconds_of};
-ghost use Rattle.cap_talks.specs.table.Looking.{taken_of};
+ghost use Rattle.cap_talks.specs.table.Looking.{is_plain, taken_of};
 ghost use Rattle.cap_talks.specs.table.TakenText.{frames_text, joined_text};
 ghost use Rattle.cap_talks.specs.table.Taken.{Taken, datagram, fragment, look, stamped_of};
 ghost use Rattle.cap_talks.specs.table.Tallies.{Stands, LimitBy, one_if, tally_text, waiting_bytes, counted_one, Looks, WaitsIf, with_frames, with_group};
@@ -172,6 +172,8 @@ impl Tally {
         ensures waits { IfOk result (λ waits. WaitsIf self.new.waiting waits) }
         ensures place { IfOk result (λ waits. self.new.place ≡ (if waits then self.old.place else self.old.place + 1)) }
         ensures fault { IfErr result (λ e. e ≡ Memory) }
+        ensures grows { OnErr result ((xs : List Taken) → Stands self.old xs (Some (taken_of packet.entry))
+            → is_plain (look (length xs) (taken_of packet.entry)) ≡ false) }
         ensures err { OnErr result (self.new ≡ self.old) }
     {
         let stamped = stamped_of(self.place, packet.meta.time(), packet.meta);
@@ -206,6 +208,8 @@ impl Tally {
         ensures place { OnOk result (self.new.place ≡ self.old.place + 1) }
         ensures limit { IfErr result (λ e. (xs : List Taken) → Stands self.old xs (Some (taken_of packet.entry))
             → LimitBy (Err e) (is_limit_at xs (taken_of packet.entry))) }
+        ensures grows { OnErr result ((xs : List Taken) → Stands self.old xs (Some (taken_of packet.entry))
+            → is_plain (look (length xs) (taken_of packet.entry)) ≡ false) }
         ensures err { OnErr result (self.new ≡ self.old) }
     {
         let seen = transport(header.key().protocol, captured, header.data_length());
@@ -232,6 +236,8 @@ impl Tally {
         ensures place { IfOk result (λ waits. self.new.place ≡ (if waits then self.old.place else self.old.place + 1)) }
         ensures limit { IfErr result (λ e. (xs : List Taken) → Stands self.old xs (Some (taken_of packet.entry))
             → LimitBy (Err e) (is_limit_at xs (taken_of packet.entry))) }
+        ensures grows { OnErr result ((xs : List Taken) → Stands self.old xs (Some (taken_of packet.entry))
+            → is_plain (look (length xs) (taken_of packet.entry)) ≡ false) }
         ensures err { OnErr result (self.new ≡ self.old) }
     {
         match look(packet.meta, packet.frame) {
@@ -255,6 +261,7 @@ impl Tally {
         ensures stands { OnOk result ((xs : List Taken) (x : Taken) → Stands self.old xs (Some x)
             → (is_limit_at xs x ≡ false) × ((next : Option Taken) → Stands self.new (x ∷ xs) next)) }
         ensures limit { IfErr result (λ e. (xs : List Taken) (x : Taken) → Stands self.old xs (Some x) → LimitBy (Err e) (is_limit_at xs x)) }
+        ensures grows { OnErr result ((xs : List Taken) (x : Taken) → Stands self.old xs (Some x) → is_plain (look (length xs) x) ≡ false) }
         ensures none { OnOk result (self.new.waiting ≡ None) }
         ensures place { OnOk result (self.new.place ≡ self.old.place + 1) }
         ensures err { OnErr result (self.new ≡ self.old) }
@@ -275,8 +282,8 @@ impl Tally {
     /// Takes the packet that comes next, which has that time.
     ///
     /// `Limit` comes exactly if it completes a unit of a new conversation and there are 1,048,576 already, `Memory` if a
-    /// growth was refused. Both leave the counts as they were, and the same call may be made again; a datagram that the packet joined is kept
-    /// for it.
+    /// growth was refused; a packet that is no datagram and no fragment needs none. Both leave the counts as they were,
+    /// and the same call may be made again; a datagram that the packet joined is kept for it.
     #[inline(always)]
     pub(crate) fn take(
         &mut self,
@@ -288,6 +295,8 @@ impl Tally {
         ensures stands { OnOk result (Looks self.old (taken_of packet.entry) false self.new) }
         ensures limit { IfErr result (λ e. (xs : List Taken) → Stands self.old xs (Some (taken_of packet.entry))
             → LimitBy (Err e) (is_limit_at xs (taken_of packet.entry))) }
+        ensures grows { OnErr result ((xs : List Taken) → Stands self.old xs (Some (taken_of packet.entry))
+            → is_plain (look (length xs) (taken_of packet.entry)) ≡ false) }
         ensures none { OnOk result (self.new.waiting ≡ None) }
         ensures place { OnOk result (self.new.place ≡ self.old.place + 1) }
         ensures same { OnErr result (self.new.place ≡ self.old.place) }

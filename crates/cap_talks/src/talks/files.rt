@@ -1,10 +1,11 @@
 //! The lines of the files, each read by itself.
-ghost use Rattle.std.specs.Prelude.{◌≡◌, ◌≤◌, ◌^◌, false, IsTrue, IfOk, length, map, vec_len};
-ghost use Rattle.std.specs.List.{list_all, list_any};
+ghost use Rattle.std.specs.Prelude.{◌≡◌, ◌≤◌, ◌^◌, false, None, IsTrue, IfOk, length, map, vec_len};
+ghost use Rattle.std.specs.List.{list_all};
 ghost use Rattle.cap_bytes.specs.Device.{WriterKeeps, writer_of};
 ghost use Rattle.cap_bytes.specs.Printing.{is_write};
 ghost use Rattle.cap_source.specs.Feed.{Keeps};
 ghost use Rattle.cap_source.specs.Walk.{Walks};
+ghost use Rattle.cap_source.specs.Growing.{IfMemory};
 ghost use Rattle.cap_source.specs.ReadFaults.{FailsAs, FailsOf};
 ghost use Rattle.cap_talks.specs.talks.InfoText.{info_text, first_refusal};
 ghost use Rattle.cap_talks.specs.talks.Reading.{CountsAll, CountsFile, CountsFiles, FailsFirst};
@@ -20,6 +21,7 @@ fn count_packets<F: PacketFeed>(feed: &mut F) -> Result<Counts, Fault>
     requires { (F.feed feed.old).left ≤ 2 ^ 40 }
     ensures counts { IsTrue (F.feed feed.old).told → CountsAll (F.feed feed.old) result (F.feed feed.new) }
     ensures walks { Walks (F.feed feed.old) result (F.feed feed.new) }
+    ensures memory { IfMemory result ((F.feed feed.new).known ≡ None) }
     ensures keeps { Keeps (F.feed feed.old) (F.feed feed.new) }
     ensures write { is_write result ≡ false }
 {
@@ -54,7 +56,7 @@ fn count_files<R: Source>(alloc: Global, sources: Vec<R>, tail: Tail) -> Result<
     requires most { vec_len sources ≤ 32 }
     ensures counts { IsTrue (list_all R.tells_coming sources.items) → CountsFiles tail (map R.coming sources.items) result }
     ensures len { IfOk result (λ counted. length counted.items ≡ length sources.items) }
-    ensures read { FailsOf (vec_len sources) (list_any R.can_fail sources.items) result }
+    ensures read { FailsOf (map R.can_fail sources.items) result }
     ensures write { is_write result ≡ false }
 {
     let mut counted = Vec::new(alloc);
@@ -83,7 +85,7 @@ pub fn file_lines<R: Source, W: Sink>(
         → Tells (info_text tail (map R.coming sources.items)) (first_refusal tail 1 (map R.coming sources.items))
         (W.held writer.old) result (W.held writer.new) }
     ensures writer { WriterKeeps (writer_of W.Sink writer.old) (is_write result) (writer_of W.Sink writer.new) }
-    ensures read { FailsOf (vec_len sources) (list_any R.can_fail sources.items) result }
+    ensures read { FailsOf (map R.can_fail sources.items) result }
     ensures first { IsTrue (list_all R.tells_coming sources.items) → FailsFirst tail (map R.coming sources.items) result }
 {
     let counted = count_files(alloc, sources, tail)?;

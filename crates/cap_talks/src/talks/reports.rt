@@ -1,6 +1,6 @@
 //! The report over capture files.
 ghost use Rattle.std.specs.Prelude.{◌≤◌, [], IsTrue, length, map, vec_len};
-ghost use Rattle.std.specs.List.{list_all, list_any};
+ghost use Rattle.std.specs.List.{list_all};
 ghost use Rattle.cap_bytes.specs.Device.{WriterKeeps, writer_of};
 ghost use Rattle.cap_bytes.specs.Printing.{is_write};
 ghost use Rattle.cap_merge.specs.Files.{clocked_run, endings_of_files};
@@ -9,6 +9,7 @@ ghost use Rattle.cap_merge.specs.View.{parts_of};
 ghost use Rattle.cap_source.specs.ReadFaults.{FailsOf};
 ghost use Rattle.cap_source.specs.Feed.{Feed};
 ghost use Rattle.cap_source.specs.Walk.{Walks};
+ghost use Rattle.cap_source.specs.Growing.{IfMemory, IsAtPacket};
 ghost use Rattle.cap_talks.specs.talks.Reporting.{TakesAll, TellsReport};
 ghost use Rattle.cap_talks.specs.talks.ReportText.{report_text, report_refusal};
 ghost use Rattle.cap_talks.specs.table.Stepping.{IsMore, TableStands};
@@ -47,6 +48,7 @@ fn report_table<F: PacketFeed, W: Sink>(table: &mut Table<F>, writer: &mut W) ->
         → TellsReport (length (table_of table.old).totals.files) (table_of table.old).parts (W.held writer.old) result (W.held writer.new) }
     ensures writer { WriterKeeps (writer_of W.Sink writer.old) (is_write result) (writer_of W.Sink writer.new) }
     ensures walks { Walks (feed_of (table_of table.old).parts) result (feed_of (table_of table.new).parts) }
+    ensures memory { IfMemory result (IsAtPacket (feed_of (table_of table.new).parts).known) }
 {
     take_all(table)?;
     table.write_so_far(writer)
@@ -89,7 +91,7 @@ pub fn report<R: Source, W: Sink>(
         (report_refusal (clocked_run tail (map R.coming sources.items)))
         (W.held writer.old) result (W.held writer.new) }
     ensures writer { WriterKeeps (writer_of W.Sink writer.old) (is_write result) (writer_of W.Sink writer.new) }
-    ensures read { FailsOf (vec_len sources) (list_any R.can_fail sources.items) result }
+    ensures read { FailsOf (map R.can_fail sources.items) result }
 {
     let merged = merge_files(alloc, sources, tail)?;
     report_merged(alloc, merged, writer)

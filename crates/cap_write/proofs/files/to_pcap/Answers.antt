@@ -3,11 +3,13 @@ use Rattle.cap_source.proofs.Onward.{Keeps-trans}
 use Rattle.std.proofs.lemmas.Result.{err_from_is_err_and}
 use Rattle.cap_source.specs.Captures.{feed_of, first_of}
 use Rattle.cap_write.specs.Pcap.{pcap_bytes}
-use Rattle.cap_write.proofs.Starting.{Prints-unread, Writer-unread, Walks-unread}
+use Rattle.cap_write.proofs.Starting.{Prints-unread, Writer-unread, Walks-unread, Walks-first, memory-unread}
 use Rattle.cap_write.proofs.files.to_pcap.Goals as goal
 
 pub returns-clause-walks : goal.returns-clause-walks
-returns-clause-walks g c = grind arith
+returns-clause-walks g c =
+    let first = c.in_ok-first.ensures.answer in
+    Walks-first _ _ _ first.0 _ first.1 c.in_ok-first.ensures.keeps c.put_pcap.ensures.walks
 
 pub returns-clause-keeps : goal.returns-clause-keeps
 returns-clause-keeps g c = search (Keeps-trans, c.in_ok-first.ensures.keeps, c.put_pcap.ensures.keeps)
@@ -26,3 +28,11 @@ pub returns-in_err-first-clause-walks : goal.returns-in_err-first-clause-walks
 returns-in_err-first-clause-walks g c =
     let p = err_from_is_err_and c.from_residual.result c.from_residual.ensures.1 in
     rw (p.1, p.2) (Walks-unread _ _ _ c.in_err-first.ensures.answer)
+
+pub returns-in_err-first-clause-memory : goal.returns-in_err-first-clause-memory
+returns-in_err-first-clause-memory g c =
+    let p = err_from_is_err_and c.from_residual.result c.from_residual.ensures.1 in
+    rw (p.1, p.2) (memory-unread _ _ _ c.in_err-first.ensures.answer)
+
+pub returns-clause-memory : goal.returns-clause-memory
+returns-clause-memory g c = c.put_pcap.ensures.memory

@@ -10,3 +10,6 @@ returns-in-Ok-clause-answer c = grind (arith, write_fault-none)
 
 pub returns-then-is_first-clause-answer : goal.returns-then-is_first-clause-answer
 returns-then-is_first-clause-answer c = grind (arith, number-first)
+
+pub returns-in-Err-clause-answer : goal.returns-in-Err-clause-answer
+returns-in-Err-clause-answer c = grind (arith, write_fault-none)

@@ -3,6 +3,7 @@ use Rattle.std.proofs.lemmas.Result.{err_from_is_err_and}
 use Rattle.cap_merge.specs.MergedLaws.{merged-is-feed}
 use Rattle.cap_merge.specs.Parts.{feed_of}
 use Rattle.cap_merge.specs.View.{parts_of}
+use Rattle.cap_source.proofs.Growing.{memory-asked, memory-more, memory-here, at-unknown, at-packet}
 use Rattle.cap_source.proofs.Onward.{Keeps-trans, Went-none}
 use Rattle.cap_source.specs.Walk.{ShowsItem}
 use Rattle.cap_source.proofs.Walking.{Prints-fault, Prints-end}
@@ -109,3 +110,17 @@ returns-clause-writer g c = Walking-writer _ _ _ _ _ _ _ refl c.loop-joining.inv
 
 pub pass-requires : goal.pass-requires
 pass-requires g c = record { packet = known-packet (feed_of (parts_of c.next_of.new.merged)) c.in-Some.meta (rw c.in-Some.is at c.in_ok-meta.ensures.answer).known }
+
+pub returns-in_err-meta-clause-memory : goal.returns-in_err-meta-clause-memory
+returns-in_err-meta-clause-memory g c =
+    let p = err_from_is_err_and c.from_residual.result c.from_residual.ensures.1 in
+    rw (p.1, p.2)
+    (memory-more c.in_err-meta.field-0.0 _ _ (at-unknown (feed_of (parts_of c.next_of.new.merged)).known)
+    (memory-asked c.in_err-meta.field-0.0 _ _ c.in_err-meta.ensures.answer))
+
+pub returns-in_err-put_completed-clause-memory : goal.returns-in_err-put_completed-clause-memory
+returns-in_err-put_completed-clause-memory g c =
+    let p = err_from_is_err_and c.from_residual-in_err-put_completed.result c.from_residual-in_err-put_completed.ensures.1 in
+    rw (p.1, p.2)
+    (memory-here c.in_err-put_completed.field-0.0 _
+    (at-packet _ c.in-Some.meta (rw c.in-Some.is at c.in_ok-meta.ensures.answer).known))

@@ -1,5 +1,6 @@
 use Rattle.std.proofs.Common.{arith, Some, None, Ok, length, drop, subst, sym, rules, refl}
 use Rattle.std.proofs.lemmas.Result.{err_from_is_err_and}
+use Rattle.cap_source.proofs.Growing.{memory-asked, memory-more, memory-here, at-unknown, at-packet}
 use Rattle.cap_source.proofs.Onward.{Went-more, Went-none}
 use Rattle.cap_source.proofs.Walking.{GoesOn, Walking-more, Prints-fault, Prints-end}
 use Rattle.cap_source.specs.Walk.{ShowsItem}
@@ -106,3 +107,17 @@ returns-clause-writer g c = Walking-writer _ _ _ _ _ _ _ refl c.loop-meta.invari
 pub put_one-requires-clause-captured : goal.put_one-requires-clause-captured
 put_one-requires-clause-captured g c =
     captured-few (g.F.PacketFeed.feed c.next_packet.new.feed) c.in-Some.meta _ (g.met.F.PacketFeed.lawful _) (rw c.in-Some.is at c.in_ok-meta.ensures.answer).known c.frame.ensures.frame
+
+pub returns-in_err-meta-clause-memory : goal.returns-in_err-meta-clause-memory
+returns-in_err-meta-clause-memory g c =
+    let p = err_from_is_err_and c.from_residual.result c.from_residual.ensures.1 in
+    rw (p.1, p.2)
+    (memory-more c.in_err-meta.field-0.0 _ _ (at-unknown (g.F.PacketFeed.feed c.next_packet.new.feed).known)
+    (memory-asked c.in_err-meta.field-0.0 _ _ c.in_err-meta.ensures.answer))
+
+pub returns-in_err-put_one-clause-memory : goal.returns-in_err-put_one-clause-memory
+returns-in_err-put_one-clause-memory g c =
+    let p = err_from_is_err_and c.from_residual-in_err-put_one.result c.from_residual-in_err-put_one.ensures.1 in
+    rw (p.1, p.2)
+    (memory-here c.in_err-put_one.field-0.0 _
+    (at-packet _ c.in-Some.meta (rw c.in-Some.is at c.in_ok-meta.ensures.answer).known))

@@ -1,8 +1,9 @@
-use Rattle.std.proofs.Common.{arith}
+use Rattle.std.proofs.Common.{arith, inl}
 use Rattle.std.proofs.lemmas.Result.{err_from_is_err_and}
 use Rattle.cap_bytes.proofs.Putting.{Prints-head, Prints-behind}
 use Rattle.cap_write.specs.Numbering.{refusal_in}
 use Rattle.cap_write.specs.Texts.{first_origins, front_bytes, text_behind}
+use Rattle.cap_write.proofs.Starting.{memory-wider}
 use Rattle.cap_write.proofs.Writing.{WriterKeeps-behind}
 use Rattle.cap_write.proofs.pcapng.put_pcapng.Goals as goal
 
@@ -20,3 +21,6 @@ returns-clause-text g c = grind (arith, Prints-behind)
 
 pub returns-clause-writer : goal.returns-clause-writer
 returns-clause-writer g c = WriterKeeps-behind _ _ _ _ c.in_ok-put_front.ensures.writer c.put_packets.ensures.writer
+
+pub returns-clause-memory : goal.returns-clause-memory
+returns-clause-memory g c = memory-wider c.put_packets.result _ _ (λ at. inl at) c.put_packets.ensures.memory

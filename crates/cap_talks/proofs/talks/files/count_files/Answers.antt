@@ -48,9 +48,8 @@ returns-in_err-each-clause-read g c =
     let turn = YieldsList-turn (YieldsList-from_vec {s = it.result} c.args.sources.items given.0 (given.1 ∙ c.args.sources.ok.0))
     c.loop-source.yielded c.loop-source.source-iterator c.loop-source.yielded_by c.next.result c.next.new.self x c.in-Some.is c.next.ensures.steps in
     rw (p.1, p.2)
-    (subst (λ (n : ℕ). FailsOf {A = Vec Counted Global} n (list_any g.R.Device.can_fail c.args.sources.items) (Err c.in_err-each.field-0.0)) (sym c.args.sources.ok.0)
     (fails g.R.Device.can_fail c.args.sources.items (length c.loop-source.yielded) x c.in_err-each.field-0.0 turn.1 turn.0
-    (subst (λ (n : ℕ). FailsAs {A = Counted} n (g.R.Device.can_fail x) (Err c.in_err-each.field-0.0)) c.loop-source.invariant.number c.in_err-each.ensures.read)))
+    (subst (λ (n : ℕ). FailsAs {A = Counted} n (g.R.Device.can_fail x) (Err c.in_err-each.field-0.0)) c.loop-source.invariant.number c.in_err-each.ensures.read))
 
 pub loop-source-preserved : goal.loop-source-preserved
 loop-source-preserved g c =

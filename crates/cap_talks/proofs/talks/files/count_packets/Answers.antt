@@ -1,5 +1,6 @@
 use Rattle.std.proofs.Common.{arith, rules}
 use Rattle.std.proofs.lemmas.Result.{err_from_is_err_and}
+use Rattle.cap_source.proofs.Growing.{memory-found}
 use Rattle.cap_talks.proofs.Counting.{counted-in_order}
 use Rattle.cap_talks.proofs.CountedPackets.{found-packet, found-item, found-end, found-fault, counted-none, counted-taken, counted-end, counted-fault}
 use Rattle.cap_talks.proofs.talks.files.count_packets.Goals as goal
@@ -39,3 +40,8 @@ returns-clause-counts g c = λ t.
     let e = c.in_ok-has_packet.ensures in
     counted-end (g.F.PacketFeed.feed c.args.feed.now) mid shown c.loop-feed.counts c.loop-feed.invariant t
     (λ u. found-end mid shown (g.met.F.PacketFeed.lawful c.has_packet.new.self) (e.keeps.told u) (e.items u) (rw c.if-branch.false at e.answer))
+
+pub returns-in_err-has_packet-clause-memory : goal.returns-in_err-has_packet-clause-memory
+returns-in_err-has_packet-clause-memory g c =
+    let p = err_from_is_err_and c.from_residual.result c.from_residual.ensures.1 in
+    rw (p.1, p.2) (memory-found c.in_err-has_packet.field-0.0 _ _ c.in_err-has_packet.ensures.answer)

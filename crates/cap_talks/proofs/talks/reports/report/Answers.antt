@@ -13,6 +13,5 @@ returns-clause-text g c = λ t w.
 pub returns-clause-read : goal.returns-clause-read
 returns-clause-read g c =
     let reader = reader_of g.R.Source.tells_coming g.R.Device.can_fail g.R.Source.coming in
-    rw c.args.sources.ok.0
-    (Fails-merged reader c.args.tail c.args.sources.items (parts_of c.in_ok-merged.merged) c.report_merged.ensures.walks.0 c.report_merged.result
-    c.in_ok-merged.ensures.unread c.report_merged.ensures.walks.1)
+    Fails-merged reader c.args.tail c.args.sources.items (parts_of c.in_ok-merged.merged) c.report_merged.ensures.walks.0 c.report_merged.result
+    c.in_ok-merged.ensures.unread c.report_merged.ensures.walks.1

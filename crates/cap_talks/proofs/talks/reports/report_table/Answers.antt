@@ -1,6 +1,7 @@
 use Rattle.std.proofs.lemmas.Result.{err_from_is_err_and}
 use Rattle.cap_talks.specs.table.TableView.{table_of}
 use Rattle.cap_talks.proofs.Headline.{tells-report, tells-nothing, walks-written, writer-same}
+use Rattle.cap_talks.proofs.Reporting.{memory-unless, taken-memory}
 use Rattle.cap_talks.proofs.talks.reports.report_table.Goals as goal
 
 pub returns-in_err-take_all-clause-text : goal.returns-in_err-take_all-clause-text
@@ -23,3 +24,11 @@ returns-clause-text g c = λ t w.
 
 pub returns-clause-walks : goal.returns-clause-walks
 returns-clause-walks g c = walks-written _ _ c.write_so_far.result c.in_ok-take_all.ensures.walks c.write_so_far.ensures.fault
+
+pub returns-in_err-take_all-clause-memory : goal.returns-in_err-take_all-clause-memory
+returns-in_err-take_all-clause-memory g c =
+    let p = err_from_is_err_and c.from_residual.result c.from_residual.ensures.1 in
+    rw (p.1, p.2) (taken-memory (table_of c.args.table.now) (table_of c.take_all.new.table) c.in_err-take_all.field-0.0 c.in_err-take_all.ensures.takes)
+
+pub returns-clause-memory : goal.returns-clause-memory
+returns-clause-memory g c = memory-unless c.write_so_far.result _ c.write_so_far.ensures.fault

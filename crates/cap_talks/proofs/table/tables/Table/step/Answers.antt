@@ -10,7 +10,7 @@ use Rattle.cap_talks.specs.table.Stepping.{next_taken, clocked}
 use Rattle.cap_talks.specs.table.Taken.{Taken}
 use Rattle.cap_talks.specs.table.Tallies.{LimitBy, Stands}
 use Rattle.cap_talks.specs.table.CountedUnits.{is_limit_at}
-use Rattle.cap_talks.proofs.Stepping.{known-packet, known-end, faulted, stands-asked, next-is, first-asked, run-packet, run-end, of-file, is-left, is-packet, found-packet, again-packet, again-end, again-fault, stayed, went}
+use Rattle.cap_talks.proofs.Stepping.{known-packet, known-end, faulted, stands-asked, next-is, first-asked, run-packet, run-end, of-file, is-left, found-packet, again-packet, again-end, again-fault, stayed, went}
 use Rattle.cap_merge.proofs.Numbers.{numbers-within}
 use Rattle.cap_talks.proofs.table.tables.Table.step.Goals as goal
 
@@ -156,9 +156,12 @@ returns-in-Err-Memory-clause-step g c =
     let meta = c.next_packet-next.result.meta.now in
     let known = known-packet (feed_of p) (feed_of q) c.in_ok-has_packet.field-0 meta c.if-not-branch.false e.answer c.next_packet-next.ensures.packet in
     let law = merged-is-feed m g.met.F.PacketFeed.lawful in
+    let x = taken c.next_packet-next.result.clock.now meta c.next_packet-next.result.frame.now in
     let next = next-is q meta c.next_packet-next.result.clock.now c.next_packet-next.result.frame.now known.known c.next_packet-next.ensures.clock c.next_packet-next.ensures.frame in
+    let now = λ (xs : List Taken) (h : Stands c.args.self.now.tally xs (next_taken p)).
+    subst (λ (n : Option Taken). Stands c.args.self.now.tally xs n) next (stands-asked c.args.self.now.tally p q xs e.asks h) in
     record {
-      cause = inr (is-packet (feed_of q) meta known.known);
+      cause = inr (record { item = x; next = next; kept = λ xs h. c.in-Err-Memory.ensures.grows xs (now xs h.tally) });
       same = λ t. record { run = e.run t; endings = (e.items t).endings };
       goes = known.goes;
       stays = record {

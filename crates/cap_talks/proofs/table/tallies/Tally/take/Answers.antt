@@ -1,6 +1,7 @@
-use Rattle.std.proofs.Common.{◌≡◌, false, ◌∷◌, List, Some, Err, arith}
-use Rattle.std.specs.Prelude.{OnOk, Result, Ok, Option}
-use Rattle.cap_talks.specs.table.Taken.{Taken}
+use Rattle.std.proofs.Common.{◌≡◌, false, ◌∷◌, List, length, Some, Err, arith}
+use Rattle.std.specs.Prelude.{OnOk, OnErr, Result, Ok, Option}
+use Rattle.cap_talks.specs.table.Looking.{is_plain}
+use Rattle.cap_talks.specs.table.Taken.{Taken, look}
 use Rattle.cap_talks.specs.table.Tallies.{TallyState, Stands, Looks}
 use Rattle.cap_talks.specs.table.CountedUnits.{is_limit_at}
 use Rattle.cap_talks.specs.declared.table.talks.TalksFault.{TalksFault}
@@ -18,3 +19,16 @@ returns-then-is_waiting-clause-stands c = grind (arith, taken_on, c.take_waiting
 
 pub returns-then-branch-clause-stands : goal.returns-then-branch-clause-stands
 returns-then-branch-clause-stands c = grind (arith, taken_on, c.if-branch.true, c.in_ok-look_again.ensures.looks, c.take_waiting-then-branch.ensures.stands)
+
+-- a packet of which something is kept
+kept_on : (old mid : TallyState) (x : Taken) (result : Result (Unit {0}) TalksFault) → ((xs : List Taken) → Stands old xs (Some x) → Stands mid xs (Some x))
+    → OnErr result ((xs : List Taken) (y : Taken) → Stands mid xs (Some y) → is_plain (look (length xs) y) ≡ false)
+    → OnErr result ((xs : List Taken) → Stands old xs (Some x) → is_plain (look (length xs) x) ≡ false)
+kept_on old mid x (Ok u) f h = tt
+kept_on old mid x (Err e) f h = λ xs s. h xs x (f xs s)
+
+pub returns-then-is_waiting-clause-grows : goal.returns-then-is_waiting-clause-grows
+returns-then-is_waiting-clause-grows c = grind (arith, kept_on, c.take_waiting.ensures.grows)
+
+pub returns-then-branch-clause-grows : goal.returns-then-branch-clause-grows
+returns-then-branch-clause-grows c = grind (arith, kept_on, c.if-branch.true, c.in_ok-look_again.ensures.looks, c.take_waiting-then-branch.ensures.grows)

@@ -10,7 +10,7 @@ use Rattle.cap_talks.specs.table.Talks.{frames_of, bytes_of}
 use Rattle.cap_talks.proofs.SumLaws.{sum_law}
 use Rattle.cap_talks.specs.table.Adding.{is_over}
 use Rattle.cap_talks.specs.table.Classes.{class_of}
-use Rattle.cap_talks.specs.table.Looking.{taken_of}
+use Rattle.cap_talks.specs.table.Looking.{is_plain, taken_of}
 use Rattle.cap_talks.specs.table.Taken.{datagram, stamped_of}
 use Rattle.cap_talks.specs.table.Tallies.{TallyState, LimitBy, with_frames}
 use Rattle.cap_talks.specs.table.TallyView.{tally_view}
@@ -97,3 +97,8 @@ returns-clause-looks c =
     _ (c.count_frames.ensures
     ∙ (λ i. with_frames ((c.class_of.ensures ∙ ap class_of (c.transport-seen.ensures ∙ (λ j. transport_of (c.key.ensures j).protocol captured (c.data_length.ensures.value j)))) i) 1 t.classes))
     (sym (ap (is_over t.talks.rows) unit) ∙ e.limit))
+
+pub returns-in_err-add_unit-clause-grows : goal.returns-in_err-add_unit-clause-grows
+returns-in_err-add_unit-clause-grows c =
+    let p = err_from_is_err_and c.from_residual.result c.from_residual.ensures.1 in
+    rw p.1 (λ xs h. ap is_plain (c.requires.look (length xs)))

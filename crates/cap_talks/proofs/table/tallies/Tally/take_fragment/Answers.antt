@@ -1,10 +1,11 @@
-use Rattle.std.proofs.Common.{rules, ℕ, ◌∷◌, ap, ◌∙◌, subst, arith}
+use Rattle.std.proofs.Common.{rules, ℕ, ◌∷◌, length, ap, ◌∙◌, subst, arith}
+use Rattle.std.proofs.lemmas.Result.{err_from_is_err_and}
 use Rattle.cap_join.specs.Fitting.{FitsPut}
 use Rattle.cap_join.specs.Fragments.{piece_of}
 use Rattle.cap_join.specs.History.{arrives, joined_pieces, state_of}
 use Rattle.cap_join.specs.Joiners.{IsAnswer, open_limit}
 use Rattle.cap_join.specs.Joiners as joiners
-use Rattle.cap_talks.specs.table.Looking.{taken_of}
+use Rattle.cap_talks.specs.table.Looking.{is_plain, taken_of}
 use Rattle.cap_talks.specs.table.Taken.{stamped_of}
 use Rattle.cap_talks.specs.table.Tallies.{TallyState}
 use Rattle.cap_talks.specs.table.TallyView.{tally_view}
@@ -74,3 +75,8 @@ returns-in-Joined-clause-looks c =
     (λ es stands. subst (λ s. joiners.StandsFor c.put_fragment.new.joiner (arrives c.args.packet.clock.now (piece_of c.args.header c.args.bytes.now s) ∷ es)) own (e.stands es stands))
     c.in-Joined.datagram
     (λ es stands. joined-of _ c.in-Joined.datagram (joined_pieces c.args.packet.clock.now (p t.place) (state_of open_limit es)) c.in-Joined.is (subst (λ s. IsAnswer c.in_ok-put_fragment.field-0 (joined_pieces c.args.packet.clock.now (piece_of c.args.header c.args.bytes.now s) (state_of open_limit es))) own (e.answer es stands))))
+
+pub returns-in_err-put_fragment-clause-grows : goal.returns-in_err-put_fragment-clause-grows
+returns-in_err-put_fragment-clause-grows c =
+    let p = err_from_is_err_and c.from_residual.result c.from_residual.ensures.1 in
+    rw p.1 (λ xs h. ap is_plain (c.requires.look (length xs)))

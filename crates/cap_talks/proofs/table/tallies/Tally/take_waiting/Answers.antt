@@ -8,7 +8,7 @@ use Rattle.cap_talks.specs.table.Tallies.{TallyState, Fits, counted_one, with_gr
 use Rattle.cap_talks.specs.table.TallyView.{tally_view}
 use Rattle.cap_talks.specs.table.CountedUnits.{listed}
 use Rattle.cap_talks.proofs.UnitOrder.{waiting-order}
-use Rattle.cap_talks.proofs.Exits.{sum-taken, frames-taken, joined-taken, numbers-joined, enough-for, stands-joined, sound-joined, limit-waiting, limit-by}
+use Rattle.cap_talks.proofs.Exits.{sum-taken, frames-taken, joined-taken, numbers-joined, enough-for, stands-joined, sound-joined, limit-waiting, limit-by, waiting-kept}
 use Rattle.cap_talks.proofs.table.tallies.Tally.take_waiting.Goals as goal
 
 pub add_unit-requires-clause-frames : goal.add_unit-requires-clause-frames
@@ -91,3 +91,6 @@ returns-clause-stands c =
     (stands-joined t d c.in-Some.is c.add_unit.new.talks (λ us stands. subst (λ u. StandsFor c.add_unit.new.talks (us ++ listed u)) c.joined_unit.ensures (e.stands us stands))
     c.with_group-self-inside.result (c.with_group-self-inside.ensures ∙ ap (λ k. with_group k d.frames t.classes) c.joined_class-class.ensures)
     (sym (ap (is_over t.talks.rows) c.joined_unit.ensures) ∙ e.limit))
+
+pub returns-in_err-add_unit-clause-grows : goal.returns-in_err-add_unit-clause-grows
+returns-in_err-add_unit-clause-grows c = grind (arith, err_from_is_err_and, waiting-kept)
