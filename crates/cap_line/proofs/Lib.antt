@@ -1,3 +1,4 @@
 pub mod FileNames
 pub mod Parsing
 pub mod Rows
+pub mod Escapes

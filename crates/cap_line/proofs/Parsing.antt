@@ -1,16 +1,17 @@
 -- From clap's answer to capt's.
-use Rattle.std.proofs.Common.{◌≡◌, ◌⊎◌, List, [], Option, Some, None, Result, Ok, Err, IfOk, IfSome, IsSome, true, false, refl, sym, subst, inl, inr, arith}
+use Rattle.std.proofs.Common.{◌≡◌, ◌⊎◌, List, [], Option, Some, None, Result, Ok, Err, IfOk, IfSome, IsSome, true, false, refl, sym, ap, ◌∙◌, subst, inl, inr, arith}
 use Rattle.clap.specs.Words.{AddsArg, App, Rule, Text, Row, IsAmong, app_of, fault_of, is_simple, is_simple_and_free, subcommand_of, with_rule, with_subcommand}
 use Rattle.clap.proofs.OnLiterals.{clap_on_literals}
 use Rattle.clap.specs.declared.error.kind.ErrorKind.{ErrorKind}
 use Rattle.clap.specs.declared.error.kind.ErrorKind.TheVariants as kind
 use Rattle.std.specs.declared.alloc.AllocError.{AllocError}
+use Rattle.std.specs.Result.{result_err}
 use Rattle.std.proofs.lemmas.Result.{IfOk-weaker}
 use Rattle.clap.specs.declared.builder.arg.Arg.{Arg}
 use Rattle.clap.specs.declared.builder.command.Command.{Command}
 use Rattle.clap.specs.declared.builder.command.Command.TheViews.{out-Command}
 use Rattle.cap_line.specs.Command.{AddsMade, AddsRule, IsCapt, IsConvert, IsJoin, IsMerge, printing_app}
-use Rattle.cap_line.specs.CommandLine.{Parses, IsJobOf, IsRefused, fault_by}
+use Rattle.cap_line.specs.CommandLine.{Parses, IsJobOf, IsNoJob, IsRefused, fault_by}
 use Rattle.cap_line.specs.Jobs.{IsWhole}
 use Rattle.cap_line.specs.declared.jobs.Job.{Job}
 use Rattle.cap_line.specs.declared.faults.LineFault.{LineFault}
@@ -147,3 +148,22 @@ pub IsRefused-said : {A : Type 0} (words : List Text) (app : App) (k : ErrorKind
 IsRefused-said words app k None is errs other = tt
 IsRefused-said words app k (Some text) is (inl e) other = absurd (other refl e)
 IsRefused-said words app k (Some text) is (inr among) other = (app, k, record { is_capt = is; refused = among })
+
+-- clap has said why it gives no matches, and nothing else was said
+pub IsRefused-said_alone : {A : Type 0} (words : List Text) (said : Option A) → IfSome said (λ text. IsRefused words)
+    → IfSome said (λ text. IsRefused words ⊎ IsNoJob words)
+IsRefused-said_alone words None is = tt
+IsRefused-said_alone words (Some text) is = inl is
+
+err-of : (r : Result Job LineFault) (fault : LineFault) → Some fault ≡ result_err r → r ≡ Err fault
+err-of (Ok job) fault is = grind arith
+err-of (Err found) fault is = grind arith
+
+-- clap takes the words, they give no job, and that was said
+pub IsNoJob-said : {A : Type 0} (words : List Text) (app : App) (r : Result Job LineFault) (fault : LineFault) (said : Option A) → IsCapt app
+    → fault_of app words ≡ [] → IsJobOf (subcommand_of app words) r → Some fault ≡ result_err r → (IsSome said → fault ≡ Line)
+    → IfSome said (λ text. IsRefused words ⊎ IsNoJob words)
+IsNoJob-said words app r fault None is taken job at line = tt
+IsNoJob-said words app r fault (Some text) is taken job at line =
+    let here : r ≡ Err Line = err-of r fault at ∙ ap Err (line refl) in
+    inr (app, record { is_capt = is; taken = taken; job = subst (IsJobOf (subcommand_of app words)) here job })

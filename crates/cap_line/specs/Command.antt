@@ -16,9 +16,9 @@ Names = Bor (List (Bor Text))
 abbrev pub AreNames : Names → List Text → Type 0
 AreNames names texts = map (λ name. name.now) names.now ≡ texts
 
--- the flag `--allow-cut`
-abbrev pub allow_cut_rule : Rule
-allow_cut_rule = record (new_rule (codes "allow-cut")) { long = Some (codes "allow-cut"); action = Some SetTrue }
+-- the flag of that name
+abbrev pub flag_rule : Text → Rule
+flag_rule name = record (new_rule name) { long = Some name; action = Some SetTrue }
 
 -- the option of that name, which takes one of those names
 abbrev pub choice_rule : Text → Names → Rule
@@ -38,9 +38,9 @@ to_rule names = record (choice_rule (codes "to") names) { required = true }
 abbrev pub IsToRule : Rule → Type 0
 IsToRule rule = (names : Names) × AreNames names (codes "pcap" ∷ codes "pcapng" ∷ []) × (rule ≡ to_rule names)
 
--- the option `-o`, the letter's code being 111, which is required
+-- the option `-o` or `--output`, the letter's code being 111, which is required
 abbrev pub out_rule : Rule
-out_rule = record (new_rule (codes "out")) { short = Some 111; value_names = 1; required = true }
+out_rule = record (new_rule (codes "out")) { short = Some 111; long = Some (codes "output"); value_names = 1; required = true }
 
 -- the argument FILE, which is required
 abbrev pub file_rule : Rule
@@ -54,36 +54,39 @@ files_rule =
       range = Some (record { start_inclusive = 1; end_inclusive = usize_max });
     }
 
--- the subcommand of that name with `[--allow-cut]`, before its other arguments
-abbrev pub reading_app : Text → App
-reading_app name = with_rule (new_app name) allow_cut_rule
+-- the subcommand of that name with `[--allow-cut]`, and with `[--explain]` too, which each has before its other arguments
+abbrev pub cutting_app : Text → App
+cutting_app name = with_rule (new_app name) (flag_rule (codes "allow-cut"))
 
--- `list [--allow-cut] FILE`
+abbrev pub reading_app : Text → App
+reading_app name = with_rule (cutting_app name) (flag_rule (codes "explain"))
+
+-- `list FILE`
 abbrev pub list_app : App
 list_app = with_rule (reading_app (codes "list")) file_rule
 
--- `blocks [--allow-cut] FILE`
+-- `blocks FILE`
 abbrev pub blocks_app : App
 blocks_app = with_rule (reading_app (codes "blocks")) file_rule
 
--- `info [--allow-cut] FILE..`
+-- `info FILE..`
 abbrev pub info_app : App
 info_app = with_rule (reading_app (codes "info")) files_rule
 
--- `report [--allow-cut] FILE..`
+-- `report FILE..`
 abbrev pub report_app : App
 report_app = with_rule (reading_app (codes "report")) files_rule
 
--- the subcommand of that name with `[--allow-cut] [--order ORDER] -o OUT`, before its files
+-- the subcommand of that name with `[--order ORDER] -o OUT [--whole]`, before its files
 abbrev pub writing_app : Text → Names → App
-writing_app name orders = with_rule (with_rule (reading_app name) (order_rule orders)) out_rule
+writing_app name orders = with_rule (with_rule (with_rule (reading_app name) (order_rule orders)) out_rule) (flag_rule (codes "whole"))
 
 pub record IsWriting (name : Text) (app : App) : Type 0 where
   pub orders : Names
   pub orders_are : AreNames orders (codes "big" ∷ codes "little" ∷ [])
   pub app_is : app ≡ writing_app name orders
 
--- `convert [--allow-cut] [--order ORDER] -o OUT --to FORMAT FILE`
+-- `convert .. --to FORMAT FILE`
 abbrev pub convert_app : Names → Names → App
 convert_app orders formats = with_rule (with_rule (writing_app (codes "convert") orders) (to_rule formats)) file_rule
 
@@ -94,7 +97,7 @@ pub record IsConvert (app : App) : Type 0 where
   pub formats_are : AreNames formats (codes "pcap" ∷ codes "pcapng" ∷ [])
   pub app_is : app ≡ convert_app orders formats
 
--- `merge [--allow-cut] [--order ORDER] -o OUT FILE..`
+-- `merge .. FILE..`
 abbrev pub merge_app : Names → App
 merge_app orders = with_rule (writing_app (codes "merge") orders) files_rule
 
@@ -103,7 +106,7 @@ pub record IsMerge (app : App) : Type 0 where
   pub orders_are : AreNames orders (codes "big" ∷ codes "little" ∷ [])
   pub app_is : app ≡ merge_app orders
 
--- `join [--allow-cut] [--order ORDER] -o OUT FILE..`
+-- `join .. FILE..`
 abbrev pub join_app : Names → App
 join_app orders = with_rule (writing_app (codes "join") orders) files_rule
 
@@ -120,10 +123,9 @@ AddsRule made rule new = IsOkAnd made (λ old. new ≡ with_rule (app_of old) ru
 abbrev pub AddsMade : Result Command AllocError → Result Command AllocError → App → Type 0
 AddsMade made sub new = IsOkAnd made (λ old. IsOkAnd sub (λ s. new ≡ with_subcommand (app_of old) (app_of s).top))
 
--- `capt` without its subcommands: one is required, and `help` is none; it has a version
+-- `capt` without its subcommands, of which one is required; it has a version
 abbrev pub capt_alone : App
-capt_alone =
-    on_top (λ s. record s { has_version = true; subcommand_required = true; disable_help_subcommand = true }) (new_app (codes "capt"))
+capt_alone = on_top (λ s. record s { has_version = true; subcommand_required = true }) (new_app (codes "capt"))
 
 -- `capt` with the subcommands that print one capture, with those that print, and with all
 abbrev pub listing_app : App

@@ -1,11 +1,11 @@
 -- What a command line asks for, by clap's matches of its words.
-use Rattle.std.specs.Prelude.{◌≡◌, ◌⊎◌, List, [], length, codes, Option, Some, None, Result, Ok, Err, unwrap_or, map, option_map, IsTrue, IsFalse, ◌↔◌}
+use Rattle.std.specs.Prelude.{◌≡◌, ◌⊎◌, List, [], length, codes, Bool, Option, Some, None, Result, Ok, Err, unwrap_or, map, option_map, IsTrue, IsFalse, ◌↔◌}
 use Rattle.clap.specs.Words.{App, Row, Text, all_of, first_of, fault_of, subcommand_of, IsAmong}
 use Rattle.clap.specs.declared.error.kind.ErrorKind.{ErrorKind}
 use Rattle.clap.specs.declared.error.kind.ErrorKind.TheVariants as kind
 use Rattle.cap_line.specs.Command.{IsCapt}
 use Rattle.cap_source.specs.declared.packets.Format.{Format}
-use Rattle.cap_line.specs.Jobs.{IsWhole, files_fault, format_by, is_whole, order_by, task_by}
+use Rattle.cap_line.specs.Jobs.{IsWhole, can_replace, files_fault, format_by, is_whole, order_by, task_by}
 use Rattle.cap_line.specs.declared.jobs.Job.{Job}
 use Rattle.cap_line.specs.declared.jobs.Task.{Task}
 use Rattle.cap_line.specs.declared.faults.LineFault.{LineFault}
@@ -28,27 +28,38 @@ out_in rows = first_of (codes "out") rows
 abbrev pub to_in : List Row → Option Format
 to_in rows = format_by (first_of (codes "to") rows)
 
+-- The flag of that name was given or not.
+abbrev pub Flags : Bool → Text → List Row → Type 0
+Flags given name rows = IsTrue given ↔ (first_of name rows ≡ Some (codes "true"))
+
 -- A task lacks what it takes.
 abbrev pub Lacks : Text → List Row → Type 0
 Lacks name rows =
     (task : Task) × (task_by name ≡ Some task) × IsFalse (is_whole task (length (files_in rows)) (to_in rows) (out_in rows))
 
+-- The output is to take its name once all is done, and can't.
+abbrev pub CannotReplace : List Row → Type 0
+CannotReplace rows = (whole : Bool) × Flags whole (codes "whole") rows × IsFalse (can_replace whole (out_in rows))
+
 -- The job is what the rows say.
 pub record HasRows (task : Task) (rows : List Row) (job : Job) : Type 0 where
   pub task_is : job.task ≡ task
   pub files : map (λ f. f.now) job.files.items ≡ files_in rows
-  pub allow_cut : IsTrue job.allow_cut ↔ (first_of (codes "allow-cut") rows ≡ Some (codes "true"))
+  pub allow_cut : Flags job.allow_cut (codes "allow-cut") rows
   pub order : job.order ≡ order_by (first_of (codes "order") rows)
   pub to : job.to ≡ to_in rows
   pub out : option_map (λ o. o.now) job.out ≡ out_in rows
+  pub explain : Flags job.explain (codes "explain") rows
+  pub whole : Flags job.whole (codes "whole") rows
 
--- What a subcommand of that name with those rows gives: a whole job, or the first fault. A name that is no task's, and a
--- task that lacks what it takes, are refused as the line.
+-- What a subcommand of that name with those rows gives: a whole job, or the first fault. A name that is no task's, a
+-- task that lacks what it takes, and standard output that is to take a name, are refused as the line.
 abbrev pub IsJobBy : Text → List Row → Result Job LineFault → Type 0
 IsJobBy name rows (Ok job) =
     (task : Task) × (task_by name ≡ Some task) × (files_fault (files_in rows) (out_in rows) ≡ Ok tt) × HasRows task rows job × IsWhole job
 IsJobBy name rows (Err Help) = ⊥
-IsJobBy name rows (Err Line) = (task_by name ≡ None) ⊎ Lacks name rows ⊎ (files_fault (files_in rows) (out_in rows) ≡ Err Line)
+IsJobBy name rows (Err Line) =
+    (task_by name ≡ None) ⊎ Lacks name rows ⊎ CannotReplace rows ⊎ (files_fault (files_in rows) (out_in rows) ≡ Err Line)
 IsJobBy name rows (Err Files) = files_fault (files_in rows) (out_in rows) ≡ Err Files
 IsJobBy name rows (Err Input) = files_fault (files_in rows) (out_in rows) ≡ Err Input
 IsJobBy name rows (Err Output) = files_fault (files_in rows) (out_in rows) ≡ Err Output
@@ -74,12 +85,16 @@ pub record Refuses (words : List Text) (k : ErrorKind) (app : App) : Type 0 wher
 abbrev pub IsRefused : List Text → Type 0
 IsRefused words = (app : App) × (k : ErrorKind) × Refuses words k app
 
+-- Clap takes the words, and they give no job.
+abbrev pub IsNoJob : List Text → Type 0
+IsNoJob words = (app : App) × Answers words (Err Line) app
+
 -- What `parse` answers at the words of a command line, the first of which is the program's name.
 abbrev pub Parses : List Text → Result Job LineFault → Type 0
 Parses words (Ok job) = (app : App) × Answers words (Ok job) app
 Parses words (Err Help) = (app : App) × (k : ErrorKind) × (fault_by k ≡ Help) × Refuses words k app
 Parses words (Err Line) =
-    ((app : App) × (k : ErrorKind) × (fault_by k ≡ Line) × Refuses words k app) ⊎ ((app : App) × Answers words (Err Line) app)
+    ((app : App) × (k : ErrorKind) × (fault_by k ≡ Line) × Refuses words k app) ⊎ IsNoJob words
 Parses words (Err Files) = (app : App) × Answers words (Err Files) app
 Parses words (Err Input) = (app : App) × Answers words (Err Input) app
 Parses words (Err Output) = (app : App) × Answers words (Err Output) app

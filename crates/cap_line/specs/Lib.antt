@@ -1,3 +1,4 @@
 pub mod Jobs
 pub mod Command
 pub mod CommandLine
+pub mod Shown

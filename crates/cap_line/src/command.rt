@@ -1,8 +1,8 @@
 //! The command line as clap reads it: one small function for each argument and each subcommand.
-ghost use Rattle.std.specs.Prelude.{◌≡◌, false, IfOk, IsOkAnd};
+ghost use Rattle.std.specs.Prelude.{◌≡◌, codes, false, IfOk, IsOkAnd};
 ghost use Rattle.clap.specs.Words.{app_of, rule_of};
 ghost use Rattle.clap.specs.declared.builder.command.Command.TheViews.{out-Command as fields_of};
-ghost use Rattle.cap_line.specs.Command.{AddsMade, AddsRule, IsCapt, IsConvert, IsJoin, IsMerge, IsOrderRule, IsToRule, IsWriting, allow_cut_rule, blocks_app, capt_alone, choice_rule, file_rule, files_rule, info_app, list_app, listing_app, out_rule, printing_app, reading_app, report_app};
+ghost use Rattle.cap_line.specs.Command.{AddsMade, AddsRule, IsCapt, IsConvert, IsJoin, IsMerge, IsOrderRule, IsToRule, IsWriting, blocks_app, capt_alone, choice_rule, cutting_app, file_rule, files_rule, flag_rule, info_app, list_app, listing_app, out_rule, printing_app, reading_app, report_app};
 
 use crate::texts;
 use crate::usage::USAGE;
@@ -14,15 +14,39 @@ static ORDERS: [&str; 2] = ["big", "little"];
 
 static FORMATS: [&str; 2] = ["pcap", "pcapng"];
 
-// `--allow-cut`
-fn allow_cut<'a>(alloc: Global) -> Arg<'a>
-    ensures rule { rule_of result ≡ allow_cut_rule }
+// The flag of that name
+fn flag<'a>(alloc: Global, name: &'a str, help: &'a str) -> Arg<'a>
+    ensures rule { rule_of result ≡ flag_rule name.entry.now }
     ensures local { result.global ≡ false }
 {
-    Arg::new(alloc, "allow-cut")
-        .long("allow-cut")
+    Arg::new(alloc, name)
+        .long(name)
         .action(ArgAction::SetTrue)
-        .help(texts::ALLOW_CUT_HELP)
+        .help(help)
+}
+
+// `--allow-cut`
+fn allow_cut<'a>(alloc: Global) -> Arg<'a>
+    ensures rule { rule_of result ≡ flag_rule (codes "allow-cut") }
+    ensures local { result.global ≡ false }
+{
+    flag(alloc, "allow-cut", texts::ALLOW_CUT_HELP)
+}
+
+// `--explain`
+fn explain<'a>(alloc: Global) -> Arg<'a>
+    ensures rule { rule_of result ≡ flag_rule (codes "explain") }
+    ensures local { result.global ≡ false }
+{
+    flag(alloc, "explain", texts::EXPLAIN_HELP)
+}
+
+// `--whole`
+fn whole<'a>(alloc: Global) -> Arg<'a>
+    ensures rule { rule_of result ≡ flag_rule (codes "whole") }
+    ensures local { result.global ≡ false }
+{
+    flag(alloc, "whole", texts::WHOLE_HELP)
 }
 
 // `FILE`
@@ -83,26 +107,27 @@ fn to<'a>(alloc: Global) -> Arg<'a>
     choice(alloc, "to", FORMATS.as_slice(), "FORMAT", texts::TO_HELP).required(true)
 }
 
-// `-o`
+// `-o`, `--output`
 fn out<'a>(alloc: Global) -> Arg<'a>
     ensures rule { rule_of result ≡ out_rule }
     ensures local { result.global ≡ false }
 {
     Arg::new(alloc, "out")
         .short('o')
+        .long("output")
         .required(true)
         .value_name("OUT")
         .help(texts::OUT_HELP)
 }
 
-// A subcommand with `[--allow-cut]`, which each of them has
-fn reading<'a>(
+// A subcommand with `[--allow-cut]`
+fn cutting<'a>(
     alloc: Global,
     name: &'a str,
     about: &'a str,
     help: &'a str,
 ) -> Result<Command<'a>, AllocError>
-    ensures app { IfOk result (λ c. app_of c ≡ reading_app name.entry.now) }
+    ensures app { IfOk result (λ c. app_of c ≡ cutting_app name.entry.now) }
     ensures local { IfOk result (λ c. (fields_of c).has_globals ≡ false) }
 {
     Command::new(alloc, name)
@@ -148,7 +173,20 @@ fn with_subcommand<'a>(
     both(command, subcommand, Command::subcommand)
 }
 
-// A subcommand with `[--allow-cut] [--order ORDER] -o OUT`, before its other arguments
+// A subcommand with `[--allow-cut] [--explain]`, which each of them has
+fn reading<'a>(
+    alloc: Global,
+    name: &'a str,
+    about: &'a str,
+    help: &'a str,
+) -> Result<Command<'a>, AllocError>
+    ensures app { IfOk result (λ c. app_of c ≡ reading_app name.entry.now) }
+    ensures local { IfOk result (λ c. (fields_of c).has_globals ≡ false) }
+{
+    with_argument(cutting(alloc, name, about, help), explain(alloc))
+}
+
+// A subcommand with `[--allow-cut] [--explain] [--order ORDER] -o OUT [--whole]`, before its other arguments
 fn writing<'a>(
     alloc: Global,
     name: &'a str,
@@ -159,7 +197,8 @@ fn writing<'a>(
     ensures local { IfOk result (λ c. (fields_of c).has_globals ≡ false) }
 {
     let before = reading(alloc, name, about, help);
-    with_argument(with_argument(before, order(alloc)), out(alloc))
+    let named = with_argument(with_argument(before, order(alloc)), out(alloc));
+    with_argument(named, whole(alloc))
 }
 
 // `list`
@@ -245,7 +284,6 @@ fn capt_itself<'a>(alloc: Global) -> Command<'a>
         .version(texts::VERSION)
         .override_help(USAGE)
         .subcommand_required(true)
-        .disable_help_subcommand(true)
 }
 
 // `capt` with the subcommands that print one capture

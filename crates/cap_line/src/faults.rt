@@ -6,10 +6,10 @@ use thiserror::Error;
 #[derive(Clone, Copy, Debug, PartialEq, Eq, Error)]
 pub enum LineFault {
     /// Help or the version was asked for.
-    #[error("help")]
+    #[error("help was asked for")]
     Help,
     /// The words aren't a command line of capt, or aren't all UTF-8.
-    #[error("usage")]
+    #[error("no command line of capt")]
     Line,
     /// More than 32 files are named.
     #[error("fault: files")]

@@ -2,7 +2,7 @@
 ghost use Rattle.std.specs.Prelude.{◌≡◌, map, count_by, codes, option_map};
 ghost use Rattle.std.specs.List.{list_any};
 ghost use Rattle.std.specs.Str.{bytes_eq};
-ghost use Rattle.cap_line.specs.Jobs.{files_fault, format_by, is_also_file, is_whole, order_by, task_by};
+ghost use Rattle.cap_line.specs.Jobs.{can_replace, files_fault, format_by, is_also_file, is_whole, order_by, task_by};
 
 use crate::faults::LineFault;
 use cap_bytes::Order;
@@ -45,6 +45,10 @@ pub struct Job<'a> {
     pub to: Option<Format>,
     /// The file that is written, if one was named. `-` is standard output.
     pub out: Option<&'a str>,
+    /// Whether it is told, also where standard error is no terminal, which file a fault is of and why.
+    pub explain: bool,
+    /// Whether the file that is written takes its name only once all is done. Standard output has none.
+    pub whole: bool,
 }
 
 /// The task of that name, if it is one's: `list`, `blocks`, `info`, `report`, `convert`, `merge` or `join`.
@@ -94,6 +98,16 @@ pub fn is_whole(task: Task, files: usize, to: Option<Format>, out: Option<&str>)
         Task::Info | Task::Report => true,
         Task::Convert => files == 1 && to.is_some() && out.is_some(),
         Task::Merge | Task::Join => out.is_some(),
+    }
+}
+
+/// Whether the output can take its name once all is done, if that is asked for: standard output, `-`, can't.
+pub fn can_replace(whole: bool, out: Option<&str>) -> bool
+    ensures { result ≡ can_replace whole (option_map (λ o. o.now) out.entry) }
+{
+    match out {
+        Some(out) => !(whole && out == "-"),
+        None => true,
     }
 }
 

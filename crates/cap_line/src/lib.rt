@@ -5,12 +5,16 @@
 mod command;
 mod faults;
 mod jobs;
+mod shown;
 mod texts;
 mod usage;
 mod words;
 
 pub use crate::faults::LineFault;
-pub use crate::jobs::{Job, Task, check_files, format_of, is_whole, order_of, task_of};
+pub use crate::jobs::{
+    Job, Task, can_replace, check_files, format_of, is_whole, order_of, task_of,
+};
+pub use crate::shown::{escape, escape_lines};
 pub use crate::texts::VERSION;
 pub use crate::usage::{NOT_UTF_8, USAGE};
 pub use crate::words::{message, parse};

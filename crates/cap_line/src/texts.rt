@@ -25,7 +25,7 @@ fragments were given up, each the oldest of 1,024. A is the lesser of the two
 ends, and forward is from A to B.
 
 Examples: capt report morning.pcap evening.pcapng
-          zcat trace.pcap.gz | capt report -";
+          set -o pipefail; zcat trace.pcap.gz | capt report -";
 
 pub(crate) const INFO_ABOUT: &str = "Prints a line for each capture";
 
@@ -49,15 +49,15 @@ refused, the lines before are printed. A time T is SEC+NUM/DEN:
 2+500000/1000000 is 2.5 seconds after 1970 began; - is no time.
 
 Examples: capt list --allow-cut trace.pcap
-          zcat trace.pcap.gz | capt list -";
+          set -o pipefail; zcat trace.pcap.gz | capt list -";
 
 pub(crate) const BLOCKS_ABOUT: &str = "Prints a line for each block of a pcapng file";
 
 pub(crate) const BLOCKS_HELP: &str = "Prints, for each block, as it is found:
-  block N offset O order little kind 0a0d0d0a total T
-O is where it begins, T its length, and the order that of its section, little
-or big. If the capture is refused, the lines before are printed. A pcap file is
-refused: it has no blocks.
+  block N offset O order ORDER kind KIND total T
+O is where it begins, T its length, ORDER the byte order of its section, little
+or big, and KIND its type, in eight hex digits. If the capture is refused, the
+lines before are printed. A pcap file is refused: it has no blocks.
 
 Example: capt blocks trace.pcapng";
 
@@ -65,32 +65,54 @@ pub(crate) const CONVERT_ABOUT: &str = "Writes the packets of a capture in eithe
 
 pub(crate) const CONVERT_HELP: &str =
     "A pcap file has one link type and times in whole micro- or nanoseconds: the
-first packet that it can't hold is refused.
+first packet that it can't hold is refused. Its snaplen is that of the first
+interface.
+OUT has each packet's bytes, lengths and time; as pcapng, also the link type,
+snaplen, time resolution and time offset of its interface. Not carried on:
+names, descriptions and filters of interfaces, comments and other options,
+secrets, name records, statistics.
 
 Examples: capt convert --to pcapng -o trace.pcapng trace.pcap
+          set -o pipefail  # else the status of a refused merge is lost
           capt merge -o - a.pcap b.pcap | capt convert --to pcap -o ab.pcap -";
 
 pub(crate) const MERGE_ABOUT: &str = "Writes the packets of captures as one, in the order of time";
 
 pub(crate) const MERGE_HELP: &str =
     "A packet stands by the greatest time so far in its own file; of equal times the
-file that is named first comes first. No time is changed. OUT is a pcapng file.
+file that is named first comes first. So each file keeps its order, and no time
+is changed: where the times of a file run back, those of OUT do too.
+OUT is a pcapng file. It has each packet's bytes, lengths and time, and the link
+type, snaplen, time resolution and time offset of its interface. Not carried
+on: names, descriptions and filters of interfaces, comments and other options,
+secrets, name records, statistics.
 More than 32 captures are merged in rounds: 32 at a time, in order, and then
 the results.
 
 Examples: capt merge -o day.pcapng morning.pcap evening.pcapng
+          set -o pipefail  # else the status of a refused merge is lost
           capt merge -o - a.pcap b.pcap | capt convert --to pcap -o ab.pcap -";
 
 pub(crate) const JOIN_ABOUT: &str = "Writes the whole IPv4 datagrams of captures, fragments joined";
 
 pub(crate) const JOIN_HELP: &str =
     "Each datagram is one packet, from its IPv4 header on, with the time of the
-frame that completed it. What isn't IPv4, and what lacks a fragment, is left
-out. OUT is a pcapng file.
+frame that completed it, which also gives its place in the order of merge. What
+isn't IPv4, and what lacks a fragment, is left out.
+OUT is a pcapng file. It has each datagram's bytes and time, and the time
+resolution and time offset of its interface. Not carried on: link headers,
+names, descriptions and filters of interfaces, comments and other options,
+secrets, name records, statistics.
 
 Example: capt join -o whole.pcapng morning.pcap evening.pcapng";
 
 pub(crate) const ALLOW_CUT_HELP: &str = "Drop a last packet or block that is cut off";
+
+pub(crate) const EXPLAIN_HELP: &str = "Name the file of a fault, and why, as at a terminal";
+
+pub(crate) const WHOLE_HELP: &str = "Write OUT beside itself and rename it once all is
+done: a fault or a refusal leaves it as it was. If
+capt is killed, a file OUT.capt-1 may be left";
 
 pub(crate) const ORDER_HELP: &str = "Byte order, default little";
 

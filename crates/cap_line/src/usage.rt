@@ -2,8 +2,8 @@
 
 /// The usage: the program's help.
 pub const USAGE: &str =
-    "Reads packet captures, pcap 2.4 and pcapng 1.0, and reports on them, converts,
-merges and joins them.
+    "Reads packet captures, pcap 2.4 and pcapng 1.0 and 1.2, reports on them, and
+converts, merges and joins them.
 
 Usage: capt report [--allow-cut] FILE...
        capt info [--allow-cut] FILE...
@@ -23,8 +23,12 @@ Commands:
   join     Writes the whole IPv4 datagrams of captures, fragments joined
 
 Options:
-  -h, --help     Print help; of a command: capt merge --help
+  -h, --help     Print help; of a command: capt help merge
   -V, --version  Print version
+      --explain  Of each command: name the file of a fault, and why, as at a
+                 terminal
+      --whole    Of convert, merge and join: leave OUT as it was until all is
+                 done
 
 A refused capture is told by its file, the offset and the rule that it breaks.
 Status 0: done; 1: a capture is refused, or a read, a write, an open, a
@@ -34,7 +38,15 @@ creation or memory failed; 2: the command line is faulty.
 /// What is told of words that aren't all UTF-8.
 pub const NOT_UTF_8: &str = "error: a word of the command line isn't UTF-8
 
+  tip: to read a file of such a name, use 'capt list - < FILE'
+
 Usage: capt <COMMAND>
+
+For more information, try '--help'.
+";
+
+// What is told of `--whole` with standard output.
+pub(crate) const WHOLE_DASH: &str = "error: the argument '--whole' cannot be used with '--output -'
 
 For more information, try '--help'.
 ";

@@ -1,13 +1,16 @@
 //! What the words of the command line ask for.
-ghost use Rattle.std.specs.Prelude.{◌≡◌, ◌≢◌, IfSome, IsSome, ◌↔◌, map, codes, option_map, IsTrue, IfOk, Some};
+ghost use Rattle.std.specs.Prelude.{◌≡◌, ◌≢◌, ◌⊎◌, All, chars, string_bytes, IfSome, IsSome, ◌↔◌, map, codes, option_map, IsTrue, IfOk, Some};
 ghost use Rattle.clap.specs.Values.{kind_of};
 ghost use Rattle.clap.specs.Words.{first_of, rows_of, found_of, subcommand_rows_of};
 ghost use Rattle.cap_line.specs.Jobs.{IsWhole};
-ghost use Rattle.cap_line.specs.CommandLine.{fault_by, files_in, IsJobBy, IsJobOf, IsRefused, Parses};
+ghost use Rattle.cap_line.specs.CommandLine.{fault_by, files_in, IsJobBy, IsJobOf, IsNoJob, IsRefused, Parses};
+ghost use Rattle.cap_line.specs.Shown.{IsSeenOrLine};
 
 use crate::command::capt;
 use crate::faults::LineFault;
-use crate::jobs::{Job, check_files, format_of, is_whole, order_of, task_of};
+use crate::jobs::{Job, can_replace, check_files, format_of, is_whole, order_of, task_of};
+use crate::shown::{escape, escape_lines};
+use crate::usage::WHOLE_DASH;
 use clap::error::ErrorKind;
 use clap::{ArgMatches, Error};
 use std::alloc::{AllocError, Global};
@@ -24,14 +27,46 @@ fn fault_by(kind: ErrorKind) -> LineFault
     }
 }
 
-// The text of clap's error, unless memory ran out.
-fn said_by(alloc: Global, error: Error) -> Option<String>
-    ensures { IsSome result → kind_of error ≢ ErrorKind.OutOfMemory }
+// The words, each as a terminal shows it.
+fn escape_words<S: AsStr>(alloc: Global, words: &[S]) -> Result<Vec<String>, AllocError> {
+    let mut shown = Vec::new(alloc);
+    for word in words.iter() {
+        shown.push(escape(alloc, word.as_str())?)?;
+    }
+    Ok(shown)
+}
+
+// What clap says of words that it refuses.
+fn refusal_of<S: AsStr>(alloc: Global, words: &[S]) -> Option<String> {
+    let error = capt(alloc).ok()?.try_get_matches_from(words).err()?;
+    format!(in alloc; "{error}").ok()
+}
+
+// The text of clap's error at those words, unless memory ran out. The words are named as a terminal shows them.
+fn said_by<S: AsStr>(alloc: Global, error: Error, words: &[S]) -> Option<String>
+    ensures kind { IsSome result → kind_of error ≢ ErrorKind.OutOfMemory }
+    ensures seen { IfSome result (λ text. All IsSeenOrLine (chars (string_bytes text))) }
 {
     if error.kind() == ErrorKind::OutOfMemory {
         return None;
     }
-    format!(in alloc; "{error}").ok()
+    let shown = escape_words(alloc, words).ok()?;
+    let text = match refusal_of(alloc, shown.as_slice()) {
+        Some(text) => text,
+        None => format!(in alloc; "{error}").ok()?,
+    };
+    escape_lines(alloc, text.as_str()).ok()
+}
+
+// What is said of words that clap takes and that give no job: standard output can't take its name once all is done.
+fn said_of_line(alloc: Global, fault: LineFault) -> Option<String>
+    ensures line { IsSome result → fault ≡ LineFault.Line }
+    ensures seen { IfSome result (λ text. All IsSeenOrLine (chars (string_bytes text))) }
+{
+    match fault {
+        LineFault::Line => escape_lines(alloc, WHOLE_DASH).ok(),
+        _ => None,
+    }
 }
 
 // The files that a subcommand names.
@@ -71,7 +106,8 @@ fn job_of<'a>(alloc: Global, name: &str, matches: &ArgMatches<'a>) -> Result<Job
     };
     let out = text_of(matches, "out");
     let to = format_of(text_of(matches, "to"));
-    if !is_whole(task, files.len(), to, out) {
+    let whole = is_set(text_of(matches, "whole"));
+    if !is_whole(task, files.len(), to, out) || !can_replace(whole, out) {
         return Err(LineFault::Line);
     }
     check_files(files.as_slice(), out)?;
@@ -82,6 +118,8 @@ fn job_of<'a>(alloc: Global, name: &str, matches: &ArgMatches<'a>) -> Result<Job
         order: order_of(text_of(matches, "order")),
         to,
         out,
+        explain: is_set(text_of(matches, "explain")),
+        whole,
     })
 }
 
@@ -111,16 +149,18 @@ pub fn parse<'a, S: AsStr>(alloc: Global, words: &'a [S]) -> Result<Job<'a>, Lin
     }
 }
 
-/// What clap says of words that give no job: help, the version, or a message that names the wrong word. It
-/// says nothing if it takes the words, nor if a growth was refused.
+/// What is said of words that give no job: help, the version, or a message that names the wrong word, in which what a
+/// terminal wouldn't show is told by its code. Nothing is said of words that give a job or name the wrong files, nor if a
+/// growth was refused.
 pub fn message<'a, S: AsStr>(alloc: Global, words: &'a [S]) -> Option<String>
-    ensures { IfSome result (λ text. IsRefused (map S.text words.entry.now)) }
+    ensures refused { IfSome result (λ text. IsRefused (map S.text words.entry.now) ⊎ IsNoJob (map S.text words.entry.now)) }
+    ensures seen { IfSome result (λ text. All IsSeenOrLine (chars (string_bytes text))) }
 {
     let Ok(command) = capt(alloc) else {
         return None;
     };
     match command.try_get_matches_from(words) {
-        Ok(_) => None,
-        Err(error) => said_by(alloc, error),
+        Ok(matches) => said_of_line(alloc, job_entered(alloc, &matches).err()?),
+        Err(error) => said_by(alloc, error, words),
     }
 }

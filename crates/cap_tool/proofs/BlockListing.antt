@@ -12,6 +12,7 @@ use Rattle.cap_blocks.specs.Reader.{GivesBlock, TakesItem, items_of}
 use Rattle.cap_blocks.specs.declared.blocks.Block.{Block}
 use Rattle.cap_bytes.specs.declared.stops.Stop.{Stop}
 use Rattle.cap_bytes.proofs.Putting.{Putting-all}
+use Rattle.cap_tool.specs.BlockWalk.{Lasts}
 use Rattle.cap_tool.specs.BlockText.{block_lines, block_text, refusal_by, refusal_of}
 use Rattle.cap_bytes.specs.Printing.{Prints}
 
@@ -22,6 +23,8 @@ pub record Printing (old new : State Order) (failed_old failed_new : Bool) (from
   pub failed : failed_new ≡ failed_old
   pub file : new.file ≡ old.file
   pub can_fail : IsTrue new.can_fail → IsTrue old.can_fail
+  pub offset : old.offset ≤ new.offset
+  pub lasts : Lasts old new
   pub told : IsTrue old.told → IsTrue new.told
   pub writer_told : IsTrue from.told → IsTrue to.told
   pub writer_cannot : IsTrue to.can_fail → IsTrue from.can_fail
@@ -36,6 +39,8 @@ Printing-none reader failed writer = record {
   failed = refl;
   file = refl;
   can_fail = λ t. t;
+  offset = omega arith;
+  lasts = record { broken = refl; failed = refl };
   told = λ t. t;
   writer_told = λ t. t;
   writer_cannot = λ t. t;
@@ -94,6 +99,8 @@ Printing-more old mid new fo fm fn from m to n block body line p gives keeps too
       failed = failed ∙ p.failed;
       file = keeps.file ∙ p.file;
       can_fail = λ c. p.can_fail (keeps.can_fail c);
+      offset = omega (arith, p.offset, keeps.offset);
+      lasts = record { broken = gives.gives.goes.after ∙ sym gives.gives.goes.before ∙ p.lasts.broken; failed = gives.gives.goes.failed ∙ p.lasts.failed };
       told = λ t. keeps.told (p.told t);
       writer_told = λ t. told (p.writer_told t);
       writer_cannot = λ c. p.writer_cannot (cannot c);

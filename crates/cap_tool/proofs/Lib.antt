@@ -1,4 +1,5 @@
 mod Merging
 pub mod BlockListing
+pub mod BlockWalking
 pub mod Listing
 pub mod Telling

@@ -1,18 +1,19 @@
 -- What is told at a terminal beside the line of a fault.
-use Rattle.std.specs.Prelude.{Bool, true, false}
+use Rattle.std.specs.Prelude.{◌≡◌, ◌++◌, All, Bool, List, ℕ, chars, codes, true, false}
 use Rattle.cap_bytes.specs.declared.faults.Fault.{Fault}
 use Rattle.cap_bytes.specs.declared.faults.Fault.TheVariants as faults
+use Rattle.cap_line.specs.Shown.{IsSeen}
 use Rattle.cap_line.specs.declared.faults.LineFault.{LineFault}
 use Rattle.cap_line.specs.declared.faults.LineFault.TheVariants as lines
 use Rattle.cap_tool.specs.declared.outcomes.Outcome.{Outcome}
 use Rattle.cap_tool.specs.declared.outcomes.Outcome.TheVariants as outcomes
 
--- whether a fault is of one of the files that are read
-abbrev pub is_of_input : Fault → Bool
-is_of_input (faults.Refused refusal) = true
-is_of_input (faults.Read file offset) = true
-is_of_input faults.Write = false
-is_of_input faults.Memory = false
+-- whether a fault is of a file that is read or written
+abbrev pub is_of_files : Fault → Bool
+is_of_files (faults.Refused refusal) = true
+is_of_files (faults.Read file offset) = true
+is_of_files faults.Write = true
+is_of_files faults.Memory = false
 
 -- whether a command line names the wrong files
 abbrev pub is_of_names : LineFault → Bool
@@ -27,6 +28,10 @@ is_of_names lines.Memory = false
 abbrev pub is_of_file : Outcome → Bool
 is_of_file outcomes.Done = false
 is_of_file (outcomes.Line fault) = is_of_names fault
-is_of_file (outcomes.Fault fault) = is_of_input fault
+is_of_file (outcomes.Fault fault) = is_of_files fault
 is_of_file (outcomes.Open n) = true
 is_of_file outcomes.Create = true
+
+-- A line that a terminal shows beside a fault: two spaces, and a text of which each character is shown.
+abbrev pub IsHintLine : List ℕ → Type 0
+IsHintLine line = (text : List ℕ) × All IsSeen (chars text) × (line ≡ codes "  " ++ text ++ codes "\n")

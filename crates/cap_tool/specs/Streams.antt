@@ -1,5 +1,5 @@
 -- The opening of a run's files and of its output.
-use Rattle.std.specs.Prelude.{◌≡◌, ◌≤◌, ◌-◌, ℕ, List, [], Bool, true, false, codes, get_or, length, map, IsFalse}
+use Rattle.std.specs.Prelude.{◌≡◌, ◌≤◌, ◌-◌, ℕ, List, [], Bool, true, false, codes, get_or, length, map, IsFalse, IsTrue}
 use Rattle.std.specs.Str.{bytes_eq}
 use Rattle.cap_bytes.specs.Tracked.{inner_of}
 use Rattle.cap_bytes.specs.declared.faults.Fault.TheVariants as faults
@@ -37,6 +37,14 @@ IsStandardOut (outputs.Standard standard) = Unit {0}
 -- the output could not be created
 abbrev pub StopsCreating : Outcome → Type 0
 StopsCreating outcome = outcome ≡ outcomes.Create
+
+-- the file of one of those names, which is `-`, can't be read
+abbrev pub StopsAtDash : List (List ℕ) → Outcome → Type 0
+StopsAtDash names outcomes.Done = ⊥
+StopsAtDash names (outcomes.Line fault) = ⊥
+StopsAtDash names (outcomes.Fault fault) = ⊥
+StopsAtDash names (outcomes.Open n) = (1 ≤ n) × (n ≤ length names) × IsTrue (is_dash (get_or names (n - 1) []))
+StopsAtDash names outcomes.Create = ⊥
 
 -- the file of one of those names, which isn't `-`, could not be opened, or there was no memory
 abbrev pub StopsOpening : List (List ℕ) → Outcome → Type 0

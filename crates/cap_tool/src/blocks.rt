@@ -1,11 +1,12 @@
 //! `capt blocks`: one line for each block of a pcapng file, as it is found.
-ghost use Rattle.std.specs.Prelude.{IsTrue};
+ghost use Rattle.std.specs.Prelude.{◌∷◌, [], IsTrue};
 ghost use Rattle.cap_blocks.specs.Reader.{GivesNext, TakesItem, items_of};
+ghost use Rattle.cap_tool.specs.BlockWalk.{WalksBlocks};
 ghost use Rattle.cap_tool.specs.BlockText.{block_lines, block_list, block_refusal, refusal_of};
 ghost use Rattle.cap_bytes.specs.Device.{WriterKeeps, writer_of};
 ghost use Rattle.cap_bytes.specs.Printing.{Prints, is_write};
 ghost use Rattle.cap_bytes.specs.Reader.{Keeps};
-ghost use Rattle.cap_source.specs.ReadFaults.{FailsAs, FailsOf};
+ghost use Rattle.cap_source.specs.ReadFaults.{FailsOf};
 
 use crate::lines::write_block;
 use cap_blocks::{Block, BlockReader};
@@ -35,7 +36,7 @@ fn print_blocks<R: Source, W: Sink>(
         → Prints (block_lines 1 (items_of reader.old)) (refusal_of (items_of reader.old))
         (W.held writer.old) result (W.held writer.new) }
     ensures writer { WriterKeeps (writer_of W.Sink writer.old) (is_write result) (writer_of W.Sink writer.new) }
-    ensures read { FailsAs reader.old.file reader.old.can_fail result }
+    ensures walks { WalksBlocks reader.old result reader.new }
 {
     let mut line = Line::new();
     let mut n = 1u64;
@@ -60,7 +61,7 @@ pub fn blocks_to<R: Source, W: Sink>(
         → Prints (block_list tail (R.coming source)) (block_refusal tail (R.coming source))
         (W.held writer.old) result (W.held writer.new) }
     ensures writer { WriterKeeps (writer_of W.Sink writer.old) (is_write result) (writer_of W.Sink writer.new) }
-    ensures read { FailsOf 1 (R.can_fail source) result }
+    ensures read { FailsOf (R.can_fail source ∷ []) result }
 {
     let mut reader = BlockReader::new(Window::new(alloc, source, 1), tail);
     print_blocks(&mut reader, writer)

@@ -1,6 +1,6 @@
 //! What `capt convert`, `merge` and `join` write of files.
-ghost use Rattle.std.specs.Prelude.{◌≤◌, IsTrue, map, vec_len};
-ghost use Rattle.std.specs.List.{list_all, list_any};
+ghost use Rattle.std.specs.Prelude.{◌≤◌, ◌∷◌, [], IsTrue, map, vec_len};
+ghost use Rattle.std.specs.List.{list_all};
 ghost use Rattle.cap_bytes.specs.Device.{WriterKeeps, writer_of};
 ghost use Rattle.cap_bytes.specs.Printing.{Prints, is_write};
 ghost use Rattle.cap_source.specs.ReadFaults.{FailsOf};
@@ -14,15 +14,6 @@ use cap_source::{Capture, Format};
 use cap_write::{to_pcap, to_pcapng, write_joined, write_merged};
 use std::alloc::Global;
 
-/// How packets are written.
-#[derive(Clone, Copy)]
-pub struct Encoding {
-    /// The format of the file.
-    pub format: Format,
-    /// The byte order of its numbers.
-    pub order: Order,
-}
-
 /// Writes the packets of a capture file of either format as a file of that format, with numbers in that
 /// byte order, exactly as they were read, up to the first refusal, which it answers: one of the file that is
 /// read, or of a packet that the format can't hold (rules 13 and 17 in pcapng, 17 to 21 in pcap: see
@@ -32,19 +23,20 @@ pub fn convert_to<R: Source, W: Sink>(
     alloc: Global,
     source: R,
     tail: Tail,
-    encoding: Encoding,
+    order: Order,
+    format: Format,
     writer: &mut W,
 ) -> Result<(), Fault>
     ensures text { IsTrue (R.tells_coming source) → IsTrue (W.tells_held writer.old)
-        → Prints (convert_text encoding.format encoding.order tail (R.coming source)) (convert_refusal encoding.format tail (R.coming source))
+        → Prints (convert_text format order tail (R.coming source)) (convert_refusal format tail (R.coming source))
         (W.held writer.old) result (W.held writer.new) }
     ensures writer { WriterKeeps (writer_of W.Sink writer.old) (is_write result) (writer_of W.Sink writer.new) }
-    ensures read { FailsOf 1 (R.can_fail source) result }
+    ensures read { FailsOf (R.can_fail source ∷ []) result }
 {
     let mut capture = Capture::new(alloc, source, 1, tail);
-    match encoding.format {
-        Format::Pcap => to_pcap(&mut capture, encoding.order, writer),
-        Format::Pcapng => to_pcapng(alloc, &mut capture, encoding.order, writer),
+    match format {
+        Format::Pcap => to_pcap(&mut capture, order, writer),
+        Format::Pcapng => to_pcapng(alloc, &mut capture, order, writer),
     }
 }
 
@@ -67,7 +59,7 @@ pub fn merge_to<R: Source, W: Sink>(
         → Prints (merge_text order tail (map R.coming sources.items)) (merge_refusal tail (map R.coming sources.items))
         (W.held writer.old) result (W.held writer.new) }
     ensures writer { WriterKeeps (writer_of W.Sink writer.old) (is_write result) (writer_of W.Sink writer.new) }
-    ensures read { FailsOf (vec_len sources) (list_any R.can_fail sources.items) result }
+    ensures read { FailsOf (map R.can_fail sources.items) result }
 {
     let mut merged = merge_files(alloc, sources, tail)?;
     write_merged(alloc, &mut merged, order, writer)
@@ -92,7 +84,7 @@ pub fn join_to<R: Source, W: Sink>(
         → Prints (join_text order tail (map R.coming sources.items)) (join_refusal tail (map R.coming sources.items))
         (W.held writer.old) result (W.held writer.new) }
     ensures writer { WriterKeeps (writer_of W.Sink writer.old) (is_write result) (writer_of W.Sink writer.new) }
-    ensures read { FailsOf (vec_len sources) (list_any R.can_fail sources.items) result }
+    ensures read { FailsOf (map R.can_fail sources.items) result }
 {
     let mut run = merge_files(alloc, sources, tail)?;
     write_joined(alloc, &mut run, order, writer)

@@ -1,15 +1,34 @@
 //! What is told at a terminal beside the line of a fault: the file's name, and why.
-ghost use Rattle.std.specs.Prelude.{IsSome, IsTrue};
-ghost use Rattle.cap_tool.specs.Hints.{is_of_file, is_of_input, is_of_names};
+ghost use Rattle.std.specs.Prelude.{IfSome, IsSome, IsTrue, string_bytes};
+ghost use Rattle.cap_tool.specs.Hints.{IsHintLine, is_of_file, is_of_files, is_of_names};
 
-use crate::outcomes::Outcome;
+use crate::kinds::{Kind, kind_at};
+use crate::outcomes::{Outcome, Stop};
 use crate::regular::{id_of, is_input, regular_at, regular_file};
+use crate::whole::open_beside;
 use cap_bytes::{Fault, Rule};
-use cap_line::{Job, LineFault};
+use cap_line::{Job, LineFault, Task, escape};
 use std::alloc::Global;
 use std::fmt::Display;
 use std::fs::{File, OpenOptions};
 use std::rt::Files;
+use std::{fs, io};
+
+// What is wrong with a file of that kind that begins as none that the task reads: which program unpacks it, or which
+// command reads it.
+fn magic_meaning(task: Task, kind: Kind) -> &'static str {
+    match kind {
+        Kind::Gzip => "it is compressed by gzip: zcat FILE | capt list -",
+        Kind::Zstd => "it is compressed by zstd: zstdcat FILE | capt list -",
+        Kind::Xz => "it is compressed by xz: xzcat FILE | capt list -",
+        Kind::Lz4 => "it is compressed by lz4: lz4cat FILE | capt list -",
+        Kind::Bzip2 => "it is compressed by bzip2: bzcat FILE | capt list -",
+        Kind::Pcap if task == Task::Blocks =>
+            "blocks are of pcapng files, and this is a pcap file: capt list shows its packets",
+        Kind::Other if task == Task::Blocks => "this is no pcapng file, which has blocks",
+        _ => "this is no capture of pcap or pcapng",
+    }
+}
 
 // What is wrong with a capture that breaks a rule.
 fn meaning(rule: Rule) -> &'static str {
@@ -44,9 +63,23 @@ fn name_of<'a>(job: &Job<'a>, file: u32) -> Option<&'a str> {
     job.files.get((file as usize).checked_sub(1)?).copied()
 }
 
+// `  33 captures are too many`: what a terminal wouldn't show is told by its code.
+fn told(alloc: Global, text: &str) -> Option<String>
+    ensures { IfSome result (λ line. IsHintLine (string_bytes line)) }
+{
+    let shown = escape(alloc, text).ok()?;
+    let mut line = String::from_str(alloc, "  ").ok()?;
+    line.push_str(shown.as_str()).ok()?;
+    line.push_str("\n").ok()?;
+    Some(line)
+}
+
 // `  cut.pcap: it is cut off`
-fn line(alloc: Global, name: &str, why: &impl Display) -> Option<String> {
-    format!(in alloc; "  {name}: {why}\n").ok()
+fn line(alloc: Global, name: &str, why: &impl Display) -> Option<String>
+    ensures { IfSome result (λ line. IsHintLine (string_bytes line)) }
+{
+    let text = format!(in alloc; "{name}: {why}").ok()?;
+    told(alloc, text.as_str())
 }
 
 // Whether a file that is open is one of those that a job reads, of which `-` is standard input.
@@ -61,20 +94,68 @@ fn is_read<R: Files<File = File>>(files: &R, file: &File, job: &Job<'_>) -> bool
     false
 }
 
-// What is wrong with a file that is read, if a fault is of one.
-fn input_line(alloc: Global, job: &Job<'_>, fault: Fault) -> Option<String>
-    ensures { IsSome result → IsTrue (is_of_input fault) }
+// What is wrong with a file that breaks a rule.
+fn rule_line<R: Files<File = File>>(
+    files: &R,
+    alloc: Global,
+    job: &Job<'_>,
+    file: u32,
+    rule: Rule,
+) -> Option<String>
+    ensures { IfSome result (λ line. IsHintLine (string_bytes line)) }
+{
+    let name = name_of(job, file)?;
+    let why = match rule {
+        Rule::Magic => magic_meaning(job.task, kind_at(files, name)),
+        _ => meaning(rule),
+    };
+    line(alloc, name, &why)
+}
+
+// Why a file can't be read.
+fn read_line<R: Files<File = File>>(
+    files: &R,
+    alloc: Global,
+    job: &Job<'_>,
+    file: u32,
+) -> Option<String>
+    ensures { IfSome result (λ line. IsHintLine (string_bytes line)) }
+{
+    let name = name_of(job, file)?;
+    let why = match fs::metadata(files, name) {
+        Ok(metadata) if metadata.is_dir() => "it is a folder",
+        _ => "it can't be read",
+    };
+    line(alloc, name, &why)
+}
+
+// Why a job's output can't be written, as the system says it.
+fn write_line(alloc: Global, job: &Job<'_>, error: Option<i32>) -> Option<String>
+    ensures { IfSome result (λ line. IsHintLine (string_bytes line)) }
+{
+    let error = io::Error::from_raw_os_error(error?);
+    match job.out {
+        Some(name) if name != "-" => line(alloc, name, &error),
+        _ => line(alloc, "standard output", &error),
+    }
+}
+
+// What is wrong with a file that is read or written, if a fault is of one.
+fn fault_line<R: Files<File = File>>(
+    files: &R,
+    alloc: Global,
+    job: &Job<'_>,
+    fault: Fault,
+    error: Option<i32>,
+) -> Option<String>
+    ensures file { IsSome result → IsTrue (is_of_files fault) }
+    ensures line { IfSome result (λ line. IsHintLine (string_bytes line)) }
 {
     match fault {
-        Fault::Refused(refusal) => {
-            let name = name_of(job, refusal.file)?;
-            line(alloc, name, &meaning(refusal.rule))
-        }
-        Fault::Read { file, .. } => {
-            let name = name_of(job, file)?;
-            line(alloc, name, &"it can't be read")
-        }
-        Fault::Write | Fault::Memory => None,
+        Fault::Refused(refusal) => rule_line(files, alloc, job, refusal.file, refusal.rule),
+        Fault::Read { file, .. } => read_line(files, alloc, job, file),
+        Fault::Write => write_line(alloc, job, error),
+        Fault::Memory => None,
     }
 }
 
@@ -84,15 +165,50 @@ fn open_line<R: Files<File = File>>(
     alloc: Global,
     job: &Job<'_>,
     file: u32,
-) -> Option<String> {
+) -> Option<String>
+    ensures { IfSome result (λ line. IsHintLine (string_bytes line)) }
+{
     let name = name_of(job, file)?;
+    if name == "-" {
+        return line(alloc, "standard input", &"it is closed");
+    }
     let error = File::open(files, name).err()?;
     line(alloc, name, &error)
 }
 
-// Why the output of a job can't be created: the system says so, or it is one of the files that are read.
-fn create_line<R: Files<File = File>>(files: &R, alloc: Global, job: &Job<'_>) -> Option<String> {
+// Why no file can be written beside the one of that name.
+fn beside_line<R: Files<File = File>>(files: &R, alloc: Global, name: &str) -> Option<String>
+    ensures { IfSome result (λ line. IsHintLine (string_bytes line)) }
+{
+    match open_beside(files, alloc, name, &[]) {
+        Ok((_, beside)) => {
+            beside.remove(files);
+            None
+        }
+        Err(error) => line(alloc, name, &error),
+    }
+}
+
+// Whether the file of that name is one of those that a job reads.
+fn reads_output<R: Files<File = File>>(files: &R, name: &str, job: &Job<'_>) -> bool {
+    match File::open(files, name) {
+        Ok(file) => is_read(files, &file, job),
+        Err(_) => false,
+    }
+}
+
+// Why the output of a job can't be created: it is a terminal, the system says so, or it is one of the files that are
+// read.
+fn create_line<R: Files<File = File>>(files: &R, alloc: Global, job: &Job<'_>) -> Option<String>
+    ensures { IfSome result (λ line. IsHintLine (string_bytes line)) }
+{
     let name = job.out?;
+    if name == "-" {
+        return line(alloc, "standard output", &"a terminal can't show a capture");
+    }
+    if job.whole && !reads_output(files, name, job) {
+        return beside_line(files, alloc, name);
+    }
     let opened = OpenOptions::new()
         .write(true)
         .create(true)
@@ -108,7 +224,8 @@ fn create_line<R: Files<File = File>>(files: &R, alloc: Global, job: &Job<'_>) -
 
 // What is wrong with the files that a command line names.
 fn names_line(alloc: Global, fault: LineFault) -> Option<String>
-    ensures { IsSome result → IsTrue (is_of_names fault) }
+    ensures file { IsSome result → IsTrue (is_of_names fault) }
+    ensures line { IfSome result (λ line. IsHintLine (string_bytes line)) }
 {
     let why = match fault {
         LineFault::Files => "a command reads at most 32 captures",
@@ -116,28 +233,29 @@ fn names_line(alloc: Global, fault: LineFault) -> Option<String>
         LineFault::Output => "the output is one of the captures that are read",
         _ => return None,
     };
-    format!(in alloc; "  {why}\n").ok()
+    told(alloc, why)
 }
 
 /// The line that a terminal shows after the line of a fault: the name of the file, and what the system says
-/// of it, or what the rule means that is broken; of a command line, what is wrong with the files that it names.
-/// `job` is what was run, if the words of the command line gave one. There is no line if the fault is of no file,
-/// or if memory runs out.
+/// of it, or what the rule means that is broken; of a command line, what is wrong with the files that it names. What a
+/// terminal wouldn't show of a name is told by its code. `job` is what was run, if the words of the command line gave
+/// one. There is no line if the fault is of no file, if it isn't known why a write failed, or if memory runs out.
 pub fn hint<R: Files<File = File>>(
     files: &R,
     alloc: Global,
-    outcome: &Outcome,
+    stop: &Stop,
     job: Option<&Job<'_>>,
 ) -> Option<String>
-    ensures { IsSome result → IsTrue (is_of_file outcome.now) }
+    ensures file { IsSome result → IsTrue (is_of_file stop.now.outcome) }
+    ensures line { IfSome result (λ line. IsHintLine (string_bytes line)) }
 {
-    if let Outcome::Line(fault) = outcome {
-        return names_line(alloc, *fault);
+    if let Outcome::Line(fault) = stop.outcome {
+        return names_line(alloc, fault);
     }
     let job = job?;
-    match outcome {
-        Outcome::Fault(fault) => input_line(alloc, job, *fault),
-        Outcome::Open(file) => open_line(files, alloc, job, *file),
+    match stop.outcome {
+        Outcome::Fault(fault) => fault_line(files, alloc, job, fault, stop.error),
+        Outcome::Open(file) => open_line(files, alloc, job, file),
         Outcome::Create => create_line(files, alloc, job),
         _ => None,
     }

@@ -1,6 +1,6 @@
 //! What the command line asks for, done over readers and a writer.
 ghost use Rattle.std.specs.Prelude.{◌≡◌, ◌∷◌, [], IsTrue, map, vec_len};
-ghost use Rattle.std.specs.List.{list_all, list_any};
+ghost use Rattle.std.specs.List.{list_all};
 ghost use Rattle.cap_line.specs.Jobs.{IsWhole};
 ghost use Rattle.cap_tool.specs.Jobs.{Does, tail_of};
 ghost use Rattle.cap_bytes.specs.Device.{WriterKeeps, writer_of};
@@ -8,7 +8,7 @@ ghost use Rattle.cap_bytes.specs.Printing.{is_write};
 ghost use Rattle.cap_source.specs.ReadFaults.{FailsOf};
 
 use crate::blocks::blocks_to;
-use crate::commands::{Encoding, convert_to, join_to, merge_to};
+use crate::commands::{convert_to, join_to, merge_to};
 use crate::list::list_to;
 use cap_bytes::{Fault, Sink, Source, Tail};
 use cap_line::{Job, Task};
@@ -51,7 +51,7 @@ pub fn job_to<R: Source, W: Sink>(
     ensures text { IsTrue (list_all R.tells_coming sources.items) → IsTrue (W.tells_held writer.old)
         → Does job.now (map R.coming sources.items) (W.held writer.old) result (W.held writer.new) }
     ensures writer { WriterKeeps (writer_of W.Sink writer.old) (is_write result) (writer_of W.Sink writer.new) }
-    ensures read { FailsOf (vec_len sources) (list_any R.can_fail sources.items) result }
+    ensures read { FailsOf (map R.can_fail sources.items) result }
 {
     let tail = tail_of(job.allow_cut);
     match job.task {
@@ -60,11 +60,8 @@ pub fn job_to<R: Source, W: Sink>(
         Task::Info => file_lines(alloc, sources, tail, writer),
         Task::Report => report(alloc, sources, tail, writer),
         Task::Convert => {
-            let encoding = Encoding {
-                format: job.to.unwrap(),
-                order: job.order,
-            };
-            convert_to(alloc, only(sources), tail, encoding, writer)
+            let format = job.to.unwrap();
+            convert_to(alloc, only(sources), tail, job.order, format, writer)
         }
         Task::Merge => merge_to(alloc, sources, tail, job.order, writer),
         Task::Join => join_to(alloc, sources, tail, job.order, writer),

@@ -3,25 +3,37 @@
 #![tactic(auto)]
 
 mod blocks;
+mod closed;
 mod commands;
 mod hints;
 mod jobs;
+mod kinds;
 mod lines;
 mod list;
 mod outcomes;
 mod progress;
 mod regular;
+mod remembered;
+mod shared;
 mod streams;
 mod watched;
+mod whole;
 
 pub use crate::blocks::blocks_to;
-pub use crate::commands::{Encoding, convert_to, join_to, merge_to};
+pub use crate::closed::{Closed, check_input};
+pub use crate::commands::{convert_to, join_to, merge_to};
 pub use crate::hints::hint;
 pub use crate::jobs::job_to;
+pub use crate::kinds::{Kind, kind_at, kind_of};
 pub use crate::list::list_to;
-pub use crate::outcomes::{Outcome, end_of, outcome_line, status_of, tell};
+pub use crate::outcomes::{Outcome, Stop, end_of, outcome_line, status_of, tell};
 pub use crate::progress::{Progress, progress_line};
 pub use crate::regular::{FileId, Regular};
-pub use crate::streams::{Input, Inputs, Output, create_output, open_all, watch_all};
+pub use crate::remembered::Remembered;
+pub use crate::shared::{Shared, SharedOutput};
+pub use crate::streams::{
+    Input, Inputs, Output, check_terminal, create_output, open_all, watch_all,
+};
 pub use crate::watched::Watched;
+pub use crate::whole::{Beside, create_beside};
 pub use cap_line::{Job, LineFault, parse};

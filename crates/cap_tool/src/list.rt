@@ -1,11 +1,12 @@
 //! `capt list`: one line for each packet, as it is found.
-ghost use Rattle.std.specs.Prelude.{◌≤◌, ◌^◌, IsTrue};
+ghost use Rattle.std.specs.Prelude.{◌≡◌, ◌≤◌, ◌^◌, ◌∷◌, [], None, IsTrue};
 ghost use Rattle.cap_tool.specs.ListText.{list_lines, list_text, list_refusal};
 ghost use Rattle.cap_bytes.specs.Device.{WriterKeeps, writer_of};
 ghost use Rattle.cap_bytes.specs.Printing.{Prints, is_write};
 ghost use Rattle.cap_source.specs.Feed.{refusal_of};
 ghost use Rattle.cap_source.specs.ReadFaults.{FailsOf};
 ghost use Rattle.cap_source.specs.Walk.{Walks};
+ghost use Rattle.cap_source.specs.Growing.{IfMemory};
 
 use crate::lines::write_packet;
 use cap_bytes::{Fault, Sink, Source, Tail, put_all};
@@ -21,6 +22,7 @@ fn list_packets<F: PacketFeed, W: Sink>(feed: &mut F, writer: &mut W) -> Result<
         (W.held writer.old) result (W.held writer.new) }
     ensures writer { WriterKeeps (writer_of W.Sink writer.old) (is_write result) (writer_of W.Sink writer.new) }
     ensures walks { Walks (F.feed feed.old) result (F.feed feed.new) }
+    ensures memory { IfMemory result ((F.feed feed.new).known ≡ None) }
 {
     let mut line = Line::new();
     let mut n = 1u64;
@@ -46,7 +48,7 @@ pub fn list_to<R: Source, W: Sink>(
         → Prints (list_text tail (R.coming source)) (list_refusal tail (R.coming source))
         (W.held writer.old) result (W.held writer.new) }
     ensures writer { WriterKeeps (writer_of W.Sink writer.old) (is_write result) (writer_of W.Sink writer.new) }
-    ensures read { FailsOf 1 (R.can_fail source) result }
+    ensures read { FailsOf (R.can_fail source ∷ []) result }
 {
     let mut capture = Capture::new(alloc, source, 1, tail);
     list_packets(&mut capture, writer)

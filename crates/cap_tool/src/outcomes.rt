@@ -25,6 +25,24 @@ pub enum Outcome {
     Create,
 }
 
+/// Why a run ended before all was done.
+#[derive(Clone, Copy, Debug, PartialEq, Eq)]
+pub struct Stop {
+    /// How it ended.
+    pub outcome: Outcome,
+    /// The number of the system's error, if it is known.
+    pub error: Option<i32>,
+}
+
+impl From<Outcome> for Stop {
+    fn from(outcome: Outcome) -> Stop {
+        Stop {
+            outcome,
+            error: None,
+        }
+    }
+}
+
 /// How a command ends that answered `answer`, once what waited in its writer's buffer was flushed:
 /// a flush that failed comes before the answer.
 pub fn end_of(answer: Result<(), Fault>, flushed: io::Result<()>) -> Result<(), Outcome>

@@ -3,6 +3,7 @@ ghost use Rattle.std.specs.Prelude.{◌≡◌, ◌+◌, ◌<◌, ◌≤◌, ◌+
 ghost use Rattle.cap_print.specs.Lines.{room_in, text_in};
 ghost use Rattle.cap_tool.specs.Progress.{amount_text, left_text, of_text, progress_text, time_text};
 
+use crate::shared::SharedOutput;
 use cap_print::Line;
 use std::cell::Cell;
 use std::io::{Stderr, Write};
@@ -16,6 +17,11 @@ const PAUSE: u64 = 200;
 
 // To the beginning of the line, and what stands there is wiped.
 const WIPE: &[u8] = b"\r\x1b[K";
+
+// From here on a terminal cuts a line that is wider than it (DECAWM), and from here on it continues such a line below.
+const CUT: &[u8] = b"\x1b[?7l";
+
+const WRAP: &[u8] = b"\x1b[?7h";
 
 // Puts a label and a number of bytes, in millions or thousands of millions, to a tenth.
 fn put_amount(line: &mut Line, label: &[u8], bytes: u128)
@@ -116,6 +122,8 @@ pub struct Progress<'a, C: Clock> {
     due: Cell<Duration>,
     // whether a line stands on the screen
     stands: Cell<bool>,
+    // the output, if a read may wait while its reader does
+    output: Option<&'a SharedOutput>,
 }
 
 impl<'a, C: Clock> Progress<'a, C> {
@@ -140,6 +148,22 @@ impl<'a, C: Clock> Progress<'a, C> {
             read: Cell::new(0),
             due: Cell::new(Duration::from_secs(PATIENCE)),
             stands: Cell::new(false),
+            output: None,
+        }
+    }
+
+    /// The same of a run whose reads may wait: what waits in `output` is written before each of them.
+    pub fn with_output(self, output: &'a SharedOutput) -> Progress<'a, C> {
+        Progress {
+            output: Some(output),
+            ..self
+        }
+    }
+
+    /// Writes what waits in the output, if the read that follows may wait. A failure shows at the end of the run.
+    pub fn before_read(&self) {
+        if let Some(output) = self.output {
+            let _ = output.flush();
         }
     }
 
@@ -185,7 +209,8 @@ fn show(stream: Stderr, read: u64, total: Option<u64>, elapsed: Duration) {
     let millis = u64::try_from(elapsed.as_millis()).unwrap_or(u64::MAX);
     if millis > 0 {
         let line = progress_line(read, total, millis);
-        let _ = (&stream).write_all(WIPE);
-        let _ = (&stream).write_all(line.as_slice());
+        for part in [WIPE, CUT, line.as_slice(), WRAP] {
+            let _ = (&stream).write_all(part);
+        }
     }
 }

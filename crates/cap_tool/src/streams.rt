@@ -163,6 +163,18 @@ pub fn create_output<R: Files<File = File>>(
     }
 }
 
+/// Refuses standard output, `-`, for a capture if it is a terminal: answers `Outcome::Create`, and no other outcome.
+pub fn check_terminal(standard: Stdout, name: Option<&str>) -> Result<(), Outcome>
+    ensures other { option_map (λ n. n.now) name.entry ≢ Some (codes "-") → result ≡ Ok tt }
+    ensures stops { IfErr result StopsCreating }
+{
+    if name == Some("-") && standard.is_terminal() {
+        Err(Outcome::Create)
+    } else {
+        Ok(())
+    }
+}
+
 /// The inputs of a run.
 #[derive(Drop)]
 pub struct Inputs {

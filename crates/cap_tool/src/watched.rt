@@ -48,6 +48,7 @@ impl<'a, T: Source, C: Clock> Source for Watched<'a, T, C> {
     ghost most = { λ w. T.most (inner_of w) };
 
     fn take(&mut self, buffer: &mut [u8]) -> Result<usize, Broken> {
+        self.progress.before_read();
         let count = self.inner.take(buffer)?;
         self.progress.add(count);
         Ok(count)

@@ -1,14 +1,15 @@
 //! The program `capt`: packet captures, read, reported, converted, merged and joined by proved code.
 #![tactic(auto)]
 
-ghost use Rattle.std.specs.Prelude.{◌≡◌, ◌⊎◌, IfErr, vec_len};
+ghost use Rattle.std.specs.Prelude.{◌≡◌, ◌⊎◌, IfErr, IfOk, vec_len};
 ghost use Rattle.cap_line.specs.Jobs.{IsWhole};
 
 use cap_bytes::{Fault, Source, Tracked, put_all};
 use cap_line::{Job, LineFault, NOT_UTF_8, USAGE, message, parse};
 use cap_tool::{
-    Outcome, Output, Progress, Watched, create_output, end_of, hint, job_to, open_all, status_of,
-    tell, watch_all,
+    Beside, Closed, FileId, Inputs, Outcome, Output, Progress, Remembered, Shared, SharedOutput,
+    Stop, Watched, check_input, check_terminal, create_beside, create_output, end_of, hint, job_to,
+    open_all, status_of, tell, watch_all,
 };
 use std::alloc::Global;
 use std::env;
@@ -35,24 +36,35 @@ fn words_of<R: Env + AllocGlobal>(rt: &R) -> Result<Vec<String>, LineFault>
     }
 }
 
+// An output with its buffer.
+fn shared(alloc: Global, output: Output) -> Result<SharedOutput, Outcome> {
+    let size = output_buffer(output.is_terminal());
+    match BufWriter::with_capacity(alloc, size, Remembered::new(output)) {
+        Ok(buffered) => Ok(SharedOutput::new(buffered)),
+        Err(_) => Err(Outcome::Fault(Fault::Memory)),
+    }
+}
+
 // Does a job, and flushes what waits in the output's buffer.
 fn run_job<R: Source, C: Clock>(
     alloc: Global,
     job: &Job<'_>,
     sources: Vec<R>,
-    output: Output,
+    output: &SharedOutput,
     progress: &Progress<'_, C>,
-) -> Result<(), Outcome>
+) -> Result<(), Stop>
     requires whole { IsWhole job.now }
     requires sources { vec_len sources ≡ vec_len job.now.files }
 {
-    let buffer = output_buffer(output.is_terminal());
-    let Ok(buffered) = BufWriter::with_capacity(alloc, buffer, output) else {
-        return Err(Outcome::Fault(Fault::Memory));
-    };
-    let mut writer = Watched::new(Tracked::new(buffered), progress);
+    let mut writer = Watched::new(Tracked::new(Shared::new(output)), progress);
     let answer = job_to(alloc, job, sources, &mut writer);
-    end_of(answer, writer.into_inner().into_inner().flush())
+    match end_of(answer, output.flush()) {
+        Ok(()) => Ok(()),
+        Err(outcome) => Err(Stop {
+            outcome,
+            error: output.error(),
+        }),
+    }
 }
 
 // The standard streams.
@@ -72,33 +84,113 @@ fn screen_of<R: Files<File = File>>(files: &R, faults: Stderr, output: &Output) 
     }
 }
 
+// Does a job over the files that it reads and the output that it writes.
+fn work<R: Files<File = File> + Clock + AllocGlobal>(
+    rt: &R,
+    job: &Job<'_>,
+    faults: Stderr,
+    inputs: Inputs,
+    output: Output,
+) -> Result<(), Stop>
+    requires whole { IsWhole job.now }
+    requires sources { vec_len inputs.sources ≡ vec_len job.now.files }
+{
+    let screen = screen_of(rt, faults, &output);
+    let is_terminal = output.is_terminal();
+    let output = match shared(rt.alloc(), output) {
+        Ok(output) => output,
+        Err(outcome) => return Err(Stop::from(outcome)),
+    };
+    let progress = Progress::new(rt, screen, is_terminal, inputs.size);
+    // what can't be told by a size, as a pipe, may let a read wait
+    let progress = match inputs.size {
+        Some(_) => progress,
+        None => progress.with_output(&output),
+    };
+    let sources = match watch_all(rt.alloc(), inputs.sources, &progress) {
+        Ok(sources) => sources,
+        Err(outcome) => return Err(Stop::from(outcome)),
+    };
+    let answer = run_job(rt.alloc(), job, sources, &output, &progress);
+    progress.wipe();
+    answer
+}
+
+// Creates the output of a job, beside the file of its name if it takes that once all is done.
+fn create<R: Files<File = File> + AllocGlobal>(
+    rt: &R,
+    job: &Job<'_>,
+    standard: Stdout,
+    inputs: &[Option<FileId>],
+) -> Result<(Output, Option<Beside>), Outcome> {
+    match job.out {
+        Some(name) if job.whole => {
+            let (output, beside) = create_beside(rt, rt.alloc(), name, inputs)?;
+            Ok((output, Some(beside)))
+        }
+        _ => {
+            check_terminal(standard, job.out)?;
+            Ok((create_output(rt, standard, job.out, inputs)?, None))
+        }
+    }
+}
+
+// Opens every file of a job, in order.
+fn open<R: Files<File = File> + AllocGlobal>(
+    rt: &R,
+    job: &Job<'_>,
+    standard: Stdin,
+    has_no_input: bool,
+) -> Result<Inputs, Outcome>
+    requires { IsWhole job.now }
+    ensures { IfOk result (λ inputs. vec_len inputs.sources ≡ vec_len job.now.files) }
+{
+    check_input(has_no_input, job.files.as_slice())?;
+    open_all(rt, rt.alloc(), standard, job.files.as_slice())
+}
+
 // Does a job. Every file is opened before the output is created.
 fn run<R: Files<File = File> + Clock + AllocGlobal>(
     rt: &R,
     job: &Job<'_>,
     streams: StandardStreams,
-) -> Result<(), Outcome>
+    has_no_input: bool,
+) -> Result<(), Stop>
     requires { IsWhole job.now }
 {
-    let inputs = open_all(rt, rt.alloc(), streams.input, job.files.as_slice())?;
-    let output = create_output(rt, streams.output, job.out, inputs.ids.as_slice())?;
-    let screen = screen_of(rt, streams.faults, &output);
-    let progress = Progress::new(rt, screen, output.is_terminal(), inputs.size);
-    let sources = watch_all(rt.alloc(), inputs.sources, &progress)?;
-    let answer = run_job(rt.alloc(), job, sources, output, &progress);
-    progress.wipe();
-    answer
+    let inputs = match open(rt, job, streams.input, has_no_input) {
+        Ok(inputs) => inputs,
+        Err(outcome) => return Err(Stop::from(outcome)),
+    };
+    let (output, beside) = match create(rt, job, streams.output, inputs.ids.as_slice()) {
+        Ok(created) => created,
+        Err(outcome) => return Err(Stop::from(outcome)),
+    };
+    let answer = work(rt, job, streams.faults, inputs, output);
+    match beside {
+        Some(beside) => beside.settle(rt, answer),
+        None => answer,
+    }
 }
 
 // How a run ended.
-fn outcome_of(answer: Result<(), Outcome>) -> Outcome {
+fn stop_of(answer: Result<(), Stop>) -> Stop {
     match answer {
-        Ok(()) => Outcome::Done,
-        Err(outcome) => outcome,
+        Ok(()) => Stop::from(Outcome::Done),
+        Err(stop) => stop,
+    }
+}
+
+// Whether a second line tells of a fault which file it is of: at a terminal, and where that is asked for.
+fn explains(faults: Stderr, job: Option<&Job<'_>>) -> bool {
+    match job {
+        Some(job) => job.explain || faults.is_terminal(),
+        None => faults.is_terminal(),
     }
 }
 
 fn main(rt: HostRuntime) -> ExitCode {
+    let closed = Closed::find(&rt, rt.stdin(), rt.stdout(), rt.stderr());
     let mut output = Tracked::new(rt.stdout());
     let mut faults = Tracked::new(rt.stderr());
     let streams = StandardStreams {
@@ -109,16 +201,24 @@ fn main(rt: HostRuntime) -> ExitCode {
     let ending = match words_of(&rt) {
         Ok(words) => {
             let parsed = parse(rt.alloc(), words.as_slice());
-            let (outcome, said) = match &parsed {
-                Ok(job) => (outcome_of(run(&rt, job, streams)), None),
-                Err(fault) => (Outcome::Line(*fault), message(rt.alloc(), words.as_slice())),
+            let (stop, said) = match &parsed {
+                Ok(job) => (stop_of(run(&rt, job, streams, closed.has_no_input())), None),
+                Err(fault) => {
+                    let stop = Stop::from(Outcome::Line(*fault));
+                    (stop, message(rt.alloc(), words.as_slice()))
+                }
             };
             let ending = match said {
-                Some(text) => tell(outcome, text.as_bytes(), &mut output, &mut faults),
-                None => tell(outcome, USAGE.as_bytes(), &mut output, &mut faults),
+                Some(text) => tell(stop.outcome, text.as_bytes(), &mut output, &mut faults),
+                None => tell(stop.outcome, USAGE.as_bytes(), &mut output, &mut faults),
             };
-            if rt.stderr().is_terminal() {
-                if let Some(line) = hint(&rt, rt.alloc(), &ending, parsed.as_ref().ok()) {
+            let job = parsed.as_ref().ok();
+            if explains(rt.stderr(), job) {
+                let stop = Stop {
+                    outcome: ending,
+                    error: stop.error,
+                };
+                if let Some(line) = hint(&rt, rt.alloc(), &stop, job) {
                     let _ = put_all(&mut faults, line.as_bytes());
                 }
             }

@@ -2,6 +2,6 @@
 
 pub use cap_line::Task;
 pub use cap_tool::{
-    Encoding, Job, LineFault, Outcome, blocks_to, convert_to, job_to, join_to, list_to, merge_to,
+    Job, LineFault, Outcome, blocks_to, convert_to, job_to, join_to, list_to, merge_to,
     outcome_line, parse, status_of,
 };

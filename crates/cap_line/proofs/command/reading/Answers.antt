@@ -1,9 +1,9 @@
-use Rattle.std.proofs.Common.{◌∙◌, ap}
-use Rattle.std.proofs.lemmas.Result.{IfOk-weaker}
-use Rattle.cap_line.proofs.Parsing.{AddsArg-local}
+use Rattle.std.proofs.Common.{codes}
+use Rattle.cap_line.specs.Command.{cutting_app, flag_rule}
+use Rattle.cap_line.proofs.Parsing.{AddsRule-is}
 use Rattle.cap_line.proofs.command.reading.Goals as goal
 
-pub returns-clause-local : goal.returns-clause-local
-returns-clause-local c =
-    let start = ap (λ f. f.has_globals) c.after_help.ensures ∙ ap (λ f. f.has_globals) c.about.ensures ∙ c.new.ensures.local in
-    IfOk-weaker c.arg.result _ _ (λ r added. AddsArg-local _ _ r added start c.allow_cut.ensures.local) c.arg.ensures
+pub returns-clause-app : goal.returns-clause-app
+returns-clause-app c =
+    AddsRule-is c.cutting.result c.with_argument.result _ (flag_rule (codes "explain")) (cutting_app c.args.name.now) c.cutting.ensures.app
+    c.explain.ensures.rule c.with_argument.ensures.app

@@ -2,6 +2,7 @@ use Rattle.std.proofs.Common.{◌≡◌, ◌+◌, ◌++◌, Some, None, Ok, sym,
 use Rattle.std.proofs.lemmas.Result.{err_from_is_err_and}
 use Rattle.cap_blocks.specs.Reader.{GivesBlock, TakesItem, items_of}
 use Rattle.cap_tool.proofs.BlockListing.{Printing-more, Printing-none, Prints-block_fault, Prints-block_end, block_lines-given}
+use Rattle.cap_tool.proofs.BlockWalking.{lasts-given, walks-end, walks-fault}
 use Rattle.cap_bytes.proofs.Putting.{Putting-front}
 use Rattle.cap_tool.specs.BlockText.{block_lines, block_text}
 use Rattle.cap_tool.proofs.blocks.print_blocks.Goals as goal
@@ -54,3 +55,19 @@ returns-clause-text g c = λ t w.
 
 pub loop-block-init : goal.loop-block-init
 loop-block-init g c = Printing-none c.args.reader.now _ _
+
+pub returns-in_err-block-clause-walks : goal.returns-in_err-block-clause-walks
+returns-in_err-block-clause-walks g c =
+    let p = err_from_is_err_and c.from_residual.result c.from_residual.ensures.1 in
+    rw (p.1, p.2)
+    (walks-fault _ c.loop-block.reader c.take_block.new.reader _ _ _ _ c.loop-block.n c.loop-block.invariant c.in_err-block.field-0.0 c.in_err-block.ensures.answer)
+
+pub returns-in_err-put_all-clause-walks : goal.returns-in_err-put_all-clause-walks
+returns-in_err-put_all-clause-walks g c =
+    let p = err_from_is_err_and c.from_residual-in_err-put_all.result c.from_residual-in_err-put_all.ensures.1 in
+    rw (p.1, p.2, c.in_err-put_all.ensures.fault)
+    (lasts-given _ c.loop-block.reader c.take_block.new.reader _ _ _ _ c.loop-block.n c.loop-block.invariant c.in-Some.block (rw c.in-Some.is at c.in_ok-block.ensures.answer))
+
+pub returns-clause-walks : goal.returns-clause-walks
+returns-clause-walks g c =
+    walks-end _ c.loop-block.reader c.take_block.new.reader _ _ _ _ c.loop-block.n c.loop-block.invariant (rw c.in_default.is at c.in_ok-block.ensures.answer)

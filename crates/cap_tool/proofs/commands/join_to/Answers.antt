@@ -20,6 +20,5 @@ returns-clause-text g c = λ t w.
 pub returns-clause-read : goal.returns-clause-read
 returns-clause-read g c =
     let reader = reader_of g.R.Source.tells_coming g.R.Device.can_fail g.R.Source.coming in
-    rw c.args.sources.ok.0
-    (Fails-merged reader c.args.tail c.args.sources.items _ (feed_of (parts_of c.write_joined.new.merged)) c.write_joined.result
-    c.in_ok-run.ensures.unread c.write_joined.ensures.walks)
+    Fails-merged reader c.args.tail c.args.sources.items _ (feed_of (parts_of c.write_joined.new.merged)) c.write_joined.result
+    c.in_ok-run.ensures.unread c.write_joined.ensures.walks

@@ -20,6 +20,5 @@ returns-clause-text g c = λ t w.
 pub returns-clause-read : goal.returns-clause-read
 returns-clause-read g c =
     let reader = reader_of g.R.Source.tells_coming g.R.Device.can_fail g.R.Source.coming in
-    rw c.args.sources.ok.0
-    (Fails-merged reader c.args.tail c.args.sources.items _ (feed_of (parts_of c.write_merged.new.feed)) c.write_merged.result
-    c.in_ok-merged.ensures.unread c.write_merged.ensures.walks)
+    Fails-merged reader c.args.tail c.args.sources.items _ (feed_of (parts_of c.write_merged.new.feed)) c.write_merged.result
+    c.in_ok-merged.ensures.unread c.write_merged.ensures.walks

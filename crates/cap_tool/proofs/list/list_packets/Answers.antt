@@ -1,6 +1,7 @@
 use Rattle.std.proofs.Common.{◌≡◌, ◌+◌, ◌++◌, ◌∙◌, Some, None, Ok, drop, sym, ap, arith, rules}
 use Rattle.std.proofs.lemmas.Result.{err_from_is_err_and}
 use Rattle.cap_bytes.proofs.Putting.{Putting-front}
+use Rattle.cap_source.proofs.Growing.{memory-asked}
 use Rattle.cap_source.proofs.Onward.{Went-more, Walks-end, Walks-fault, Walks-stop}
 use Rattle.cap_source.proofs.Walking.{Walking-more, Prints-fault, Prints-end}
 use Rattle.cap_source.specs.Walk.{ShowsItem}
@@ -75,3 +76,13 @@ returns-in_err-put_all-clause-walks g c = grind (arith, err_from_is_err_and, Wal
 
 pub returns-clause-walks : goal.returns-clause-walks
 returns-clause-walks g c = grind (arith, Walks-end)
+
+pub returns-in_err-meta-clause-memory : goal.returns-in_err-meta-clause-memory
+returns-in_err-meta-clause-memory g c =
+    let p = err_from_is_err_and c.from_residual.result c.from_residual.ensures.1 in
+    rw (p.1, p.2) (memory-asked c.in_err-meta.field-0.0 _ _ c.in_err-meta.ensures.answer)
+
+pub returns-in_err-put_all-clause-memory : goal.returns-in_err-put_all-clause-memory
+returns-in_err-put_all-clause-memory g c =
+    let p = err_from_is_err_and c.from_residual-in_err-put_all.result c.from_residual-in_err-put_all.ensures.1 in
+    rw (p.1, p.2, c.in_err-put_all.ensures.fault) tt

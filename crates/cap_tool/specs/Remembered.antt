@@ -1,0 +1,11 @@
+-- A writer of which it is known what the system said of it.
+use Rattle.std.specs.Prelude.{ℤ, Option}
+use Rattle.cap_tool.specs.declared.remembered.Remembered.{Remembered}
+
+-- what it writes to
+abbrev pub inner_of : {W : Type 0} → Remembered W → W
+inner_of remembered = remembered.inner
+
+-- the number of its last error
+abbrev pub error_of : {W : Type 0} → Remembered W → Option ℤ
+error_of remembered = remembered.error
