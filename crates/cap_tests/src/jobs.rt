@@ -1,7 +1,7 @@
 //! Jobs: the names of their parts, what a task takes, the files that are named.
 use crate::checks::same;
 use cap_bytes::Order;
-use cap_line::{LineFault, Task, check_files, format_of, is_whole, order_of, task_of};
+use cap_line::{LineFault, Task, can_replace, check_files, format_of, is_whole, order_of, task_of};
 use cap_source::Format;
 
 const TASKS: [(&str, Option<Task>); 10] = [
@@ -72,6 +72,22 @@ fn names_are_of_formats(rt: HostRuntime) {
 fn a_task_has_what_it_takes(rt: HostRuntime) {
     for (task, files, to, out, whole) in &WHOLE {
         same!(&rt; is_whole(*task, *files, *to, *out), *whole, *task);
+    }
+}
+
+// Whether the output takes its name once all is done, the output, and whether it can.
+const REPLACED: [(bool, Option<&str>, bool); 5] = [
+    (true, Some("b"), true),
+    (true, Some("-"), false),
+    (false, Some("-"), true),
+    (true, None, true),
+    (false, None, true),
+];
+
+#[test]
+fn standard_output_takes_no_name(rt: HostRuntime) {
+    for (whole, out, can) in &REPLACED {
+        same!(&rt; can_replace(*whole, *out), *can, *out);
     }
 }
 

@@ -1,4 +1,4 @@
-//! Tests of all rooms: of reading and of what it stands on, of what is made of captures, and of the commands, the command line,
+//! Tests of all crates: of reading and of what it stands on, of what is made of captures, and of the commands, the command line,
 //! outcomes and the line of progress.
 #![tactic(auto)]
 
@@ -13,12 +13,16 @@ mod checks;
 #[cfg(test)]
 mod commands;
 #[cfg(test)]
+mod failing;
+#[cfg(test)]
 mod file_lines;
 #[cfg(test)]
 mod files;
 pub mod front_door;
 #[cfg(test)]
 mod hex_vectors;
+#[cfg(test)]
+mod holding;
 #[cfg(test)]
 mod ip;
 #[cfg(test)]
@@ -44,6 +48,8 @@ mod report;
 #[cfg(test)]
 mod runs;
 #[cfg(test)]
+mod shown;
+#[cfg(test)]
 mod source;
 #[cfg(test)]
 mod steps;
@@ -52,5 +58,7 @@ pub mod surface;
 mod time;
 #[cfg(test)]
 mod vectors;
+#[cfg(test)]
+mod words;
 #[cfg(test)]
 mod write;

@@ -50,10 +50,22 @@ fn tells(rt: &impl Abort, alloc: Global, room: usize, outcome: Outcome, text: &s
     same!(rt; status_of(&outcome), status);
 }
 
+// What a fault displays, with the end of a line; nothing for an outcome that holds none.
+fn displayed(alloc: Global, outcome: &Outcome) -> Option<String> {
+    match outcome {
+        Outcome::Fault(fault) => format!(in alloc; "{fault}\n").ok(),
+        Outcome::Line(fault) => format!(in alloc; "{fault}\n").ok(),
+        Outcome::Done | Outcome::Open(_) | Outcome::Create => None,
+    }
+}
+
 #[test]
 fn always_memory_outcomes_print_one_line(rt: HostRuntime) {
     for (outcome, text, status) in &TOLD {
         tells(&rt, rt.alloc(), 64, *outcome, *text, *status);
+        if let Some(shown) = displayed(rt.alloc(), outcome) {
+            same!(&rt; shown.as_str(), *text);
+        }
     }
     same!(&rt; status_of(&Outcome::Line(LineFault::Help)), 0);
     same!(&rt; status_of(&Outcome::Line(LineFault::Line)), 2);

@@ -8,7 +8,7 @@ use crate::commands::captures::{
 use crate::files::{ask_written, reader_of, room_of};
 use cap_bytes::{Order, Rule, Tail};
 use cap_source::Format;
-use cap_tool::{Encoding, convert_to};
+use cap_tool::convert_to;
 use std::alloc::Global;
 use std::process::Abort;
 
@@ -132,10 +132,9 @@ fn converts(rt: &impl Abort, alloc: Global, row: &Row, piece: usize)
     requires { 1 ≤ piece }
 {
     let (capture, order, format, wanted, ending) = *row;
-    let encoding = Encoding { format, order };
     let mut writer = room_of(rt, alloc, 256);
     let source = reader_of(rt, alloc, &[capture], piece);
-    let answer = convert_to(alloc, source, Tail::Refuse, encoding, &mut writer);
+    let answer = convert_to(alloc, source, Tail::Refuse, order, format, &mut writer);
     let found = (answer, writer.bytes());
     ask_written(rt, alloc, found, answer_of_file(ending), &[wanted]);
 }

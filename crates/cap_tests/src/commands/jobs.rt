@@ -5,7 +5,7 @@ use crate::commands::captures::{
 };
 use crate::files::{ask_written, readers_of, room_of};
 use cap_bytes::{Fault, Order, Sink};
-use cap_line::{Job, Task, is_whole};
+use cap_line::{Job, Task, can_replace, is_whole};
 use cap_source::Format;
 use cap_tool::job_to;
 use std::alloc::Global;
@@ -98,6 +98,7 @@ fn does<W: Sink>(
     holds!(rt; !job.files.is_empty());
     holds!(rt; job.files.len() <= 32);
     holds!(rt; is_whole(job.task, job.files.len(), job.to, job.out));
+    holds!(rt; can_replace(job.whole, job.out));
     job_to(alloc, job, sources, writer)
 }
 
@@ -112,6 +113,8 @@ fn printing(rt: &impl Abort, alloc: Global, task: Task, allow_cut: bool) -> Job<
         order: Order::Little,
         to: None,
         out: None,
+        explain: false,
+        whole: false,
     }
 }
 
@@ -139,6 +142,8 @@ fn writes(rt: &impl Abort, alloc: Global, row: &Written) {
         order,
         to,
         out: Some("b"),
+        explain: false,
+        whole: false,
     };
     let mut writer = room_of(rt, alloc, 1024);
     let answer = does(rt, alloc, &job, captures, &mut writer);

@@ -1,0 +1,45 @@
+//! The words of a command line, as they are parsed and what is said of them.
+use crate::checks::{holds, same};
+use cap_bytes::Order;
+use cap_line::{Job, LineFault, Task, USAGE, message, parse};
+use cap_source::Format;
+use std::process::Abort;
+
+// The job is a conversion of a cut file to big-endian pcap.
+fn is_conversion(rt: &impl Abort, job: &Job<'_>) {
+    same!(rt; (job.task, job.order, job.to), (Task::Convert, Order::Big, Some(Format::Pcap)));
+    same!(rt; job.files.as_slice(), ["a.pcapng"].as_slice());
+    same!(rt; (job.out, job.allow_cut), (Some("a.pcap"), true));
+}
+
+#[test]
+fn always_memory_words_are_a_job(rt: HostRuntime) {
+    let words = [
+        "capt",
+        "convert",
+        "--allow-cut",
+        "--order",
+        "big",
+        "--to",
+        "pcap",
+        "-o",
+        "a.pcap",
+        "a.pcapng",
+    ];
+    match parse(rt.alloc(), words.as_slice()) {
+        Ok(job) => is_conversion(&rt, &job),
+        Err(fault) => panic!(&rt; "{fault}"),
+    }
+    same!(&rt; parse(rt.alloc(), ["capt", "convert"].as_slice()).err(), Some(LineFault::Line));
+}
+
+#[test]
+fn always_memory_help_is_the_usage(rt: HostRuntime) {
+    let said = message(rt.alloc(), ["capt", "--help"].as_slice());
+    holds!(&rt; said.is_some());
+    if let Some(text) = said {
+        same!(&rt; text.as_str(), USAGE);
+    }
+    let words = ["capt", "list", "a.pcap"];
+    holds!(&rt; message(rt.alloc(), words.as_slice()).is_none());
+}
