@@ -164,6 +164,38 @@ def exponents(edges):
             edges.everywhere(f"if_tsresol {code:02x}", file, "refused: file 1 offset 28 rule 12 resolution")
 
 
+def seconds(edges):
+    """Seconds of a pcap file that is written: 0 and 4,294,967,295, on the way from pcap, from pcapng, and there and back."""
+    out, between = os.path.join(edges.folder, "out"), os.path.join(edges.folder, "between")
+    for magic, unit in ((0xA1B2C3D4, 10**6), (0xA1B23C4D, 10**9)):
+        header = struct.pack("<IHHIIII", magic, 2, 4, 0, 0, 0, 1)
+        for second, fraction in ((0, 0), (2**32 - 1, unit - 1), (2**32 - 1, unit), (2**32 - 1, 3 * unit // 2), (2**32 - 1, 2**32 - 1)):
+            file = edges.file("seconds.pcap", header, record(second, b"\1", micros=fraction))
+            second, rest = second + fraction // unit, fraction % unit
+            name = f"{second}+{rest}/{unit}"
+            edges.accepts(f"{name}, list", ["list", file], f" time {name} ")
+            edges.accepts(f"{name}, to pcapng", ["convert", "--to", "pcapng", "-o", between, file])
+            for source, at in ((file, 24), (between, 60)):
+                if second < 2**32:
+                    edges.accepts(f"{name}, to pcap", ["convert", "--to", "pcap", "-o", out, source])
+                    edges.count.check(f"{name}, as pcap", read(out) == read(file))
+                else:
+                    edges.refuses(f"{name}, to pcap", ["convert", "--to", "pcap", "-o", out, source],
+                                  f"refused: file 1 offset {at} rule 20 time-range")
+                    edges.count.check(f"{name}, what is written", read(out) == header)
+    for offset, units, is_accepted in ((-1, 999_999, False), (-1, 10**6, True), (0, 0, True), (2**32 - 1, 999_999, True), (2**32 - 1, 10**6, False),
+                                       (-2**63, 2**64 - 1, False), (2**63 - 1, 2**64 - 1, False)):
+        interface = block(1, struct.pack("<HHIHHq", 1, 0, 0, 14, 8, offset))
+        file = edges.file("offset", SECTION, interface, packet(0, units, b"\1"))
+        words = ["convert", "--to", "pcap", "-o", out, file]
+        if is_accepted:
+            edges.accepts(f"offset {offset}, {units} units", words)
+            edges.count.check(f"offset {offset}, {units} units, as pcap",
+                              read(out)[24:] == record(offset + units // 10**6, b"\1", micros=units % 10**6))
+        else:
+            edges.refuses(f"offset {offset}, {units} units", words, "refused: file 1 offset 60 rule 20 time-range")
+
+
 def files(edges):
     """Files: 32."""
     out = os.path.join(edges.folder, "out")
@@ -246,7 +278,7 @@ def conversations(edges):
 def main():
     with tempfile.TemporaryDirectory() as folder:
         edges = Edges(folder, sys.argv[1] if len(sys.argv) > 1 else PROGRAM)
-        for limit in (captured, copied, blocks, interfaces, exponents, files, groups, full_groups, ends, conversations):
+        for limit in (captured, copied, blocks, interfaces, exponents, seconds, files, groups, full_groups, ends, conversations):
             limit(edges)
     edges.count.end()
 

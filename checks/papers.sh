@@ -1,8 +1,10 @@
 #!/usr/bin/env bash
-# What the papers show is so: each line that begins with `$ ` in a block of README.md is run over a copy of examples/, and
-# what stands under it must be what it prints, on both streams; the captures are made anew by examples/make.py; docs/RULES.md has
-# the numbers and names of the rules, and their definitions and functions stand where it says; docs/CLAIMS.md has the lengths
-# of what must be read, docs/TRUSTED.md its names; each file that a page names or links to is there; the manual page and the completions are read without a complaint, if the programs for that are there.
+# What the papers show is so: each line that begins with `$ ` in a block of README.md or docs/RECIPES.md is run over a copy of examples/,
+# with the lines that go on with it, and what stands under it must be what it prints, on both streams; the captures are made anew by
+# examples/make.py; docs/RULES.md and the manual page have the numbers and names of the rules, and their definitions and functions stand
+# where the first says; the manual page has the lines that the helps show; docs/CLAIMS.md has the lengths of what must be read,
+# docs/TRUSTED.md its names; each file that a page names or links to is there; the program needs what README says; the manual page and
+# the completions are read without a complaint. The last two are asked if the programs for them are there.
 #
 # Use: checks/papers.sh [PROGRAM]
 set -u
@@ -15,7 +17,7 @@ ln -s "$program" "$work/bin/capt"
 python3 "$top/examples/make.py" "$work/files"
 
 PATH="$work/bin:$PATH" python3 - "$top" "$work/files" <<'PY'
-import os, re, shutil, subprocess, sys
+import os, re, shutil, subprocess, sys, tempfile
 
 top, folder = sys.argv[1], sys.argv[2]
 passed = failed = 0
@@ -39,11 +41,18 @@ def text_of(name):
 def kept_in(folder):
     return os.listdir(folder) if os.path.isdir(folder) else []
 
-for block in re.findall(r"^```\w*\n(.*?)^```$", text_of("README.md"), re.M | re.S):
-    for example in re.findall(r"^\$ (.*\n(?:(?!\$ ).*\n)*)", block, re.M):
-        line, wanted = example.split("\n", 1)
-        ran = subprocess.run(["bash", "-c", line], cwd=folder, capture_output=True, text=True, timeout=60)
-        judged(line, ran.stdout + ran.stderr == wanted, f"status {ran.returncode}, printed:\n{ran.stdout}{ran.stderr}")
+# A command goes on in the lines after it that begin with two spaces.
+for page in ("README.md", "docs/RECIPES.md"):
+    place = tempfile.mkdtemp(dir=os.path.dirname(folder))
+    shutil.copytree(f"{top}/examples", place, dirs_exist_ok=True)
+    for block in re.findall(r"^```\w*\n(.*?)^```$", text_of(page), re.M | re.S):
+        for line, wanted in re.findall(r"^\$ (.*\n(?:  .*\n)*)((?:(?!\$ ).*\n)*)", block, re.M):
+            if "jq " in line and not shutil.which("jq"):
+                print(f"{page}: a recipe is left out, since jq isn't installed")
+                continue
+            ran = subprocess.run(["bash", "-c", line], cwd=place, capture_output=True, text=True, timeout=60)
+            is_so = ran.stdout + ran.stderr == wanted and ran.returncode == wanted.startswith("refused: ")
+            judged(line, is_so, f"status {ran.returncode}, printed:\n{ran.stdout}{ran.stderr}")
 
 kept = text_of("crates/cap_bytes/src/faults.rt")
 numbers = dict(re.findall(r"Rule::(\w+) => (\d+),", kept))
@@ -52,17 +61,48 @@ rules = {(int(numbers[rule]), names[rule]) for rule in numbers}
 told = {(int(number), name) for number, name in re.findall(r"^\| (\d+) `([\w-]+)` \|", text_of("docs/RULES.md"), re.M)}
 judged("docs/RULES.md", len(rules) == 21 and told == rules, f"other rules: {sorted(told ^ rules)}")
 
+page = text_of("man/capt.1")
+told = {(int(number), name) for number, name in re.findall(r"^\.TP\n\.B (\d+) ([\w-]+)$", page, re.M)}
+judged("man/capt.1, rules", told == rules, f"other rules: {sorted(told ^ rules)}")
+# the lines that the helps show are lines of the manual page, letter by letter
+lines = set(re.sub(r"^\.B |\\f.", "", page, flags=re.M).replace("\\-", "-").split("\n"))
+shown = set(re.findall(r"^  ((?:files?|total|frames|joined|talks?|packet|block) .*)$", text_of("checks/says.txt"), re.M))
+judged("man/capt.1, lines", len(shown) == 9 and shown <= lines, f"lacks {sorted(shown - lines)}")
+
+# a pipe into or out of capt fails if any of its programs does
+TASK = "(?:report|info|list|blocks|convert|merge|join)"
+for page in ("README.md", "docs/RULES.md", "docs/RECIPES.md", "man/capt.1", "checks/says.txt"):
+    lines = text_of(page).split("\n")
+    pipes = [n for n, line in enumerate(lines) if re.search(rf"\| capt {TASK} |\bcapt {TASK} [^|`]*\|(?!\|)", line)]
+    lost = [lines[n] for n in pipes if "pipefail" not in " ".join(lines[max(0, n - 2):n + 1])]
+    judged(f"{page}, pipes", pipes and not lost, f"without pipefail: {lost}")
+
 ran = subprocess.run([f"{top}/checks/trusted.py"], capture_output=True, text=True)
 for command, definitions, lines, crates in re.findall(r"^(\w+): (\d+) definitions, (\d+) lines \((.*)\)$", ran.stdout, re.M):
     row = f"| `{command}` | {definitions} | {lines} | {crates} |"
     judged(f"docs/CLAIMS.md, {command}", row in text_of("docs/CLAIMS.md"), f"wants the row {row}")
 
+# a test that a claim names is there, and each test is named
+claims = text_of("docs/CLAIMS.md")
+cells = [row.split("|")[3] for row in re.findall(r"^\|.*\|$", claims, re.M) if row.count("|") == 4]
+named = {test for cell in cells for test in re.findall(r"`([a-z_]+(?:::\w+)+)`", cell)}
+kept = set()
+for place, _, files in os.walk(f"{top}/crates/cap_tests/src"):
+    for file in files:
+        path = os.path.relpath(f"{place}/{file}", f"{top}/crates/cap_tests/src")
+        for test in re.findall(r"^#\[test\]\nfn (\w+)", text_of(f"crates/cap_tests/src/{path}"), re.M):
+            kept.add(f"{path[:-3].replace('/', '::')}::{test}")
+judged("docs/CLAIMS.md, tests", named == kept, f"no such test: {sorted(named - kept)}; not named: {sorted(kept - named)}")
+
 page = subprocess.run([f"{top}/checks/trusted.py", "--page"], capture_output=True, text=True).stdout
 judged("docs/TRUSTED.md", page == text_of("docs/TRUSTED.md"), "isn't what checks/trusted.py --page prints")
 ran_merge = re.search(r"^merge: (\d+) definitions, (\d+) lines", ran.stdout, re.M)
 readme = text_of("README.md")
-edits = len([name for crate in os.listdir(f"{top}/crates") for name in kept_in(f"{top}/crates/{crate}/must-fail")])
-judged("README.md, edits", f"{edits} edits in" in readme, f"there are {edits}")
+edits = [text_of(f"crates/{crate}/must-fail/{name}") for crate in os.listdir(f"{top}/crates")
+    for name in kept_in(f"{top}/crates/{crate}/must-fail")]
+judged("README.md, edits", f"{len(edits)} edits in" in readme, f"there are {len(edits)}")
+turned = len([edit for edit in edits if re.search(r"^file: specs/", edit, re.M)])
+judged("README.md, definitions", f"{turned} of them that of a definition" in readme, f"there are {turned}")
 for number in ran_merge.groups():
     judged("README.md, merge", f" {number} " in readme, f"wants {number}")
 
@@ -108,10 +148,18 @@ for page in pages:
     lost = [link for link in links if not os.path.exists(os.path.join(top, os.path.dirname(page), link))]
     judged(page, not lost, f"links to nothing: {lost}")
 
+if shutil.which("objdump"):
+    told = subprocess.run(["objdump", "-Tx", os.path.realpath(shutil.which("capt"))], capture_output=True, text=True).stdout
+    newest = max(re.findall(r"GLIBC_([\d.]+)", told), key=lambda version: [int(part) for part in version.split(".")])
+    wanted = re.findall(r"^  NEEDED +(\S+)$", told, re.M)
+    is_so = wanted == ["libc.so.6"] and f"the GNU C library from version {newest} on, no other library" in " ".join(readme.split())
+    judged("README.md, what the program needs", is_so, f"it needs {wanted} of {newest}")
+
 for tool, words in [
     ("man", ["man", "--warnings", "-l", "man/capt.1"]),
     ("bash", ["bash", "-n", "completions/capt.bash"]),
     ("fish", ["fish", "--no-execute", "completions/capt.fish"]),
+    ("zsh", ["zsh", "-n", "completions/_capt"]),
 ]:
     if shutil.which(tool):
         ran = subprocess.run(words, cwd=top, stdout=subprocess.DEVNULL, stderr=subprocess.PIPE, text=True)

@@ -10,6 +10,8 @@ work=$(mktemp -d)
 trap 'rm -rf "$work"' EXIT
 passed=0
 failed=0
+# `script -c` gives its line to $SHELL, and the lines below are quoted as Bash quotes them
+export SHELL=$BASH
 
 # check NAME STATUS WANTED-OUT WANTED-ERR, over the files out and err and $status of the last run; `*` is any text
 check() {
@@ -138,7 +140,74 @@ run list ''; check 'an empty name' 1 '' 'fault: open file 1'
 run list "$one/a"; check 'a name below a file' 1 '' 'fault: open file 1'
 cp "$one" "$work/closed"; chmod 0 "$work/closed"; if [ ! -r "$work/closed" ]; then run list "$work/closed"; check 'an unreadable file' 1 '' 'fault: open file 1'; fi
 chmod 0444 "$work/closed"; if [ ! -w "$work/closed" ]; then run merge -o "$work/closed" "$one"; check 'an OUT that is write-protected' 1 '' 'fault: create output'; fi
-# at a terminal a second line tells the file and why; elsewhere none does, as all checks before show
+# --explain tells the file and why on a second line, elsewhere than at a terminal too; what a terminal wouldn't show of a name
+# is told by its code
+explained() {
+    local name=$1 want=$2
+    shift 2
+    (cd "$work" && "$program" "$@") > "$work/out" 2> "$work/err" < "${input:-/dev/null}"; status=$?
+    check "$name" 1 '' "$want"
+}
+explained 'a cut file, explained' 'refused: file 2 offset 24 rule 3 cut
+  cut.pcap: it is cut off: --allow-cut drops a last record or block, but not a file header' info --explain one.pcap cut.pcap
+explained 'a name that sets a title, explained' $'fault: open file 1\n  \\u{1b}]0;x\\u{7}: No such file or directory (os error 2)' list --explain $'\e]0;x\a'
+explained 'a name of two lines, explained' $'fault: open file 1\n  a\\u{a}b: No such file or directory (os error 2)' list $'a\nb' --explain
+explained 'a name with C1 and bidi controls, explained' $'fault: open file 1\n  \\u{9b}\\u{202e}\\u{7f}: No such file or directory (os error 2)' info --explain $'\xc2\x9b\xe2\x80\xae\x7f'
+explained 'a name in UTF-8, explained' $'fault: open file 1\n  \xc3\xa4\xe2\x82\xac: No such file or directory (os error 2)' info --explain $'\xc3\xa4\xe2\x82\xac'
+explained 'blocks of a pcap file, explained' 'refused: file 1 offset 0 rule 1 magic
+  one.pcap: blocks are of pcapng files, and this is a pcap file: capt list shows its packets' blocks --explain one.pcap
+input=$one; explained 'blocks of standard input, explained' 'refused: file 1 offset 0 rule 1 magic
+  -: blocks are of pcapng files, and this is a pcap file: capt list shows its packets' blocks --explain -; input=
+explained 'blocks of a text, explained' 'refused: file 1 offset 0 rule 1 magic
+  text: this is no pcapng file, which has blocks' blocks --explain text
+explained 'a text, explained' 'refused: file 1 offset 0 rule 1 magic
+  text: this is no capture of pcap or pcapng' list --explain text
+for kind in 'gzip zcat \x1f\x8b\x08\0' 'zstd zstdcat \x28\xb5\x2f\xfd' 'xz xzcat \xfd7zXZ\0' 'lz4 lz4cat \x04\x22\x4d\x18' 'bzip2 bzcat BZh9'; do
+    # shellcheck disable=SC2086 # three words
+    set -- $kind
+    # shellcheck disable=SC2059 # the bytes of a file
+    printf "$3" > "$work/packed"
+    explained "$1, explained" "refused: file 1 offset 0 rule 1 magic
+  packed: it is compressed by $1: $2 FILE | capt list -" report --explain packed
+done
+explained 'a folder, explained' 'fault: read file 1 offset 0
+  folder: it is a folder' list --explain folder
+explained 'OUT on a full disk, explained' 'fault: write
+  /dev/full: No space left on device (os error 28)' merge --explain -o /dev/full one.pcap
+"$program" list --explain "$one" > /dev/full 2> "$work/err"; status=$?; : > "$work/out"; check 'a full disk, explained' 1 '' 'fault: write
+  standard output: No space left on device (os error 28)'
+run $'\e]0;x\a'; check 'a wrong word that sets a title' 2 '' $'error: unrecognized subcommand \'\\u{1b}]0;x\\u{7}\'
+
+Usage: capt <COMMAND>
+
+For more information, try \'--help\'.'
+run list --allow-cut $'--a\nb'; check 'a wrong word of two lines' 2 '' '*'; grep -q "'--a\\\\u{a}b' found" "$work/err" || { failed=$((failed + 1)); echo 'a wrong word of two lines: not on one'; }
+# --whole leaves OUT as it was until all is done, and nothing beside it
+mkdir "$work/w"; cd "$work/w" || exit 1; cp "$one" one; cp "$work/cut.pcap" cut; echo kept > out
+left() { if [ "$(echo *)" = "$2" ]; then passed=$((passed + 1)); else failed=$((failed + 1)); echo "$1: there is $(echo *)"; fi; }
+cp out before; run merge --whole -o out one cut; check 'whole, a refusal' 1 '' 'refused: file 2 offset 24 rule 3 cut'; same 'whole, a refusal' out before
+run convert --whole --to pcap -o out missing; check 'whole, a missing file' 1 '' 'fault: open file 1'; same 'whole, a missing file' out before
+rm before; left 'whole, after refusals' 'cut one out'
+chmod 0640 out; ln out hard; ln -s out soft
+run merge --whole -o soft one; check 'whole, by a link' 0 '' ''; same 'whole, by a link' out "$work/want.pcapng"
+if [ "$(stat -c %a out)" = 640 ] && [ -L soft ] && [ "$(cat hard)" = kept ]; then passed=$((passed + 1)); else failed=$((failed + 1)); echo 'whole: the mode, the link or what had been'; fi
+rm soft hard; run join --whole --output new one; check 'whole, a new file' 0 '' ''; left 'whole, a new file' 'cut new one out'
+: > new.capt-1; run convert --whole --to pcap -o new out; check 'whole, beside another' 0 '' ''; same 'whole, beside another' new "$work/want.pcap"
+left 'whole, beside another' 'cut new new.capt-1 one out'; rm new new.capt-1
+run merge --whole -o /dev/null one; check 'whole, a device' 1 '' 'fault: create output'
+run merge --whole --explain -o . one; check 'whole, a folder' 1 '' "fault: create output
+  .: it isn't a regular file"
+mkfifo pipe; run merge --whole -o pipe one; check 'whole, a pipe' 1 '' 'fault: create output'; rm pipe
+run merge --whole --explain -o ./one one; check 'whole, one of the files' 1 '' 'fault: create output
+  ./one: it is one of the files that are read'; same 'whole, one of the files' one "$work/kept"
+run merge --whole --explain -o no/new one; check 'whole, in no folder' 1 '' 'fault: create output
+  no/new: No such file or directory (os error 2)'
+left 'whole, after all' 'cut one out'; cd "$work" || exit 1
+# a closed standard stream is none of the files that are opened
+"$program" merge -o x "$one" - <&- > "$work/out" 2> "$work/err"; status=$?; check 'closed standard input' 1 '' 'fault: open file 2'; absent 'closed standard input' x
+"$program" list "$one" 2> "$work/err" >&-; status=$?; : > "$work/out"; check 'closed standard output' 1 '' 'fault: write'
+"$program" convert --to pcapng -o "$work/new" - < "$work/empty.pcap" > "$work/out" 2>&-; status=$?; : > "$work/err"; check 'closed standard error' 1 '' ''; same 'closed standard error' "$work/new" "$work/section"
+# at a terminal a second line tells the file and why; elsewhere none does, as the checks before --explain show
 shown() {
     local name=$1 want=$2
     shift 2
@@ -150,8 +219,13 @@ if command -v script > /dev/null; then
   cut.pcap: it is cut off: --allow-cut drops a last record or block, but not a file header' info one.pcap cut.pcap
     shown 'a missing file at a terminal' 'fault: open file 1
   missing: No such file or directory (os error 2)' list missing
-    shown 'a folder at a terminal' "fault: read file 1 offset 0
-  folder: it can't be read" list folder
+    shown 'a folder at a terminal' 'fault: read file 1 offset 0
+  folder: it is a folder' list folder
+    shown 'blocks of a pcap file at a terminal' 'refused: file 1 offset 0 rule 1 magic
+  one.pcap: blocks are of pcapng files, and this is a pcap file: capt list shows its packets' blocks one.pcap
+    shown 'a name that sets a title, at a terminal' $'fault: open file 1\n  \\u{1b}]0;x\\u{7}: No such file or directory (os error 2)' list $'\e]0;x\a'
+    shown 'a capture for a terminal' "fault: create output
+  standard output: a terminal can't show a capture" merge -o - one.pcap
     shown 'an OUT that is read, at a terminal' 'fault: create output
   k/hard: it is one of the files that are read' merge -o k/hard k/a
     shown 'an OUT in no folder, at a terminal' 'fault: create output
@@ -186,7 +260,8 @@ if command -v script > /dev/null; then
         fi
     }
     wipe=$'\r\e[K'
-    far="$wipe  0.0 MB, 0.0 MB a second$wipe"
+    # a terminal narrower than the line cuts it, and doesn't go on below
+    far="$wipe"$'\e[?7l'"  0.0 MB, 0.0 MB a second"$'\e[?7h'"$wipe"
     slowly 'progress, then lines at the same terminal' "$far$line"$'\r' '' "$(printf '%q ' "$program" list slow)"
     slowly 'progress beside a file' "$far" "$report" "$(printf '%q ' "$program" report slow) > written"
     slowly 'no progress beside a pipe' '' "$report" "$(printf '%q ' "$program" report slow) | cat > written"
@@ -195,6 +270,12 @@ if command -v script > /dev/null; then
         "$(printf '%q ' "$program" info slow)"
     one=$work/one.pcap
 fi
+# What waits in the output's buffer is written before a read that waits: a line is there while the pipe that it is read from stays open.
+{ cat "$one"; for _ in $(seq 100); do [ -e "$work/piped" ] && break; sleep 0.1; done; } | "$program" list - | cat > "$work/shown" &
+for _ in $(seq 100); do grep -q '^packet 1 ' "$work/shown" && break; sleep 0.1; done
+if grep -q '^packet 1 ' "$work/shown" && [ ! -e "$work/piped" ]; then passed=$((passed + 1)); else failed=$((failed + 1)); echo 'a line through a pipe'; fi
+: > "$work/piped"
+wait
 # What is said of the program, and of words that give no job, is what says.txt has: a line of standard error begins with
 # '! ' there. No line is longer than a terminal's.
 ln -s "$program" "$work/capt"
@@ -211,6 +292,8 @@ if grep -q '^[^$!].\{80\}\|^! .\{81\}' "$work/said"; then failed=$((failed + 1))
 run --help; check 'help' 0 '*' ''; "$program" --help > /dev/full 2> "$work/err"; status=$?; : > "$work/out"; check 'help on a full disk' 1 '' 'fault: write'
 run list $'\xff\xfe'; check 'words that are not UTF-8' 2 '' "error: a word of the command line isn't UTF-8
 
+  tip: to read a file of such a name, use 'capt list - < FILE'
+
 Usage: capt <COMMAND>
 
 For more information, try '--help'."
@@ -219,6 +302,25 @@ check 'a full disk' 1 '' 'fault: write'
 { "$program" list "$work/one.pcap" 2> "$work/err"; echo $? > "$work/status"; } | true
 sleep 0.2; for _ in 1 2 3; do { sleep 0.3; "$program" list "$work/one.pcap" 2> "$work/err"; echo $? > "$work/status"; } | :; done
 status=$(cat "$work/status"); : > "$work/out"; check 'a closed pipe' 1 '' 'fault: write'
+for _ in 1 2 3; do { sleep 0.3; "$program" list --explain "$work/one.pcap" 2> "$work/err"; echo $? > "$work/status"; } | :; done
+status=$(cat "$work/status"); check 'a closed pipe, explained' 1 '' 'fault: write
+  standard output: Broken pipe (os error 32)'
+
+# completed WANTED WORD..: what the last of the words of a line is completed to; bash splits them at `=`
+completed() {
+    local want=$1
+    shift
+    # shellcheck disable=SC2016 # of the bash that completes
+    found=$(bash -c 'source "$0"; COMP_WORDS=("$@"); COMP_CWORD=$(($# - 1)); _capt; echo "${COMPREPLY[*]}"' "$top/completions/capt.bash" "$@")
+    if [ "$found" = "$want" ]; then passed=$((passed + 1)); else failed=$((failed + 1)); echo "completed $*: $found"; fi
+}
+completed big capt merge --order = b
+completed 'big little' capt merge --order =
+completed 'pcap pcapng' capt convert --to = p
+completed little capt join --order l
+completed merge capt help m
+completed '--explain' capt list --e
+completed '--output' capt merge --ou
 
 echo "$passed passed, $failed failed"
 [ "$failed" = 0 ]

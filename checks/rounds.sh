@@ -1,7 +1,8 @@
 #!/usr/bin/env bash
 # Merging in rounds: 70 captures of both formats, merged by examples/rounds.sh in rounds of 32 and put in order by a
 # plain sort outside, are the same file, byte for byte. The captures are random, by a fixed seed: micro- and nanoseconds,
-# clocks that run back, equal times in different forms, several interfaces, files without packets.
+# clocks that run back, equal times in different forms, several interfaces, files without packets. Then what the script
+# promises beside: no FILE is written over, OUT is whole or as it was, and each line names the capture that is meant.
 #
 # Use: checks/rounds.sh [PROGRAM]
 set -u
@@ -91,22 +92,145 @@ PY
 
 passed=0
 failed=0
+cd "$work" || exit 1
+mkdir tmp bin
+export TMPDIR=$work/tmp
+# rounds WORD..: a run of the script, with its status in $status, and what it says in `said`
+rounds() {
+    CAPT=$program "$top/examples/rounds.sh" "$@" > said 2>&1
+    status=$?
+}
+# holds NAME CONDITION..: counts a check
+holds() {
+    local name=$1
+    shift
+    if "$@"; then passed=$((passed + 1)); else failed=$((failed + 1)); echo "$name: status $status"; head -c 400 said; fi
+}
+# says NAME STATUS TEXT: the status, and all that was said; and nothing is left of the work
+says() {
+    # shellcheck disable=SC2329 # called by holds
+    is_so() { [ "$status" = "$2" ] && [ "$(cat said)" = "$3" ] && [ -z "$(ls tmp)" ] && ! compgen -G '*.??????/' > /dev/null; }
+    holds "$1" is_so "$@"
+}
+# same NAME FILE FILE: they have the same bytes
+same() { holds "$1, its bytes" cmp -s "$2" "$3"; }
+all=([0-9][0-9])
+
 for jobs in 1 4; do
-    if CAPT=$program JOBS=$jobs "$top/examples/rounds.sh" "$work/rounds" "$work"/[0-9][0-9] && cmp "$work/rounds" "$work/sorted"; then
-        passed=$((passed + 1))
-    else
-        failed=$((failed + 1))
-    fi
-    rm -f "$work/rounds"
+    JOBS=$jobs rounds out "${all[@]}"
+    says "70 captures, $jobs at once" 0 ''
+    same "70 captures, $jobs at once" out sorted
 done
-# a file that is refused refuses the whole: nothing is written
-head -c 20 "$work/01" > "$work/99"
-if CAPT=$program "$top/examples/rounds.sh" "$work/rounds" "$work"/[0-9][0-9] 2> "$work/told"; then
-    failed=$((failed + 1))
-elif [ ! -e "$work/rounds" ] && grep -q 'rule 3 cut' "$work/told"; then
-    passed=$((passed + 1))
-else
-    failed=$((failed + 1))
-fi
+chmod 0640 out; rounds out "${all[@]}"; says 'over an older OUT' 0 ''; same 'over an older OUT' out sorted
+holds 'the mode of an older OUT' [ "$(stat -c %a out)" = 640 ]
+
+# OUT that is a FILE, under whatever name, is as it was
+cp sorted kept; mkdir folder; ln -s ../sorted folder/soft; ln sorted hard
+for name in sorted ./sorted "$work/sorted" folder/../sorted folder/soft hard; do
+    for captures in '' "${all[*]}"; do
+        # shellcheck disable=SC2086 # numbers
+        rounds "$name" $captures sorted
+        says "into $name" 2 "fault: output
+  OUT is file $(wc -w <<< "$captures sorted"): sorted"
+        same "into $name" sorted kept
+    done
+done
+rounds folder/soft "${all[@]}"; says 'through a link' 0 ''; holds 'a link stays one' [ -L folder/soft ]
+
+# a refused file is told by its number and its name, and OUT is as it was, or isn't there
+head -c 20 01 > 'cut'; long=$(printf 'a%.0s' $(seq 200)).pcapng; cp 00 "$long"
+echo old > older
+for out in older none; do
+    rounds "$out" "${all[@]:0:37}" cut "${all[@]:37}"
+    says "a cut file, into $out" 1 'refused: file 38 offset 0 rule 3 cut
+  cut'
+done
+rounds none cut "${all[@]}" cut; says 'two cut files' 1 'refused: file 1 offset 0 rule 3 cut
+  cut
+refused: file 72 offset 0 rule 3 cut
+  cut'
+rounds none 00 cut; says 'a cut file of two' 1 'refused: file 2 offset 0 rule 3 cut
+  cut'
+rounds none "${all[@]}" folder; says 'a folder' 1 'fault: read file 71 offset 0
+  folder'
+rounds none "${all[@]}" missing; says 'a missing file' 1 'fault: open file 71
+  missing'
+holds 'OUT after a refusal' [ "$(cat older)" = old ]
+holds 'no OUT after a refusal' [ ! -e none ]
+# 1,025 interfaces: each file has one, or the results of the files 1 to 512 and 513 to 1,025 have
+for one in 1 2; do
+    python3 - "$one" > "many$one" <<'PY'
+import struct, sys
+
+count = 512 if sys.argv[1] == "1" else 513
+block = lambda kind, body: struct.pack("<II", kind, 12 + len(body)) + body + struct.pack("<I", 12 + len(body))
+parts = [block(0x0A0D0D0A, struct.pack("<IHHq", 0x1A2B3C4D, 1, 0, -1)), *[block(1, struct.pack("<HHI", 1, 0, 0))] * count]
+parts += [block(6, struct.pack("<IIIII", n, 0, n, 0, 0)) for n in range(count)]
+sys.stdout.buffer.write(b"".join(parts))
+PY
+done
+printf '\xd4\xc3\xb2\xa1\x02\0\x04\0\0\0\0\0\0\0\0\0\0\0\x04\0\x01\0\0\0' > empty
+mapfile -t empty < <(yes empty | head -n 31)
+rounds none many1 "${empty[@]}" many2 "${empty[@]}" empty
+holds '1,025 interfaces' grep -qx 'refused: file [12] offset [0-9]* rule 13 interface-limit, of the merge of files \(1 to 32\|33 to 64\)' said
+
+# options go on to each merge; names of any kind are names
+rounds --allow-cut --order big out "${all[@]}" one.pcap; says 'a missing file with options' 1 'fault: open file 71
+  one.pcap'
+"$program" convert --to pcapng -o whole sorted; head -c -1 whole > -cut; "$program" merge --allow-cut --order big -o wanted -- -cut
+for words in '--allow-cut --order big' '--order=big --allow-cut --'; do
+    # shellcheck disable=SC2086 # words of a command line
+    rounds $words out -cut; says "a cut file with $words" 0 ''; same "a cut file with $words" out wanted
+    # shellcheck disable=SC2086 # words of a command line
+    rounds $words out "${empty[@]}" "${empty[@]}" -cut; says "a cut file in rounds with $words" 0 ''; same "a cut file in rounds with $words" out wanted
+done
+rounds out "${empty[@]}" "${empty[@]}" "$long" "${all[@]:1}"; says 'a long name' 0 ''
+"$program" merge -o wanted sorted
+mapfile -t most < <(yes empty | head -n 1024)
+rounds out "${most[@]}" sorted; says '1,025 captures' 0 ''; same '1,025 captures' out wanted
+
+# what is wrong with a command line
+# shellcheck disable=SC2016 # as it is printed
+usage='Usage: rounds.sh [--allow-cut] [--order ORDER] OUT FILE...
+It takes room in $TMPDIR: see rounds.sh --help.'
+rounds; says 'no words' 2 "rounds.sh: OUT and FILE are missing
+$usage"
+rounds out; says 'no FILE' 2 "rounds.sh: FILE is missing
+$usage"
+rounds --frob out 00; says 'a wrong option' 2 "rounds.sh: unknown option --frob
+$usage"
+rounds --order middle out 00; says 'a wrong order' 2 "rounds.sh: --order is big or little
+$usage"
+rounds --order; says 'no order' 2 "rounds.sh: --order is big or little
+$usage"
+rounds out 00 -; says 'standard input' 2 "rounds.sh: FILE is a file, not standard input
+$usage"
+rounds - 00; says 'standard output' 2 "rounds.sh: OUT is a file, not standard output
+$usage"
+CAPT=/nowhere/capt "$top/examples/rounds.sh" out 00 > said 2>&1; status=$?; says 'no program' 2 "rounds.sh: no program /nowhere/capt: set CAPT
+$usage"
+JOBS=some rounds out 00; says 'a wrong JOBS' 2 "rounds.sh: JOBS is a number from 1 on
+$usage"
+rounds /dev/null 00; says 'a device' 1 "fault: create output
+  /dev/null: it is write-protected, or no file"
+rounds folder 00; says 'a folder as OUT' 1 "fault: create output
+  folder: it is write-protected, or no file"
+rounds --help; holds 'help says the room' grep -q 'TMPDIR.*pcapng' said
+
+# a run that is ended ends its merges, and leaves nothing
+mkfifo slow
+CAPT=$program "$top/examples/rounds.sh" ended "${all[@]}" slow > said 2>&1 &
+run=$!
+for _ in $(seq 100); do if [ -n "$(pgrep -P "$run")" ] && compgen -G 'tmp/*/*.told' > /dev/null; then break; fi; sleep 0.05; done
+merges=$(pgrep -P "$run")
+kill "$run"; wait "$run" 2> /dev/null; status=$?
+for _ in $(seq 100); do if [ -z "$(ps -o pid= -p "${merges//$'\n'/,}")" ]; then break; fi; sleep 0.05; done
+holds 'merges of a run that was ended' [ -z "$(ps -o pid= -p "${merges//$'\n'/,}")" ]
+says 'a run that was ended' 143 ''
+
+# where $TMPDIR may have too little room, a line says how much is wanted
+printf '#!/bin/sh\necho Filesystem\necho none 9 9 0 0%%%% /\n' > bin/df; chmod +x bin/df
+PATH=$work/bin:$PATH rounds out "${all[@]}"; says 'little room' 0 "rounds.sh: 70 captures take 0 MiB or more in $work/tmp, which has 0"
+same 'little room' out sorted
 echo "$passed passed, $failed failed"
 [ "$failed" = 0 ]

@@ -7,7 +7,7 @@ import sys
 
 sys.dont_write_bytecode = True
 
-import os, struct, tempfile
+import itertools, os, struct, tempfile
 
 from captures import (CARRIED as PACKET, INTERFACE, MICRO_LITTLE, PROGRAM, SECTION, Bench, Count, datagram, make_shim, packet, pcap_header,
                       record, run, vector)
@@ -38,6 +38,9 @@ NOT_LISTED = [
     (MICRO_LITTLE, True, "0 rule 3 cut"),
     ("d4c3b2a1 02000300 00000000 00000000 00000400 01000000", False, "0 rule 2 version"),
     ("00000000", False, "0 rule 1 magic"),
+    # no order magic; a section of version 1.1
+    ("0a0d0d0a 1c000000 00000000 01000000 ffffffffffffffff 1c000000", False, "0 rule 7 order-magic"),
+    ("0a0d0d0a 1c000000 4d3c2b1a 01000100 ffffffffffffffff 1c000000", False, "0 rule 2 version"),
     # 262,145 captured bytes, and the end of the input
     (f"{ETHERNET} 00000000 00000000 01000400 01000400", False, "24 rule 4 packet-long"),
     # a resolution of two bytes, two that are too fine, and an option past the end of its block
@@ -64,6 +67,8 @@ def enhanced(number):
     return f"06000000 24000000 0{number}000000 00000000 {PACKET} 24000000"
 
 
+OBSOLETE = f"{SECTION} {PLAIN} 02000000 24000000 0000 ffff 00000000 {PACKET} 24000000"
+
 # A capture, its list, what is written of it as pcapng, and how that is refused, if it is: two sections, the second in the other order; an interface whose
 # offset is -1 second; one with 1,024 units in a second, whose second resolution doesn't count; an obsolete packet; and one of which 4 of 10 bytes
 # were captured, without a time, of an interface of snaplen 4.
@@ -75,10 +80,36 @@ LISTED = [
      f"{SECTION} {interface('0900 0100 06000000 0e00 0800 ffffffffffffffff 00000000')} {enhanced(0)}", None),
     (f"{SECTION} {interface('0900 0100 8a000000 0900 0100 14000000 00000909')} {enhanced(0)}", listed(1, 68, "2441+416/1024"),
      f"{SECTION} {interface('0900 0100 8a000000 00000000')} {enhanced(0)}", None),
-    (f"{SECTION} {PLAIN} 02000000 24000000 0000 ffff 00000000 {PACKET} 24000000", listed(1, 48), f"{SECTION} {INTERFACE} {enhanced(0)}", None),
+    (OBSOLETE, listed(1, 48), f"{SECTION} {INTERFACE} {enhanced(0)}", None),
     (f"{SECTION} {interface(snaplen='04000000')} 03000000 14000000 0a000000 01020304 14000000", listed(1, 48, "-", 10),
      f"{SECTION} {interface('0900 0100 06000000 00000000', snaplen='04000000')}", "file 1 offset 48 rule 17 no-time"),
 ]
+
+TOLD = "file {} pcapng packets 1 bytes 4 truncated 0 skipped 0 first 2+500000/1000000 last 2+500000/1000000\n"
+
+# A capture and its line, of `info`: an obsolete packet, which isn't skipped; a simple one, of which 4 of 10 bytes were captured; a block that is
+# skipped; a section of version 1.2, and one of pcap without packets.
+TOLD_OF = [
+    (OBSOLETE, TOLD.format(1)),
+    (f"{SECTION} {interface(snaplen='04000000')} 03000000 14000000 0a000000 01020304 14000000",
+     "file 1 pcapng packets 1 bytes 10 truncated 1 skipped 0 first - last -\n"),
+    (vector("OPTIONS_PCAPNG").hex(), TOLD.format(1).replace("skipped 0", "skipped 1")),
+    ("0a0d0d0a 1c000000 4d3c2b1a 01000200 ffffffffffffffff 1c000000", "file 1 pcapng packets 0 bytes 0 truncated 0 skipped 0 first - last -\n"),
+    (ETHERNET, "file 1 pcap packets 0 bytes 0 truncated 0 skipped 0 first - last -\n"),
+]
+
+# A packet at 2.5 seconds in each spelling of pcap, with a byte that tells which; the resolution's code, and the units.
+SPELLINGS = [(struct.pack(order + "IHHIIIIIIIIB", magic, 2, 4, 0, 0, 0x40000, 1, 2, fraction, 1, 1, n), code, 5 * 10**code // 2, n)
+             for n, (magic, order, code, fraction) in enumerate(
+                 (magic, order, code, 10**code // 2) for magic, code in ((0xA1B2C3D4, 6), (0xA1B23C4D, 9)) for order in "<>")]
+
+
+def merged(files):
+    """What a merge of packets of one time writes: each file's interface and its packet, in the order of the files."""
+    return bytes.fromhex(SECTION) + b"".join(
+        bytes.fromhex(interface(f"0900 0100 {code:02x}000000 00000000")) + packet(number, units, bytes([n]))
+        for number, (_, code, units, n) in enumerate(files))
+
 
 LONGEST = "packet 1 offset 24 time 0+0/1000000 captured 262144 original 262144 link 1 data 00000000000000000000000000000000\n"
 
@@ -322,7 +353,6 @@ JOINED.append(joined(b"".join(bytes([2 - n % 2]) * 8 for n in RISING[:-1]) + b"\
 
 BLOCKS = ("block 1 offset 0 order little kind 0a0d0d0a total 28\nblock 2 offset 28 order little kind 00000001 total 32\n"
           "block 3 offset 60 order little kind 00000006 total 36\n")
-TOLD = "file {} pcapng packets 1 bytes 4 truncated 0 skipped 0 first 2+500000/1000000 last 2+500000/1000000\n"
 TOLD_CUT = "files 1\nfile 1 pcapng packets 0 bytes 0 truncated 0 skipped 0 first - last - cut\n"
 TWO = f"files 2\n{TOLD.format(1)}{TOLD.format(2)}"
 FILES, INPUT, OUTPUT = ((2, b"", f"fault: {part}\n".encode(), None) for part in ("files", "input", "output"))
@@ -358,14 +388,19 @@ LINES = [
     ("convert a -o - --order=big --to=pcapng --allow-cut", gives(CARRY_BIG)), ("convert --to pcap -o a a", OUTPUT),
     ("merge -o c a b -", writes(THRICE)), ("merge --order big -o - -", gives(CARRY_BIG)), ("join -o c --order=big a b", writes(SECTION_BIG)),
     ("merge -o c - -", INPUT), ("merge -o a a b", OUTPUT), ("merge -o a a - -", INPUT), (f"merge -o a a - - {'a ' * 30}", FILES),
+    ("list --explain a", prints(listed(1, 60))), ("merge --output c a b -", writes(THRICE)), ("merge a b - --output=c", writes(THRICE)),
+    ("list --explain cut", (1, b"", b"refused: file 1 offset 60 rule 3 cut\n  cut: it is cut off: --allow-cut drops a last record or block, but not a file "
+        b"header\n", None)),
+    ("merge --whole -o c a b -", writes(THRICE)), ("merge --whole -o c cut", (1, b"", b"refused: file 1 offset 60 rule 3 cut\n", None)),
     ("--version", prints("capt 0.1.0\n")), ("-V", prints("capt 0.1.0\n")),
-    *((words, HELP) for words in ("--help", "-h", "list --help", "list -h", "blocks -h", "info --help", "convert -h")),
+    *((words, HELP) for words in ("--help", "-h", "list --help", "list -h", "blocks -h", "info --help", "convert -h", "help",
+        "help merge")),
     *((words, FAULTY) for words in (
-        "", "help", "frobnicate a", "--allow-cut list a", "list", "list a b", "list --version", "list --allow-cut --allow-cut a",
+        "", "help frobnicate", "frobnicate a", "--allow-cut list a", "list", "list a b", "list --version", "list --allow-cut --allow-cut a",
         "list --allow-cut=yes a", "list --order big a", "list -x a", "blocks", "blocks a b", "info", "info -o c a", "report", "report -o c a",
         "convert -o c a", "convert --to pcap a", "convert --to pcap -o c", "convert --to tar -o c a", "convert --to pcap -o c a b",
         "convert --order middle --to pcap -o c a", "convert --to pcap --to pcap -o c a", "merge a b", "merge -o c", "merge --to pcap -o c a",
-        "merge -o c -o d a", "join a")),
+        "merge -o c -o d a", "merge -o c --output d a", "merge --whole -o - a", "report --whole a", "join a")),
 ]
 
 
@@ -412,6 +447,11 @@ def main():
         for task, contents, allow_cut, told in NOT_PRINTED:
             error = f"refused: {told}\n".encode()
             holds(contents, task, contents, allow_cut, lambda *seen: seen == (1, b"", error))
+        for content, text in TOLD_OF:
+            holds(content, "info", [content], False, lambda *seen: seen == (0, f"files 1\n{text}".encode(), b""))
+        for files in itertools.permutations(SPELLINGS):
+            wanted = merged(files)
+            holds([file[3] for file in files], "merge", [file[0].hex() for file in files], False, lambda *seen: seen == (0, wanted, b""))
         for content, text in REPORTED:
             holds(content[:200], "report", [content], False,
                   lambda status, out, error: (status, error) == (0, b"") and out.endswith(text.encode()))

@@ -1,6 +1,9 @@
 #!/usr/bin/env python3
 """Which definitions must be read to trust a command: those of its text, of its refusal, and of what is written by each answer.
 
+The texts of `report` and `join` are those by places (the laws `report_by_places` and `joined_by_places` of cap_laws), which name no step of the
+machine that the calls cite.
+
 Prints, for each command, how many definitions and lines these are, by crate; with a command's name, the definitions themselves,
 what stands on nothing first; with --page, their names by file, as docs/TRUSTED.md has them. Words of the toolchain's library and
 the fields of the types in src/ aren't listed.
@@ -16,12 +19,14 @@ ROOTS = {
     "blocks": ["cap_tool.BlockText.block_list", "cap_tool.BlockText.block_refusal", PRINTS],
     "info": ["cap_talks.talks.InfoText.info_text", "cap_talks.talks.InfoText.first_refusal", TELLS],
     "report": [
-        "cap_talks.talks.ReportText.report_text", "cap_talks.talks.ReportText.report_refusal", "cap_merge.Files.clocked_run",
+        "cap_laws.InOrder.text_by_places", "cap_laws.InOrder.refusal_by_places", "cap_merge.Files.clocked_run",
         "cap_merge.Files.endings_of_files", TELLS,
     ],
     "convert": ["cap_tool.Converted.convert_text", "cap_tool.Converted.convert_refusal", PRINTS],
     "merge": ["cap_tool.MergeText.merge_text", "cap_tool.MergeText.merge_refusal", PRINTS],
-    "join": ["cap_tool.JoinText.join_text", "cap_tool.JoinText.join_refusal", PRINTS],
+    "join": [
+        "cap_laws.JoinedByPlaces.bytes_by_places", "cap_laws.JoinedByPlaces.refusal_by_places", "cap_merge.Files.clocked_run", PRINTS,
+    ],
 }
 
 
