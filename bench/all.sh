@@ -1,6 +1,15 @@
 #!/usr/bin/env bash
 # What each command of capt costs, beside `cat`, plain C programs (count.c, info.c, a loop that copies text) and its
-# peers where they are installed: capinfos, editcap, mergecap, tshark, tcpdump. One table of ratios.
+# peers where they are installed. One table of ratios.
+#
+# A peer gets the options with which its work is nearest to capt's. What it does besides, and what it leaves out:
+#   tshark -n -q -z conv,udp -z conv,tcp   each packet goes through all dissectors; no other protocols' conversations
+#   capinfos -Tmtcdae                      type, packets, bytes, first and last time: without options it also computes
+#                                          three hashes of the file; no truncated packets, no skipped blocks
+#   tcpdump -nn -tt -q                     looks into the headers, and prints no place and no bytes of a packet; without
+#                                          -tt it also calculates local times
+#   editcap -F, mergecap -I none -F        carry on comments and other options; -I none keeps the interfaces of all files
+# A plain C program checks no more than the lengths that it reads past: count.c knows neither tags nor fragments.
 #
 # Makes its inputs (deterministic, in a folder of its own that is removed again; sizes at 100 percent):
 #   mixed.pcap   1,470,000 packets of 64 to 1,514 bytes in 1,000 conversations, 1.2 GB
@@ -107,7 +116,7 @@ def row(label, own, beside, output=False):
     best = {}
     for n in range(runs):
         for name, words in {"capt": own, **beside}.items():
-            if (n == 0 or name != "tshark") and shutil.which(words[0]):
+            if (n == 0 or not name.startswith("tshark")) and shutil.which(words[0]):
                 taken = measure(words, ["out"])
                 if taken:
                     best[name] = min(taken, best.get(name, taken))
@@ -126,21 +135,23 @@ peaks = {}
 for name in ("mixed", "small", "turns", "many"):
     file = f"{name}.pcap"
     peaks[name] = row(f"report {file}", [program, "report", file],
-        {"cat": ["cat", file], "count.c": ["./count", file], "tshark": ["tshark", "-q", "-z", "conv,udp", "-z", "conv,tcp", "-r", file]})
+        {"cat": ["cat", file], "count.c": ["./count", file],
+         "tshark -n -q -z ..": ["tshark", "-n", "-q", "-z", "conv,udp", "-z", "conv,tcp", "-r", file]})
 more = (peaks["many"] - peaks["small"]) * 2**20 / max(1, talks - 1000)
 print(f"{'':22} {more:.0f} bytes of memory for each further conversation")
 for file in ("mixed.pcap", "small.pcap", "mixed.pcapng", "small.pcapng"):
-    row(f"info {file}", [program, "info", file], {"cat": ["cat", file], "info.c": ["./info", file], "capinfos": ["capinfos", file]})
+    row(f"info {file}", [program, "info", file],
+        {"cat": ["cat", file], "info.c": ["./info", file], "capinfos -Tmtcdae": ["capinfos", "-Tmtcdae", file]})
 for words in (["list", "small.pcap"], ["list", "small.pcapng"], ["blocks", "small.pcapng"]):
     text_of(*words)
-    row(" ".join(words), [program, *words],
-        {"plain loop over the text": ["./copy", "text"], **({"tcpdump": ["tcpdump", "-r", words[1], "-nn"]} if words[0] == "list" else {})})
+    peer = {"tcpdump -nn -tt -q": ["tcpdump", "-nn", "-tt", "-q", "-r", words[1]]} if words[0] == "list" else {}
+    row(" ".join(words), [program, *words], {"plain loop over the text": ["./copy", "text"], **peer})
 os.remove("text")
 for source, target in (("mixed.pcap", "pcapng"), ("small.pcap", "pcapng"), ("mixed.pcapng", "pcap"), ("small.pcapng", "pcap")):
     row(f"convert {source}", [program, "convert", "--to", target, "-o", "out", source],
         {"cat > OUT": copy(source), "editcap": ["editcap", "-F", target, source, "out"]})
-row("merge 8 parts", [program, "merge", "-o", "out", *parts], {"cat > OUT": copy(*parts), "mergecap": ["mergecap", "-F", "pcapng", "-w", "out", *parts]})
-row("merge small twice", [program, "merge", "-o", "out", "small.pcap", "small.pcapng"],
-    {"cat > OUT": copy("small.pcap", "small.pcapng"), "mergecap": ["mergecap", "-F", "pcapng", "-w", "out", "small.pcap", "small.pcapng"]})
+for label, files in (("8 parts", parts), ("small twice", ["small.pcap", "small.pcapng"])):
+    row(f"merge {label}", [program, "merge", "-o", "out", *files],
+        {"cat > OUT": copy(*files), "mergecap -I none": ["mergecap", "-I", "none", "-F", "pcapng", "-w", "out", *files]})
 row("join small.pcap", [program, "join", "-o", "out", "small.pcap"], {"cat > OUT": copy("small.pcap")})
 PY

@@ -54,7 +54,7 @@ for files in numbers:
     rows = {"cat": ["sh", "-c", 'out=$1; shift; cat "$@" > "$out"', "sh", f"{work}/out"] + names,
             "capt merge": [program, "merge", "-o", f"{work}/out"] + names}
     if shutil.which("mergecap"):
-        rows["mergecap"] = ["mergecap", "-F", "pcapng", "-w", f"{work}/out"] + names
+        rows["mergecap"] = ["mergecap", "-I", "none", "-F", "pcapng", "-w", f"{work}/out"] + names
     subprocess.run(rows["cat"], check=True)
     best = {}
     # in turn, so that what else runs on the machine meets each alike

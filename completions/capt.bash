@@ -1,18 +1,26 @@
 # Completion of capt for bash: source it, or install it as /usr/share/bash-completion/completions/capt.
 _capt() {
     local word=${COMP_WORDS[COMP_CWORD]} before=${COMP_WORDS[COMP_CWORD - 1]} options
+    local commands='report info list blocks convert merge join'
     if [ "$COMP_CWORD" = 1 ]; then
-        mapfile -t COMPREPLY < <(compgen -W 'report info list blocks convert merge join --help --version' -- "$word")
+        mapfile -t COMPREPLY < <(compgen -W "$commands help --help --version" -- "$word")
         return
+    fi
+    # bash splits `--order=b` at the sign
+    if [ "$word" = '=' ]; then
+        word=
+    elif [ "$before" = '=' ]; then
+        before=${COMP_WORDS[COMP_CWORD - 2]}
     fi
     case $before in
         --order) mapfile -t COMPREPLY < <(compgen -W 'big little' -- "$word"); return ;;
         --to) mapfile -t COMPREPLY < <(compgen -W 'pcap pcapng' -- "$word"); return ;;
     esac
     case ${COMP_WORDS[1]} in
-        convert) options='--allow-cut --order --to -o --help' ;;
-        merge | join) options='--allow-cut --order -o --help' ;;
-        *) options='--allow-cut --help' ;;
+        help) mapfile -t COMPREPLY < <(compgen -W "$commands" -- "$word"); return ;;
+        convert) options='--allow-cut --explain --order --output --to --whole -o --help' ;;
+        merge | join) options='--allow-cut --explain --order --output --whole -o --help' ;;
+        *) options='--allow-cut --explain --help' ;;
     esac
     if [[ $word == -* ]]; then
         mapfile -t COMPREPLY < <(compgen -W "$options" -- "$word")
