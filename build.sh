@@ -2,12 +2,19 @@
 # Proves every crate that the program stands on, from nothing, builds it as ./capt, and shows its help. The status is 0 if all
 # was proved.
 #
+# Use: ./build.sh           (the program)
+#      ./build.sh lib       (the library for C instead: lib/ has libcapt.a, libcapt.so, capt.h and capt.pc)
+#
 # Each crate is proved by one `rattle build`, over the statements of those below it, once they are built: as many crates at once as
 # there are processors, and a crate by more processes than one if fewer crates can be proved than processors are idle. What `rt ci`
 # does beside it is the gate's: the tests, the must-fail edits, a second compiler.
 set -euo pipefail
 cd "$(dirname "$0")"
-program=capt
+case ${1-} in
+    '') program=capt ;;
+    lib) program=capt_c ;;
+    *) sed -n 's/^# Use: //p; s/^#      //p' "${0##*/}" >&2; exit 2 ;;
+esac
 # the crates for which others wait longest: they, and those that they stand on, begin before others that could
 first='cap_source cap_blocks cap_write'
 # the longest of these, and how many processes they get even if no processor is idle; and the most that a crate gets
@@ -18,8 +25,8 @@ kit=${kit%/*}
 
 # a line of crates.txt names a crate and its libraries, some of which are crates here
 declare -A libraries state
-while IFS=': ' read -r crate names; do
-    if [[ $crate == cap* ]]; then libraries[$crate]=$names; fi
+while IFS=: read -r crate names; do
+    if [[ $crate == cap* ]]; then libraries[${crate% staticlib}]=$names; fi
 done < crates.txt
 
 # want CRATE: it is to be proved, and so is all that it stands on
@@ -53,11 +60,11 @@ begin() {
     done
     words+=(-L "dependency=$room" -L "dependency=$kit/rlibs" --links "$crate=" --jobs "$2")
     words+=(--antt-project "$kit/rattle/logic/antt-project.json" --logic-built "$kit/logic_built")
-    if [ "$crate" = "$program" ]; then
-        words+=(src/main.rt --toolchain "$kit/toolchain" -o "$room/$crate.o")
-    else
-        words+=(src/lib.rt --statements -o "$room/$crate.rlib")
-    fi
+    case $crate in
+        capt) words+=(src/main.rt --toolchain "$kit/toolchain" -o "$room/$crate.o") ;;
+        capt_c) words+=(src/lib.rt --crate-type staticlib --toolchain "$kit/toolchain" -o "$room/lib$crate.a") ;;
+        *) words+=(src/lib.rt --statements -o "$room/$crate.rlib") ;;
+    esac
     (
         cd "crates/$crate"
         status=0
@@ -109,8 +116,13 @@ until [ "${state[$program]}" = proved ]; do
     idle=$((idle + processes))
 done
 
-mkdir -p "crates/$program/out"
-"$kit/bin/rattle-link" --target x86_64-unknown-linux-gnu --toolchain "$kit/toolchain" -o "crates/$program/out/$program" \
-    "$room/$program.o" "$kit/c/libos_c.a" "$kit/c/liblibc_c.a"
-ln -sf "crates/$program/out/$program" capt
+if [ "$program" = capt_c ]; then
+    crates/capt_c/link.sh "$room/libcapt_c.a" lib
+    ls lib
+    exit
+fi
+mkdir -p crates/capt/out
+"$kit/bin/rattle-link" --target x86_64-unknown-linux-gnu --toolchain "$kit/toolchain" -o crates/capt/out/capt \
+    "$room/capt.o" "$kit/c/libos_c.a" "$kit/c/liblibc_c.a"
+ln -sf crates/capt/out/capt capt
 ./capt --help

@@ -2,10 +2,10 @@
 # The gate: `rt ci`, then the scripts of this folder, side by side. Its last line adds up what both count: 'N passed, M failed'.
 # The status is 0 if nothing failed.
 #
-# Use: checks/gate.sh     (the scripts take less than a minute on four processors; they want a C compiler and Python 3)
+# Use: checks/gate.sh     (the scripts take less than a minute on four processors; they want a C compiler, binutils and Python 3)
 set -u
 cd "$(dirname "$0")/.."
-scripts=(program.sh devices.sh hints.py stack.sh papers.sh rounds.sh rows.py invariance.py corpus.py hostile.py limits.py
+scripts=(program.sh clib.py devices.sh hints.py stack.sh papers.sh rounds.sh rows.py invariance.py corpus.py hostile.py limits.py
     'faults.py growths' 'faults.py devices')
 passed=0
 failed=0

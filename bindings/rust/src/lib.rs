@@ -1,0 +1,332 @@
+//! Packet captures (pcap and pcapng), read and reported by capt's proved library.
+//!
+//! ```no_run
+//! let bytes = std::fs::read("monday.pcap").unwrap();
+//! let mut capture = capt::Capture::open(&bytes, false).unwrap();
+//! while let Some(packet) = capture.next().unwrap() {
+//!     println!("{} {} {}", packet.seconds, packet.link, packet.data.len());
+//! }
+//! println!("{}", capt::report(&[&bytes], false).unwrap());
+//! ```
+use std::ffi::c_void;
+use std::fmt;
+use std::marker::PhantomData;
+
+const DONE: u32 = 0;
+const PACKET: u32 = 1;
+const REFUSED: u32 = 2;
+const MEMORY: u32 = 5;
+
+#[repr(C)]
+#[derive(Default)]
+struct RawPlace {
+    offset: u64,
+    file: u32,
+    rule: u32,
+}
+
+#[repr(C)]
+struct RawPacket {
+    frame: *const u8,
+    offset: u64,
+    instance: u64,
+    seconds: i64,
+    numerator: u64,
+    denominator: u64,
+    carry: u32,
+    captured: u32,
+    original: u32,
+    snaplen: u32,
+    link: u32,
+}
+
+#[repr(C)]
+#[derive(Default)]
+struct RawEnding {
+    skipped: u64,
+    is_pcapng: bool,
+    was_cut: bool,
+}
+
+#[repr(C)]
+struct RawReader {
+    at: *mut c_void,
+    is_open: bool,
+}
+
+const CLOSED: RawReader = RawReader { at: std::ptr::null_mut(), is_open: false };
+
+#[repr(C)]
+struct RawText {
+    at: *const u8,
+    len: usize,
+    handle: RawReader,
+}
+
+#[repr(C)]
+struct RawBytes {
+    at: *const u8,
+    len: usize,
+}
+
+extern "C" {
+    fn capt_open(reader: *mut RawReader, at: *const u8, len: usize, allow_cut: bool) -> u32;
+    fn capt_next(reader: *mut RawReader, packet: *mut RawPacket, place: *mut RawPlace) -> u32;
+    fn capt_end(reader: *mut RawReader, ending: *mut RawEnding) -> u32;
+    fn capt_close(reader: *mut RawReader);
+    fn capt_list(at: *const u8, len: usize, allow_cut: bool, text: *mut RawText, place: *mut RawPlace) -> u32;
+    fn capt_blocks(at: *const u8, len: usize, allow_cut: bool, text: *mut RawText, place: *mut RawPlace) -> u32;
+    fn capt_info(files: *const RawBytes, count: usize, allow_cut: bool, text: *mut RawText, place: *mut RawPlace) -> u32;
+    fn capt_report(files: *const RawBytes, count: usize, allow_cut: bool, text: *mut RawText, place: *mut RawPlace) -> u32;
+    fn capt_convert(at: *const u8, len: usize, allow_cut: bool, pcap: bool, big: bool, text: *mut RawText, place: *mut RawPlace) -> u32;
+    fn capt_merge(files: *const RawBytes, count: usize, allow_cut: bool, big: bool, text: *mut RawText, place: *mut RawPlace) -> u32;
+    fn capt_join(files: *const RawBytes, count: usize, allow_cut: bool, big: bool, text: *mut RawText, place: *mut RawPlace) -> u32;
+    fn capt_text_close(text: *mut RawText);
+    fn capt_rule_name(rule: u32, buffer: *mut u8, room: usize) -> usize;
+    fn capt_version(buffer: *mut u8, room: usize) -> usize;
+}
+
+/// Where and why a capture is refused.
+#[derive(Clone, Copy, Debug, PartialEq, Eq)]
+pub struct Refusal {
+    /// The number of the file, from 1.
+    pub file: u32,
+    /// Where the header, the record or the block begins, in bytes.
+    pub offset: u64,
+    /// The rule that is broken, from 1 to 21.
+    pub rule: u32,
+}
+
+/// What a call can't do.
+#[derive(Clone, Debug, PartialEq, Eq)]
+pub enum Error {
+    /// A capture breaks a rule. The bytes are what was written before it.
+    Refused(Refusal, Vec<u8>),
+    /// No memory was found.
+    Memory,
+    /// There are no files, or more than 32.
+    Files,
+}
+
+fn text_of(call: impl Fn(*mut u8, usize) -> usize) -> String {
+    let mut buffer = [0u8; 64];
+    let len = call(buffer.as_mut_ptr(), buffer.len());
+    String::from_utf8_lossy(&buffer[..len.min(64)]).into_owned()
+}
+
+/// The name of a rule, as "block-trailer"; empty if there is no such rule.
+pub fn rule_name(rule: u32) -> String {
+    // SAFETY: the buffer has the room that is told
+    text_of(|at, room| unsafe { capt_rule_name(rule, at, room) })
+}
+
+/// The version of the library.
+pub fn version() -> String {
+    // SAFETY: the buffer has the room that is told
+    text_of(|at, room| unsafe { capt_version(at, room) })
+}
+
+impl fmt::Display for Error {
+    fn fmt(&self, out: &mut fmt::Formatter<'_>) -> fmt::Result {
+        match self {
+            Error::Refused(Refusal { file, offset, rule }, _) => {
+                write!(out, "refused: file {file} offset {offset} rule {rule} {}", rule_name(*rule))
+            }
+            Error::Memory => write!(out, "fault: memory"),
+            Error::Files => write!(out, "fault: files"),
+        }
+    }
+}
+
+impl std::error::Error for Error {}
+
+fn error_of(status: u32, place: RawPlace, text: Vec<u8>) -> Error {
+    match status {
+        REFUSED => Error::Refused(Refusal { file: place.file, offset: place.offset, rule: place.rule }, text),
+        MEMORY => Error::Memory,
+        _ => Error::Files,
+    }
+}
+
+/// A packet. Its time is exactly `seconds + numerator/denominator` since 1970.
+#[derive(Clone, Copy, Debug, PartialEq, Eq)]
+pub struct Packet<'a> {
+    /// Where its record or block begins, in bytes.
+    pub offset: u64,
+    /// How many interface blocks of the file stand before its own interface's; 0 in a pcap file.
+    pub instance: u64,
+    /// Whole seconds, rounded down; 0 if it has no time.
+    pub seconds: i128,
+    /// The fraction of a second, below the denominator.
+    pub numerator: u64,
+    /// 0 if the packet has no time.
+    pub denominator: u64,
+    /// How many bytes it had.
+    pub original: u32,
+    /// The most bytes that its interface captures; 0 for no limit.
+    pub snaplen: u32,
+    /// The link type of its interface, of the LINKTYPE registry.
+    pub link: u32,
+    /// Its captured bytes.
+    pub data: &'a [u8],
+}
+
+/// How a capture ended.
+#[derive(Clone, Copy, Debug, PartialEq, Eq)]
+pub struct Ending {
+    /// How many blocks are neither sections, interfaces nor packets; 0 in a pcap file.
+    pub skipped: u64,
+    /// Whether it is a pcapng file, and no pcap file.
+    pub is_pcapng: bool,
+    /// Whether a cut rest was dropped.
+    pub was_cut: bool,
+}
+
+/// The packets of a capture in memory, one by one.
+pub struct Capture<'a> {
+    reader: RawReader,
+    bytes: PhantomData<&'a [u8]>,
+}
+
+// SAFETY: what a reader holds is its own, and its bytes are only read
+unsafe impl Send for Capture<'_> {}
+
+impl<'a> Capture<'a> {
+    /// Opens the capture of those bytes. With `allow_cut` a last record or block that is cut off is dropped.
+    pub fn open(bytes: &'a [u8], allow_cut: bool) -> Result<Capture<'a>, Error> {
+        let mut capture = Capture { reader: CLOSED, bytes: PhantomData };
+        // SAFETY: the bytes outlive the capture, and the reader begins as zero
+        match unsafe { capt_open(&mut capture.reader, bytes.as_ptr(), bytes.len(), allow_cut) } {
+            DONE => Ok(capture),
+            _ => Err(Error::Memory),
+        }
+    }
+
+    /// The next packet, or none at the end. The end and a refusal come again.
+    #[allow(clippy::should_implement_trait)]
+    pub fn next(&mut self) -> Result<Option<Packet<'_>>, Error> {
+        let mut raw = std::mem::MaybeUninit::<RawPacket>::uninit();
+        let mut place = RawPlace::default();
+        // SAFETY: the reader is open. After PACKET the packet is set, and its frame stays until the next call, which wants `self`.
+        unsafe {
+            match capt_next(&mut self.reader, raw.as_mut_ptr(), &mut place) {
+                PACKET => {
+                    let raw = raw.assume_init();
+                    Ok(Some(Packet {
+                        offset: raw.offset,
+                        instance: raw.instance,
+                        seconds: i128::from(raw.seconds) + (i128::from(raw.carry) << 64),
+                        numerator: raw.numerator,
+                        denominator: raw.denominator,
+                        original: raw.original,
+                        snaplen: raw.snaplen,
+                        link: raw.link,
+                        data: std::slice::from_raw_parts(raw.frame, raw.captured as usize),
+                    }))
+                }
+                DONE => Ok(None),
+                status => Err(error_of(status, place, Vec::new())),
+            }
+        }
+    }
+
+    /// How it ended, once `next` has given none.
+    pub fn ending(&mut self) -> Option<Ending> {
+        let mut raw = RawEnding::default();
+        // SAFETY: the reader is open
+        match unsafe { capt_end(&mut self.reader, &mut raw) } {
+            DONE => Some(Ending { skipped: raw.skipped, is_pcapng: raw.is_pcapng, was_cut: raw.was_cut }),
+            _ => None,
+        }
+    }
+}
+
+impl Drop for Capture<'_> {
+    fn drop(&mut self) {
+        // SAFETY: a reader may be closed at any time
+        unsafe { capt_close(&mut self.reader) }
+    }
+}
+
+fn made(call: impl FnOnce(*mut RawText, *mut RawPlace) -> u32) -> Result<Vec<u8>, Error> {
+    let mut text = RawText { at: std::ptr::null(), len: 0, handle: CLOSED };
+    let mut place = RawPlace::default();
+    let status = call(&mut text, &mut place);
+    // SAFETY: a text that is there has its length of bytes until it is closed
+    let bytes = unsafe {
+        let bytes = if text.len == 0 { Vec::new() } else { std::slice::from_raw_parts(text.at, text.len).to_vec() };
+        capt_text_close(&mut text);
+        bytes
+    };
+    match status {
+        DONE => Ok(bytes),
+        _ => Err(error_of(status, place, bytes)),
+    }
+}
+
+fn files_of(files: &[&[u8]]) -> Vec<RawBytes> {
+    files.iter().map(|file| RawBytes { at: file.as_ptr(), len: file.len() }).collect()
+}
+
+fn lines(bytes: Vec<u8>) -> String {
+    String::from_utf8_lossy(&bytes).into_owned()
+}
+
+/// What `capt list` prints of a capture.
+pub fn list(file: &[u8], allow_cut: bool) -> Result<String, Error> {
+    // SAFETY: the bytes are there while the call runs; so in each call below
+    made(|text, place| unsafe { capt_list(file.as_ptr(), file.len(), allow_cut, text, place) }).map(lines)
+}
+
+/// What `capt blocks` prints of a pcapng capture.
+pub fn blocks(file: &[u8], allow_cut: bool) -> Result<String, Error> {
+    made(|text, place| unsafe { capt_blocks(file.as_ptr(), file.len(), allow_cut, text, place) }).map(lines)
+}
+
+/// What `capt info` prints of 1 to 32 captures.
+pub fn info(files: &[&[u8]], allow_cut: bool) -> Result<String, Error> {
+    let raw = files_of(files);
+    made(|text, place| unsafe { capt_info(raw.as_ptr(), raw.len(), allow_cut, text, place) }).map(lines)
+}
+
+/// The report over 1 to 32 captures.
+pub fn report(files: &[&[u8]], allow_cut: bool) -> Result<String, Error> {
+    let raw = files_of(files);
+    made(|text, place| unsafe { capt_report(raw.as_ptr(), raw.len(), allow_cut, text, place) }).map(lines)
+}
+
+/// A format of captures.
+#[derive(Clone, Copy, Debug, PartialEq, Eq)]
+pub enum Format {
+    /// pcap.
+    Pcap,
+    /// pcapng.
+    Pcapng,
+}
+
+/// An order of bytes.
+#[derive(Clone, Copy, Debug, PartialEq, Eq)]
+pub enum Order {
+    /// The least byte first.
+    Little,
+    /// The greatest byte first.
+    Big,
+}
+
+/// A capture as a file of a format.
+pub fn convert(file: &[u8], to: Format, order: Order, allow_cut: bool) -> Result<Vec<u8>, Error> {
+    let (pcap, big) = (to == Format::Pcap, order == Order::Big);
+    made(|text, place| unsafe { capt_convert(file.as_ptr(), file.len(), allow_cut, pcap, big, text, place) })
+}
+
+/// 1 to 32 captures as one pcapng file, sorted by exact time.
+pub fn merge(files: &[&[u8]], order: Order, allow_cut: bool) -> Result<Vec<u8>, Error> {
+    let raw = files_of(files);
+    made(|text, place| unsafe { capt_merge(raw.as_ptr(), raw.len(), allow_cut, order == Order::Big, text, place) })
+}
+
+/// The whole IPv4 datagrams of 1 to 32 captures, fragments joined, as one pcapng file.
+pub fn join(files: &[&[u8]], order: Order, allow_cut: bool) -> Result<Vec<u8>, Error> {
+    let raw = files_of(files);
+    made(|text, place| unsafe { capt_join(raw.as_ptr(), raw.len(), allow_cut, order == Order::Big, text, place) })
+}

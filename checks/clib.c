@@ -1,0 +1,154 @@
+/* A C program over libcapt, for clib.py. It prints what `capt list` prints of a file, by capt_next (`next`), by capt_next_many
+ * (`many`), or of standard input (`stdin`), and misuses the library in each way that the header names (`misuse`). */
+#include <capt.h>
+#include <inttypes.h>
+#include <stdio.h>
+#include <stdlib.h>
+#include <string.h>
+
+/* The bytes of a file, in a block of just their size, so that a read past them is seen by valgrind. */
+static capt_bytes bytes_of(const char *name) {
+    FILE *file = fopen(name, "rb");
+    if (!file || fseek(file, 0, SEEK_END)) exit(3);
+    capt_bytes bytes = {NULL, (size_t)ftell(file)};
+    uint8_t *at = malloc(bytes.len ? bytes.len : 1);
+    rewind(file);
+    if (!at || fread(at, 1, bytes.len, file) != bytes.len) exit(3);
+    fclose(file);
+    bytes.at = at;
+    return bytes;
+}
+
+static int told(uint32_t status, capt_place place) {
+    char name[32];
+    switch (status) {
+    case CAPT_DONE:
+        return 0;
+    case CAPT_REFUSED:
+        fprintf(stderr, "refused: file %" PRIu32 " offset %" PRIu64 " rule %" PRIu32 " %.*s\n", place.file, place.offset, place.rule,
+                (int)capt_rule_name(place.rule, (uint8_t *)name, sizeof name), name);
+        return 1;
+    case CAPT_READ:
+        fprintf(stderr, "fault: read file %" PRIu32 " offset %" PRIu64 "\n", place.file, place.offset);
+        return 1;
+    case CAPT_MEMORY:
+        fprintf(stderr, "fault: memory\n");
+        return 1;
+    default:
+        return 4;
+    }
+}
+
+/* Whole seconds, which may take more than 64 bits. */
+static void print_seconds(const capt_packet *packet) {
+    __int128 seconds = packet->seconds + ((__int128)packet->carry << 64);
+    if (seconds >= 0 && seconds > INT64_MAX) {
+        uint64_t ten = 10000000000000000000u;
+        printf("%" PRIu64 "%019" PRIu64, (uint64_t)(seconds / ten), (uint64_t)(seconds % ten));
+    } else {
+        printf("%" PRId64, packet->seconds);
+    }
+}
+
+static void print_packet(uint64_t number, const capt_packet *packet) {
+    printf("packet %" PRIu64 " offset %" PRIu64 " time ", number, packet->offset);
+    if (packet->denominator) {
+        print_seconds(packet);
+        printf("+%" PRIu64 "/%" PRIu64, packet->numerator, packet->denominator);
+    } else {
+        printf("-");
+    }
+    printf(" captured %" PRIu32 " original %" PRIu32 " link %" PRIu32 " data ", packet->captured, packet->original, packet->link);
+    for (uint32_t i = 0; i < packet->captured && i < 16; i++) printf("%02x", packet->frame[i]);
+    printf(packet->captured ? "\n" : "-\n");
+    /* every captured byte can be read */
+    volatile uint8_t last = 0;
+    for (uint32_t i = 0; i < packet->captured; i++) last = packet->frame[i];
+    (void)last;
+}
+
+/* The next packets, up to `room`: one by capt_next if there is room for one alone. */
+static uint32_t next(capt_reader *reader, capt_packet *packets, size_t room, size_t *count, capt_place *place) {
+    if (room > 1) return capt_next_many(reader, packets, room, count, place);
+    uint32_t status = capt_next(reader, packets, place);
+    *count = status == CAPT_PACKET;
+    return status;
+}
+
+static int list(capt_reader *reader, size_t room) {
+    capt_packet packets[7];
+    capt_place place, again;
+    capt_ending ending;
+    size_t count;
+    uint64_t number = 0;
+    uint32_t status;
+    while ((status = next(reader, packets, room, &count, &place)) == CAPT_PACKET) {
+        if (count < 1 || count > room) return 5;
+        for (size_t i = 0; i < count; i++) print_packet(++number, &packets[i]);
+    }
+    if (count != 0) return 5;
+    int code = told(status, place);
+    /* the end and a refusal come again, and only after the end it is told how the capture ended */
+    if (next(reader, packets, room, &count, &again) != status || memcmp(&place, &again, sizeof place)) return 6;
+    if ((capt_end(reader, &ending) == CAPT_DONE) != (status == CAPT_DONE)) return 7;
+    capt_close(reader);
+    capt_close(reader);
+    return next(reader, packets, room, &count, &again) == CAPT_MISUSE && capt_end(reader, &ending) == CAPT_MISUSE ? code : 8;
+}
+
+static int misuse(const char *name) {
+    capt_reader reader = {0};
+    capt_text text = {0};
+    capt_packet packet;
+    capt_place place = {1, 2, 3}, same = place;
+    capt_ending ending;
+    capt_bytes files[33];
+    size_t count;
+    uint8_t buffer[4] = "....";
+    files[0] = bytes_of(name);
+    for (int i = 1; i < 33; i++) files[i] = files[0];
+    if (capt_next(&reader, &packet, &place) != CAPT_MISUSE || capt_next_many(&reader, &packet, 1, &count, &place) != CAPT_MISUSE) return 1;
+    if (capt_end(&reader, &ending) != CAPT_MISUSE) return 2;
+    uint32_t (*calls[])(const capt_bytes *, size_t, bool, capt_text *, capt_place *) = {capt_info, capt_report};
+    uint32_t (*writers[])(const capt_bytes *, size_t, bool, bool, capt_text *, capt_place *) = {capt_merge, capt_join};
+    for (int i = 0; i < 2; i++) {
+        if (calls[i](files, 0, false, &text, &place) != CAPT_MISUSE || calls[i](files, 33, false, &text, &place) != CAPT_MISUSE) return 3;
+        if (writers[i](files, 0, false, false, &text, &place) != CAPT_MISUSE) return 4;
+        if (writers[i](files, 33, false, false, &text, &place) != CAPT_MISUSE) return 5;
+        if (memcmp(&place, &same, sizeof place) || text.len != 0) return 6;
+    }
+    /* a text is no capture that is read */
+    if (capt_report(files, 32, false, &text, &place) != CAPT_DONE || text.len == 0) return 7;
+    if (capt_next(&text.handle, &packet, &place) != CAPT_MISUSE) return 8;
+    capt_text_close(&text);
+    capt_text_close(&text);
+    if (text.len != 0) return 9;
+    /* room for no packet, and a reader that is opened again and again */
+    if (capt_open(&reader, files[0].at, files[0].len, false) != CAPT_DONE) return 10;
+    if (capt_next_many(&reader, &packet, 0, &count, &place) != CAPT_MISUSE) return 11;
+    for (int i = 0; i < 10000; i++) {
+        if (capt_open(&reader, files[0].at, files[0].len, false) != CAPT_DONE) return 12;
+        if (capt_next(&reader, &packet, &place) != CAPT_PACKET || packet.offset != 24) return 13;
+    }
+    capt_close(&reader);
+    free((void *)files[0].at);
+    /* names are cut to the room, and there is none of a rule that isn't */
+    if (capt_rule_name(6, buffer, 3) != 13 || memcmp(buffer, "blo.", 4)) return 14;
+    return capt_rule_name(0, buffer, 4) || capt_rule_name(22, buffer, 4) ? 15 : 0;
+}
+
+int main(int count, char **words) {
+    if (count < 2) return 2;
+    bool allow_cut = count > 2 && strcmp(words[2], "--allow-cut") == 0;
+    capt_reader reader = {0};
+    if (strcmp(words[1], "misuse") == 0) return misuse(words[count - 1]);
+    if (strcmp(words[1], "stdin") == 0) {
+        uint32_t status = capt_open_stdin(&reader, allow_cut);
+        return status == CAPT_DONE ? list(&reader, 1) : told(status, (capt_place){0, 0, 0});
+    }
+    capt_bytes bytes = bytes_of(words[count - 1]);
+    uint32_t status = capt_open(&reader, bytes.at, bytes.len, allow_cut);
+    int code = status == CAPT_DONE ? list(&reader, strcmp(words[1], "many") == 0 ? 7 : 1) : told(status, (capt_place){0, 0, 0});
+    free((void *)bytes.at);
+    return code;
+}

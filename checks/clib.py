@@ -1,0 +1,231 @@
+#!/usr/bin/env python3
+"""libcapt, as C and Python call it: over the examples and the corpus each call gives what the built program prints and writes, in
+memory and from standard input, also if that comes by one byte a read; a failed read and refused growths are told; each misuse that
+the header names is told; only names that begin with capt_ are seen; and where valgrind is, it sees no error and no leak.
+
+Use: checks/clib.py [PROGRAM [FOLDER]]     (FOLDER as crates/capt_c/link.sh leaves it; without it the library is built, with proofs:
+                                            `rt lib` in crates/capt_c; it wants a C compiler, and uses valgrind and cargo if they are there)"""
+import sys
+
+sys.dont_write_bytecode = True
+
+import os, re, shutil, subprocess, tempfile
+from concurrent.futures import ThreadPoolExecutor
+from fractions import Fraction
+
+from captures import PROGRAM, TOP, WRITING, Bench, Count, make_shim
+
+CRATE = os.path.join(TOP, "crates", "capt_c")
+TASKS = ("list", "blocks", "info", "report", "pcap", "pcapng", "merge", "join")
+
+
+def build(folder):
+    """Proves and links the library."""
+    made = subprocess.run(["rt", "lib"], cwd=CRATE, stdout=subprocess.PIPE, stderr=subprocess.STDOUT, text=True)
+    if made.returncode:
+        sys.exit(made.stdout[-2000:] + "0 passed, 1 failed")
+    subprocess.run([os.path.join(CRATE, "link.sh"), os.path.join(CRATE, "out", "libcapt_c.a"), folder], check=True)
+
+
+def files():
+    """The examples and the corpus."""
+    for folder in ("examples", os.path.join("checks", "corpus")):
+        for name in sorted(os.listdir(os.path.join(TOP, folder))):
+            if name not in ("answers.txt", "make.py", "rounds.sh"):
+                with open(os.path.join(TOP, folder, name), "rb") as file:
+                    yield name, file.read()
+
+
+def printed(time):
+    """A time in the unit of its interface can't be told from a Fraction: compared as a Fraction."""
+    if time == "-":
+        return None
+    seconds, numerator, denominator = map(int, re.split("[+/]", time))
+    return seconds + Fraction(numerator, denominator)
+
+
+def called(capt, task, content, allow_cut, order):
+    """What a call of the Python binding gives, as the program's status, text and standard error are compared with it."""
+    how = {"allow_cut": allow_cut}
+    big = {"order": "big" if order == ">" else "little"}
+    calls = {
+        "list": lambda: capt.listing(content, **how).encode(), "blocks": lambda: capt.blocks(content, **how).encode(),
+        "info": lambda: capt.info([content], **how).encode(), "report": lambda: capt.report_text([content], **how).encode(),
+        "pcap": lambda: capt.convert(content, "pcap", **how, **big), "pcapng": lambda: capt.convert(content, "pcapng", **how, **big),
+        "merge": lambda: capt.merge([content], **how, **big), "join": lambda: capt.join([content], **how, **big),
+    }
+    try:
+        return 0, calls[task](), b""
+    except capt.Refused as refused:
+        return 1, refused.text, f"{refused}\n".encode()
+
+
+def walked(capt, content, allow_cut):
+    """The packets of a capture by the binding, as `list` has them, and how it ended."""
+    lines = []
+    with capt.Capture(content, allow_cut) as capture:
+        try:
+            for packet in capture:
+                lines.append((packet.offset, packet.time, packet.captured, packet.original, packet.link, packet.data[:16].hex() or "-"))
+                assert len(packet.data) == packet.captured
+        except capt.Refused as refused:
+            return lines, str(refused)
+        return lines, capture.ending
+
+
+def listed(text):
+    """The packets of what `list` printed."""
+    packets = []
+    for line in text.decode().splitlines():
+        words = line.split()
+        packets.append((int(words[3]), printed(words[5]), int(words[7]), int(words[9]), int(words[11]), words[13]))
+    return packets
+
+
+def check_python(count, capt, bench, name, content):
+    for allow_cut in (False, True):
+        for task in TASKS:
+            for order in "<>" if task in WRITING else "<":
+                out = os.path.join(bench.folder, f"{task}-{name}") if task in WRITING else None
+                status, written, error = bench.run(task, [content], allow_cut, order, out)[:3]
+                if out and os.path.exists(out):
+                    os.remove(out)
+                count.check(f"python: {task} {name}", called(capt, task, content, allow_cut, order) == (status, written, error))
+        status, text, error = bench.run("list", [content], allow_cut)[:3]
+        lines, ending = walked(capt, content, allow_cut)
+        count.check(f"python: packets of {name}", lines == listed(text))
+        if status:
+            count.check(f"python: refusal of {name}", f"{ending}\n".encode() == error)
+        else:
+            told = re.search(rb"^file 1 (\S+) .* skipped (\d+) .*?( cut)?$", bench.run("info", [content], allow_cut)[1], re.M)
+            same = (told[1].decode(), int(told[2]), bool(told[3])) == tuple(ending)
+            count.check(f"python: ending of {name}", same)
+
+
+def run(command, **how):
+    done = subprocess.run(command, stdout=subprocess.PIPE, stderr=subprocess.PIPE, timeout=120, **how)
+    return done.returncode, done.stdout, done.stderr
+
+
+def check_c(count, checker, shim, bench, name, content):
+    path = bench.name(content)
+    for words in ([], ["--allow-cut"]):
+        want = bench.run("list", [content], bool(words))[:3]
+        for how in ("next", "many"):
+            count.check(f"c: {how} {name}", run([checker, how, *words, path]) == want)
+        for piece in ({}, {"LD_PRELOAD": shim, "FAULT_PIECE": "1"}):
+            with open(path, "rb") as file:
+                count.check(f"c: stdin {name}", run([checker, "stdin", *words], stdin=file, env={**os.environ, **piece}) == want)
+
+
+def check_faults(count, checker, shim, path, content):
+    """Each growth of a walk is refused in turn, and each read of standard input fails."""
+    for at in range(1, 40):
+        status, _, error = run([checker, "next", path], env={**os.environ, "LD_PRELOAD": shim, "FAULT_GROWTHS": f"{at}-{at + 1}"})
+        count.check(f"c: growth {at}", (status, error) in ((0, b""), (1, b"fault: memory\n"), (3, b""), (5, b""), (6, b"fault: memory\n")))
+    offsets = set()
+    for at in range(1, len(content), 2):
+        with open(path, "rb") as file:
+            environment = {**os.environ, "LD_PRELOAD": shim, "FAULT_PIECE": "1", "FAULT_READ": f"0-{at}"}
+            status, _, error = run([checker, "stdin"], stdin=file, env=environment)
+        told = re.fullmatch(rb"fault: read file 1 offset (\d+)\n", error)
+        count.check(f"c: read {at}", status == 1 and told)
+        offsets.add(int(told[1]) if told else -1)
+    count.check("c: a failed read's places", offsets == {0, 24, 100, 176}, offsets)
+
+
+def check_pages(count, folder, library):
+    """The programs of docs/LIBRARY.md print what stands below each."""
+    with open(os.path.join(TOP, "docs", "LIBRARY.md")) as page:
+        blocks = re.findall(r"^```(\w+)\n(.*?)^```", page.read(), re.M | re.S)
+    example = os.path.join(TOP, "examples", "monday.pcap")
+    environment = {**os.environ, "PYTHONPATH": os.path.join(TOP, "bindings", "python"), "CAPT_LIB_DIR": os.path.abspath(library),
+                   "PYTHONDONTWRITEBYTECODE": "1"}
+    count.check("pages: a program in each language", [kind for kind, _ in blocks] == ["c", "text", "python", "text", "rust", "text"])
+    for (kind, program), (_, text) in zip(blocks[::2], blocks[1::2]):
+        command = [os.path.join(folder, f"page-{kind}")]
+        if kind == "c":
+            subprocess.run(["cc", "-x", "c", "-", "-I", library, "-o", *command, "-x", "none", os.path.join(library, "libcapt.a")],
+                           input=program, text=True, check=True)
+        elif kind == "python":
+            command = [sys.executable, "-c", program]
+        else:
+            command = rust(folder, library, "page", program)
+            if command is None:
+                continue
+        seen = run([*command, example], env=environment)
+        count.check(f"pages: {kind}", seen == (0, text.encode(), b""), seen)
+
+
+def rust(folder, library, name, program):
+    """A program over the binding for Rust, built by cargo, or None where that isn't there."""
+    if not shutil.which("cargo"):
+        return None
+    crate = os.path.join(folder, "rust")
+    if not os.path.isdir(crate):
+        shutil.copytree(os.path.join(TOP, "bindings", "rust"), crate)
+    with open(os.path.join(crate, "examples", f"{name}.rs"), "w") as out:
+        out.write(program)
+    environment = {**os.environ, "CAPT_LIB_DIR": os.path.abspath(library), "CARGO_NET_OFFLINE": "true"}
+    subprocess.run(["cargo", "build", "-q", "--example", name], cwd=crate, env=environment, check=True)
+    return [os.path.join(crate, "target", "debug", "examples", name)]
+
+
+def check_rust(count, folder, library, bench, contents):
+    with open(os.path.join(TOP, "bindings", "rust", "examples", "list.rs")) as program:
+        command = rust(folder, library, "list", program.read())
+    if command is None:
+        return
+    for name, content in contents:
+        status, text, error = run([*command, bench.name(content)])
+        want = bench.run("list", [content])[:3]
+        count.check(f"rust: {name}", (status, text, error.partition(b"\n")[0]) == (want[0], want[1], want[2].rstrip(b"\n")))
+
+
+def main():
+    program = sys.argv[1] if len(sys.argv) > 1 else PROGRAM
+    count = Count()
+    with tempfile.TemporaryDirectory() as folder:
+        library = sys.argv[2] if len(sys.argv) > 2 else os.path.join(folder, "lib")
+        if len(sys.argv) < 3:
+            build(library)
+        os.environ["CAPT_LIBRARY"] = os.path.join(os.path.abspath(library), "libcapt.so")
+        sys.path.insert(0, os.path.join(TOP, "bindings", "python"))
+        import capt
+        checker, shared, shim = os.path.join(folder, "checker"), os.path.join(folder, "checker-shared"), make_shim(folder)
+        compile = ["cc", "-std=c11", "-Wall", "-Wextra", "-Werror", "-O1", "-I", library, os.path.join(TOP, "checks", "clib.c")]
+        subprocess.run([*compile, os.path.join(library, "libcapt.a"), "-o", checker], check=True)
+        subprocess.run([*compile, "-L", library, "-lcapt", f"-Wl,-rpath,{os.path.abspath(library)}", "-o", shared], check=True)
+        bench = Bench(folder, program)
+        contents = list(files())
+        with ThreadPoolExecutor(len(os.sched_getaffinity(0))) as pool:
+            for name, content in contents:
+                pool.submit(check_c, count, checker, shim, bench, name, content)
+        for name, content in contents:
+            check_python(count, capt, bench, name, content)
+        example = dict(contents)["monday.pcap"]
+        path = bench.name(example)
+        for it in (checker, shared):
+            count.check("c: misuse", run([it, "misuse", path]) == (0, b"", b""), run([it, "misuse", path]))
+        names = subprocess.run(["nm", "-D", "--defined-only", os.environ["CAPT_LIBRARY"]], stdout=subprocess.PIPE, text=True).stdout
+        seen = {line.split()[2].split("@")[0] for line in names.splitlines()} - {"CAPT_0"}
+        with open(os.path.join(library, "capt.h")) as header:
+            declared = set(re.findall(r"^\w+ (capt_\w+)\(", header.read(), re.M))
+        count.check("the names that are seen", seen == declared, seen ^ declared)
+        count.check("the version", run([program, "--version"])[1].decode().strip() == f"capt {capt.version()}")
+        check_faults(count, checker, shim, path, example)
+        many = [example] * 32
+        count.check("32 files", capt.report_text(many).encode() == bench.run("report", many)[1])
+        talks = capt.report([example]).talks
+        count.check("talks", [talk.a for talk in talks] == ["10.0.0.1"] and talks[0].forward == (1, 60), talks)
+        check_pages(count, folder, library)
+        check_rust(count, folder, library, bench, contents)
+        if shutil.which("valgrind"):
+            watch = ["valgrind", "-q", "--error-exitcode=99", "--leak-check=full"]
+            for name, content in contents[::12]:
+                status = run([*watch, checker, "many", bench.name(content)])[0]
+                count.check(f"valgrind: {name}", status in (0, 1), status)
+    count.end()
+
+
+main()

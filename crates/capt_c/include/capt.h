@@ -1,0 +1,134 @@
+/* capt.h: packet captures (pcap 2.4, pcapng 1.0), read, listed, reported, converted, merged and joined by proved code.
+ *
+ * Link with -lcapt (libcapt.so), or with libcapt.a. It uses malloc, realloc and free, and read(2) for capt_open_stdin;
+ * it opens no file, writes to none, starts no thread and keeps nothing between calls but what a handle holds.
+ *
+ * Handles. A capt_reader or a capt_text is yours: begin with {0}, let only the library change it, don't copy it, and close
+ * it; closed is {0} again, and closing it twice does nothing. A call that fills a handle closes first what it held.
+ *
+ * Threads. One call at a time with a handle. Calls with different handles may run at once, also over the same bytes.
+ *
+ * Pointers. None is NULL, not even to a file of 0 bytes: point to any byte then. Bytes that you give are only read. Those of
+ * capt_open stay where and as they are until its capt_close; those of the other calls until the call returns.
+ *
+ * Memory. A reader holds at most 512 KiB and 1,024 interfaces. A call that makes a text holds the whole text.
+ *
+ * No call is to be made from a signal handler. */
+#ifndef CAPT_H
+#define CAPT_H
+
+#include <stdbool.h>
+#include <stddef.h>
+#include <stdint.h>
+
+#ifdef __cplusplus
+extern "C" {
+#endif
+
+/* What a call returns. */
+enum capt_status {
+    CAPT_DONE = 0,    /* all was done; of a reader: no packet comes any more */
+    CAPT_PACKET = 1,  /* a packet came */
+    CAPT_REFUSED = 2, /* a capture breaks a rule: capt_place says which, and where */
+    CAPT_READ = 3,    /* a read of standard input failed: capt_place says where */
+    CAPT_MEMORY = 5,  /* malloc or realloc returned NULL */
+    CAPT_MISUSE = 6   /* the handle isn't open, there are no files or more than 32, or no room for a packet */
+};
+
+/* Where a capture is refused, or where a read failed. All are 0 after any other status but CAPT_MISUSE, which leaves it. */
+typedef struct {
+    uint64_t offset; /* where the header, the record or the block begins, in bytes */
+    uint32_t file;   /* the number of the file, from 1 */
+    uint32_t rule;   /* the rule that is broken, from 1 to 21; 0 after CAPT_READ */
+} capt_place;
+
+/* A packet. Its time is exactly seconds + numerator/denominator since 1970-01-01 00:00 UTC, in the unit of its interface. */
+typedef struct {
+    const uint8_t *frame; /* `captured` bytes, until the next call with this reader */
+    uint64_t offset;      /* where its record or block begins, in bytes */
+    uint64_t instance;    /* how many interface blocks of the file stand before its own interface's; 0 in a pcap file */
+    int64_t seconds;      /* whole seconds, rounded down */
+    uint64_t numerator;   /* below the denominator */
+    uint64_t denominator; /* 0 if the packet has no time */
+    uint32_t carry;       /* how many times 2^64 seconds are to be added: 0 for any time before the year 292,277,026,596 */
+    uint32_t captured;    /* how many of its bytes were captured, at most 262,144 */
+    uint32_t original;    /* how many bytes it had */
+    uint32_t snaplen;     /* the most bytes that its interface captures; 0 for no limit */
+    uint32_t link;        /* the link type of its interface, of the LINKTYPE registry */
+} capt_packet;
+
+/* How a capture ended. */
+typedef struct {
+    uint64_t skipped; /* how many blocks are neither sections, interfaces nor packets; 0 in a pcap file */
+    bool is_pcapng;   /* whether it is a pcapng file, and no pcap file */
+    bool was_cut;     /* whether a cut rest was dropped, as allow_cut asks */
+} capt_ending;
+
+/* A capture that is read packet by packet. */
+typedef struct {
+    struct {
+        void *at;
+    } kept;
+    bool is_open;
+} capt_reader;
+
+/* A text that the library made: `len` bytes at `at`, with no zero after them. */
+typedef struct {
+    const uint8_t *at;
+    size_t len;
+    capt_reader handle;
+} capt_text;
+
+/* A file in memory: `len` bytes at `at`. */
+typedef struct {
+    const uint8_t *at;
+    size_t len;
+} capt_bytes;
+
+/* Opens the capture of those bytes. With allow_cut a last record or block that is cut off is dropped; without it, it is
+ * refused. Nothing is read yet. CAPT_DONE, or CAPT_MEMORY. */
+uint32_t capt_open(capt_reader *reader, const uint8_t *at, size_t len, bool allow_cut);
+
+/* The same of standard input, read by read(2) until capt_close, past any buffer of <stdio.h>. */
+uint32_t capt_open_stdin(capt_reader *reader, bool allow_cut);
+
+/* The next packet. CAPT_PACKET; CAPT_DONE, CAPT_REFUSED or CAPT_READ, each of which every further call returns again; or
+ * CAPT_MEMORY, after which the call may be made again. `packet` is changed by CAPT_PACKET alone. */
+uint32_t capt_next(capt_reader *reader, capt_packet *packet, capt_place *place);
+
+/* The next packets, up to `room` of them, which is at least 1: one, and those after it that need no further read. `count` says
+ * how many came. The rest is as of capt_next; each frame stays until the next call with this reader. */
+uint32_t capt_next_many(capt_reader *reader, capt_packet *packets, size_t room, size_t *count, capt_place *place);
+
+/* How the capture ended, once capt_next or capt_next_many has returned CAPT_DONE; else CAPT_MISUSE. */
+uint32_t capt_end(capt_reader *reader, capt_ending *ending);
+
+/* Lets go what the reader holds. */
+void capt_close(capt_reader *reader);
+
+/* What the commands of the program capt print, of one file or of 1 to 32 files, byte for byte. CAPT_DONE, CAPT_REFUSED or
+ * CAPT_MEMORY. After CAPT_REFUSED the text of list, blocks, convert, merge and join is what stands before the refusal, and
+ * that of report and info is empty. */
+uint32_t capt_list(const uint8_t *at, size_t len, bool allow_cut, capt_text *text, capt_place *place);
+uint32_t capt_blocks(const uint8_t *at, size_t len, bool allow_cut, capt_text *text, capt_place *place);
+uint32_t capt_info(const capt_bytes *files, size_t count, bool allow_cut, capt_text *text, capt_place *place);
+uint32_t capt_report(const capt_bytes *files, size_t count, bool allow_cut, capt_text *text, capt_place *place);
+
+/* A capture as a pcap file (`pcap`) or as a pcapng file of one section, and 1 to 32 captures merged or joined as one pcapng
+ * file: with big-endian numbers (`big`) or little-endian ones. */
+uint32_t capt_convert(const uint8_t *at, size_t len, bool allow_cut, bool pcap, bool big, capt_text *text, capt_place *place);
+uint32_t capt_merge(const capt_bytes *files, size_t count, bool allow_cut, bool big, capt_text *text, capt_place *place);
+uint32_t capt_join(const capt_bytes *files, size_t count, bool allow_cut, bool big, capt_text *text, capt_place *place);
+
+/* Lets go a text. */
+void capt_text_close(capt_text *text);
+
+/* Put as many bytes of a text into the buffer as it has room for, with no zero after them, and return how long the text is:
+ * the name of a rule, as "block-trailer", or 0 if there is no such rule; and the version of the library. */
+size_t capt_rule_name(uint32_t rule, uint8_t *buffer, size_t room);
+size_t capt_version(uint8_t *buffer, size_t room);
+
+#ifdef __cplusplus
+}
+#endif
+#endif

@@ -1,0 +1,38 @@
+#!/usr/bin/env bash
+# Links the archive that `rt lib` or `build.sh lib` made of this crate as libcapt: puts libcapt.a, libcapt.so, capt.h and capt.pc
+# into a folder. Only the names that begin with capt_ are seen from outside.
+#
+# Use: crates/capt_c/link.sh ARCHIVE FOLDER [PREFIX]     (it wants a C compiler and binutils; PREFIX, for capt.pc, is /usr/local)
+set -euo pipefail
+here=$(cd "$(dirname "$0")" && pwd)
+archive=$1
+folder=$2
+prefix=${3-/usr/local}
+kit=$(rt doc)
+kit=${kit%/*}
+version=$(sed -n 's/^const VERSION: &str = "\(.*\)";$/\1/p' "$here/src/names.rt")
+work=$(mktemp -d)
+trap 'rm -rf "$work"' EXIT
+mkdir -p "$folder"
+
+# what the kit's code wants of C (memory, and read(2)) goes in with it, under names that nobody else sees
+ld -r -o "$work/capt.o" --whole-archive "$archive" --no-whole-archive "$kit/c/libos_c.a" "$kit/c/liblibc_c.a"
+objcopy --wildcard --keep-global-symbol='capt_*' "$work/capt.o"
+rm -f "$folder/libcapt.a"
+ar rcsD "$folder/libcapt.a" "$work/capt.o"
+echo 'CAPT_0 { global: capt_*; local: *; };' > "$work/capt.map"
+"${CC:-cc}" -shared -o "$folder/libcapt.so.0" "$work/capt.o" -Wl,-soname,libcapt.so.0 -Wl,--version-script,"$work/capt.map" \
+    -Wl,-z,relro,-z,now -Wl,--no-undefined
+ln -sf libcapt.so.0 "$folder/libcapt.so"
+cp "$here/include/capt.h" "$folder/capt.h"
+cat > "$folder/capt.pc" << END
+prefix=$prefix
+libdir=\${prefix}/lib
+includedir=\${prefix}/include
+
+Name: capt
+Description: packet captures (pcap, pcapng), read and reported by proved code
+Version: $version
+Libs: -L\${libdir} -lcapt
+Cflags: -I\${includedir}
+END

@@ -1,0 +1,7 @@
+pub mod Agreeing
+pub mod AllTold
+pub mod Keeps
+pub mod NeverRead
+pub mod Numbered
+pub mod Telling
+pub mod Values

@@ -1,0 +1,50 @@
+-- How a call's answer is told in numbers.
+use Rattle.std.specs.Prelude.{ℕ, Bool, true, false, Result, Ok, Err}
+use Rattle.cap_bytes.specs.Rules.{rule_number}
+use Rattle.cap_bytes.specs.declared.faults.Fault.{Fault}
+use Rattle.cap_bytes.specs.declared.faults.Fault.TheVariants.{Refused, Read, Write, Memory}
+use Rattle.cap_bytes.specs.declared.faults.Tail.{Tail}
+use Rattle.cap_bytes.specs.declared.faults.Tail.TheVariants.{Accept, Refuse}
+use Rattle.cap_source.specs.declared.packets.Format.{Format}
+use Rattle.cap_source.specs.declared.packets.Format.TheVariants.{Pcap, Pcapng}
+use Rattle.cap_bytes.specs.declared.numbers.Order.{Order}
+use Rattle.cap_bytes.specs.declared.numbers.Order.TheVariants.{Big, Little}
+use Rattle.capt_c.specs.declared.answers.Place.{Place}
+
+abbrev pub status_of : Fault → ℕ
+status_of (Refused refusal) = 2
+status_of (Read file offset) = 3
+status_of Write = 4
+status_of Memory = 5
+
+abbrev pub nowhere : Place
+nowhere = record { offset = 0; file = 0; rule = 0 }
+
+abbrev pub place_of : Fault → Place
+place_of (Refused refusal) = record { offset = refusal.offset; file = refusal.file; rule = rule_number refusal.rule }
+place_of (Read file offset) = record { offset = offset; file = file; rule = 0 }
+place_of Write = nowhere
+place_of Memory = nowhere
+
+abbrev pub status_of_result : Result Unit Fault → ℕ
+status_of_result (Ok _) = 0
+status_of_result (Err fault) = status_of fault
+
+abbrev pub place_of_result : Result Unit Fault → Place
+place_of_result (Ok _) = nowhere
+place_of_result (Err fault) = place_of fault
+
+-- what is done with a cut end
+abbrev pub tail_of : Bool → Tail
+tail_of true = Accept
+tail_of false = Refuse
+
+-- the byte order of what is written
+abbrev pub order_of : Bool → Order
+order_of true = Big
+order_of false = Little
+
+-- the format of what is written
+abbrev pub format_of : Bool → Format
+format_of true = Pcap
+format_of false = Pcapng

@@ -1,0 +1,76 @@
+-- What is told of a packet in numbers, and what a call for the next one does.
+use Rattle.std.specs.Prelude.{◌≡◌, ℕ, ◌^◌, ◌≤◌, length, take, ℤ, pos, ◌+ℤ◌, ◌*ℤ◌, List, [], ◌∷◌, Bool, true, false, IsTrue, Option, Some, None, IfSome, Result, Ok, Err}
+use Rattle.cap_bytes.specs.declared.faults.Fault.{Fault}
+use Rattle.cap_bytes.specs.declared.faults.Fault.TheVariants.{Refused, Read, Write, Memory}
+use Rattle.cap_source.specs.Feed.{Feed, Item, Breaks, packet, refused}
+use Rattle.cap_source.specs.declared.feeds.Head.{Head}
+use Rattle.cap_source.specs.declared.feeds.Head.TheVariants as heads
+use Rattle.cap_source.specs.declared.packets.Meta.{Meta}
+use Rattle.cap_time.specs.declared.resolutions.Interface.{Interface}
+use Rattle.cap_time.specs.Stamp.{stamp_in, seconds_of, numerator_of, denominator_of}
+use Rattle.capt_c.specs.declared.packets.Packet.{Packet}
+
+-- the time of that many units of an interface in four numbers; none is told by a denominator of 0
+abbrev pub ShowsTime : Option ℕ → Interface → ℤ → ℕ → ℕ → ℕ → Type 0
+ShowsTime None interface seconds carry numerator denominator = denominator ≡ 0
+ShowsTime (Some units) interface seconds carry numerator denominator =
+    (seconds +ℤ pos carry *ℤ pos (2 ^ 64) ≡ seconds_of (stamp_in units interface))
+    × (numerator ≡ numerator_of (stamp_in units interface)) × (denominator ≡ denominator_of (stamp_in units interface))
+
+-- a packet is told by these numbers
+pub record Shows (meta : Meta) (p : Packet) : Type 0 where
+  pub offset : p.offset ≡ meta.offset
+  pub instance : p.instance ≡ meta.instance
+  pub captured : p.captured ≡ meta.captured
+  pub original : p.original ≡ meta.original
+  pub snaplen : p.snaplen ≡ meta.interface.snaplen
+  pub link : p.link ≡ meta.interface.link
+  pub time : ShowsTime meta.units meta.interface p.seconds p.carry p.numerator p.denominator
+
+-- what is answered for what is known to come next
+abbrev pub answer_of : Head → Result Bool Fault
+answer_of (heads.Packet meta) = Ok true
+answer_of (heads.Refused refusal) = Err (Refused refusal)
+answer_of heads.End = Ok false
+
+-- If it was known what comes next, that is what is answered: the end and a refusal, which stay known, come again and again.
+abbrev pub Agrees : Option Head → Result Bool Fault → Type 0
+Agrees known answer = IfSome known (λ head. answer ≡ answer_of head)
+
+-- The next packet was told and passed, or it is known that there is none. If the bytes of the capture are known, it was the next of its
+-- packets, and the refusal is the one that ends them. After a refused growth the packets to come are the same.
+abbrev pub Leaves : Feed → Result Bool Fault → Packet → Feed → Type 0
+Leaves old (Ok true) p new =
+    (meta : Meta) × Shows meta p × (IsTrue old.told → (frame : List ℕ) × (old.items ≡ packet meta frame ∷ new.items))
+Leaves old (Ok false) p new = (new.known ≡ Some heads.End) × (IsTrue old.told → old.items ≡ [])
+Leaves old (Err (Refused refusal)) p new =
+    (new.known ≡ Some (heads.Refused refusal)) × (IsTrue old.told → old.items ≡ refused refusal ∷ [])
+Leaves old (Err (Read file offset)) p new = Breaks old file offset new
+Leaves old (Err Write) p new = ⊥
+Leaves old (Err Memory) p new = IsTrue old.told → new.items ≡ old.items
+
+-- what a call for the next packet answers and leaves
+abbrev pub Steps : Feed → Result Bool Fault → Packet → Feed → Type 0
+Steps old answer p new = Agrees old.known answer × Leaves old answer p new
+
+-- Those packets were told, one after another.
+abbrev pub Told : List Item → List Packet → List Item → Type 0
+Told old [] new = new ≡ old
+Told old (p ∷ ps) new =
+    (meta : Meta) × (frame : List ℕ) × (rest : List Item)
+    × (old ≡ packet meta frame ∷ rest) × Shows meta p × Told rest ps new
+
+-- The next packets were told and passed, as many as `count` says, or it is known that there is none: as `Leaves` has it for one.
+abbrev pub LeavesMany : Feed → Result Bool Fault → ℕ → List Packet → Feed → Type 0
+LeavesMany old (Ok true) count packets new =
+    (1 ≤ count) × (count ≤ length packets) × (IsTrue old.told → Told old.items (take count packets) new.items)
+LeavesMany old (Ok false) count packets new = (count ≡ 0) × (new.known ≡ Some heads.End) × (IsTrue old.told → old.items ≡ [])
+LeavesMany old (Err (Refused refusal)) count packets new =
+    (count ≡ 0) × (new.known ≡ Some (heads.Refused refusal)) × (IsTrue old.told → old.items ≡ refused refusal ∷ [])
+LeavesMany old (Err (Read file offset)) count packets new = (count ≡ 0) × Breaks old file offset new
+LeavesMany old (Err Write) count packets new = ⊥
+LeavesMany old (Err Memory) count packets new = (count ≡ 0) × (IsTrue old.told → new.items ≡ old.items)
+
+-- what a call for the next packets answers and leaves
+abbrev pub StepsMany : Feed → Result Bool Fault → ℕ → List Packet → Feed → Type 0
+StepsMany old answer count packets new = Agrees old.known answer × LeavesMany old answer count packets new

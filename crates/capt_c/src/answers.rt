@@ -1,0 +1,123 @@
+//! What a call answers: a status, and where a capture is refused or a read failed.
+ghost use Rattle.std.specs.Prelude.{◌≡◌};
+ghost use Rattle.capt_c.specs.Answers.{status_of, place_of, tail_of, order_of, format_of, status_of_result, place_of_result};
+
+use cap_bytes::{Fault, Order, Tail};
+use cap_source::Format;
+
+/// All was done; of a reader, there are no more packets.
+pub const DONE: u32 = 0;
+
+/// A packet came.
+pub const PACKET: u32 = 1;
+
+/// A capture breaks a rule.
+pub const REFUSED: u32 = 2;
+
+/// A read failed.
+pub const READ: u32 = 3;
+
+/// A write failed.
+pub const WRITE: u32 = 4;
+
+/// A growth was refused.
+pub const MEMORY: u32 = 5;
+
+/// The call is faulty: a reader that isn't open, no file or more than 32, or an unknown word.
+pub const MISUSE: u32 = 6;
+
+/// Where a capture is refused, or where a read failed.
+#[repr(C)]
+#[derive(Clone, Copy)]
+pub struct Place {
+    /// Where the record or the block begins, in bytes.
+    pub offset: u64,
+    /// The number of the file, from 1; 0 if the fault is of no file.
+    pub file: u32,
+    /// The rule that is broken, from 1 to 21; 0 if none is.
+    pub rule: u32,
+}
+
+/// No place.
+pub fn nowhere() -> Place
+    ensures { result ≡ record { offset = 0; file = 0; rule = 0 } }
+{
+    Place {
+        offset: 0,
+        file: 0,
+        rule: 0,
+    }
+}
+
+/// The status of a fault.
+pub fn status_of(fault: Fault) -> u32
+    ensures { result ≡ status_of fault }
+{
+    match fault {
+        Fault::Refused(_) => REFUSED,
+        Fault::Read { .. } => READ,
+        Fault::Write => WRITE,
+        Fault::Memory => MEMORY,
+    }
+}
+
+/// The place of a fault.
+pub fn place_of(fault: Fault) -> Place
+    ensures { result ≡ place_of fault }
+{
+    match fault {
+        Fault::Refused(refusal) => Place {
+            offset: refusal.offset,
+            file: refusal.file,
+            rule: u32::from(refusal.rule.number()),
+        },
+        Fault::Read { file, offset } => Place {
+            offset,
+            file,
+            rule: 0,
+        },
+        Fault::Write | Fault::Memory => nowhere(),
+    }
+}
+
+/// Tells how a job ended.
+pub fn finish(answer: Result<(), Fault>, place: &mut Place) -> u32
+    ensures status { result ≡ status_of_result answer }
+    ensures place { place.new ≡ place_of_result answer }
+{
+    match answer {
+        Ok(()) => {
+            *place = nowhere();
+            DONE
+        }
+        Err(fault) => {
+            *place = place_of(fault);
+            status_of(fault)
+        }
+    }
+}
+
+/// What is done with a cut end.
+pub fn tail_of(allow_cut: bool) -> Tail
+    ensures { result ≡ tail_of allow_cut }
+{
+    if allow_cut {
+        Tail::Accept
+    } else {
+        Tail::Refuse
+    }
+}
+
+/// The byte order of what is written.
+pub fn order_of(big: bool) -> Order
+    ensures { result ≡ order_of big }
+{
+    if big { Order::Big } else { Order::Little }
+}
+
+/// The format of what is written.
+pub fn format_of(pcap: bool) -> Format
+    ensures { result ≡ format_of pcap }
+{
+    if pcap { Format::Pcap } else { Format::Pcapng }
+}

@@ -1,0 +1,44 @@
+//! Packets that are told many at a time.
+ghost use Rattle.std.specs.Prelude.{◌≡◌, ◌≤◌, ◌<◌, IsTrue, length, take};
+ghost use Rattle.cap_source.specs.Feed.{Keeps};
+ghost use Rattle.capt_c.specs.Packets.{StepsMany, Told};
+
+use crate::packets::{Packet, packet_of};
+use crate::reading::step;
+use cap_bytes::Fault;
+use cap_source::PacketFeed;
+
+// Tells the next packets that are at hand without a read, as many as there is room for, and passes them.
+fn more<F: PacketFeed>(feed: &mut F, packets: &mut [Packet]) -> usize
+    ensures most { result ≤ length packets.new }
+    ensures told { IsTrue (F.feed feed.old).told
+        → Told (F.feed feed.old).items (take result packets.new) (F.feed feed.new).items }
+    ensures keeps { Keeps (F.feed feed.old) (F.feed feed.new) }
+{
+    let mut count = 0;
+    while count < packets.len() && feed.shows_packet() {
+        packets[count] = packet_of(feed.packet(), feed.frame());
+        feed.pass();
+        count += 1;
+    }
+    count
+}
+
+/// Tells the next packets and passes them: one, and those after it that are at hand without a read, as many as there is room for.
+pub fn step_many<F: PacketFeed>(
+    feed: &mut F,
+    packets: &mut [Packet],
+    count: &mut usize,
+) -> Result<bool, Fault>
+    requires { 0 < length packets.old }
+    ensures answer { StepsMany (F.feed feed.old) result count.new packets.new (F.feed feed.new) }
+    ensures keeps { Keeps (F.feed feed.old) (F.feed feed.new) }
+{
+    *count = 0;
+    let (first, others) = packets.split_at_mut(1);
+    if !step(feed, &mut first[0])? {
+        return Ok(false);
+    }
+    *count = more(feed, others) + 1;
+    Ok(true)
+}

@@ -1,0 +1,13 @@
+//! Capt for C, and for what calls C: the exports that `include/capt.h` declares.
+#![tactic(auto)]
+
+mod answers;
+mod batches;
+mod handles;
+mod jobs;
+mod loose;
+mod names;
+mod packets;
+mod reading;
+mod sinks;
+mod sources;

@@ -1,0 +1,71 @@
+//! The names of rules, and the version.
+ghost use Rattle.std.specs.Prelude.{◌≡◌, ◌<◌, ◌⊎◌, IfSome, None, length, codes};
+ghost use Rattle.cap_bytes.specs.Rules.{rule_number};
+ghost use Rattle.capt_c.specs.Names.{Names, PutsText};
+
+use cap_bytes::Rule;
+use std::cmp::min;
+
+// The version of the library.
+const VERSION: &str = "0.1.0";
+
+// The rule of a number.
+fn rule_of(number: u32) -> Option<Rule>
+    ensures some { IfSome result (λ rule. rule_number rule ≡ number) }
+    ensures none { result ≡ None → (number ≡ 0) ⊎ (21 < number) }
+{
+    match number {
+        1 => Some(Rule::Magic),
+        2 => Some(Rule::Version),
+        3 => Some(Rule::Cut),
+        4 => Some(Rule::PacketLong),
+        5 => Some(Rule::BlockLength),
+        6 => Some(Rule::BlockTrailer),
+        7 => Some(Rule::OrderMagic),
+        8 => Some(Rule::Captured),
+        9 => Some(Rule::InterfaceUnknown),
+        10 => Some(Rule::OptionEnd),
+        11 => Some(Rule::OptionLength),
+        12 => Some(Rule::Resolution),
+        13 => Some(Rule::InterfaceLimit),
+        14 => Some(Rule::FileLimit),
+        15 => Some(Rule::OpenLimit),
+        16 => Some(Rule::TalkLimit),
+        17 => Some(Rule::NoTime),
+        18 => Some(Rule::LinkMixed),
+        19 => Some(Rule::Inexact),
+        20 => Some(Rule::TimeRange),
+        21 => Some(Rule::NoInterface),
+        _ => None,
+    }
+}
+
+// Puts as much of a text into a buffer as it has room for, and answers how long the text is.
+fn put(text: &[u8], buffer: &mut [u8]) -> usize
+    ensures { PutsText text.now result (length buffer.old) buffer.new }
+{
+    let count = min(text.len(), buffer.len());
+    let (front, _) = text.split_at(count);
+    let (room, _) = buffer.split_at_mut(count);
+    room.copy_from_slice(front);
+    text.len()
+}
+
+/// Puts as much of a rule's name into a buffer as it has room for, and answers how long the name is: 0 if there is no such rule.
+#[unsafe(no_mangle)]
+pub extern "C" fn capt_rule_name(rule: u32, buffer: &mut [u8]) -> usize
+    ensures { Names rule result (length buffer.old) buffer.new }
+{
+    match rule_of(rule) {
+        Some(rule) => put(rule.name().as_bytes(), buffer),
+        None => 0,
+    }
+}
+
+/// Puts as much of the version into a buffer as it has room for, and answers how long it is.
+#[unsafe(no_mangle)]
+pub extern "C" fn capt_version(buffer: &mut [u8]) -> usize
+    ensures { PutsText (codes "0.1.0") result (length buffer.old) buffer.new }
+{
+    put(VERSION.as_bytes(), buffer)
+}

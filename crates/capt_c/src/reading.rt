@@ -1,0 +1,242 @@
+//! A capture that is read packet by packet.
+ghost use Rattle.std.specs.Prelude.{◌≡◌, ◌<◌, [], Result, Some, None, true, false, length};
+ghost use Rattle.cap_source.specs.Feed.{GivesHead, Keeps};
+ghost use Rattle.cap_bytes.specs.declared.faults.Fault.{Fault};
+ghost use Rattle.cap_source.specs.declared.feeds.Head.{Head};
+ghost use Rattle.capt_c.specs.Answers.{tail_of};
+ghost use Rattle.capt_c.specs.Packets.{Steps};
+ghost use Rattle.capt_c.specs.Sources.{tells_of, coming_of, can_fail_of};
+ghost use Rattle.capt_c.specs.Reading.{Nexts, NextsMany, Opens, EndTold, TellsEnd, status_of_step, place_of_step};
+
+use crate::answers::{DONE, MEMORY, MISUSE, PACKET, Place, nowhere, place_of, status_of, tail_of};
+use crate::batches::step_many;
+use crate::handles::{Handle, Held};
+use crate::packets::{Packet, packet_of};
+use crate::sources::{Input, Slice};
+use cap_bytes::{Fault, Tracked};
+use cap_source::{Capture, Ending, Format, Head, PacketFeed, next_packet};
+use std::alloc::Global;
+use std::io::Stdin;
+
+/// Tells the next packet and passes it, if there is one.
+#[inline(always)]
+pub fn step<F: PacketFeed>(feed: &mut F, packet: &mut Packet) -> Result<bool, Fault>
+    ensures answer { Steps (F.feed feed.old) result packet.new (F.feed feed.new) }
+    ensures keeps { Keeps (F.feed feed.old) (F.feed feed.new) }
+{
+    match next_packet(feed)? {
+        Some(meta) => {
+            *packet = packet_of(&meta, feed.frame());
+            feed.pass();
+            Ok(true)
+        }
+        None => Ok(false),
+    }
+}
+
+// Tells how a step ended.
+fn told(answer: Result<bool, Fault>, place: &mut Place) -> u32
+    ensures status { result ≡ status_of_step answer }
+    ensures place { place.new ≡ place_of_step answer }
+{
+    match answer {
+        Ok(found) => {
+            *place = nowhere();
+            if found { PACKET } else { DONE }
+        }
+        Err(fault) => {
+            *place = place_of(fault);
+            status_of(fault)
+        }
+    }
+}
+
+// Tells the next packet of what is held, if that is a capture.
+fn next_of(held: &mut Held, packet: &mut Packet, place: &mut Place) -> u32
+    ensures { Nexts (λ c. ⟦<Capture<Input> as PacketFeed>⟧.feed c) (Some held.old) result packet.new place.new (Some held.new) }
+{
+    match held {
+        Held::Capture(capture) => told(step(capture, packet), place),
+        Held::Text(_) => MISUSE,
+    }
+}
+
+/// How a capture ended.
+#[repr(C)]
+#[derive(Clone, Copy)]
+pub struct End {
+    /// How many of its blocks were skipped; 0 in a pcap file.
+    pub skipped: u64,
+    /// Whether it is a pcapng file, and no pcap file.
+    pub is_pcapng: bool,
+    /// Whether it ended in a rest that was cut, and that was dropped.
+    pub was_cut: bool,
+}
+
+// Opens a capture over what `input` gives. What the handle held is let go.
+fn open(alloc: Global, reader: &mut Handle, input: Input, allow_cut: bool) -> u32
+    ensures { Opens (λ c. ⟦<Capture<Input> as PacketFeed>⟧.feed c) (tail_of allow_cut)
+        (tells_of input) (coming_of input) (can_fail_of input) result reader.new.kept.value }
+{
+    let capture = Capture::new(alloc, input, 1, tail_of(allow_cut));
+    if reader.hold(alloc, Held::Capture(capture)) {
+        DONE
+    } else {
+        MEMORY
+    }
+}
+
+/// Opens a capture over bytes in memory, which stay as they are until it is closed. What the handle held is let go.
+#[unsafe(no_mangle)]
+pub extern "C" fn capt_open(
+    alloc: Global,
+    reader: &mut Handle,
+    bytes: &'static [u8],
+    allow_cut: bool,
+) -> u32
+    ensures { Opens (λ c. ⟦<Capture<Input> as PacketFeed>⟧.feed c) (tail_of allow_cut)
+        true bytes.now false result reader.new.kept.value }
+{
+    open(alloc, reader, Input::Memory(Slice::new(bytes)), allow_cut)
+}
+
+/// Opens a capture over standard input, which is read until it is closed. What the handle held is let go.
+#[unsafe(no_mangle)]
+pub extern "C" fn capt_open_stdin(
+    alloc: Global,
+    stdin: Stdin,
+    reader: &mut Handle,
+    allow_cut: bool,
+) -> u32
+    ensures { Opens (λ c. ⟦<Capture<Input> as PacketFeed>⟧.feed c) (tail_of allow_cut)
+        false [] true result reader.new.kept.value }
+{
+    open(
+        alloc,
+        reader,
+        Input::Standard(Tracked::new(stdin)),
+        allow_cut,
+    )
+}
+
+/// Tells the next packet of a capture, and passes it.
+#[unsafe(no_mangle)]
+pub extern "C" fn capt_next(
+    alloc: Global,
+    reader: &mut Handle,
+    packet: &mut Packet,
+    place: &mut Place,
+) -> u32
+    ensures { Nexts (λ c. ⟦<Capture<Input> as PacketFeed>⟧.feed c) reader.old.kept.value result packet.new place.new reader.new.kept.value }
+{
+    match reader.take(alloc) {
+        Some(held) => {
+            let mut held = held;
+            let status = next_of(&mut held, packet, place);
+            reader.put(held);
+            status
+        }
+        None => MISUSE,
+    }
+}
+
+// Tells the next packets of what is held, if that is a capture.
+fn next_many_of(
+    held: &mut Held,
+    packets: &mut [Packet],
+    count: &mut usize,
+    place: &mut Place,
+) -> u32
+    requires { 0 < length packets.old }
+    ensures { NextsMany (λ c. ⟦<Capture<Input> as PacketFeed>⟧.feed c) (Some held.old) result count.new packets.new place.new (Some held.new) }
+{
+    match held {
+        Held::Capture(capture) => told(step_many(capture, packets, count), place),
+        Held::Text(_) => MISUSE,
+    }
+}
+
+/// Tells the next packets of a capture, and passes them: one, and those after it that are at hand without a read, as many as there is
+/// room for, at least for one.
+#[unsafe(no_mangle)]
+pub extern "C" fn capt_next_many(
+    alloc: Global,
+    reader: &mut Handle,
+    packets: &mut [Packet],
+    count: &mut usize,
+    place: &mut Place,
+) -> u32
+    ensures { 0 < length packets.old → NextsMany (λ c. ⟦<Capture<Input> as PacketFeed>⟧.feed c) reader.old.kept.value result count.new packets.new place.new reader.new.kept.value }
+{
+    if packets.is_empty() {
+        return MISUSE;
+    }
+    match reader.take(alloc) {
+        Some(held) => {
+            let mut held = held;
+            let status = next_many_of(&mut held, packets, count, place);
+            reader.put(held);
+            status
+        }
+        None => MISUSE,
+    }
+}
+
+/// Lets go what a handle holds. It may be closed already.
+#[unsafe(no_mangle)]
+pub extern "C" fn capt_close(alloc: Global, handle: &mut Handle)
+    ensures { handle.new.kept.value ≡ None }
+{
+    let _ = handle.take(alloc);
+}
+
+// Tells how a capture ended, if nothing comes next of it.
+fn tell_end(capture: &mut Capture<Input>, ending: &mut End) -> u32
+    ensures answer { (answer : Result Head Fault)
+        × GivesHead (⟦<Capture<Input> as PacketFeed>⟧.feed capture.old) answer (⟦<Capture<Input> as PacketFeed>⟧.feed capture.new)
+        × EndTold (⟦<Capture<Input> as PacketFeed>⟧.feed capture.new) answer result ending.new }
+    ensures keeps { Keeps (⟦<Capture<Input> as PacketFeed>⟧.feed capture.old) (⟦<Capture<Input> as PacketFeed>⟧.feed capture.new) }
+{
+    match capture.head() {
+        Ok(Head::End) => {
+            let Ending {
+                skipped,
+                format,
+                was_cut,
+            } = capture.ending(capture.file());
+            *ending = End {
+                skipped,
+                is_pcapng: format == Format::Pcapng,
+                was_cut,
+            };
+            DONE
+        }
+        _ => MISUSE,
+    }
+}
+
+// Tells how what is held ended, if that is a capture of which nothing comes next.
+fn end_of(held: &mut Held, ending: &mut End) -> u32
+    ensures { TellsEnd (λ c. ⟦<Capture<Input> as PacketFeed>⟧.feed c) (Some held.old) result ending.new (Some held.new) }
+{
+    match held {
+        Held::Capture(capture) => tell_end(capture, ending),
+        Held::Text(_) => MISUSE,
+    }
+}
+
+/// Tells how a capture ended of which all packets were told.
+#[unsafe(no_mangle)]
+pub extern "C" fn capt_end(alloc: Global, reader: &mut Handle, ending: &mut End) -> u32
+    ensures { TellsEnd (λ c. ⟦<Capture<Input> as PacketFeed>⟧.feed c) reader.old.kept.value result ending.new reader.new.kept.value }
+{
+    match reader.take(alloc) {
+        Some(held) => {
+            let mut held = held;
+            let status = end_of(&mut held, ending);
+            reader.put(held);
+            status
+        }
+        None => MISUSE,
+    }
+}
