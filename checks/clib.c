@@ -1,5 +1,5 @@
 /* A C program over libcapt, for clib.py. It prints what `capt list` prints of a file, by capt_next (`next`), by capt_next_many
- * (`many`), or of standard input (`stdin`), and misuses the library in each way that the header names (`misuse`). */
+ * (`many`), or of standard input (`stdin`), what `capt report` prints, step by step (`table`), and misuses the library in each way that the header names (`misuse`). */
 #include <capt.h>
 #include <inttypes.h>
 #include <stdio.h>
@@ -96,6 +96,28 @@ static int list(capt_reader *reader, size_t room) {
     return next(reader, packets, room, &count, &again) == CAPT_MISUSE && capt_end(reader, &ending) == CAPT_MISUSE ? code : 8;
 }
 
+/* The report of a file, step by step, with one after each step that can be written. */
+static int report(capt_bytes file, bool allow_cut) {
+    capt_table table = {0};
+    capt_text text = {0};
+    capt_place place = {0, 0, 0}, again;
+    uint32_t status = capt_table_open(&table, &file, 1, allow_cut);
+    if (status != CAPT_DONE) return told(status, place);
+    do {
+        uint32_t written = capt_table_write(&table, &text, &again);
+        if (written != CAPT_DONE || text.len < 8 || memcmp(text.at, "files 1\n", 8)) return told(written, again) + 16;
+    } while ((status = capt_table_step(&table, &place)) == CAPT_PACKET);
+    if (capt_table_step(&table, &again) != status || memcmp(&place, &again, sizeof place)) return 6;
+    if (status == CAPT_DONE) {
+        uint32_t written = capt_table_write(&table, &text, &again);
+        if (written != CAPT_DONE) return told(written, again) + 16;
+        fwrite(text.at, 1, text.len, stdout);
+    }
+    capt_close(&table);
+    capt_text_close(&text);
+    return capt_table_step(&table, &again) == CAPT_MISUSE && capt_table_write(&table, &text, &again) == CAPT_MISUSE ? told(status, place) : 8;
+}
+
 static int misuse(const char *name) {
     capt_reader reader = {0};
     capt_text text = {0};
@@ -117,7 +139,14 @@ static int misuse(const char *name) {
         if (writers[i](files, 33, false, false, &text, &place) != CAPT_MISUSE) return 5;
         if (memcmp(&place, &same, sizeof place) || text.len != 0) return 6;
     }
-    /* a text is no capture that is read */
+    capt_table table = {0};
+    if (capt_table_open(&table, files, 0, false) != CAPT_MISUSE || capt_table_open(&table, files, 33, false) != CAPT_MISUSE) return 16;
+    if (capt_table_open(&table, files, 32, false) != CAPT_DONE) return 17;
+    /* a table is no capture that is read, nor is a text */
+    if (capt_next(&table, &packet, &place) != CAPT_MISUSE || capt_end(&table, &ending) != CAPT_MISUSE) return 18;
+    if (capt_table_step(&table, &place) != CAPT_PACKET) return 19;
+    capt_close(&table);
+    place = same;
     if (capt_report(files, 32, false, &text, &place) != CAPT_DONE || text.len == 0) return 7;
     if (capt_next(&text.handle, &packet, &place) != CAPT_MISUSE) return 8;
     capt_text_close(&text);
@@ -147,6 +176,11 @@ int main(int count, char **words) {
         return status == CAPT_DONE ? list(&reader, 1) : told(status, (capt_place){0, 0, 0});
     }
     capt_bytes bytes = bytes_of(words[count - 1]);
+    if (strcmp(words[1], "table") == 0) {
+        int code = report(bytes, allow_cut);
+        free((void *)bytes.at);
+        return code;
+    }
     uint32_t status = capt_open(&reader, bytes.at, bytes.len, allow_cut);
     int code = status == CAPT_DONE ? list(&reader, strcmp(words[1], "many") == 0 ? 7 : 1) : told(status, (capt_place){0, 0, 0});
     free((void *)bytes.at);

@@ -113,6 +113,8 @@ def check_c(count, checker, shim, bench, name, content):
         want = bench.run("list", [content], bool(words))[:3]
         for how in ("next", "many"):
             count.check(f"c: {how} {name}", run([checker, how, *words, path]) == want)
+        report = bench.run("report", [content], bool(words))[:3]
+        count.check(f"c: table {name}", run([checker, "table", *words, path]) == report)
         for piece in ({}, {"LD_PRELOAD": shim, "FAULT_PIECE": "1"}):
             with open(path, "rb") as file:
                 count.check(f"c: stdin {name}", run([checker, "stdin", *words], stdin=file, env={**os.environ, **piece}) == want)
@@ -123,6 +125,9 @@ def check_faults(count, checker, shim, path, content):
     for at in range(1, 40):
         status, _, error = run([checker, "next", path], env={**os.environ, "LD_PRELOAD": shim, "FAULT_GROWTHS": f"{at}-{at + 1}"})
         count.check(f"c: growth {at}", (status, error) in ((0, b""), (1, b"fault: memory\n"), (3, b""), (5, b""), (6, b"fault: memory\n")))
+        environment = {**os.environ, "LD_PRELOAD": shim, "FAULT_GROWTHS": f"{at}-{at + 1}"}
+        status, _, error = run([checker, "table", path], env=environment)
+        count.check(f"c: growth of a table {at}", (status, error) in ((0, b""), (1, b"fault: memory\n"), (3, b""), (17, b"fault: memory\n"), (6, b"")))
     offsets = set()
     for at in range(1, len(content), 2):
         with open(path, "rb") as file:
@@ -218,6 +223,12 @@ def main():
         count.check("32 files", capt.report_text(many).encode() == bench.run("report", many)[1])
         talks = capt.report([example]).talks
         count.check("talks", [talk.a for talk in talks] == ["10.0.0.1"] and talks[0].forward == (1, 60), talks)
+        with capt.Table([example]) as table:
+            before = table.report().text
+            while table.step():
+                pass
+            texts = before.startswith("files 1\nfile 1 - packets 0"), table.report() == capt.report([example])
+            count.check("python: table", texts == (True, True), texts)
         check_pages(count, folder, library)
         check_rust(count, folder, library, bench, contents)
         if shutil.which("valgrind"):

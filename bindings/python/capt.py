@@ -14,7 +14,7 @@ import os
 from collections import namedtuple
 from fractions import Fraction
 
-__all__ = ["Capture", "Packet", "Ending", "Report", "Talk", "Side", "Error", "Refused", "ReadFailed",
+__all__ = ["Capture", "Packet", "Ending", "Table", "Report", "Talk", "Side", "Error", "Refused", "ReadFailed",
            "report", "report_text", "info", "listing", "blocks", "convert", "merge", "join", "rule_name", "version"]
 
 _DONE, _PACKET, _REFUSED, _READ, _MEMORY, _MISUSE = 0, 1, 2, 3, 5, 6
@@ -57,6 +57,9 @@ def _load():
         ("capt_next_many", status, pointer, pointer, size, pointer, pointer),
         ("capt_end", status, pointer, pointer),
         ("capt_close", None, pointer),
+        ("capt_table_open", status, pointer, pointer, size, flag),
+        ("capt_table_step", status, pointer, pointer),
+        ("capt_table_write", status, pointer, pointer, pointer),
         ("capt_list", status, pointer, size, flag, pointer, pointer),
         ("capt_blocks", status, pointer, size, flag, pointer, pointer),
         ("capt_info", status, pointer, size, flag, pointer, pointer),
@@ -310,6 +313,54 @@ class Report(namedtuple("Report", "text talks")):
     """A report: its `text`, and its conversations as a list of `Talk`."""
 
 
+class Table:
+    """The table of a report over 1 to 32 captures, which takes their packets one by one, in the order of exact time, in
+    bounded memory. Close it, or use it as a context."""
+
+    def __init__(self, sources, allow_cut: bool = False):
+        self._mapped, self._table, self._place = [], _Reader(), _Place()
+        try:
+            for source in sources:
+                self._mapped.append(_Mapped(source))
+            files = (_Bytes * max(len(self._mapped), 1))(*[_Bytes(it.at, it.len) for it in self._mapped])
+            status = _library.capt_table_open(ctypes.byref(self._table), files, len(self._mapped), allow_cut)
+            _check(status, self._place)
+        except BaseException:
+            self.close()
+            raise
+
+    def step(self) -> bool:
+        """Takes the next packet; False if none is left."""
+        status = _library.capt_table_step(ctypes.byref(self._table), ctypes.byref(self._place))
+        _check(status, self._place)
+        return status == _PACKET
+
+    def report(self) -> "Report":
+        """The report over the packets that were taken so far."""
+        text = _Text()
+        try:
+            status = _library.capt_table_write(ctypes.byref(self._table), ctypes.byref(text), ctypes.byref(self._place))
+            _check(status, self._place)
+            return _report(ctypes.string_at(text.at, text.len).decode())
+        finally:
+            _library.capt_text_close(ctypes.byref(text))
+
+    def close(self):
+        _library.capt_close(ctypes.byref(self._table))
+        for mapped in self._mapped:
+            mapped.close()
+
+    def __enter__(self):
+        return self
+
+    def __exit__(self, *_):
+        self.close()
+
+    def __del__(self):
+        if hasattr(self, "_table"):
+            self.close()
+
+
 def _time(word: str):
     if word == "-":
         return None
@@ -320,7 +371,10 @@ def _time(word: str):
 
 def report(sources, allow_cut: bool = False) -> Report:
     """The report over 1 to 32 captures."""
-    text = report_text(sources, allow_cut)
+    return _report(report_text(sources, allow_cut))
+
+
+def _report(text: str) -> Report:
     return Report(text, [_talk(line) for line in text.splitlines() if line.startswith("talk ")])
 
 

@@ -3,15 +3,17 @@
  * Link with -lcapt (libcapt.so), or with libcapt.a. It uses malloc, realloc and free, and read(2) for capt_open_stdin;
  * it opens no file, writes to none, starts no thread and keeps nothing between calls but what a handle holds.
  *
- * Handles. A capt_reader or a capt_text is yours: begin with {0}, let only the library change it, don't copy it, and close
+ * Handles. A capt_reader, a capt_table or a capt_text is yours: begin with {0}, let only the library change it, don't copy it, and close
  * it; closed is {0} again, and closing it twice does nothing. A call that fills a handle closes first what it held.
  *
  * Threads. One call at a time with a handle. Calls with different handles may run at once, also over the same bytes.
  *
  * Pointers. None is NULL, not even to a file of 0 bytes: point to any byte then. Bytes that you give are only read. Those of
- * capt_open stay where and as they are until its capt_close; those of the other calls until the call returns.
+ * capt_open and capt_table_open stay where and as they are until capt_close; those of the other calls until the call
+ * returns.
  *
- * Memory. A reader holds at most 512 KiB and 1,024 interfaces. A call that makes a text holds the whole text.
+ * Memory. A reader holds at most 512 KiB and 1,024 interfaces; a table that for each of its files, and besides at most 1,024
+ * groups of fragments and 1,048,576 conversations. A call that makes a text holds the whole text.
  *
  * No call is to be made from a signal handler. */
 #ifndef CAPT_H
@@ -72,6 +74,9 @@ typedef struct {
     bool is_open;
 } capt_reader;
 
+/* A table of a report, which takes the packets of captures one by one. */
+typedef capt_reader capt_table;
+
 /* A text that the library made: `len` bytes at `at`, with no zero after them. */
 typedef struct {
     const uint8_t *at;
@@ -103,8 +108,20 @@ uint32_t capt_next_many(capt_reader *reader, capt_packet *packets, size_t room, 
 /* How the capture ended, once capt_next or capt_next_many has returned CAPT_DONE; else CAPT_MISUSE. */
 uint32_t capt_end(capt_reader *reader, capt_ending *ending);
 
-/* Lets go what the reader holds. */
+/* Lets go what the reader, or the table, holds. */
 void capt_close(capt_reader *reader);
+
+/* The report of capt_report step by step, in bounded memory. Opens a table of 1 to 32 captures, with allow_cut as of capt_open.
+ * CAPT_DONE, CAPT_MEMORY or CAPT_MISUSE. */
+uint32_t capt_table_open(capt_table *table, const capt_bytes *files, size_t count, bool allow_cut);
+
+/* Takes the packet that comes next in the order of exact time. CAPT_PACKET; CAPT_DONE or CAPT_REFUSED, each of which every further
+ * call returns again; or CAPT_MEMORY, after which nothing was taken, and the call may be made again. */
+uint32_t capt_table_step(capt_table *table, capt_place *place);
+
+/* The report over the packets that were taken so far: that of capt_report after CAPT_DONE; before it, a file of which no packet was
+ * taken has the format `-`, and no line says `cut`. CAPT_DONE, CAPT_MEMORY or CAPT_MISUSE. */
+uint32_t capt_table_write(capt_table *table, capt_text *text, capt_place *place);
 
 /* What the commands of the program capt print, of one file or of 1 to 32 files, byte for byte. CAPT_DONE, CAPT_REFUSED or
  * CAPT_MEMORY. After CAPT_REFUSED the text of list, blocks, convert, merge and join is what stands before the refusal, and

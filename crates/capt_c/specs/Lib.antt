@@ -4,4 +4,5 @@ pub mod Sources
 pub mod Packets
 pub mod Reading
 pub mod Jobs
+pub mod Tables
 pub mod Names

@@ -39,6 +39,7 @@ place_of_step (Err fault) = place_of fault
 abbrev pub Opens : (Reader → Feed) → Tail → Bool → List ℕ → Bool → ℕ → Option Held → Type 0
 Opens feed tail told bytes can_fail status None = status ≡ 5
 Opens feed tail told bytes can_fail status (Some (helds.Text text)) = ⊥
+Opens feed tail told bytes can_fail status (Some (helds.Table t)) = ⊥
 Opens feed tail told bytes can_fail status (Some (helds.Capture c)) =
     (status ≡ 0) × ((feed c).known ≡ None) × ((feed c).files ≡ 1 ∷ []) × ((feed c).told ≡ told)
     × ((feed c).items ≡ file_items tail 1 bytes) × ((feed c).can_fail 1 ≡ can_fail)
@@ -47,6 +48,7 @@ Opens feed tail told bytes can_fail status (Some (helds.Capture c)) =
 abbrev pub Nexts : (Reader → Feed) → Option Held → ℕ → Packet → Place → Option Held → Type 0
 Nexts feed None status p place new = (status ≡ 6) × (new ≡ None)
 Nexts feed (Some (helds.Text text)) status p place new = (status ≡ 6) × (new ≡ Some (helds.Text text))
+Nexts feed (Some (helds.Table t)) status p place new = (status ≡ 6) × (new ≡ Some (helds.Table t))
 Nexts feed (Some (helds.Capture c)) status p place new =
     (answer : Result Bool Fault) × (later : Reader) × (status ≡ status_of_step answer) × (place ≡ place_of_step answer)
     × (new ≡ Some (helds.Capture later)) × Steps (feed c) answer p (feed later) × Keeps (feed c) (feed later)
@@ -55,6 +57,7 @@ Nexts feed (Some (helds.Capture c)) status p place new =
 abbrev pub NextsMany : (Reader → Feed) → Option Held → ℕ → ℕ → List Packet → Place → Option Held → Type 0
 NextsMany feed None status count packets place new = (status ≡ 6) × (new ≡ None)
 NextsMany feed (Some (helds.Text text)) status count packets place new = (status ≡ 6) × (new ≡ Some (helds.Text text))
+NextsMany feed (Some (helds.Table t)) status count packets place new = (status ≡ 6) × (new ≡ Some (helds.Table t))
 NextsMany feed (Some (helds.Capture c)) status count packets place new =
     (answer : Result Bool Fault) × (later : Reader) × (status ≡ status_of_step answer) × (place ≡ place_of_step answer)
     × (new ≡ Some (helds.Capture later)) × StepsMany (feed c) answer count packets (feed later)
@@ -83,6 +86,7 @@ EndTold feed (Err fault) status end = status ≡ 6
 abbrev pub TellsEnd : (Reader → Feed) → Option Held → ℕ → End → Option Held → Type 0
 TellsEnd feed None status end new = (status ≡ 6) × (new ≡ None)
 TellsEnd feed (Some (helds.Text text)) status end new = (status ≡ 6) × (new ≡ Some (helds.Text text))
+TellsEnd feed (Some (helds.Table t)) status end new = (status ≡ 6) × (new ≡ Some (helds.Table t))
 TellsEnd feed (Some (helds.Capture c)) status end new =
     (answer : Result Head Fault) × (later : Reader) × (new ≡ Some (helds.Capture later))
     × GivesHead (feed c) answer (feed later) × EndTold (feed later) answer status end × Keeps (feed c) (feed later)

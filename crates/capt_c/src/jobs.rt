@@ -42,8 +42,8 @@ pub struct Text {
     handle: Handle,
 }
 
-// Readers of files.
-fn slices<'a>(alloc: Global, files: &[Bytes<'a>]) -> Result<Vec<Slice<'a>>, Fault>
+/// Readers of files.
+pub(crate) fn slices<'a>(alloc: Global, files: &[Bytes<'a>]) -> Result<Vec<Slice<'a>>, Fault>
     requires { length files.now ≤ 32 }
     ensures bytes { IfOk result (λ v. map rest_of v.items ≡ map bytes_of files.now) }
     ensures count { IfOk result (λ v. length v.items ≡ length files.now) }
@@ -69,8 +69,8 @@ fn by_memory(answer: Result<(), Fault>) -> Result<(), Fault>
     }
 }
 
-// Shows a text to the caller, and tells how the job ended that made it.
-fn show(
+/// Shows a text to the caller, and tells how the job ended that made it.
+pub(crate) fn show(
     alloc: Global,
     text: &mut Text,
     sink: Grown,
@@ -93,8 +93,8 @@ fn show(
     }
 }
 
-// Whether a call takes so many files.
-fn are_files(count: usize) -> bool
+/// Whether a call takes so many files.
+pub(crate) fn are_files(count: usize) -> bool
     ensures { IsTrue result ↔ ((1 ≤ count) × (count ≤ 32)) }
 {
     1 <= count && count <= 32

@@ -11,3 +11,4 @@ mod packets;
 mod reading;
 mod sinks;
 mod sources;
+mod tables;

@@ -57,7 +57,7 @@ fn next_of(held: &mut Held, packet: &mut Packet, place: &mut Place) -> u32
 {
     match held {
         Held::Capture(capture) => told(step(capture, packet), place),
-        Held::Text(_) => MISUSE,
+        Held::Table(_) | Held::Text(_) => MISUSE,
     }
 }
 
@@ -152,7 +152,7 @@ fn next_many_of(
 {
     match held {
         Held::Capture(capture) => told(step_many(capture, packets, count), place),
-        Held::Text(_) => MISUSE,
+        Held::Table(_) | Held::Text(_) => MISUSE,
     }
 }
 
@@ -221,7 +221,7 @@ fn end_of(held: &mut Held, ending: &mut End) -> u32
 {
     match held {
         Held::Capture(capture) => tell_end(capture, ending),
-        Held::Text(_) => MISUSE,
+        Held::Table(_) | Held::Text(_) => MISUSE,
     }
 }
 
