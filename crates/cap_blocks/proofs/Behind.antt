@@ -1,10 +1,12 @@
 -- What the body of a block is refused by, and its total length after it.
-use Rattle.std.proofs.Common.{◌≡◌, ℕ, ◌-◌, ◌≤◌, ◌<◌, ◌==◌, not, List, ◌++◌, length, take, drop, Option, Some, None, Bool, true, false, IsTrue, Ok, refl, sym, ◌∙◌, ap, subst, arith, drop-drop, length-append, length-drop, nat_lt}
+use Rattle.std.proofs.Common.{◌≡◌, ℕ, ◌+◌, ◌-◌, ◌≤◌, ◌<◌, ◌==◌, not, List, ◌++◌, length, take, drop, Option, Some, None, Bool, true, false, IsTrue, Ok, refl, sym, ◌∙◌, ap, subst, arith, drop-drop, length-append, length-drop, nat_lt}
 use Rattle.std.proofs.lemmas.Bool.Decides.{nat_tests}
 use Rattle.std.proofs.lemmas.List.{take-append-drop, drop-append-le}
 use Rattle.cap_bytes.specs.Number.{number}
-use Rattle.cap_bytes.specs.Window.{State, Needs, Drops, DropsAll, Passes, coming}
+use Rattle.cap_bytes.specs.Reach.{ReachesTo}
+use Rattle.cap_bytes.specs.Window.{State, Needs, Drops, DropsAll, Passes, coming, read_to}
 use Rattle.cap_bytes.proofs.Parsing.{all_shown, Goes-trans}
+use Rattle.cap_bytes.proofs.Reach.{ReachesTo-later, ReachesTo-ended}
 use Rattle.cap_bytes.specs.declared.faults.Rule.{Rule}
 use Rattle.cap_bytes.specs.declared.faults.Rule.TheVariants.{Cut, BlockTrailer, Version}
 use Rattle.cap_bytes.specs.declared.numbers.Order.{Order}
@@ -170,3 +172,19 @@ SeesBody-skipped block old mid new last f unknown d told n trailer p = record {
         ∙ (drop-drop 4 (block.total - 4) (coming old) ∙ ap (λ k. drop k (coming old)) (omega (arith, f.least)))))),
   );
 }
+
+reached : (m most : Option ℕ) (n end r s : ℕ) → m ≡ most → n ≡ end → ReachesTo m n r s → ReachesTo most end r s
+reached m most n end r s same is h = rw (same, is) at h
+
+-- How far is read for a block that is skipped: the input ends in the part that is skipped, or its trailer comes too.
+pub Reaches-ended : (block : Block) (old new : State) → 12 ≤ block.total → DropsAll (block.total - 4) old new
+    → ReachesTo old.most (old.offset + block.total) (read_to old) (read_to new)
+Reaches-ended block old new least d = ReachesTo-ended old.most (old.offset + block.total) (read_to old) (read_to new) (omega (arith, d.least)) (omega (arith, d.fewer, ap length d.shown))
+
+pub Reaches-trailer : (block : Block) (old mid new : State) → 12 ≤ block.total → Drops (block.total - 4) old mid → mid.most ≡ old.most
+    → ReachesTo old.most (old.offset + (block.total - 4)) (read_to old) (read_to mid) → ReachesTo mid.most (mid.offset + 4) (read_to mid) (read_to new)
+    → ReachesTo old.most (old.offset + block.total) (read_to old) (read_to new)
+Reaches-trailer block old mid new least d same p q =
+    let end : mid.offset + 4 ≡ old.offset + block.total = omega (arith, d.offset) in
+    ReachesTo-later old.most (old.offset + (block.total - 4)) (old.offset + block.total) (read_to old) (read_to mid) (read_to new) (omega arith) p
+    (reached mid.most old.most (mid.offset + 4) (old.offset + block.total) (read_to mid) (read_to new) same end q)

@@ -3,15 +3,19 @@ use Rattle.std.proofs.Common.{◌≡◌, ℕ, ◌<◌, List, length, Option, Som
 use Rattle.cap_bytes.specs.Items.{stop_by}
 use Rattle.cap_bytes.specs.Parsing.{SeesStop, FailsBy}
 use Rattle.std.proofs.lemmas.List.{take_all}
-use Rattle.cap_bytes.specs.Window.{State, Goes, Shows, Passes, coming}
+use Rattle.cap_bytes.specs.Reach.{ReachesTo, Reaches, size_found}
+use Rattle.cap_bytes.specs.Window.{State, Goes, Shows, Passes, coming, position, read_to}
 use Rattle.cap_bytes.proofs.Parsing.{Goes-trans, some_left, SeesStop-fault, FailsBy-later}
 use Rattle.cap_bytes.specs.declared.faults.Fault.{Fault}
 use Rattle.cap_bytes.specs.declared.faults.Rule.{Rule}
 use Rattle.cap_bytes.specs.declared.faults.Tail.{Tail}
 use Rattle.cap_bytes.specs.declared.numbers.Order.{Order}
+use Rattle.cap_bytes.specs.declared.stops.Stop.{Stop}
+use Rattle.cap_bytes.proofs.Reach.{ReachesTo-looks}
+use Rattle.cap_blocks.specs.Reader.{block_size}
 use Rattle.cap_blocks.specs.Grammar.{is_known}
 use Rattle.cap_blocks.specs.Parsing.{ParsesHeader, IsHeader, Stays, SeesHeader, SeesBody, SeesBlock, Leaves, LooksAtBody}
-use Rattle.cap_blocks.specs.Split.{order_at, header_fault, body_fault, block_fault, block_at, LacksRoom}
+use Rattle.cap_blocks.specs.Split.{order_at, header_fault, body_fault, block_fault, block_at, wanted_at, LacksRoom}
 use Rattle.cap_blocks.specs.declared.blocks.Block.{Block}
 use Rattle.cap_blocks.proofs.Behind.{SeesBody-known}
 use Rattle.cap_blocks.proofs.Faults.{block_fault-body, block_at-append, header_fault-append, stop_at-whole}
@@ -71,6 +75,22 @@ FailsBy-body section block a b c fault f k h =
       ap (λ (w : Block). is_known w.kind) (sym (f.block_is t)) ∙ lacks.0,
       subst (λ (w : Block). a.room < w.total) (f.block_is t) (omega (arith, k.room, lacks.1)),
     )) h
+
+-- how far both read
+pub Reaches-both : (section : Option Order) (block : Block) (a b c : State) → SeesHeader section block a b → Stays a b
+    → ReachesTo a.most (a.offset + 12) (read_to a) (read_to b) → ReachesTo b.most (b.offset + block.total) (read_to b) (read_to c)
+    → ReachesTo a.most (a.offset + block.total) (read_to a) (read_to c)
+Reaches-both section block a b c f k p q = ReachesTo-looks 12 block.total a b c f.header.least k.most f.shows.offset p q
+
+-- and a read that failed
+pub Reaches-header : (section : Option Order) (a : State) (f : Fault) (read : ℕ) → Reaches (λ (n : ℕ). Some n) 12 (position a) (Err f) read
+    → Reaches (size_found {E = Stop} block_size) (wanted_at section a.offset (coming a)) (position a) (Err f) read
+Reaches-header section a f read h = grind arith
+
+pub Reaches-body : (section : Option Order) (block : Block) (a b : State) (f : Fault) (read : ℕ) → SeesHeader section block a b → Stays a b
+    → Reaches (λ (n : ℕ). Some n) block.total (position b) (Err f) read
+    → Reaches (size_found {E = Stop} block_size) (wanted_at section a.offset (coming a)) (position a) (Err f) read
+Reaches-body section block a b f read s k h = grind arith
 
 -- a block of a known kind is shown already
 pub SeesBlock-shown : (section : Option Order) (tail : Tail) (block : Block) (u : State) → u.broken ≡ None → 12 ≤ length u.shown

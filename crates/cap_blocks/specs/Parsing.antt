@@ -1,7 +1,7 @@
 -- What is seen at the front of the bytes that a window shows.
 use Rattle.std.specs.Prelude.{◌≡◌, ◌&&◌, not, true, false, Bool, ◌≤◌, ◌<◌, ◌+◌, ◌^◌, ℕ, List, length, drop, IsTrue, Option, Some, None, is_some, IsSome, Result, Ok, Err, ⊤}
 use Rattle.cap_bytes.specs.Parsing.{FailsBy, LooksFor}
-use Rattle.cap_bytes.specs.Window.{State, Goes, Shows, coming}
+use Rattle.cap_bytes.specs.Window.{State, Goes, Shows, coming, read_to}
 use Rattle.cap_bytes.specs.declared.faults.Fault.{Fault}
 use Rattle.cap_bytes.specs.declared.faults.Rule.{Rule}
 use Rattle.cap_bytes.specs.declared.faults.Tail.{Tail}
@@ -42,6 +42,7 @@ pub record Stays (old new : State) : Type 0 where
   pub offset : old.offset ≤ new.offset
   pub limit : old.offset ≤ 2 ^ 40 → new.offset ≤ 2 ^ 40
   pub told : IsTrue old.told → IsTrue new.told
+  pub most : new.most ≡ old.most
   pub can_fail : IsTrue new.can_fail → IsTrue old.can_fail
   pub room : old.room ≤ new.room
   pub held : new.held ≤ 524288
@@ -78,10 +79,11 @@ LooksAtBody block old (Ok fault) new = SeesBody block fault old new
 LooksAtBody block old (Err fault) new = FailsBy 524288 ((is_known block.kind ≡ true) × (old.room < block.total)) old fault new
 
 -- the same of a block that is skipped, if no fault but that of a read comes, which may fail after the block's
--- beginning
+-- beginning, before all of it came
 abbrev pub SkipsBody : Block → State → Result (Option Rule) Fault → State → Type 0
 SkipsBody block old (Ok fault) new = SeesBody block fault old new
-SkipsBody block old (Err fault) new = IsSome new.broken × IsTrue new.failed × IsTrue old.can_fail
+SkipsBody block old (Err fault) new =
+    IsSome new.broken × IsTrue new.failed × IsTrue old.can_fail × (read_to new < old.offset + block.total)
 
 -- A block is there.
 pub record SeesBlock (section : Option Order) (tail : Tail) (block : Block) (old new : State) : Type 0 where

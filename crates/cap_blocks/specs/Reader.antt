@@ -1,7 +1,8 @@
 -- What a reader of a pcapng file is at one moment, and what its calls do.
-use Rattle.std.specs.Prelude.{◌≡◌, ◌+◌, ◌^◌, ◌≤◌, ℕ, List, ◌∷◌, length, Bool, true, false, IsTrue, Option, Some, None, is_some, IfSome, Result}
+use Rattle.std.specs.Prelude.{◌≡◌, ◌+◌, ◌^◌, ◌≤◌, ℕ, List, ◌∷◌, length, Bool, true, false, IsTrue, Option, Some, None, option_map, is_some, IfSome, Result}
 use Rattle.cap_bytes.specs.Items.{Item, given, items_by_stop}
 use Rattle.cap_bytes.specs.Items as items
+use Rattle.cap_bytes.specs.Reach.{Reaches}
 use Rattle.cap_bytes.specs.Reader.{State, Gives}
 use Rattle.cap_bytes.specs.Reader as readers
 use Rattle.cap_bytes.specs.Window.{State as WindowState}
@@ -10,12 +11,16 @@ use Rattle.cap_bytes.specs.declared.faults.Tail.{Tail}
 use Rattle.cap_bytes.specs.declared.numbers.Order.{Order}
 use Rattle.cap_bytes.specs.declared.stops.Stop.{Stop}
 use Rattle.cap_blocks.specs.Grammar.{is_known, is_total}
-use Rattle.cap_blocks.specs.Split.{block_at, block_fault, body_in, stop_at, LacksRoom, items_from}
+use Rattle.cap_blocks.specs.Split.{block_at, block_fault, body_in, stop_at, wanted_at, LacksRoom, items_from}
 use Rattle.cap_blocks.specs.declared.blocks.Block.{Block}
 
 -- the items to come
 abbrev pub items_of : State Order → List (Item Block)
 items_of reader = items_by_stop reader.stop (items_from reader.known reader.tail reader.file reader.offset reader.coming)
+
+-- how many bytes a block takes
+abbrev pub block_size : Block → ℕ
+block_size block = block.total
 
 -- A block is given, whose bytes stand at the front of the bytes to come. Its body is lent if its kind
 -- is known.
@@ -35,6 +40,11 @@ abbrev pub GivesNext : State Order → Result (Option Block) Fault → State Ord
 GivesNext old result new =
     readers.GivesNext (λ block. GivesBlock old block new) (is_some old.known) (block_fault old.known old.offset old.coming)
     524288 (LacksRoom old.known old.offset old.coming old.room) old result new
+
+-- how far it reads
+abbrev pub ReachesNext : State Order → Result (Option Block) Fault → State Order → Type 0
+ReachesNext old result new =
+    Reaches (option_map block_size) (wanted_at old.known old.offset old.coming) (readers.position old) result new.read
 
 -- what it does to the items to come
 abbrev pub TakesItem : State Order → Result (Option Block) Fault → State Order → Type 0

@@ -1,5 +1,5 @@
 -- How a file splits into its blocks and a rest, and what the rest is refused by.
-use Rattle.std.specs.Prelude.{◌≡◌, ◌≢◌, ◌==◌, ◌&&◌, ◌⊎◌, not, ℕ, ◌+◌, ◌-◌, ◌^◌, ◌≤◌, ◌<◌, nat_lt, if◌then◌else◌, Bool, true, List, [], ◌∷◌, length, take, drop, slice_index, Option, Some, None, is_some}
+use Rattle.std.specs.Prelude.{◌≡◌, ◌≢◌, ◌==◌, ◌&&◌, ◌⊎◌, not, ℕ, ◌+◌, ◌-◌, ◌^◌, ◌≤◌, ◌<◌, nat_lt, max, if◌then◌else◌, Bool, true, List, [], ◌∷◌, length, take, drop, slice_index, Option, Some, None, is_some}
 use Rattle.cap_bytes.specs.Items.{stop_where, Item, Format, items_in}
 use Rattle.cap_bytes.specs.Number.{number}
 use Rattle.cap_bytes.specs.declared.faults.Rule.{Rule}
@@ -86,6 +86,10 @@ block_at section offset bytes =
       total = total_at (order_at section bytes) bytes;
       order = order_at section bytes;
     }
+
+-- how many bytes are wanted of the block at the front: all of it, once its first 12 tell how many that are
+abbrev pub wanted_at : Option Order → ℕ → List ℕ → ℕ
+wanted_at section offset bytes = max 12 (block_at section offset bytes).total
 
 -- There is less room than a look for the block at the front needs: that is 12 bytes, and all of a block of a known kind.
 abbrev pub LacksRoom : Option Order → ℕ → List ℕ → ℕ → Type 0

@@ -1,5 +1,7 @@
 //! The body of a block, and its total length again after it (draft-ietf-opsawg-pcapng, 3.1 and 4.1).
-ghost use Rattle.std.specs.Prelude.{◌≡◌, ◌≤◌, None, true, false, length};
+ghost use Rattle.std.specs.Prelude.{◌≡◌, ◌≤◌, ◌+◌, None, Some, OnOk, true, false, length};
+ghost use Rattle.cap_bytes.specs.Reach.{Reaches, ReachesTo};
+ghost use Rattle.cap_bytes.specs.Window.{position, read_to};
 ghost use Rattle.cap_blocks.specs.Grammar.{is_known};
 ghost use Rattle.cap_blocks.specs.Parsing.{IsHeader, LooksAtBody, SkipsBody, Stays};
 ghost use Rattle.cap_blocks.specs.Split.{body_fault};
@@ -36,6 +38,7 @@ fn look_at_known<R: Source>(window: &mut Window<R>, block: Block) -> Result<Opti
     requires header { IsHeader block window.old.offset window.old.shown }
     requires known { is_known block.kind ≡ true }
     ensures answer { LooksAtBody block window.old result window.new }
+    ensures reaches { Reaches (λ _. Some block.total) block.total (position window.old) result (read_to window.new) }
     ensures stays { Stays window.old window.new }
 {
     if !window.need(block.total as usize)? {
@@ -51,6 +54,8 @@ fn skip_body<R: Source>(window: &mut Window<R>, block: Block) -> Result<Option<R
     requires whole { window.old.broken ≡ None }
     requires unknown { is_known block.kind ≡ false }
     ensures answer { SkipsBody block window.old result window.new }
+    ensures reaches { OnOk result (ReachesTo window.old.most (window.old.offset + block.total)
+        (read_to window.old) (read_to window.new)) }
     ensures stays { Stays window.old window.new }
 {
     if !window.skip(u64::from(block.total) - TRAILER_SIZE as u64)? {
@@ -73,6 +78,7 @@ fn look_at_skipped<R: Source>(window: &mut Window<R>, block: Block) -> Result<Op
     requires whole { window.old.broken ≡ None }
     requires unknown { is_known block.kind ≡ false }
     ensures answer { LooksAtBody block window.old result window.new }
+    ensures reaches { Reaches (λ _. Some block.total) block.total (position window.old) result (read_to window.new) }
     ensures stays { Stays window.old window.new }
 {
     match skip_body(window, block) {
@@ -95,6 +101,7 @@ pub fn look_at_body<R: Source>(window: &mut Window<R>, block: Block) -> Result<O
     requires room { 12 ≤ window.old.room }
     requires whole { window.old.broken ≡ None }
     ensures answer { LooksAtBody block window.old result window.new }
+    ensures reaches { Reaches (λ _. Some block.total) block.total (position window.old) result (read_to window.new) }
     ensures stays { Stays window.old window.new }
 {
     if is_known(block.kind) {

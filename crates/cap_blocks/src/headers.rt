@@ -1,5 +1,7 @@
 //! The header of a block: its first 12 bytes (draft-ietf-opsawg-pcapng, 3.1 and 4.1).
 ghost use Rattle.std.specs.Prelude.{◌≡◌, ◌+◌, ◌≤◌, ◌^◌, ◌&&◌, ◌==◌, None, Some, Ok, IfSome, is_some, length};
+ghost use Rattle.cap_bytes.specs.Reach.{Reaches};
+ghost use Rattle.cap_bytes.specs.Window.{position, read_to};
 ghost use Rattle.cap_blocks.specs.Grammar.{enhanced_kind};
 ghost use Rattle.cap_blocks.specs.Parsing.{FindsOwnOrder, FindsOrder, ParsesHeader, LooksAtHeader, Stays};
 ghost use Rattle.cap_blocks.specs.Split.{is_section, is_ordered, first_fault};
@@ -143,6 +145,7 @@ pub fn look_at_header<R: Source>(
     tail: Tail,
 ) -> Result<Result<Block, Stop>, Fault>
     ensures answer { LooksAtHeader section tail window.old result window.new }
+    ensures reaches { Reaches (λ _. Some 12) 12 (position window.old) result (read_to window.new) }
     ensures stays { Stays window.old window.new }
 {
     let file = window.file();

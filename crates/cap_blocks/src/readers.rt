@@ -1,10 +1,12 @@
 //! A reader of pcapng files.
 ghost use Rattle.std.specs.Prelude.{◌≡◌, ◌↔◌, ◌≤◌, ◌+◌, ◌^◌, length, IsTrue, IsSome, IsNone, IfSome, OnSome, Some, Ok};
+ghost use Rattle.cap_bytes.specs.Reach.{Reaches, size_found};
 ghost use Rattle.cap_bytes.specs.Reader.{opened, Keeps, HasWindow};
-ghost use Rattle.cap_blocks.specs.Reader.{GivesNext, TakesItem, size_of, shown_size};
+ghost use Rattle.cap_blocks.specs.Reader.{GivesNext, ReachesNext, TakesItem, block_size, size_of, shown_size};
 ghost use Rattle.cap_blocks.specs.Grammar.{enhanced_kind, is_known};
 ghost use Rattle.cap_blocks.specs.Parsing.{LooksForBlock, SeesBlock, Stays};
-ghost use Rattle.cap_bytes.specs.Window.{Passes};
+ghost use Rattle.cap_blocks.specs.Split.{wanted_at};
+ghost use Rattle.cap_bytes.specs.Window.{Passes, coming, position, read_to};
 ghost use Rattle.cap_bytes.specs.declared.faults.Tail.{Tail};
 
 use crate::blocks::{Block, is_known};
@@ -49,6 +51,8 @@ fn look_for_block<R: Source>(
     tail: Tail,
 ) -> Result<Result<Block, Stop>, Fault>
     ensures answer { LooksForBlock section tail window.old result window.new }
+    ensures reaches { Reaches (size_found block_size) (wanted_at section window.old.offset (coming window.old))
+        (position window.old) result (read_to window.new) }
     ensures stays { Stays window.old window.new }
 {
     let file = window.file();
@@ -146,6 +150,7 @@ impl<R: Source> BlockReader<R> {
     pub fn take_packet(&mut self) -> Option<Block>
         ensures kind { IfSome result (λ block. block.kind ≡ enhanced_kind) }
         ensures answer { IfSome result (λ block. GivesNext self.old (Ok (Some block)) self.new) }
+        ensures reaches { IfSome result (λ block. ReachesNext self.old (Ok (Some block)) self.new) }
         ensures keeps { Keeps self.old self.new }
         ensures items { IsTrue self.old.told → IfSome result (λ block. TakesItem self.old (Ok (Some block)) self.new) }
         ensures none { IsNone result → self.new ≡ self.old }
@@ -158,6 +163,7 @@ impl<R: Source> BlockReader<R> {
     fn read_packet(&mut self) -> Option<Block>
         ensures kind { IfSome result (λ block. block.kind ≡ enhanced_kind) }
         ensures answer { IfSome result (λ block. GivesNext self.old (Ok (Some block)) self.new) }
+        ensures reaches { IfSome result (λ block. ReachesNext self.old (Ok (Some block)) self.new) }
         ensures keeps { Keeps self.old self.new }
         ensures none { IsNone result → self.new ≡ self.old }
     {
@@ -177,6 +183,7 @@ impl<R: Source> BlockReader<R> {
     // Looks for the next block, after the one that was given last.
     fn read_block(&mut self) -> Result<Option<Block>, Fault>
         ensures answer { GivesNext self.old result self.new }
+        ensures reaches { ReachesNext self.old result self.new }
         ensures keeps { Keeps self.old self.new }
     {
         if let Some(stop) = self.stop {
@@ -204,6 +211,7 @@ impl<R: Source> BlockReader<R> {
     /// is to come. A read that fails is told with the offset at which the block begins, and comes again.
     pub fn next_block(&mut self) -> Result<Option<Block>, Fault>
         ensures answer { GivesNext self.old result self.new }
+        ensures reaches { ReachesNext self.old result self.new }
         ensures keeps { Keeps self.old self.new }
         ensures items { IsTrue self.old.told → TakesItem self.old result self.new }
     {

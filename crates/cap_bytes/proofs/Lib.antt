@@ -3,6 +3,7 @@ pub mod Spelling
 pub mod Items
 pub mod Lists
 pub mod Putting
+pub mod Reach
 pub mod Readers
 pub mod Reading
 pub mod Parsing

@@ -1,21 +1,25 @@
 -- What a look at the window makes of a reader, and what that does to the items to come.
-use Rattle.std.proofs.Common.{◌≡◌, ℕ, ◌+◌, ◌≤◌, List, [], ◌∷◌, length, drop, Option, Some, None, Bool, IsTrue, Result, Err, arith}
+use Rattle.std.proofs.Common.{◌≡◌, ℕ, ◌+◌, ◌≤◌, List, [], ◌∷◌, length, drop, Option, Some, None, option_map, Bool, IsTrue, Result, Err, length-drop, arith}
 use Rattle.cap_bytes.specs.Items.{stop_where, answer_of, Item, stopped, items_by_stop, TakesItem}
-use Rattle.cap_bytes.specs.Reader.{State, Keeps, Waits, Gives, GivesStop, GivesNext, state_of}
+use Rattle.cap_bytes.specs.Reach.{Position, ReachesTo, Reaches}
+use Rattle.cap_bytes.specs.Reader.{State, Keeps, Waits, Gives, GivesStop, GivesNext, state_of, position}
 use Rattle.cap_bytes.specs.Parsing.{FailsBy, SeesStop}
-use Rattle.cap_bytes.specs.Window.{State as WindowState, Passes, coming}
+use Rattle.cap_bytes.specs.Window.{State as WindowState, Passes, coming, read_to}
 use Rattle.cap_bytes.specs.Window as windows
 use Rattle.cap_bytes.specs.declared.faults.Fault.{Fault}
 use Rattle.cap_bytes.specs.declared.faults.Rule.{Rule}
 use Rattle.cap_bytes.specs.declared.faults.Tail.{Tail}
 use Rattle.cap_bytes.specs.declared.stops.Stop.{Stop}
 use Rattle.cap_bytes.proofs.Parsing.{coming-passed}
+use Rattle.cap_bytes.proofs.Reach.{ReachesTo-here}
 
 -- A window stands where a reader does, of which nothing has ended the pieces.
 pub record Stands {K : Type 0} (old : State K) (u : WindowState) : Type 0 where
   pub free : old.stop ≡ None
   pub file : u.file ≡ old.file
   pub offset : u.offset ≡ old.offset
+  pub read : read_to u ≡ old.read
+  pub most : u.most ≡ old.most
   pub told : IsTrue old.told → IsTrue u.told
   pub coming_same : coming u ≡ old.coming
   pub broken : u.broken ≡ old.broken
@@ -26,7 +30,7 @@ pub record Stands {K : Type 0} (old : State K) (u : WindowState) : Type 0 where
 -- it does once it has passed what it shows of the piece that was given last
 pub Stands-passed : {K : Type 0} (w u : WindowState) (tail : Tail) (known : Option K) (size : ℕ) (lent : Option (List ℕ)) (stop : Option Stop)
     → stop ≡ None → size ≤ length w.shown → Passes size w u → Stands (state_of w tail known size lent stop) u
-Stands-passed w u tail known size lent stop free within p = grind (arith, coming-passed)
+Stands-passed w u tail known size lent stop free within p = grind (arith, coming-passed, length-drop)
 
 pub Stands-here : {K : Type 0} (w : WindowState) (tail : Tail) (known : Option K) → Stands (state_of w tail known 0 None None) w
 Stands-here w tail known = grind arith
@@ -36,6 +40,19 @@ module _ {K : Type 0} (old : State K) (u v : WindowState) (at : Stands old u) wh
   pub Gives-seen : (known : Option K) (size left : ℕ) (lent : Option (List ℕ)) → windows.Goes u v → v.offset + left ≡ u.offset + size
       → (IsTrue u.told → drop left (coming v) ≡ drop size (coming u)) → Gives known size old (state_of v old.tail known left lent old.stop)
   Gives-seen known size left lent g next rest = grind arith
+
+  -- how far that was read for a piece that is given
+  pub Reaches-given : (n : ℕ) → ReachesTo u.most (u.offset + n) (read_to u) (read_to v) → ReachesTo old.most (old.offset + n) old.read (read_to v)
+  Reaches-given n h = grind arith
+
+  pub Reaches-here : (n : ℕ) → ReachesTo old.most (old.offset + n) old.read (read_to u)
+  Reaches-here n = rw at.read (ReachesTo-here old.most (old.offset + n) old.read)
+
+  -- and before a read failed
+  pub Reaches-failed : {A B : Type 0} (size : A → Option ℕ) (found : B → Option ℕ) (wanted : ℕ → List ℕ → ℕ) (f : Fault)
+      → Reaches found (wanted u.offset (coming u)) (windows.position u) (Err f) (read_to v)
+      → Reaches size (wanted old.offset old.coming) (position old) (Err f) (read_to v)
+  Reaches-failed size found wanted f h = grind arith
 
   module _ {P : Type 0} (Comes : P → Type 0) (inside : Bool) (fault : ℕ → List ℕ → Option Rule) (size : ℕ) (lacks : ℕ → List ℕ → ℕ → Type 0) where
     -- the same by what is answered
@@ -49,6 +66,10 @@ module _ {K : Type 0} (old : State K) (u v : WindowState) (at : Stands old u) wh
         → GivesNext Comes inside (fault old.offset old.coming) size (lacks old.offset old.coming old.room) old (Err f)
         (state_of v old.tail old.known 0 None old.stop)
     GivesNext-failed f h = grind arith
+
+-- What ended the pieces is answered with no more read.
+pub Reaches-stopped : {P : Type 0} (size : P → ℕ) (wanted read : ℕ) (at : Position) (end : Stop) → Reaches (option_map size) wanted at (answer_of end) read
+Reaches-stopped size wanted read at end = grind arith
 
 -- What ended the pieces is the one item to come, now and again.
 module _ {K P : Type 0} (items : Option K → Tail → ℕ → ℕ → List ℕ → List (Item P)) where

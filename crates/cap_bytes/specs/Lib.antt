@@ -4,6 +4,7 @@ pub mod Device
 pub mod SourceState
 pub mod Items
 pub mod Printing
+pub mod Reach
 pub mod Reader
 pub mod Rules
 pub mod Parsing

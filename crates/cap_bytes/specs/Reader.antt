@@ -1,5 +1,6 @@
 -- What a reader that gives a file piece by piece is at one moment, and what its calls do.
 use Rattle.std.specs.Prelude.{◌≡◌, ◌+◌, ◌^◌, ◌≤◌, ◌<◌, ℕ, List, drop, Bool, IsTrue, Option, Some, None, IfSome, IfNone, IsSome, Result, Ok, Err}
+use Rattle.cap_bytes.specs.Reach.{Position}
 use Rattle.cap_bytes.specs.Window.{State as WindowState}
 use Rattle.cap_bytes.specs.Window as windows
 use Rattle.cap_bytes.specs.Items.{stop_where, IsStopAt, IsEnd}
@@ -12,7 +13,8 @@ use Rattle.cap_bytes.specs.declared.stops.Stop.TheVariants as stops
 
 -- A reader of the file of that number, which gives its pieces: records, or blocks. `known` is what is known of the
 -- file, once that was read: a pcap file's header, or the order of a pcapng file's section. The bytes to come, if
--- the device tells them, begin at `offset`: after the pieces that were given. `lent` is what is shown of the piece
+-- the device tells them, begin at `offset`: after the pieces that were given. The file was read up to `read`, and the
+-- device gives `most` bytes at a time at most, if it tells that. `lent` is what is shown of the piece
 -- that was given last, until the next is asked for. `stop` is what ended the pieces, once something has. `broken` is
 -- where the piece began at which a read failed, once one has. `held` bytes are kept in the window, which has room
 -- for `room`.
@@ -21,6 +23,8 @@ pub record State (K : Type 0) : Type 0 where
   pub tail : Tail
   pub known : Option K
   pub offset : ℕ
+  pub read : ℕ
+  pub most : Option ℕ
   pub told : Bool
   pub coming : List ℕ
   pub lent : Option (List ℕ)
@@ -39,6 +43,8 @@ opened window tail =
       tail = tail;
       known = None;
       offset = window.offset;
+      read = windows.read_to window;
+      most = window.most;
       told = window.told;
       coming = windows.coming window;
       lent = None;
@@ -50,6 +56,17 @@ opened window tail =
       room = window.room;
     }
 
+-- how far the file was read for the next piece
+abbrev pub position : {K : Type 0} → State K → Position
+position reader =
+    record {
+      offset = reader.offset;
+      read = reader.read;
+      most = reader.most;
+      told = reader.told;
+      broken = reader.broken;
+    }
+
 -- what every answer of every call keeps
 pub record Keeps {K : Type 0} (old new : State K) : Type 0 where
   pub file : new.file ≡ old.file
@@ -58,6 +75,7 @@ pub record Keeps {K : Type 0} (old new : State K) : Type 0 where
   pub stop : IfSome old.stop (λ stop. new.stop ≡ Some stop)
   pub offset : old.offset ≤ new.offset
   pub limit : new.offset ≤ 2 ^ 40
+  pub most : new.most ≡ old.most
   pub told : IsTrue old.told → IsTrue new.told
   pub can_fail : IsTrue new.can_fail → IsTrue old.can_fail
   pub room : old.room ≤ new.room
@@ -127,6 +145,8 @@ GivesNext Comes inside fault size Lacks old (Err Write) new = ⊥
 pub record HasWindow {K : Type 0} (reader : State K) (window : WindowState) : Type 0 where
   pub file : window.file ≡ reader.file
   pub offset : window.offset ≤ reader.offset
+  pub read : windows.read_to window ≡ reader.read
+  pub most : window.most ≡ reader.most
   pub told : window.told ≡ reader.told
   pub broken : window.broken ≡ reader.broken
   pub failed : window.failed ≡ reader.failed
@@ -143,6 +163,8 @@ state_of window tail known size lent stop =
       tail = tail;
       known = known;
       offset = window.offset + size;
+      read = windows.read_to window;
+      most = window.most;
       told = window.told;
       coming = drop size (windows.coming window);
       lent = lent;

@@ -51,7 +51,7 @@ DiscardsBy n Whole left old new rest =
 DiscardsBy n Ended left old new rest =
     (0 < left) × (new.failed ≡ old.failed) × (rest ≡ []) × (IsTrue old.told → n ≡ left + length old.coming)
     × (IsTrue old.told → new.coming ≡ [])
-DiscardsBy n Failed left old new rest = (0 < left) × IsTrue new.failed × IsTrue old.can_fail
+DiscardsBy n Failed left old new rest = (0 < left) × IsTrue new.failed × IsTrue old.can_fail × (rest ≡ [])
 
 abbrev pub Discards : ℕ → Discarded → SourceState → SourceState → List ℕ → Type 0
 Discards n result old new rest = DiscardsBy n result.filling result.left old new rest

@@ -1,5 +1,6 @@
 -- What a window over a reader is at one moment, and what its calls do.
 use Rattle.std.specs.Prelude.{◌≡◌, ◌+◌, ◌^◌, ◌≤◌, ◌<◌, ℕ, List, [], ◌++◌, length, take, drop, Bool, true, false, IsTrue, Option, Some, None, IfSome, IfNone, IsSome, Result, Ok, Err}
+use Rattle.cap_bytes.specs.Reach.{Position}
 use Rattle.cap_bytes.specs.SourceState.{SourceState}
 use Rattle.cap_bytes.specs.declared.faults.Fault.{Fault}
 use Rattle.cap_bytes.specs.declared.faults.Fault.TheVariants.{Refused, Read, Write, Memory}
@@ -23,6 +24,21 @@ pub record State : Type 0 where
 -- the bytes to come
 abbrev pub coming : State → List ℕ
 coming window = window.shown ++ window.unread
+
+-- up to where the input was read
+abbrev pub read_to : State → ℕ
+read_to window = window.offset + length window.shown
+
+-- how far it was read for the piece that begins with the bytes to come
+abbrev pub position : State → Position
+position window =
+    record {
+      offset = window.offset;
+      read = read_to window;
+      most = window.most;
+      told = window.told;
+      broken = window.broken;
+    }
 
 -- a new window, of which nothing has been read
 abbrev pub opened : ℕ → SourceState → State
@@ -121,7 +137,7 @@ pub record DropsAll (n : ℕ) (old new : State) : Type 0 where
 abbrev pub Skips : ℕ → State → Result Bool Fault → State → Type 0
 Skips n old (Ok true) new = Drops n old new
 Skips n old (Ok false) new = DropsAll n old new
-Skips n old (Err (Read file offset)) new = Breaks old file offset new × (new.offset ≤ old.offset + n) × IfNone old.broken (new.offset < old.offset + n)
+Skips n old (Err (Read file offset)) new = Breaks old file offset new × (new.offset ≤ old.offset + n) × IfNone old.broken (read_to new < old.offset + n)
 Skips n old (Err Memory) new = Shows old new × (old.room < 12)
 Skips n old (Err Write) new = ⊥
 Skips n old (Err (Refused refusal)) new = ⊥
@@ -130,7 +146,9 @@ Skips n old (Err (Refused refusal)) new = ⊥
 pub record FailsAt (offset : ℕ) (old new : State) : Type 0 where
   pub file : new.file ≡ old.file
   pub offset_same : new.offset ≡ old.offset
+  pub shown : new.shown ≡ old.shown
   pub told : new.told ≡ old.told
+  pub most : new.most ≡ old.most
   pub broken : new.broken ≡ Some offset
   pub failed : new.failed ≡ old.failed
   pub can_fail : IsTrue new.can_fail → IsTrue old.can_fail

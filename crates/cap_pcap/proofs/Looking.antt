@@ -5,13 +5,17 @@ use Rattle.std.proofs.Common.{◌≡◌, ℕ, ◌+◌, ◌≤◌, ◌<◌, ◌^�
 use Rattle.std.proofs.lemmas.List.{nil_from_length, take_all}
 use Rattle.cap_bytes.specs.Items.{stop_by}
 use Rattle.cap_bytes.specs.Parsing.{SeesStop, FailsBy}
-use Rattle.cap_bytes.specs.Window.{State, Shows, Needs, Keeps, Passes, coming}
+use Rattle.cap_bytes.specs.Reach.{ReachesTo, Reaches, size_found}
+use Rattle.cap_bytes.specs.Window.{State, Shows, Needs, Keeps, Passes, coming, position, read_to}
 use Rattle.cap_bytes.specs.declared.faults.Fault.{Fault}
 use Rattle.cap_bytes.specs.declared.faults.Rule.{Rule}
 use Rattle.cap_bytes.specs.declared.faults.Rule.TheVariants.{Cut}
 use Rattle.cap_bytes.specs.declared.faults.Tail.{Tail}
+use Rattle.cap_bytes.specs.declared.stops.Stop.{Stop}
 use Rattle.cap_bytes.specs.declared.stops.Stop.TheVariants as stops
 use Rattle.cap_bytes.proofs.Parsing.{all_shown, longer_shown, Shows-trans, FailsBy-need, FailsBy-later, some_left, SeesStop-fault, SeesStop-end}
+use Rattle.cap_bytes.proofs.Reach.{Reaches-need, Reaches-later, ReachesTo-looks}
+use Rattle.cap_pcap.specs.Reader.{record_size}
 use Rattle.cap_pcap.specs.Parsing.{SeesHeader, SeesRecord, Measures}
 use Rattle.cap_pcap.specs.Split.{header_fault, header_at, captured_at, record_fault, record_at, stop_at}
 use Rattle.cap_pcap.specs.declared.headers.PcapHeader.{PcapHeader}
@@ -62,6 +66,20 @@ module _ (header : PcapHeader) (tail : Tail) (old : State) where
     pub FailsBy-second : (f : Fault) → Needs size b (Err f) c
         → FailsBy 262160 (old.room < 16 + captured_at header.order (coming old)) old f c
     FailsBy-second f n = grind (arith, common_steps, nat_tests, FailsBy-later, captured_at-append, FailsBy-need)
+
+    -- what is read then
+    pub Reaches-second : (f : Fault) → Needs size b (Err f) c
+        → Reaches (size_found {E = Stop} record_size) (16 + captured_at header.order (coming old)) (position old) (Err f) (read_to c)
+    Reaches-second f n = grind (arith, common_steps, Reaches-later, captured_at-append, Reaches-need)
+
+    pub ReachesTo-second : Needs size b (Ok true) c → ReachesTo old.most (old.offset + 16) (read_to old) (read_to b)
+        → ReachesTo b.most (b.offset + size) (read_to b) (read_to c)
+        → ReachesTo old.most (old.offset + record_size (record_at header.order header.unit old.offset c.shown)) (read_to old) (read_to c)
+    unfolding record_at
+    ReachesTo-second n first later =
+        let same = captured_at-front header.order b.shown c.shown head n.0.front in
+        rw (same, ← is)
+        (ReachesTo-looks 16 size old b c (omega (arith, is)) k.most p.offset first later)
 
     pub SeesStop-second : b.offset + size ≤ 2 ^ 40 → Needs size b (Ok false) c
         → SeesStop true (record_fault header.order old.offset (coming old)) tail (stop_by true tail old.file old.offset Cut) old c

@@ -3,15 +3,17 @@ use Rattle.std.proofs.Common.{◌≡◌, ℕ, ◌+◌, ◌≤◌, List, [], ◌�
 use Rattle.std.proofs.lemmas.List.{take-append-le}
 use Rattle.cap_bytes.specs.Items.{stop_where, given, stopped, items_by_stop}
 use Rattle.cap_bytes.specs.Reader.{State, Keeps}
-use Rattle.cap_bytes.specs.Window.{State as WindowState, Passes, coming}
+use Rattle.cap_bytes.specs.Reach.{ReachesTo}
+use Rattle.cap_bytes.specs.Window.{State as WindowState, Passes, coming, read_to}
 use Rattle.cap_bytes.specs.declared.faults.Fault.{Fault}
 use Rattle.cap_bytes.specs.declared.faults.Rule.{Rule}
 use Rattle.cap_bytes.specs.declared.faults.Tail.{Tail}
 use Rattle.cap_bytes.specs.declared.stops.Stop.{Stop}
 use Rattle.cap_bytes.proofs.Readers.{Stands, Stands-here, Stands-passed, Gives-seen, waits_kept, stop_kept}
 use Rattle.cap_bytes.proofs.Readers as readers
+use Rattle.cap_bytes.proofs.Reach.{ReachesTo-passed}
 use Rattle.cap_bytes.proofs.Parsing.{coming-passed, from_none, from_some}
-use Rattle.cap_pcap.specs.Reader.{HasHeader, GivesHeader, packet_of, GivesRecord, GivesNext, KeepsItems, TakesItem, items_at, items_of, size_of, frame_of, state_of, IsInOrder, MayGoOn}
+use Rattle.cap_pcap.specs.Reader.{HasHeader, GivesHeader, packet_of, GivesRecord, GivesNext, KeepsItems, ReachesHeader, TakesItem, items_at, items_of, size_of, frame_of, state_of, IsInOrder, MayGoOn}
 use Rattle.cap_pcap.specs.Parsing.{SeesHeader, SeesRecord}
 use Rattle.cap_pcap.specs.Split.{header_fault, header_at, record_fault, stop_at, record_at, frame_at, file_items}
 use Rattle.cap_pcap.specs.declared.headers.PcapHeader.{PcapHeader}
@@ -44,6 +46,12 @@ HasHeader-seen w v u tail header s p =
         spelled = λ t. rw (s.header_is t) (SpellsHeader-at w.offset (coming w) (FitsHeader-from_none w.offset (coming w) (s.whole t)));
       };
     }
+
+-- how far that was read
+pub ReachesHeader-seen : (w v u : WindowState) (tail : Tail) (header : PcapHeader) → SeesHeader header w v → Passes 24 v u
+    → ReachesTo w.most (w.offset + 24) (read_to w) (read_to v)
+    → ReachesHeader (state_of w tail None None None) (Ok header) (state_of u tail (Some header) None None)
+ReachesHeader-seen w v u tail header s p h = rw add-zero (ReachesTo-passed w.most (w.offset + 24) 24 w v u s.size p h)
 
 -- a record is seen after the one that was given last
 pub GivesRecord-seen : (header : PcapHeader) (w u v : WindowState) (tail : Tail) (known : Option PcapHeader) (captured : Option ℕ) (stop : Option Stop) (r : Record)

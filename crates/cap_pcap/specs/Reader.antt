@@ -1,7 +1,8 @@
 -- What a reader of a pcap file is at one moment, and what its calls do.
-use Rattle.std.specs.Prelude.{◌≡◌, ◌+◌, ◌^◌, ◌≤◌, ◌<◌, ℕ, List, [], ◌∷◌, length, take, drop, true, false, IsTrue, Option, Some, None, IfSome, IfNone, IsSomeAnd, Result, Ok, Err, ⊤}
+use Rattle.std.specs.Prelude.{◌≡◌, ◌+◌, ◌^◌, ◌≤◌, ◌<◌, ℕ, List, [], ◌∷◌, length, take, drop, true, false, IsTrue, Option, Some, None, option_map, IfSome, IfNone, IsSomeAnd, Result, Ok, Err, ⊤}
 use Rattle.cap_bytes.specs.Items.{IsEnd, Item, given, stopped, items_by_stop}
 use Rattle.cap_bytes.specs.Items as items
+use Rattle.cap_bytes.specs.Reach.{Reaches}
 use Rattle.cap_bytes.specs.Reader.{State, Breaks, Waits, Gives, GivesStop}
 use Rattle.cap_bytes.specs.Reader as readers
 use Rattle.cap_bytes.specs.Window.{State as WindowState}
@@ -62,6 +63,18 @@ GivesHeader old (Err Write) new = ⊥
 -- the packet that a record with these captured bytes gives
 abbrev pub packet_of : Record → List ℕ → Packet
 packet_of r frame = record { units = r.units; original = r.original; frame = frame }
+
+-- how many bytes a record takes
+abbrev pub record_size : Record → ℕ
+record_size r = 16 + r.captured
+
+-- How far `header` reads, and `next_record`: the header takes 24 bytes, and a record 16 and those that were captured.
+abbrev pub ReachesHeader : State PcapHeader → Result PcapHeader Fault → State PcapHeader → Type 0
+ReachesHeader old result new = Reaches (λ _. Some 24) 24 (readers.position old) result new.read
+
+abbrev pub ReachesNext : PcapHeader → State PcapHeader → Result (Option Record) Fault → State PcapHeader → Type 0
+ReachesNext header old result new =
+    Reaches (option_map record_size) (16 + captured_at header.order old.coming) (readers.position old) result new.read
 
 -- A record is given, whose bytes stand at the front of the bytes to come, and its frame is lent.
 pub record GivesRecord (header : PcapHeader) (old : State PcapHeader) (r : Record) (new : State PcapHeader) : Type 0 where

@@ -1,7 +1,8 @@
 //! The header of a pcap file. draft-ietf-opsawg-pcap, 4.
-ghost use Rattle.std.specs.Prelude.{◌≡◌, true, false, ◌≤◌, ◌^◌, ◌||◌, length, IsTrue, is_err, IsOkUnless, IfSome, IfNone};
+ghost use Rattle.std.specs.Prelude.{◌≡◌, true, false, ◌≤◌, ◌^◌, ◌||◌, length, IsTrue, is_err, IsOkUnless, Some, IfSome, IfNone};
 ghost use Rattle.cap_bytes.specs.Device.{Puts, WriterKeeps, writer_of};
-ghost use Rattle.cap_bytes.specs.Window.{Keeps};
+ghost use Rattle.cap_bytes.specs.Reach.{Reaches};
+ghost use Rattle.cap_bytes.specs.Window.{Keeps, position, read_to};
 ghost use Rattle.cap_pcap.specs.Grammar.{magic_of, header_bytes};
 ghost use Rattle.cap_pcap.specs.Parsing.{HasMagic, ParsesHeader, LooksForHeader};
 ghost use Rattle.cap_pcap.specs.Split.{is_magic, unit_at};
@@ -97,6 +98,7 @@ pub fn look_for_header<R: Source>(
     window: &mut Window<R>,
 ) -> Result<Result<PcapHeader, Refusal>, Fault>
     ensures answer { LooksForHeader window.old result window.new }
+    ensures reaches { Reaches (λ _. Some 24) 24 (position window.old) result (read_to window.new) }
     ensures offset { window.new.offset ≡ window.old.offset }
     ensures keeps { Keeps window.old window.new }
 {

@@ -1,7 +1,7 @@
 //! A reader of pcap files.
 ghost use Rattle.std.specs.Prelude.{◌≡◌, ◌↔◌, ◌≤◌, ◌+◌, length, IsTrue, IsSome, IsNone, Some, Ok, IfSome, OnErr, is_some};
 ghost use Rattle.cap_bytes.specs.Reader.{opened, Keeps, HasWindow};
-ghost use Rattle.cap_pcap.specs.Reader.{items_of, GivesHeader, GivesNext, KeepsHeader, KeepsItems, TakesItem, RefusesAgain, size_of, place_after};
+ghost use Rattle.cap_pcap.specs.Reader.{items_of, GivesHeader, GivesNext, KeepsHeader, KeepsItems, ReachesHeader, ReachesNext, TakesItem, RefusesAgain, size_of, place_after};
 
 use crate::headers::{HEADER_SIZE, PcapHeader, look_for_header};
 use crate::records::{HEAD_SIZE, Record, look_for_record, take_shown};
@@ -74,6 +74,7 @@ impl<R: Source> PcapReader<R> {
     // Looks for the file's header, unless it is known.
     fn read_header(&mut self) -> Result<PcapHeader, Fault>
         ensures answer { GivesHeader self.old result self.new }
+        ensures reaches { ReachesHeader self.old result self.new }
         ensures header { KeepsHeader self.old self.new }
         ensures place { OnErr result (self.new.offset ≡ self.old.offset) }
         ensures keeps { Keeps self.old self.new }
@@ -109,6 +110,7 @@ impl<R: Source> PcapReader<R> {
     /// `Memory` leaves what is to come; `Read` comes again. draft-ietf-opsawg-pcap, 4.
     pub fn header(&mut self) -> Result<PcapHeader, Fault>
         ensures answer { GivesHeader self.old result self.new }
+        ensures reaches { ReachesHeader self.old result self.new }
         ensures header { KeepsHeader self.old self.new }
         ensures place { OnErr result (self.new.offset ≡ self.old.offset) }
         ensures keeps { Keeps self.old self.new }
@@ -124,6 +126,7 @@ impl<R: Source> PcapReader<R> {
     pub fn take_shown(&mut self, header: PcapHeader) -> Option<Record>
         requires { self.old.known ≡ Some header }
         ensures answer { IfSome result (λ r. GivesNext header self.old (Ok (Some r)) self.new) }
+        ensures reaches { IfSome result (λ r. ReachesNext header self.old (Ok (Some r)) self.new) }
         ensures place { IfSome result (λ r. self.new.offset ≡ place_after self.old.offset (Ok (Some r))) }
         ensures header { self.new.known ≡ self.old.known }
         ensures keeps { Keeps self.old self.new }
@@ -139,6 +142,7 @@ impl<R: Source> PcapReader<R> {
     fn read_shown(&mut self, header: PcapHeader) -> Option<Record>
         requires { self.old.known ≡ Some header }
         ensures answer { IfSome result (λ r. GivesNext header self.old (Ok (Some r)) self.new) }
+        ensures reaches { IfSome result (λ r. ReachesNext header self.old (Ok (Some r)) self.new) }
         ensures place { IfSome result (λ r. self.new.offset ≡ place_after self.old.offset (Ok (Some r))) }
         ensures header { self.new.known ≡ self.old.known }
         ensures keeps { Keeps self.old self.new }
@@ -160,6 +164,7 @@ impl<R: Source> PcapReader<R> {
     fn read_record(&mut self, header: PcapHeader) -> Result<Option<Record>, Fault>
         requires { self.old.known ≡ Some header }
         ensures answer { GivesNext header self.old result self.new }
+        ensures reaches { ReachesNext header self.old result self.new }
         ensures place { self.new.offset ≡ place_after self.old.offset result }
         ensures header { self.new.known ≡ self.old.known }
         ensures keeps { Keeps self.old self.new }
@@ -190,6 +195,8 @@ impl<R: Source> PcapReader<R> {
         requires { IsSome self.old.known }
         ensures answer { IfSome self.old.known
             (λ header. GivesNext header self.old result self.new) }
+        ensures reaches { IfSome self.old.known
+            (λ header. ReachesNext header self.old result self.new) }
         ensures place { self.new.offset ≡ place_after self.old.offset result }
         ensures header { self.new.known ≡ self.old.known }
         ensures keeps { Keeps self.old self.new }

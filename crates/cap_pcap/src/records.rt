@@ -1,11 +1,13 @@
 //! The records of a pcap file. draft-ietf-opsawg-pcap, 5.
 ghost use Rattle.std.specs.Prelude.{◌≡◌, ◌+◌, ◌≤◌, ◌^◌, length, take, IsTrue, IsNone, IfSome, OnSome, is_err, IsOkUnless};
 ghost use Rattle.cap_bytes.specs.Device.{Puts, WriterKeeps, writer_of};
-ghost use Rattle.cap_bytes.specs.Window.{Keeps, Passes};
+ghost use Rattle.cap_bytes.specs.Reach.{Reaches, size_found};
+ghost use Rattle.cap_bytes.specs.Window.{Keeps, Passes, coming, position, read_to};
 ghost use Rattle.cap_bytes.specs.declared.faults.Tail.{Tail};
 ghost use Rattle.cap_pcap.specs.Grammar.{head_bytes, record_bytes};
 ghost use Rattle.cap_pcap.specs.Parsing.{Measures, LooksForRecord, SeesRecord};
-ghost use Rattle.cap_pcap.specs.Split.{record_at};
+ghost use Rattle.cap_pcap.specs.Reader.{record_size};
+ghost use Rattle.cap_pcap.specs.Split.{record_at, captured_at};
 
 use crate::headers::PcapHeader;
 use cap_bytes::{
@@ -127,6 +129,8 @@ pub fn look_for_record<R: Source>(
     tail: Tail,
 ) -> Result<Result<Record, Stop>, Fault>
     ensures answer { LooksForRecord header tail window.old result window.new }
+    ensures reaches { Reaches (size_found record_size) (16 + captured_at header.order (coming window.old))
+        (position window.old) result (read_to window.new) }
     ensures offset { window.new.offset ≡ window.old.offset }
     ensures keeps { Keeps window.old window.new }
 {

@@ -1,7 +1,8 @@
-use Rattle.std.proofs.Common.{arith}
+use Rattle.std.proofs.Common.{true, arith}
 use Rattle.std.proofs.lemmas.Result.{err_from_is_err_and}
 use Rattle.cap_pcap.proofs.Faults.{record_fault-short}
-use Rattle.cap_pcap.proofs.Looking.{SeesStop-none, SeesStop-cut, SeesStop-broken, SeesStop-second, SeesRecord-second, FailsBy-second}
+use Rattle.cap_bytes.proofs.Reach.{Reaches-need, ReachesTo-need}
+use Rattle.cap_pcap.proofs.Looking.{SeesStop-none, SeesStop-cut, SeesStop-broken, SeesStop-second, SeesRecord-second, FailsBy-second, Reaches-second, ReachesTo-second}
 use Rattle.cap_pcap.proofs.records.look_for_record.Goals as goal
 
 pub returns-then-is_empty-clause-answer : goal.returns-then-is_empty-clause-answer
@@ -37,3 +38,20 @@ returns-clause-answer g c =
     rw (c.record_of.ensures, c.offset-offset.ensures.value, c.bytes-3.ensures)
     (SeesRecord-second c.args.header c.args.tail c.args.window.now c.need.new.self c.need-2.new.self c.in-Ok.size
     n.0 c.in_ok-need.ensures.keeps n.1 e.0 e.1 (omega (arith, e.2, n.0.offset, c.offset-offset.ensures.value)) m)
+
+pub returns-in_err-need-clause-reaches : goal.returns-in_err-need-clause-reaches
+returns-in_err-need-clause-reaches g c = grind (arith, err_from_is_err_and, Reaches-need)
+
+pub returns-in_err-need-2-clause-reaches : goal.returns-in_err-need-2-clause-reaches
+returns-in_err-need-2-clause-reaches g c = grind (arith, err_from_is_err_and, Reaches-second)
+
+pub returns-clause-reaches : goal.returns-clause-reaches
+returns-clause-reaches g c =
+    let n = rw c.if-not-branch.false at c.in_ok-need.ensures.answer in
+    let m = rw c.if-not-branch-2.false at c.in_ok-need-2.ensures.answer in
+    let e = rw c.bytes-2.ensures at c.in-Ok.ensures in
+    rw (c.record_of.ensures, c.offset-offset.ensures.value, c.bytes-3.ensures)
+    (ReachesTo-second c.args.header c.args.tail c.args.window.now c.need.new.self c.need-2.new.self c.in-Ok.size
+    n.0 c.in_ok-need.ensures.keeps n.1 e.0 e.1 m
+    (ReachesTo-need 16 true c.args.window.now c.need.new.self n c.in_ok-need.ensures.same c.in_ok-need.ensures.asked)
+    (ReachesTo-need c.in-Ok.size true c.need.new.self c.need-2.new.self m c.in_ok-need-2.ensures.same c.in_ok-need-2.ensures.asked))

@@ -1,5 +1,7 @@
 use Rattle.std.proofs.Common.{true, rules, ap, arith}
+use Rattle.cap_bytes.proofs.Readers.{Stands-passed, Reaches-here}
 use Rattle.cap_blocks.specs.Parsing.{SeesBlock}
+use Rattle.cap_blocks.specs.Reader.{block_size, state_of, size_of, body_of}
 use Rattle.cap_blocks.specs.Grammar.{is_known}
 use Rattle.cap_blocks.proofs.Reading.{GivesBlock-found}
 use Rattle.cap_blocks.proofs.readers.BlockReader.read_packet.Goals as goal
@@ -20,3 +22,11 @@ pub returns-in-Some-clause-keeps : goal.returns-in-Some-clause-keeps
 returns-in-Some-clause-keeps g c =
     let s : SeesBlock c.self.inside.section c.self.inside.tail c.in-Some.block c.take_packet.new.window c.take_packet.new.window = c.in-Some.ensures.sees c.self.inside.tail in
     search rules
+
+pub returns-in-Some-clause-reaches : goal.returns-in-Some-clause-reaches
+returns-in-Some-clause-reaches g c =
+    let i = c.self.inside in
+    let at = Stands-passed i.window c.take_packet.new.window i.tail i.section (size_of i.given) (body_of i.given i.window.shown) i.stop
+    (grind arith) c.self.invariant.within (rw c.size_given.ensures at c.in-Some.ensures.passes) in
+    rw (← c.self.view_is)
+    (Reaches-here (state_of i.window i.tail i.section i.given i.stop) c.take_packet.new.window c.take_packet.new.window at (block_size c.in-Some.block))

@@ -37,4 +37,4 @@ pub returns-in_err-make_room-clause-keeps : goal.returns-in_err-make_room-clause
 returns-in_err-make_room-clause-keeps g c = grind (arith, length-slice_range)
 
 pub returns-in-Failed-clause-answer : goal.returns-in-Failed-clause-answer
-returns-in-Failed-clause-answer g c = grind (arith, length-slice_range)
+returns-in-Failed-clause-answer g c = grind (arith, common_steps)
