@@ -9,7 +9,7 @@ have written nothing, and the other commands a prefix, and has given all memory 
 Devices: each read of each file failing in turn, which is told with the header, record or block that it is of (`list`, `blocks` and a
 merge: after all that comes before it); a writer
 that fails, or takes nothing, after any number of bytes, which has just these (one that a signal interrupts is asked
-again); a file without end, which rule 14 stops.
+again); a file without end, which rule 14 stops, and a read of it that fails beyond byte 2^32.
 
 Use: checks/faults.py [growths|devices] [PROGRAM]     (as after `rt run` in crates/capt and `rt test` in the crates
 below, or `rt ci`; a minute)"""
@@ -214,13 +214,23 @@ def endless(count, bench, shim, out):
         count.check(f"{task} of a file without end", is_so and seen[4] < 16_384 and (task != "blocks" or seen[1].count(b"\n") == 257), seen)
 
 
+def far(count, bench, shim, out):
+    """A read that fails beyond byte 2^32 of such a file, in the second of its blocks, is told with all of that block's offset."""
+    offset = 28 + (2**32 - 4)
+    for task in ("list", "blocks", "info", "report", "pcap", "pcapng", "merge", "join"):
+        seen = bench.run(task, [SECTION], out=out, faults=(shim, {"ENDLESS": 1, "READ": "3-99999"}))
+        is_so = (seen[0], seen[2], seen[3]) == (1, f"fault: read file 1 offset {offset}\n".encode(), 1)
+        count.check(f"{task}, a read that fails beyond byte 2^32", is_so, seen)
+
+
 def devices(count, bench, shim, pool):
     jobs = []
     for task, rows in DEVICES.items():
         for row in rows:
             for check in (reads_of, writes_of):
                 jobs.append(pool.submit(check, count, bench, shim, os.path.join(bench.folder, f"{check.__name__}-{task}-{row}"), task, row))
-    jobs.append(pool.submit(endless, count, bench, shim, os.path.join(bench.folder, "endless")))
+    for check in (endless, far):
+        jobs.append(pool.submit(check, count, bench, shim, os.path.join(bench.folder, check.__name__)))
     for job in jobs:
         job.result()
 

@@ -140,6 +140,9 @@ NOT_PRINTED = [
     ("info", [CUT], False, "file 1 offset 24 rule 3 cut"), ("info", [""], False, "file 1 offset 0 rule 3 cut"),
     ("info", [vector("CARRY_PCAP").hex(), "00000000", CUT], False, "file 2 offset 0 rule 1 magic"),
     ("info", [vector("CARRY_PCAP").hex(), CUT, "00000000"], False, "file 2 offset 24 rule 3 cut"),
+    # each of 32 files
+    *((task, [vector("CARRY_PCAP").hex()] * (number - 1) + [CUT] + [vector("CARRY_PCAP").hex()] * (32 - number), False,
+       f"file {number} offset 24 rule 3 cut") for task in ("info", "report") for number in range(1, 33)),
 ]
 
 # A datagram of UDP with 2 bytes, from 10.0.0.1:1000 to 10.0.0.2:2000; the same bytes as of ICMP; of another datagram of these ends the last 8

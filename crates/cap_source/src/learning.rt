@@ -1,5 +1,6 @@
 //! What comes next of a file of either format, once its first bytes have told which.
-ghost use Rattle.std.specs.Prelude.{◌≡◌, ◌≤◌, ◌^◌, false, IsTrue, IfOk, None};
+ghost use Rattle.std.specs.Prelude.{◌≡◌, ◌≤◌, ◌^◌, false, IsTrue, IfOk, None, Some};
+ghost use Rattle.cap_bytes.specs.Reach.{Reaches};
 ghost use Rattle.cap_bytes.specs.Window as windows;
 ghost use Rattle.cap_source.specs.Items.{Progress};
 ghost use Rattle.cap_source.specs.FileState.{IsSound, LearnsNext, ShowsNext, Answers, TakesShown, FileKeeps};
@@ -22,6 +23,7 @@ use std::mem;
 // The format that the first four bytes tell: that of a pcap file also if they tell none.
 fn look<R: Source>(window: &mut Window<R>) -> Result<Format, Fault>
     ensures answer { LooksAtWindow window.old result window.new }
+    ensures reaches { Reaches (λ _. Some 4) 4 (windows.position window.old) result (windows.read_to window.new) }
     ensures keeps { windows.Keeps window.old window.new }
 {
     if !window.need(4)? {
