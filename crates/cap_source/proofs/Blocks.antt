@@ -8,7 +8,7 @@ use Rattle.cap_time.specs.declared.resolutions.Interface.{Interface}
 use Rattle.cap_blocks.specs.Grammar.{section_kind, interface_kind, obsolete_kind, simple_kind, enhanced_kind, is_known, is_total, least_total}
 use Rattle.cap_bytes.specs.Items.{IsEnd, Item, given, stopped}
 use Rattle.cap_bytes.specs.Reader.{State, Keeps, GivesStop}
-use Rattle.cap_blocks.specs.Reader.{items_of, GivesBlock}
+use Rattle.cap_blocks.specs.Reader.{items_of, GivesBlock, ReachesNext}
 use Rattle.cap_blocks.specs.Split.{body_in, block_fault}
 use Rattle.cap_blocks.specs.declared.blocks.Block.{Block}
 use Rattle.cap_bytes.specs.declared.stops.Stop.{Stop}
@@ -21,7 +21,7 @@ use Rattle.cap_source.specs.TimeBases.{interface_in}
 use Rattle.cap_source.specs.Contents.{fitting, of_interface, timed_in, simple_in, of_body, content_in}
 use Rattle.cap_source.specs.Feed as feeds
 use Rattle.cap_source.specs.Items.{Progress, behind, frame_in, items_at, items_in, ending_with, ending_in, unless_faulty, first_in, unless_item, is_cut}
-use Rattle.cap_source.specs.FileState.{FileState, pcapng_state, size_of, part_of, Learns, FileKeeps, GoesOn, StepsTo, TakesShown, next_at}
+use Rattle.cap_source.specs.FileState.{FileState, pcapng_state, size_of, part_of, Learns, FileKeeps, GoesOn, StepsTo, Takes, TakesShown, next_at}
 use Rattle.cap_source.specs.Reached.{counted}
 use Rattle.cap_source.specs.declared.contents.Content.{Content}
 use Rattle.cap_source.specs.declared.contents.Content.TheVariants as contents
@@ -255,3 +255,8 @@ content_lent said these those kind order lent body is same kind_is lent_is = rw 
 -- the body of an enhanced packet block has its fixed fields
 pub enhanced_size : (kind total size : ℕ) → IsTrue (is_total kind total) → size + 12 ≡ total → kind ≡ enhanced_kind → 20 ≤ size
 enhanced_size kind total size allowed is kind_is = let least = rw kind_is at (total_least kind total size allowed is) in omega (arith, least)
+
+-- How far is read for a block.
+pub block_taken : (old new : State Order) (block : Block) (p q : Progress) → GivesBlock old block new → ReachesNext old (Ok (Some block)) new
+    → Takes (pcapng_state old p) (pcapng_state new q)
+block_taken old new block p q g h = (omega (arith, g.gives.next, g.least), rw g.gives.next h)

@@ -1,12 +1,15 @@
 -- One look after another at what comes next of a file.
-use Rattle.std.proofs.Common.{◌≡◌, ◌≤◌, ◌^◌, true, false, Option, Some, None, IsTrue, is_some, Result, Ok, refl, arith}
+use Rattle.std.proofs.Common.{ℕ, ◌≡◌, ◌≤◌, ◌+◌, ◌^◌, true, false, Option, Some, None, IsTrue, is_some, Result, Ok, Err, IfOk, refl, arith}
 use Rattle.std.specs.Bool.{⊤}
 use Rattle.cap_bytes.specs.declared.faults.Fault.{Fault}
-use Rattle.cap_source.specs.FileState.{FileState, FileKeeps, Waits, Learns, StepsTo, Answers, TakesShown, LearnsNext, IsSound}
+use Rattle.cap_bytes.specs.Reach.{ReachesTo}
+use Rattle.cap_bytes.proofs.Reach.{ReachesTo-here, ReachesTo-later}
+use Rattle.cap_source.specs.FileState.{FileState, IfTaken, ReadsTo, Takes, FileKeeps, Waits, Learns, StepsTo, Answers, TakesShown, LearnsNext, IsSound}
 use Rattle.cap_source.specs.Items.{Progress}
 use Rattle.cap_source.specs.Reached.{counted}
 use Rattle.cap_source.specs.Readers.{state_of, is_there, is_stopped}
 use Rattle.cap_source.specs.declared.readers.Next.{Next}
+use Rattle.cap_source.specs.declared.readers.Next.TheVariants as nexts
 use Rattle.cap_source.specs.declared.readers.Reader.{Reader}
 use Rattle.cap_source.specs.declared.readers.Reader.TheVariants as readers
 
@@ -87,3 +90,52 @@ none_of (Some a) not = grind arith
 -- a block after which the file goes on
 pub Waits-further : (a b c : FileState) (after : Option Next) → Waits a b → FileKeeps a b → StepsTo b after c → is_some after ≡ false → Waits a c
 Waits-further a b c after w k h not = grind arith
+
+-- How far a file is read, in one look and in another after it.
+pub ReadsTo-here : (s : FileState) → ReadsTo s s
+ReadsTo-here s = ReachesTo-here s.most s.offset s.read
+
+Takes-later : (a b c : FileState) (end : ℕ) → FileKeeps a b → end ≤ c.offset → ReachesTo a.most end a.read b.read → Takes b c → Takes a c
+Takes-later a b c end k few h t =
+    (omega (arith, k.offset, t.0), ReachesTo-later a.most end c.offset a.read b.read c.read few h (rw k.most at t.1))
+
+pub Takes-behind : (a b c : FileState) → FileKeeps a b → ReadsTo a b → Takes b c → Takes a c
+Takes-behind a b c k h t = Takes-later a b c b.offset k (omega (arith, t.0)) h t
+
+Takes-opened : (a b c : FileState) → FileKeeps a b → ReachesTo a.most (a.offset + 4) a.read b.read → Takes b c → Takes a c
+Takes-opened a b c k h t = Takes-later a b c (a.offset + 4) k (omega (arith, k.offset, t.0)) h t
+
+-- what holds if a record or block is taken, and what follows from that
+pub IfTaken-so : (known : Option Next) (P : Type 0) → P → IfTaken known P
+IfTaken-so None P h = h
+IfTaken-so (Some (nexts.Packet meta place)) P h = h
+IfTaken-so known P h = grind arith
+
+IfTaken-map : (known : Option Next) (P Q : Type 0) → (P → Q) → IfTaken known P → IfTaken known Q
+IfTaken-map None P Q f h = f h
+IfTaken-map (Some (nexts.Packet meta place)) P Q f h = f h
+IfTaken-map known P Q f h = grind arith
+
+pub taken_map : {A : Type 0} (result : Result A Fault) (known : Option Next) (P Q : Type 0) → (P → Q)
+    → IfOk result (λ x. IfTaken known P) → IfOk result (λ x. IfTaken known Q)
+taken_map (Ok x) known P Q f h = IfTaken-map known P Q f h
+taken_map (Err fault) known P Q f h = tt
+
+pub taken_behind : {A : Type 0} (a b c : FileState) (result : Result A Fault) (known : Option Next) → FileKeeps a b → ReadsTo a b
+    → IfOk result (λ x. IfTaken known (Takes b c)) → IfOk result (λ x. IfTaken known (Takes a c))
+taken_behind a b c result known k h t = taken_map result known (Takes b c) (Takes a c) (Takes-behind a b c k h) t
+
+pub taken_opened : {A : Type 0} (a b c : FileState) (result : Result A Fault) (known : Option Next) → FileKeeps a b
+    → ReachesTo a.most (a.offset + 4) a.read b.read
+    → IfOk result (λ x. IfTaken known (Takes b c)) → IfOk result (λ x. IfTaken known (Takes a c))
+taken_opened a b c result known k h t = taken_map result known (Takes b c) (Takes a c) (Takes-opened a b c k h) t
+
+-- a block after which what comes next is known, or isn't: then the file goes on
+pub taken_last : (a b c : FileState) (known : Option Next) → FileKeeps a b → ReadsTo a b → IfTaken known (Takes b c) → IfTaken known (Takes a c)
+taken_last a b c known k h t = IfTaken-map known (Takes b c) (Takes a c) (Takes-behind a b c k h) t
+
+taken_none : (known : Option Next) (P : Type 0) → known ≡ None → IfTaken known P → P
+taken_none known P is h = grind arith
+
+pub ReadsTo-further : (a b c : FileState) (known : Option Next) → known ≡ None → FileKeeps a b → ReadsTo a b → IfTaken known (Takes b c) → ReadsTo a c
+ReadsTo-further a b c known none k h t = (Takes-behind a b c k h (taken_none known (Takes b c) none t)).1

@@ -1,8 +1,9 @@
 -- What the first four bytes tell, and the reader that is made by that.
-use Rattle.std.proofs.Common.{◌≡◌, ◌≤◌, ℕ, true, false, List, ◌++◌, length, None, IsTrue, Result, Ok, refl, sym, ap, ◌∙◌, arith, nat_le, length-append}
+use Rattle.std.proofs.Common.{◌≡◌, ◌≤◌, ◌+◌, ℕ, true, false, List, ◌++◌, length, None, IsTrue, Result, Ok, refl, sym, ap, ◌∙◌, arith, nat_le, length-append}
 use Rattle.std.proofs.lemmas.Bool.Decides.{nat_tests}
 use Rattle.cap_bytes.proofs.Spelling.{number-append}
-use Rattle.cap_bytes.specs.Window.{State as WindowState, Shows, Keeps, coming}
+use Rattle.cap_bytes.specs.Reach.{ReachesTo}
+use Rattle.cap_bytes.specs.Window.{State as WindowState, Shows, Keeps, coming, read_to}
 use Rattle.cap_bytes.specs.declared.faults.Fault.{Fault}
 use Rattle.cap_bytes.specs.declared.faults.Tail.{Tail}
 use Rattle.cap_pcap.specs.Split as records
@@ -75,3 +76,10 @@ pub opened_keeps : {R : Type 0} (old unread new : Reader R) (w v : WindowState) 
     → old ≡ readers.Unread w tail → unread ≡ readers.Unread v tail → new ≡ reader_by unread format
     → LooksAtWindow w (Ok format) v → Keeps w v → FileKeeps (state_of old p) (state_of new p)
 opened_keeps {R} old unread new w v tail format p is_old is_unread is_new h k = grind arith
+
+-- how far the first four bytes are read
+pub opened_reads : {R : Type 0} (old unread new : Reader R) (w v : WindowState) (tail : Tail) (format : Format) (p : Progress)
+    → old ≡ readers.Unread w tail → unread ≡ readers.Unread v tail → new ≡ reader_by unread format
+    → ReachesTo w.most (w.offset + 4) (read_to w) (read_to v)
+    → ReachesTo (state_of old p).most ((state_of old p).offset + 4) (state_of old p).read (state_of new p).read
+opened_reads {R} old unread new w v tail format p is_old is_unread is_new h = grind arith

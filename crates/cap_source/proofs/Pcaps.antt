@@ -1,15 +1,17 @@
 -- What comes next of a pcap file.
-use Rattle.std.proofs.Common.{◌≡◌, ◌≤◌, ◌+◌, ℕ, Bool, true, false, List, [], ◌∷◌, length, Option, Some, None, is_some, IsSomeAnd, IsTrue, Err, not, ◌↔◌, refl, sym, ap, ◌∙◌, arith}
+use Rattle.std.proofs.Common.{◌≡◌, ◌≤◌, ◌+◌, ℕ, Bool, true, false, List, [], ◌∷◌, length, Option, Some, None, is_some, IsSomeAnd, IsTrue, Ok, Err, not, ◌↔◌, refl, sym, ap, ◌∙◌, arith}
 use Rattle.std.proofs.lemmas.List.{take_all}
 use Rattle.cap_bytes.specs.declared.faults.Fault.TheVariants.{Refused}
 use Rattle.cap_bytes.specs.declared.faults.Refusal.{Refusal}
 use Rattle.cap_bytes.specs.declared.faults.Rule.{Rule}
 use Rattle.cap_time.specs.declared.resolutions.Interface.{Interface}
 use Rattle.cap_bytes.specs.Items.{IsEnd, Item, given, stopped}
+use Rattle.cap_bytes.specs.Reach.{ReachesTo}
 use Rattle.cap_bytes.specs.Reader.{State, Keeps, GivesStop}
 use Rattle.cap_bytes.proofs.Items.{rule_told}
 use Rattle.cap_bytes.proofs.Parsing.{from_none, from_some}
-use Rattle.cap_pcap.specs.Reader.{items_of, GivesHeader, GivesRecord, HasHeader, ReadsHeader}
+use Rattle.cap_bytes.proofs.Reach.{ReachesTo-here}
+use Rattle.cap_pcap.specs.Reader.{items_of, GivesHeader, GivesRecord, HasHeader, ReadsHeader, ReachesHeader, ReachesNext}
 use Rattle.cap_pcap.specs.Split.{header_fault, header_at, record_fault}
 use Rattle.cap_pcap.specs.declared.headers.PcapHeader.{PcapHeader}
 use Rattle.cap_pcap.specs.declared.records.Record.{Record}
@@ -17,7 +19,7 @@ use Rattle.cap_bytes.specs.declared.stops.Stop.{Stop}
 use Rattle.cap_bytes.specs.declared.stops.Stop.TheVariants as stops
 use Rattle.cap_source.specs.Feed as feeds
 use Rattle.cap_source.specs.Items.{Progress, interface_of, meta_of, pcap_items, pcap_ending, pcap_ending_with, is_cut}
-use Rattle.cap_source.specs.FileState.{pcap_state, noted_by, header_or, first_of, size_of, part_of, Learns, Waits, FileKeeps}
+use Rattle.cap_source.specs.FileState.{pcap_state, noted_by, header_or, first_of, size_of, part_of, Learns, Waits, ReadsTo, Takes, FileKeeps}
 use Rattle.cap_source.specs.declared.readers.Next.TheVariants as nexts
 
 known_header : (h : Option PcapHeader) (header : PcapHeader) (bytes : List ℕ) → h ≡ Some header → header_or h bytes ≡ header
@@ -217,6 +219,7 @@ header_waits header old new p free h k same = record {
 pub pcap_keeps : (old new : State PcapHeader) (p : Progress) → Keeps old new → FileKeeps (pcap_state old p) (pcap_state new p)
 pcap_keeps old new p k = record {
   file = k.file;
+  most = k.most;
   told = k.told;
   can_fail = k.can_fail;
   offset = k.offset;
@@ -225,3 +228,18 @@ pcap_keeps old new p k = record {
   interfaces = λ h. h;
   counted = λ h. omega (arith, h, k.offset);
 }
+
+-- How far is read for a record, and for the header.
+pub record_taken : (header : PcapHeader) (old new : State PcapHeader) (r : Record) (p : Progress) → ReachesNext header old (Ok (Some r)) new
+    → new.offset ≡ old.offset + (16 + r.captured) → Takes (pcap_state old p) (pcap_state new p)
+record_taken header old new r p h is = (omega (arith, is), rw is h)
+
+header_by : (header : PcapHeader) (known : Option PcapHeader) (old new : State PcapHeader) → old.known ≡ known → HasHeader header old new
+    → ReachesHeader old (Ok header) new → ReachesTo old.most new.offset old.read new.read
+header_by header None old new is h reads = rw (from_none old.known (ReadsHeader header old new) is h.first).gives.next reads
+header_by header (Some was) old new is h reads =
+    rw (from_some old.known was (λ w. (header ≡ w) × (new ≡ old)) is h.again).1 (ReachesTo-here old.most old.offset old.read)
+
+pub header_reads : (header : PcapHeader) (old new : State PcapHeader) (p : Progress) → HasHeader header old new → ReachesHeader old (Ok header) new
+    → ReadsTo (pcap_state old p) (pcap_state new p)
+header_reads header old new p h reads = header_by header old.known old new refl h reads

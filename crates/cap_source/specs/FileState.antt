@@ -1,5 +1,6 @@
 -- What a file's reader still gives, of either format, and what is learned of what comes next.
 use Rattle.std.specs.Prelude.{◌≡◌, ◌+◌, ◌-◌, ◌^◌, ◌≤◌, ◌<◌, ℕ, List, [], ◌∷◌, length, take, drop, Bool, true, false, not, IsTrue, Option, Some, None, IfSome, IfNone, Result, Ok, Err, ⊤, ◌⊎◌, is_some}
+use Rattle.cap_bytes.specs.Reach.{ReachesTo}
 use Rattle.cap_bytes.specs.Reader.{State}
 use Rattle.cap_bytes.specs.Window.{State as WindowState}
 use Rattle.cap_bytes.specs.Window as windows
@@ -30,7 +31,7 @@ use Rattle.cap_source.specs.declared.readers.Next.TheVariants as nexts
 -- The file of that number as its reader still gives it: the items to come, how the file ends, and its
 -- first interface if it stands before the next item or the end, if the device tells its bytes;
 -- `noted` is that interface as far as the file was read. The next record or block begins at `offset` or
--- later, and `lent` is what the reader lends of the one that was given last. `stops` says that the reader
+-- later. The file was read up to `read`, and its device gives `most` bytes at a time at most, if it tells that. `lent` is what the reader lends of the one that was given last. `stops` says that the reader
 -- has come to an end. `broken` is where the header, the record or the block begins in which a read failed,
 -- once one has. `counted` blocks were counted.
 pub record FileState : Type 0 where
@@ -41,6 +42,8 @@ pub record FileState : Type 0 where
   pub first : Option Interface
   pub noted : Option Interface
   pub offset : ℕ
+  pub read : ℕ
+  pub most : Option ℕ
   pub lent : Option (List ℕ)
   pub stops : Bool
   pub broken : Option ℕ
@@ -61,6 +64,8 @@ unread_state window tail progress =
       first = first_from tail window.file progress window.offset (windows.coming window);
       noted = progress.first;
       offset = window.offset;
+      read = windows.read_to window;
+      most = window.most;
       lent = None;
       stops = false;
       broken = window.broken;
@@ -101,6 +106,8 @@ pcap_state reader progress =
       first = first_of reader.known reader.stop reader.offset reader.coming;
       noted = noted_by reader.known;
       offset = reader.offset;
+      read = reader.read;
+      most = reader.most;
       lent = reader.lent;
       stops = is_some reader.stop;
       broken = reader.broken;
@@ -122,6 +129,8 @@ pcapng_state reader progress =
       first = first_in progress (blocks.items_of reader);
       noted = progress.first;
       offset = reader.offset;
+      read = reader.read;
+      most = reader.most;
       lent = reader.lent;
       stops = is_some reader.stop;
       broken = reader.broken;
@@ -135,6 +144,7 @@ pcapng_state reader progress =
 -- what every answer keeps of a file
 pub record FileKeeps (old new : FileState) : Type 0 where
   pub file : new.file ≡ old.file
+  pub most : new.most ≡ old.most
   pub told : IsTrue old.told → IsTrue new.told
   pub can_fail : IsTrue new.can_fail → IsTrue old.can_fail
   pub offset : old.offset ≤ new.offset
@@ -142,6 +152,22 @@ pub record FileKeeps (old new : FileState) : Type 0 where
   pub held : old.held ≤ 524288 → new.held ≤ 524288
   pub interfaces : old.interfaces ≤ 1024 → new.interfaces ≤ 1024
   pub counted : old.counted ≤ old.offset → new.counted ≤ new.offset
+
+-- A record or block is taken, or several, the last of which ends where the next one begins: no read began once all of it
+-- had come.
+abbrev pub ReadsTo : FileState → FileState → Type 0
+ReadsTo old new = ReachesTo old.most new.offset old.read new.read
+
+-- The file goes on, or a packet comes next: then that holds.
+abbrev pub IfTaken : Option Next → Type 0 → Type 0
+IfTaken None P = P
+IfTaken (Some (nexts.Packet meta place)) P = P
+IfTaken (Some (nexts.Refused refusal ending)) P = ⊤
+IfTaken (Some (nexts.End ending)) P = ⊤
+
+-- The same of a file of which something was to come: that takes 4 bytes at least.
+abbrev pub Takes : FileState → FileState → Type 0
+Takes old new = (old.offset + 4 ≤ new.offset) × ReadsTo old new
 
 -- what is to come of a file is the same
 pub record SameRest (old new : FileState) : Type 0 where

@@ -1,9 +1,9 @@
 //! What comes next of a file of either format, once its first bytes have told which.
-ghost use Rattle.std.specs.Prelude.{◌≡◌, ◌≤◌, ◌^◌, false, IsTrue, IfOk, None, Some};
-ghost use Rattle.cap_bytes.specs.Reach.{Reaches};
+ghost use Rattle.std.specs.Prelude.{◌≡◌, ◌≤◌, ◌+◌, ◌^◌, false, IsTrue, IfOk, None, Some};
+ghost use Rattle.cap_bytes.specs.Reach.{Reaches, ReachesTo};
 ghost use Rattle.cap_bytes.specs.Window as windows;
 ghost use Rattle.cap_source.specs.Items.{Progress};
-ghost use Rattle.cap_source.specs.FileState.{IsSound, LearnsNext, ShowsNext, Answers, TakesShown, FileKeeps};
+ghost use Rattle.cap_source.specs.FileState.{IsSound, LearnsNext, ShowsNext, Answers, TakesShown, FileKeeps, IfTaken, ReadsTo, Takes};
 ghost use Rattle.cap_source.specs.Reached.{progress_of, counted};
 ghost use Rattle.cap_source.specs.Readers.{state_of, is_there, IsReady, is_stopped, Opens, LooksAtWindow, reader_by, reader_room};
 ghost use Rattle.cap_source.specs.declared.reached.Reached.{Reached};
@@ -58,6 +58,8 @@ fn open<R: Source>(reader: &mut Reader<R>) -> Result<(), Fault>
     ensures there { IsTrue (is_there reader.new) }
     ensures ready { IfOk result (λ _. IsReady reader.new) }
     ensures answer { (progress : Progress) → Opens (state_of reader.old progress) result (state_of reader.new progress) }
+    ensures reaches { (progress : Progress) → IfOk result (λ _. ReachesTo (state_of reader.old progress).most
+        ((state_of reader.old progress).offset + 4) (state_of reader.old progress).read (state_of reader.new progress).read) }
     ensures keeps { (progress : Progress) → FileKeeps (state_of reader.old progress) (state_of reader.new progress) }
     ensures room { (reached : Reached) → IsTrue (reader_room reader.old reached) → IsTrue (reader_room reader.new reached) }
 {
@@ -81,6 +83,7 @@ fn take_shown<R: Source>(reader: &mut Reader<R>, reached: &Reached, known: &mut 
     requires counted { counted (progress_of reached.now) ≤ 2 ^ 40 }
     ensures there { IsTrue (is_there reader.new) }
     ensures answer { TakesShown (state_of reader.old (progress_of reached.now)) result known.new (state_of reader.new (progress_of reached.now)) }
+    ensures reaches { IsTrue result → Takes (state_of reader.old (progress_of reached.now)) (state_of reader.new (progress_of reached.now)) }
     ensures keeps { FileKeeps (state_of reader.old (progress_of reached.now)) (state_of reader.new (progress_of reached.now)) }
     ensures room { IsTrue (reader_room reader.old reached.now) → IsTrue (reader_room reader.new reached.now) }
     ensures none { result ≡ false → (reader.new ≡ reader.old) × (known.new ≡ None) }
@@ -111,6 +114,8 @@ pub fn next_of<R: Source>(
     requires room { IsTrue (reader_room reader.old reached.old) }
     ensures there { IsTrue (is_there reader.new) }
     ensures answer { Answers (state_of reader.old (progress_of reached.old)) result known.new (state_of reader.new (progress_of reached.new)) }
+    ensures reaches { IfOk result (λ _. IfTaken known.new
+        (Takes (state_of reader.old (progress_of reached.old)) (state_of reader.new (progress_of reached.new)))) }
     ensures keeps { FileKeeps (state_of reader.old (progress_of reached.old)) (state_of reader.new (progress_of reached.new)) }
     ensures room { IsTrue (reader_room reader.new reached.new) }
 {
@@ -156,6 +161,8 @@ pub fn learn<R: Source>(
     ensures sound { IsSound (state_of reader.new (progress_of reached.new)) known.new }
     ensures answer { LearnsNext (state_of reader.old (progress_of reached.old)) known.old result
         (state_of reader.new (progress_of reached.new)) known.new }
+    ensures reaches { IfOk result (λ _. IfTaken known.new
+        (ReadsTo (state_of reader.old (progress_of reached.old)) (state_of reader.new (progress_of reached.new)))) }
     ensures keeps { FileKeeps (state_of reader.old (progress_of reached.old)) (state_of reader.new (progress_of reached.new)) }
     ensures room { IsTrue (reader_room reader.new reached.new) }
 {

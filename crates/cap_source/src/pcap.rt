@@ -1,7 +1,7 @@
 //! What comes next of a pcap file.
-ghost use Rattle.std.specs.Prelude.{◌≡◌, None, Some, false};
+ghost use Rattle.std.specs.Prelude.{◌≡◌, IsTrue, IfOk, None, Some, false};
 ghost use Rattle.cap_source.specs.Items.{Progress, resolution_of_unit, interface_of, pcap_ending_with, meta_of};
-ghost use Rattle.cap_source.specs.FileState.{Answers, TakesShown, FileKeeps, noted_by, pcap_state};
+ghost use Rattle.cap_source.specs.FileState.{Answers, TakesShown, FileKeeps, IfTaken, Takes, noted_by, pcap_state};
 
 use crate::feeds::Ending;
 use crate::known::Known;
@@ -77,6 +77,7 @@ pub fn noted_of_pcap<R: Source>(reader: &PcapReader<R>) -> Option<Interface>
 pub fn take_shown<R: Source>(reader: &mut PcapReader<R>, known: &mut Known) -> bool
     requires unknown { known.old ≡ None }
     ensures answer { (progress : Progress) → TakesShown (pcap_state reader.old progress) result known.new (pcap_state reader.new progress) }
+    ensures reaches { (progress : Progress) → IsTrue result → Takes (pcap_state reader.old progress) (pcap_state reader.new progress) }
     ensures keeps { (progress : Progress) → FileKeeps (pcap_state reader.old progress) (pcap_state reader.new progress) }
     ensures none { result ≡ false → (reader.new ≡ reader.old) × (known.new ≡ None) }
 {
@@ -104,6 +105,7 @@ fn next_record_of<R: Source>(
     requires header { reader.old.known ≡ Some header }
     requires free { reader.old.stop ≡ None }
     ensures answer { (progress : Progress) → Answers (pcap_state reader.old progress) result known.new (pcap_state reader.new progress) }
+    ensures reaches { (progress : Progress) → IfOk result (λ _. IfTaken known.new (Takes (pcap_state reader.old progress) (pcap_state reader.new progress))) }
     ensures keeps { (progress : Progress) → FileKeeps (pcap_state reader.old progress) (pcap_state reader.new progress) }
 {
     let file = reader.window().file();
@@ -131,6 +133,7 @@ pub fn next_of_pcap<R: Source>(reader: &mut PcapReader<R>, known: &mut Known) ->
     requires unknown { known.old ≡ None }
     requires free { reader.old.stop ≡ None }
     ensures answer { (progress : Progress) → Answers (pcap_state reader.old progress) result known.new (pcap_state reader.new progress) }
+    ensures reaches { (progress : Progress) → IfOk result (λ _. IfTaken known.new (Takes (pcap_state reader.old progress) (pcap_state reader.new progress))) }
     ensures keeps { (progress : Progress) → FileKeeps (pcap_state reader.old progress) (pcap_state reader.new progress) }
 {
     match reader.header() {

@@ -1,9 +1,9 @@
 //! What comes next of a pcapng file.
-ghost use Rattle.std.specs.Prelude.{◌≡◌, ◌≤◌, ◌<◌, ◌+◌, ◌^◌, [], length, false, IsTrue, IfSome, None, Some, Err, is_some, unwrap_or, vec_len, vec_capacity};
+ghost use Rattle.std.specs.Prelude.{◌≡◌, ◌≤◌, ◌<◌, ◌+◌, ◌^◌, [], length, false, IsTrue, IfOk, IfSome, None, Some, Err, is_some, unwrap_or, vec_len, vec_capacity};
 ghost use Rattle.cap_blocks.specs.Grammar.{is_known, is_total};
 ghost use Rattle.cap_source.specs.Contents.{content_in, of_body};
 ghost use Rattle.cap_source.specs.Items.{ending_with, meta_in, behind};
-ghost use Rattle.cap_source.specs.FileState.{Answers, TakesShown, FileKeeps, Steps, pcapng_state, next_at};
+ghost use Rattle.cap_source.specs.FileState.{Answers, TakesShown, FileKeeps, IfTaken, Steps, Takes, pcapng_state, next_at};
 ghost use Rattle.cap_source.specs.Reached.{progress_of, counted, has_room};
 
 use crate::contents::{Content, Packet, content_of, enhanced_packet};
@@ -101,6 +101,7 @@ pub fn take_shown<R: Source>(
     requires unknown { known.old ≡ None }
     requires counted { counted (progress_of reached.now) ≤ 2 ^ 40 }
     ensures answer { TakesShown (pcapng_state reader.old (progress_of reached.now)) result known.new (pcapng_state reader.new (progress_of reached.now)) }
+    ensures reaches { IsTrue result → Takes (pcapng_state reader.old (progress_of reached.now)) (pcapng_state reader.new (progress_of reached.now)) }
     ensures keeps { FileKeeps (pcapng_state reader.old (progress_of reached.now)) (pcapng_state reader.new (progress_of reached.now)) }
     ensures room { IsTrue (has_room reader.old.broken reached.now) → IsTrue (has_room reader.new.broken reached.now) }
     ensures none { result ≡ false → (reader.new ≡ reader.old) × (known.new ≡ None) }
@@ -164,6 +165,8 @@ fn take_block<R: Source>(
     requires counted { counted (progress_of reached.old) ≤ reader.old.offset }
     requires free { reader.old.stop ≡ None }
     ensures answer { Steps (pcapng_state reader.old (progress_of reached.old)) result known.new (pcapng_state reader.new (progress_of reached.new)) }
+    ensures reaches { IfOk result (λ _. IfTaken known.new
+        (Takes (pcapng_state reader.old (progress_of reached.old)) (pcapng_state reader.new (progress_of reached.new)))) }
     ensures keeps { FileKeeps (pcapng_state reader.old (progress_of reached.old)) (pcapng_state reader.new (progress_of reached.new)) }
     ensures room { IsTrue (has_room reader.new.broken reached.new) }
 {
@@ -199,6 +202,8 @@ fn step<R: Source>(
     requires free { reader.old.stop ≡ None }
     requires room { IsTrue (has_room reader.old.broken reached.old) }
     ensures answer { Steps (pcapng_state reader.old (progress_of reached.old)) result known.new (pcapng_state reader.new (progress_of reached.new)) }
+    ensures reaches { IfOk result (λ _. IfTaken known.new
+        (Takes (pcapng_state reader.old (progress_of reached.old)) (pcapng_state reader.new (progress_of reached.new)))) }
     ensures keeps { FileKeeps (pcapng_state reader.old (progress_of reached.old)) (pcapng_state reader.new (progress_of reached.new)) }
     ensures room { IsTrue (has_room reader.new.broken reached.new) }
 {
@@ -218,6 +223,8 @@ pub fn next_of_blocks<R: Source>(
     requires limit { reader.old.offset ≤ 2 ^ 40 }
     requires room { IsTrue (has_room reader.old.broken reached.old) }
     ensures answer { Answers (pcapng_state reader.old (progress_of reached.old)) result known.new (pcapng_state reader.new (progress_of reached.new)) }
+    ensures reaches { IfOk result (λ _. IfTaken known.new
+        (Takes (pcapng_state reader.old (progress_of reached.old)) (pcapng_state reader.new (progress_of reached.new)))) }
     ensures keeps { FileKeeps (pcapng_state reader.old (progress_of reached.old)) (pcapng_state reader.new (progress_of reached.new)) }
     ensures room { IsTrue (has_room reader.new.broken reached.new) }
 {

@@ -1,5 +1,6 @@
 use Rattle.std.proofs.Common.{◌∙◌, sym}
-use Rattle.cap_source.proofs.Going.{LearnsNext-known, LearnsNext-asked, IsSound-asked, LearnsNext-shown, IsSound-shown, counted_limit, counted_kept, free_of}
+use Rattle.cap_source.proofs.Going.{taken_map, IfTaken-so, ReadsTo-here, LearnsNext-known, LearnsNext-asked, IsSound-asked, LearnsNext-shown, IsSound-shown, counted_limit, counted_kept, free_of}
+use Rattle.cap_source.specs.FileState.{ReadsTo, Takes}
 use Rattle.cap_source.specs.Reached.{progress_of}
 use Rattle.cap_source.specs.Readers.{state_of}
 use Rattle.cap_source.proofs.learning.learn.Goals as goal
@@ -47,3 +48,17 @@ returns-clause-sound g c =
     let same = c.take_shown.ensures.none c.if-take_shown.false in
     IsSound-asked (state_of c.args.reader.now p) _ c.args.known.now c.next_of.new.known c.next_of.result
     (sym c.is_some.ensures ∙ c.if-is_some.false) c.requires.sound (rw same.0 at c.next_of.ensures.keeps) (rw same.0 at c.next_of.ensures.answer)
+
+pub returns-then-is_some-clause-reaches : goal.returns-then-is_some-clause-reaches
+returns-then-is_some-clause-reaches g c = IfTaken-so c.args.known.now _ (ReadsTo-here (state_of c.args.reader.now (progress_of c.args.reached.now)))
+
+pub returns-then-take_shown-clause-reaches : goal.returns-then-take_shown-clause-reaches
+returns-then-take_shown-clause-reaches g c = IfTaken-so c.take_shown.new.known _ (c.take_shown.ensures.reaches c.if-take_shown.true).1
+
+pub returns-clause-reaches : goal.returns-clause-reaches
+returns-clause-reaches g c =
+    let p = progress_of c.args.reached.now in
+    let same = c.take_shown.ensures.none c.if-take_shown.false in
+    let old = state_of c.args.reader.now p in
+    let new = state_of c.next_of.new.reader (progress_of c.next_of.new.reached) in
+    taken_map c.next_of.result c.next_of.new.known (Takes old new) (ReadsTo old new) (λ t. t.1) (rw same.0 at c.next_of.ensures.reaches)

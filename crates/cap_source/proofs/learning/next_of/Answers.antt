@@ -1,4 +1,4 @@
-use Rattle.cap_source.proofs.Going.{FileKeeps-trans, Answers-behind, counted_opened}
+use Rattle.cap_source.proofs.Going.{FileKeeps-trans, Answers-behind, counted_opened, taken_opened}
 use Rattle.cap_source.specs.FileState.{pcap_state, pcapng_state}
 use Rattle.cap_source.specs.Reached.{progress_of}
 use Rattle.cap_source.specs.Readers.{state_of}
@@ -38,3 +38,16 @@ returns-in-Pcapng-clause-keeps g c =
     let q = progress_of c.next_of_blocks.new.reached in
     FileKeeps-trans (state_of c.args.reader.now p) (pcapng_state c.in-Pcapng.reader p) (pcapng_state c.next_of_blocks.new.reader q)
     (rw c.in-Pcapng.is at (c.in_ok-open.ensures.keeps p)) c.next_of_blocks.ensures.keeps
+
+pub returns-in-Pcap-clause-reaches : goal.returns-in-Pcap-clause-reaches
+returns-in-Pcap-clause-reaches g c =
+    let p = progress_of c.args.reached.now in
+    taken_opened (state_of c.args.reader.now p) (pcap_state c.in-Pcap.reader p) (pcap_state c.next_of_pcap.new.reader p) c.next_of_pcap.result c.next_of_pcap.new.known
+    (rw c.in-Pcap.is at (c.in_ok-open.ensures.keeps p)) (rw c.in-Pcap.is at (c.in_ok-open.ensures.reaches p)) (c.next_of_pcap.ensures.reaches p)
+
+pub returns-in-Pcapng-clause-reaches : goal.returns-in-Pcapng-clause-reaches
+returns-in-Pcapng-clause-reaches g c =
+    let p = progress_of c.args.reached.now in
+    let q = progress_of c.next_of_blocks.new.reached in
+    taken_opened (state_of c.args.reader.now p) (pcapng_state c.in-Pcapng.reader p) (pcapng_state c.next_of_blocks.new.reader q) c.next_of_blocks.result c.next_of_blocks.new.known
+    (rw c.in-Pcapng.is at (c.in_ok-open.ensures.keeps p)) (rw c.in-Pcapng.is at (c.in_ok-open.ensures.reaches p)) c.next_of_blocks.ensures.reaches

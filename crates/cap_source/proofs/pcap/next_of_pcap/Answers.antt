@@ -1,5 +1,5 @@
-use Rattle.cap_source.proofs.Going.{FileKeeps-trans, Answers-behind}
-use Rattle.cap_source.proofs.Pcaps.{header_refused, header_waits, pcap_keeps}
+use Rattle.cap_source.proofs.Going.{FileKeeps-trans, Answers-behind, taken_behind}
+use Rattle.cap_source.proofs.Pcaps.{header_reads, header_refused, header_waits, pcap_keeps}
 use Rattle.cap_source.specs.FileState.{pcap_state}
 use Rattle.cap_source.specs.declared.readers.Next.TheVariants as nexts
 use Rattle.cap_source.proofs.pcap.next_of_pcap.Goals as goal
@@ -25,3 +25,13 @@ returns-in-Err-Refused-clause-answer g c = λ p.
       rw c.ending_of_pcap.ensures
           (header_refused c.in-Err-Refused.refusal c.args.reader.now c.header.new.self p c.requires.free e.answer e.keeps (λ t. (e.items t).0)),
     )
+
+pub returns-in-Ok-clause-reaches : goal.returns-in-Ok-clause-reaches
+returns-in-Ok-clause-reaches g c = λ p.
+    taken_behind (pcap_state c.args.reader.now p) (pcap_state c.header.new.self p) (pcap_state c.next_record_of.new.reader p) c.next_record_of.result c.next_record_of.new.known
+    (pcap_keeps c.args.reader.now c.header.new.self p c.in-Ok.ensures.keeps)
+    (header_reads c.in-Ok.header c.args.reader.now c.header.new.self p c.in-Ok.ensures.answer c.in-Ok.ensures.reaches)
+    (c.next_record_of.ensures.reaches p)
+
+pub returns-in-Err-Refused-clause-reaches : goal.returns-in-Err-Refused-clause-reaches
+returns-in-Err-Refused-clause-reaches g c = λ p. rw c.put_refused.ensures tt

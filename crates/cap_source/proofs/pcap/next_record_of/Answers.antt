@@ -1,7 +1,7 @@
 use Rattle.std.proofs.Common.{◌∙◌}
 use Rattle.cap_source.specs.declared.readers.Next.TheVariants as nexts
 use Rattle.cap_bytes.proofs.Parsing.{from_some}
-use Rattle.cap_source.proofs.Pcaps.{record_learned, end_learned, refusal_learned, pcap_keeps}
+use Rattle.cap_source.proofs.Pcaps.{record_taken, record_learned, end_learned, refusal_learned, pcap_keeps}
 use Rattle.cap_source.proofs.pcap.next_record_of.Goals as goal
 
 pub returns-in-Ok-Some-clause-answer : goal.returns-in-Ok-Some-clause-answer
@@ -54,3 +54,14 @@ returns-in-Err-Write-clause-keeps g c = λ p. pcap_keeps c.args.reader.now c.nex
 
 pub returns-in-Err-Memory-clause-keeps : goal.returns-in-Err-Memory-clause-keeps
 returns-in-Err-Memory-clause-keeps g c = λ p. pcap_keeps c.args.reader.now c.next_record.new.self p c.in-Err-Memory.ensures.keeps
+
+pub returns-in-Ok-Some-clause-reaches : goal.returns-in-Ok-Some-clause-reaches
+returns-in-Ok-Some-clause-reaches g c = λ progress.
+    let e = rw c.in-Ok-Some.field-0-is at c.in-Ok-Some.ensures in
+    rw c.put_packet.ensures (record_taken c.args.header c.args.reader.now c.next_record.new.self c.in-Ok-Some.record progress (from_some _ _ _ c.requires.header e.reaches) e.place)
+
+pub returns-in-Ok-None-clause-reaches : goal.returns-in-Ok-None-clause-reaches
+returns-in-Ok-None-clause-reaches g c = λ progress. rw c.put_end.ensures tt
+
+pub returns-in-Err-Refused-clause-reaches : goal.returns-in-Err-Refused-clause-reaches
+returns-in-Err-Refused-clause-reaches g c = λ progress. rw c.put_refused.ensures tt

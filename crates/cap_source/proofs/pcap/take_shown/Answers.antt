@@ -1,6 +1,6 @@
 use Rattle.std.proofs.Common.{◌∙◌, sym}
 use Rattle.cap_source.specs.declared.readers.Next.TheVariants as nexts
-use Rattle.cap_source.proofs.Pcaps.{record_learned}
+use Rattle.cap_source.proofs.Pcaps.{record_learned, record_taken}
 use Rattle.cap_source.proofs.pcap.take_shown.Goals as goal
 
 pub returns-in-Some-take_shown-clause-answer : goal.returns-in-Some-take_shown-clause-answer
@@ -12,3 +12,8 @@ returns-in-Some-take_shown-clause-answer g c = λ progress.
           (record_learned c.in-Some.header c.file-file.result c.in-Some-take_shown.record c.args.reader.now c.take_shown.new.self progress
           (c.file-file.ensures ∙ c.window.ensures.file) (sym c.known.ensures ∙ c.in-Some.is) e.answer e.keeps e.items),
     )
+
+pub returns-in-Some-take_shown-clause-reaches : goal.returns-in-Some-take_shown-clause-reaches
+returns-in-Some-take_shown-clause-reaches g c = λ progress taken.
+    record_taken c.in-Some.header c.args.reader.now c.take_shown.new.self c.in-Some-take_shown.record progress
+    c.in-Some-take_shown.ensures.reaches c.in-Some-take_shown.ensures.place

@@ -1,5 +1,5 @@
 use Rattle.std.proofs.Common.{◌≡◌, ◌≤◌, ◌-◌, ◌^◌, None, IsTrue}
-use Rattle.cap_source.specs.FileState.{FileKeeps, Waits, pcapng_state}
+use Rattle.cap_source.specs.FileState.{FileKeeps, ReadsTo, Waits, pcapng_state}
 use Rattle.cap_source.specs.Reached.{progress_of, counted, has_room}
 use Rattle.cap_source.proofs.pcapng.next_of_blocks.Given as goal
 
@@ -8,6 +8,7 @@ invariant-loop-known g l = record {
   unknown : l.known ≡ None;
   waits : Waits (pcapng_state l.initial.reader (progress_of l.initial.reached)) (pcapng_state l.reader (progress_of l.reached));
   keeps : FileKeeps (pcapng_state l.initial.reader (progress_of l.initial.reached)) (pcapng_state l.reader (progress_of l.reached));
+  reads : ReadsTo (pcapng_state l.initial.reader (progress_of l.initial.reached)) (pcapng_state l.reader (progress_of l.reached));
   room : IsTrue (has_room l.reader.broken l.reached);
   counted : counted (progress_of l.reached) ≤ l.reader.offset;
   free : l.reader.stop ≡ None;

@@ -1,7 +1,8 @@
 use Rattle.std.proofs.Common.{◌∙◌, ap, unwrap_or, []}
 use Rattle.cap_source.specs.Contents.{content_in}
 use Rattle.cap_source.specs.Reached.{progress_of}
-use Rattle.cap_source.proofs.Blocks.{block_stepped, block_kept, end_learned, refusal_kept}
+use Rattle.cap_source.proofs.Going.{IfTaken-so}
+use Rattle.cap_source.proofs.Blocks.{block_taken, block_stepped, block_kept, end_learned, refusal_kept}
 use Rattle.cap_source.proofs.pcapng.take_block.Goals as goal
 
 pub returns-in-Ok-Some-clause-answer : goal.returns-in-Ok-Some-clause-answer
@@ -36,3 +37,15 @@ returns-in-Err-Refused-clause-answer g c =
     rw c.put_refused.ensures
     (refusal_kept c.in-Err-Refused.refusal c.ending_of_blocks-in-Err-Refused.result c.args.reader.now c.next_block.new.self (progress_of c.args.reached.now)
     c.ending_of_blocks-in-Err-Refused.ensures c.requires.free e.answer e.keeps (λ t. (e.items t).0))
+
+pub returns-in-Ok-Some-clause-reaches : goal.returns-in-Ok-Some-clause-reaches
+returns-in-Ok-Some-clause-reaches g c =
+    let e = rw c.in-Ok-Some.field-0-is at c.in-Ok-Some.ensures in
+    IfTaken-so c.take_content.new.known _
+    (block_taken c.args.reader.now c.next_block.new.self c.in-Ok-Some.block (progress_of c.args.reached.now) (progress_of c.take_content.new.reached) e.answer e.reaches)
+
+pub returns-in-Ok-None-clause-reaches : goal.returns-in-Ok-None-clause-reaches
+returns-in-Ok-None-clause-reaches g c = rw c.put_end.ensures tt
+
+pub returns-in-Err-Refused-clause-reaches : goal.returns-in-Err-Refused-clause-reaches
+returns-in-Err-Refused-clause-reaches g c = rw c.put_refused.ensures tt
