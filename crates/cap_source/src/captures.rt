@@ -1,7 +1,8 @@
 //! The packets of one capture file.
 ghost use Rattle.std.specs.Prelude.{◌≡◌, [], ◌∷◌, ℕ, None, IsTrue};
 ghost use Rattle.std.proofs.Props.{props};
-ghost use Rattle.cap_source.specs.Feed.{Keeps};
+ghost use Rattle.cap_bytes.specs.SourceState.{source_of};
+ghost use Rattle.cap_source.specs.Feed.{Keeps, GivesHead, KeepsItems, FindsPacket, FindsItem, IsPacket, Passes};
 ghost use Rattle.cap_source.specs.Items.{file_items, file_ending, file_first};
 ghost use Rattle.cap_source.specs.FileState.{feed_of, GivesFirst, KeepsFirst, IsSound};
 ghost use Rattle.cap_source.specs.Laws.{captures_lawful};
@@ -32,7 +33,7 @@ pub struct Capture<R: Source> {
 }
 
 impl<R: Source> Capture<R> {
-    ghost use Rattle.cap_source.specs.Captures.{number_of, first_of};
+    ghost use Rattle.cap_source.specs.Captures.{number_of, first_of, position_of, unread_position};
 
     /// The packets that `reader` gives, which is the file of that number. It reads nothing yet, so a faulty
     /// file header is the first item.
@@ -47,6 +48,7 @@ impl<R: Source> Capture<R> {
         ensures held { (⟦<Capture<R> as PacketFeed>⟧.feed result).held ≡ record { window = 0; interfaces = 0; failed = R.has_failed reader } }
         ensures first { first_of result ≡ file_first tail file (R.coming reader) }
         ensures number { number_of result ≡ file }
+        ensures position { position_of result ≡ unread_position (source_of R.Source reader) }
     {
         Capture {
             reader: Reader::Unread(Window::new(alloc, reader, file), tail),
@@ -76,9 +78,18 @@ impl<R: Source> Capture<R> {
 }
 
 impl<R: Source> PacketFeed for Capture<R> {
+    ghost use Rattle.cap_source.specs.Captures.{feed_of as capture_feed, position_of, ReadsForHead, ReadsForPacket};
+
     ghost feed = { λ c. feed_of (state_of c.reader (progress_of c.reached)) c.next };
 
-    fn head(&mut self) -> Result<Head, Fault> {
+    fn head(&mut self) -> Result<Head, Fault>
+        ensures answer { GivesHead (capture_feed self.old) result (capture_feed self.new) }
+        ensures keeps { Keeps (capture_feed self.old) (capture_feed self.new) }
+        ensures items { IsTrue (capture_feed self.old).told
+            → KeepsItems (capture_feed self.old) result (capture_feed self.new) }
+        ensures reads { ReadsForHead (position_of self.old) result (position_of self.new) }
+        ensures most { (position_of self.new).most ≡ (position_of self.old).most }
+    {
         learn(&mut self.reader, &mut self.reached, &mut self.next)?;
         match self.next.get() {
             Some(Next::Packet(meta, _)) => Ok(Head::Packet(meta)),
@@ -89,7 +100,14 @@ impl<R: Source> PacketFeed for Capture<R> {
     }
 
     #[inline(always)]
-    fn has_packet(&mut self) -> Result<bool, Fault> {
+    fn has_packet(&mut self) -> Result<bool, Fault>
+        ensures answer { FindsPacket (capture_feed self.old) result (capture_feed self.new) }
+        ensures keeps { Keeps (capture_feed self.old) (capture_feed self.new) }
+        ensures items { IsTrue (capture_feed self.old).told
+            → FindsItem (capture_feed self.old) result (capture_feed self.new) }
+        ensures reads { ReadsForPacket (position_of self.old) result (position_of self.new) }
+        ensures most { (position_of self.new).most ≡ (position_of self.old).most }
+    {
         learn(&mut self.reader, &mut self.reached, &mut self.next)?;
         match self.next.get() {
             Some(Next::Packet(_, _)) => Ok(true),
@@ -113,7 +131,12 @@ impl<R: Source> PacketFeed for Capture<R> {
         part_of(&self.reader, &self.next)
     }
 
-    fn pass(&mut self) {
+    fn pass(&mut self)
+        requires packet { IsPacket (capture_feed self.old).known }
+        ensures passes { Passes (capture_feed self.old) (capture_feed self.new) }
+        ensures keeps { Keeps (capture_feed self.old) (capture_feed self.new) }
+        ensures position { position_of self.new ≡ position_of self.old }
+    {
         self.next.forget();
     }
 
