@@ -1,5 +1,5 @@
 //! The packets of one capture file.
-ghost use Rattle.std.specs.Prelude.{◌≡◌, [], ◌∷◌, ℕ, None, IsTrue};
+ghost use Rattle.std.specs.Prelude.{◌≡◌, [], ◌∷◌, ℕ, None, IfOk, IsTrue};
 ghost use Rattle.std.proofs.Props.{props};
 ghost use Rattle.cap_bytes.specs.SourceState.{source_of};
 ghost use Rattle.cap_source.specs.Feed.{Keeps, GivesHead, KeepsItems, FindsPacket, FindsItem, IsPacket, Passes};
@@ -33,7 +33,7 @@ pub struct Capture<R: Source> {
 }
 
 impl<R: Source> Capture<R> {
-    ghost use Rattle.cap_source.specs.Captures.{number_of, first_of, position_of, unread_position};
+    ghost use Rattle.cap_source.specs.Captures.{number_of, first_of, position_of, unread_position, ReadsToPacket};
 
     /// The packets that `reader` gives, which is the file of that number. It reads nothing yet, so a faulty
     /// file header is the first item.
@@ -71,6 +71,9 @@ impl<R: Source> Capture<R> {
         ensures keeps { Keeps (⟦<Capture<R> as PacketFeed>⟧.feed self.old) (⟦<Capture<R> as PacketFeed>⟧.feed self.new) }
         ensures items { IsTrue (⟦<Capture<R> as PacketFeed>⟧.feed self.old).told
             → KeepsFirst (⟦<Capture<R> as PacketFeed>⟧.feed self.old) (first_of self.old) result (⟦<Capture<R> as PacketFeed>⟧.feed self.new) (first_of self.new) }
+        ensures reads { IfOk result (λ _. IsPacket (⟦<Capture<R> as PacketFeed>⟧.feed self.new).known
+            → ReadsToPacket (position_of self.old) (position_of self.new)) }
+        ensures most { (position_of self.new).most ≡ (position_of self.old).most }
     {
         learn(&mut self.reader, &mut self.reached, &mut self.next)?;
         Ok(noted_of(&self.reader, &self.reached))
