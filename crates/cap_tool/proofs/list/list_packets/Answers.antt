@@ -78,9 +78,7 @@ pub returns-clause-walks : goal.returns-clause-walks
 returns-clause-walks g c = grind (arith, Walks-end)
 
 pub returns-in_err-meta-clause-memory : goal.returns-in_err-meta-clause-memory
-returns-in_err-meta-clause-memory g c =
-    let p = err_from_is_err_and c.from_residual.result c.from_residual.ensures.1 in
-    rw (p.1, p.2) (memory-asked c.in_err-meta.field-0.0 _ _ c.in_err-meta.ensures.answer)
+returns-in_err-meta-clause-memory g c = grind (arith, err_from_is_err_and, memory-asked)
 
 pub returns-in_err-put_all-clause-memory : goal.returns-in_err-put_all-clause-memory
 returns-in_err-put_all-clause-memory g c =

@@ -1,10 +1,6 @@
-use Rattle.std.proofs.Common.{rules, ℕ, ◌<◌, ◌++◌, ◌∷◌, length, Some, Err, sym, ap, ◌∙◌, subst, arith}
+use Rattle.std.proofs.Common.{rules, ℕ, ◌<◌, ◌++◌, length, Some, Err, sym, ap, ◌∙◌, subst, arith}
 use Rattle.std.proofs.lemmas.Result.{err_from_is_err_and}
 use Rattle.cap_ip.specs.Transport.{transport_of}
-use Rattle.cap_ip.specs.declared.headers.Key.{Key}
-use Rattle.cap_join.specs.History.{flushes}
-use Rattle.cap_join.specs.Joiners.{IsAnswer, open_limit}
-use Rattle.cap_join.specs.Joiners as joiners
 use Rattle.cap_talks.specs.table.Rows.{StandsFor}
 use Rattle.cap_talks.specs.table.Talks.{frames_of, bytes_of}
 use Rattle.cap_talks.proofs.SumLaws.{sum_law}
@@ -72,12 +68,12 @@ invariant_of-self-2 c =
     let one = numbers-whole header captured c.stamped_of-stamped.result original in
     sound-datagram t x (ap (λ (n : TallyState). n.waiting) c.self.view_is ∙ c.requires.none) header captured
     c.requires.look
-    c.add_unit.new.talks c.flush.new.self
+    c.add_unit.new.talks _
     (λ us stands. subst (λ u. StandsFor c.add_unit.new.talks (us ++ listed u)) unit (e.stands us stands))
-    (λ es stands. subst (λ (k : Key). joiners.StandsFor c.flush.new.self (flushes k ∷ es)) c.key-2.ensures (c.flush.ensures.stands es stands))
+    (λ es stands. search rules)
     _ (c.count_frames.ensures
     ∙ (λ i. with_frames ((c.class_of.ensures ∙ ap class_of (c.transport-seen.ensures ∙ (λ j. transport_of (c.key.ensures j).protocol captured (c.data_length.ensures.value j)))) i) 1 t.classes))
-    s (omega (arith, c.requires.few, ap (λ (n : TallyState). n.place) c.self.view_is)) c.flush.ensures.next
+    s (omega (arith, c.requires.few, ap (λ (n : TallyState). n.place) c.self.view_is)) (search rules)
     (omega (arith, e.frames, e.bytes, s.bytes, one.1, ap (λ u. bytes_of (listed u)) c.whole_unit.ensures, ap (λ u. frames_of (listed u)) c.whole_unit.ensures))
 
 pub returns-clause-looks : goal.returns-clause-looks
@@ -91,9 +87,9 @@ returns-clause-looks c =
     rw (← c.self.view_is)
     (looks-datagram t x (ap (λ (n : TallyState). n.waiting) c.self.view_is ∙ c.requires.none) header captured
     c.requires.look
-    c.add_unit.new.talks c.flush.new.self
+    c.add_unit.new.talks _
     (λ us stands. subst (λ u. StandsFor c.add_unit.new.talks (us ++ listed u)) unit (e.stands us stands))
-    (λ es stands. subst (λ (k : Key). joiners.StandsFor c.flush.new.self (flushes k ∷ es)) c.key-2.ensures (c.flush.ensures.stands es stands))
+    (λ es stands. search rules)
     _ (c.count_frames.ensures
     ∙ (λ i. with_frames ((c.class_of.ensures ∙ ap class_of (c.transport-seen.ensures ∙ (λ j. transport_of (c.key.ensures j).protocol captured (c.data_length.ensures.value j)))) i) 1 t.classes))
     (sym (ap (is_over t.talks.rows) unit) ∙ e.limit))
