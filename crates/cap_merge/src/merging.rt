@@ -52,7 +52,7 @@ pub struct NextPacket<'a> {
 }
 
 impl<F: PacketFeed> Merged<F> {
-    ghost use Rattle.cap_merge.specs.View.{parts_of};
+    ghost use Rattle.cap_merge.specs.View.{parts_of, feeds_of};
 
     /// The feeds as one, the first being file 1, and so on. It asks them nothing yet.
     pub fn new(feeds: Vec<F>) -> Merged<F>
@@ -78,6 +78,14 @@ impl<F: PacketFeed> Merged<F> {
         ensures most { result ≤ 32 }
     {
         self.feeds.len() as u32
+    }
+
+    /// The feeds, the first being file 1, and so on: at most 32.
+    pub fn feeds(&self) -> &[F]
+        ensures feeds { result.now ≡ feeds_of self.now }
+        ensures most { length result.now ≤ 32 }
+    {
+        self.feeds.as_slice()
     }
 
     /// The clock of what comes next: the greatest time of the packets of its file up to it, and none

@@ -1,9 +1,9 @@
 -- Going through a feed: what it was at first, on the way, and where the call ends.
-use Rattle.std.proofs.Common.{Some, None, Ok, Err, refl, sym, ◌∙◌, arith}
+use Rattle.std.proofs.Common.{IsTrue, Some, None, Ok, Err, refl, sym, ◌∙◌, arith}
 use Rattle.cap_bytes.specs.Printing.{IsRead}
 use Rattle.cap_bytes.specs.declared.faults.Fault.{Fault}
 use Rattle.cap_source.specs.Feed.{Feed, Keeps, Goes, Passes}
-use Rattle.cap_source.specs.Walk.{GivesPacket, Lasts, Walks}
+use Rattle.cap_source.specs.Walk.{GivesPacket, ShowsItem, SameEndings, Lasts, Walks}
 use Rattle.cap_source.specs.declared.packets.Meta.{Meta}
 
 -- What is true of a feed on the way: all that every answer keeps, and no read has failed.
@@ -49,3 +49,18 @@ Walks-end old mid new w p = (p.known, Goes-behind old mid new w.lasts p.goes)
 pub Walks-stop : (old mid new : Feed) (meta : Meta) (fault : Fault) → Went old mid → GivesPacket mid (Ok (Some meta)) new
     → (IsRead {A = Unit {0}} (Err fault) → ⊥) → Walks {A = Unit {0}} old (Err fault) new
 Walks-stop old mid new meta fault w p other = grind arith
+
+-- how the files end, of a feed of which nothing was asked
+pub Ends-none : (a : Feed) → IsTrue a.told → SameEndings a a
+Ends-none a t file = refl
+
+-- after one more packet
+pub Ends-more : (old mid shown new : Feed) (meta : Meta) → (IsTrue old.told → SameEndings old mid) → Keeps old mid → Keeps mid shown
+    → (IsTrue mid.told → ShowsItem mid (Ok (Some meta)) shown) → Passes shown new → IsTrue old.told → SameEndings old new
+Ends-more old mid shown new meta so went asked shows passed t file =
+    passed.endings (asked.told (went.told t)) file ∙ ((shows (went.told t)).0.endings file ∙ so t file)
+
+-- and at the end
+pub Ends-end : (old mid shown : Feed) → (IsTrue old.told → SameEndings old mid) → Keeps old mid
+    → (IsTrue mid.told → ShowsItem mid (Ok None) shown) → IsTrue old.told → SameEndings old shown
+Ends-end old mid shown so went shows t file = (shows (went.told t)).0.endings file ∙ so t file

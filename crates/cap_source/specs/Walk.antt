@@ -24,6 +24,10 @@ ShowsItem old (Err (Read file offset)) new = ⊤
 ShowsItem old (Err Write) new = ⊥
 ShowsItem old (Err Memory) new = SameItems old new
 
+-- How the files end stays told.
+abbrev pub SameEndings : Feed → Feed → Type 0
+SameEndings old new = (file : ℕ) → new.endings file ≡ old.endings file
+
 -- No read has failed meanwhile, whether one had failed before or not.
 pub record Lasts (old new : Feed) : Type 0 where
   pub broken : new.broken ≡ old.broken

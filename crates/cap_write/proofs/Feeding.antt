@@ -1,5 +1,5 @@
 -- The packets of a feed, written one by one in the form of pcapng.
-use Rattle.std.proofs.Common.{◌≡◌, ℕ, ◌≤◌, ◌<◌, ◌==◌, List, length, Bool, false, Some, None, refl, arith, length-append}
+use Rattle.std.proofs.Common.{◌≡◌, ℕ, ◌≤◌, ◌<◌, ◌==◌, List, length, Bool, IsTrue, false, Some, None, refl, arith, length-append}
 use Rattle.std.proofs.lemmas.Bool.{eq-eqb, ne_eqb}
 use Rattle.cap_bytes.specs.Device.{Writer}
 use Rattle.cap_bytes.specs.declared.faults.Rule.{Rule}
@@ -7,6 +7,7 @@ use Rattle.cap_bytes.specs.declared.numbers.Order.{Order}
 use Rattle.cap_source.proofs.Onward.{Went}
 use Rattle.cap_source.proofs.Walking.{Plan, IsPlan, GoesOn, GivesUp, Walking}
 use Rattle.cap_source.specs.Feed.{Feed}
+use Rattle.cap_source.specs.Walk.{SameEndings}
 use Rattle.cap_source.specs.declared.packets.Meta.{Meta}
 use Rattle.cap_write.proofs.Places.{position_or_len-none, position_or_len-some}
 use Rattle.cap_write.specs.Numbering.{Origin, numbered_of, numbered, with_origin, write_fault, refusal_at, refusal_in}
@@ -45,4 +46,5 @@ plan_of-refused order origins meta frame rule is = grind arith
 pub record Feeding (order : Order) (old new : Feed) (origins_old origins : List Origin) (failed_old failed_new : Bool) (from to : Writer) : Type 0 where
   pub limit : length origins ≤ 1024
   pub went : Went old new
+  pub ends : IsTrue old.told → SameEndings old new
   pub walk : Walking (plan_of order origins_old) (plan_of order origins) old new failed_old failed_new from to

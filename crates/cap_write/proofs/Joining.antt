@@ -12,10 +12,10 @@ use Rattle.cap_join.specs.Joiners.{JoinerState, StandsFor}
 use Rattle.cap_merge.proofs.RunItems.{items-of-run, first-of-run}
 use Rattle.cap_merge.specs.Parts.{Part, feed_of, run_of, BeginsAt}
 use Rattle.cap_merge.specs.Run.{Clocked}
-use Rattle.cap_source.proofs.Onward.{Went, Went-more}
+use Rattle.cap_source.proofs.Onward.{Went, Went-more, Ends-more}
 use Rattle.cap_source.proofs.Walking.{Walking, Walking-by, Prints-whole, Prints-front}
 use Rattle.cap_source.specs.Feed.{Feed, Item, packet, refused, Keeps, Passes}
-use Rattle.cap_source.specs.Walk.{GivesPacket, ShowsItem}
+use Rattle.cap_source.specs.Walk.{GivesPacket, ShowsItem, SameEndings}
 use Rattle.cap_source.specs.declared.packets.Meta.{Meta}
 use Rattle.cap_time.specs.declared.stamps.Stamp.{Stamp}
 use Rattle.cap_write.proofs.Feeding.{plan_of, plan_of-is, plan_of-next, plan_of-refused}
@@ -129,6 +129,7 @@ feeding ps place events = record (feed_of ps) { items = joined_items place event
 pub record Joining (order : Order) (old new : List Part) (origins_old origins : List Origin) (joiner : JoinerState) (place : ℕ) (failed_old failed_new : Bool) (from to : Writer) : Type 0 where
   pub limit : length origins ≤ 1024
   pub went : Went (feed_of old) (feed_of new)
+  pub ends : IsTrue (feed_of old).told → SameEndings (feed_of old) (feed_of new)
   pub events : List Event
   pub stands : StandsFor joiner events
   pub next : joiner.next ≤ place
@@ -166,6 +167,7 @@ Joining-more order old mid shown new origins_old origins origins_new joiner join
     record {
       limit = limit;
       went = Went-more (feed_of old) (feed_of mid) (feed_of shown) (feed_of new) meta p.went gives asked passes passed;
+      ends = Ends-more (feed_of old) (feed_of mid) (feed_of shown) (feed_of new) meta p.ends p.went.keeps asked shows passes;
       events = after;
       stands = stands events p.stands;
       next = next;

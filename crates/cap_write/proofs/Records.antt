@@ -1,5 +1,5 @@
 -- The packets of a feed, written one by one in the form of pcap.
-use Rattle.std.proofs.Common.{arith, ◌≡◌, ℕ, not, List, Bool, Option, Some, None, is_none, Result, Err, if◌then◌else◌}
+use Rattle.std.proofs.Common.{arith, ◌≡◌, ℕ, not, List, Bool, IsTrue, Option, Some, None, is_none, Result, Err, if◌then◌else◌}
 use Rattle.cap_bytes.specs.Device.{Writer}
 use Rattle.cap_bytes.specs.declared.faults.Fault.{Fault}
 use Rattle.cap_bytes.specs.declared.faults.Fault.TheVariants.{Refused}
@@ -10,6 +10,7 @@ use Rattle.cap_pcap.specs.declared.records.RecordTime.{RecordTime}
 use Rattle.cap_source.proofs.Onward.{Went}
 use Rattle.cap_source.proofs.Walking.{Plan, IsPlan, GoesOn, GivesUp, Walking}
 use Rattle.cap_source.specs.Feed.{Feed}
+use Rattle.cap_source.specs.Walk.{SameEndings}
 use Rattle.cap_source.specs.declared.packets.Meta.{Meta}
 use Rattle.cap_time.specs.declared.resolutions.Interface.{Interface}
 use Rattle.cap_time.specs.declared.stamps.Unit.{Unit as Fraction}
@@ -61,4 +62,5 @@ plan_of-refused order first meta frame rule is = grind arith
 -- The packets so far of a feed that was `old` are written by a writer that was `from`.
 pub record Recording (order : Order) (first : Interface) (old new : Feed) (failed_old failed_new : Bool) (from to : Writer) : Type 0 where
   pub went : Went old new
+  pub ends : IsTrue old.told → SameEndings old new
   pub walk : Walking (plan_of order first) (plan_of order first) old new failed_old failed_new from to

@@ -1,5 +1,5 @@
 -- What holds before anything of a feed is written, and what a writer keeps on the way.
-use Rattle.std.proofs.Common.{◌≡◌, ◌∷◌, [], ℕ, ◌≤◌, List, length, Bool, false, IsTrue, IfSome, true≢false, Option, Some, None, Result, Ok, Err, refl, sym, subst, ap, ◌∙◌, append-nil, arith}
+use Rattle.std.proofs.Common.{◌≡◌, ◌∷◌, [], ℕ, ◌≤◌, List, length, Bool, false, IsTrue, IfSome, true≢false, Option, Some, None, Result, Ok, Err, OnOk, refl, sym, subst, ap, ◌∙◌, append-nil, arith}
 use Rattle.std.proofs.Math.Bool.{or-false}
 use Rattle.cap_bytes.specs.Device.{Writer, WriterKeeps}
 use Rattle.cap_bytes.specs.Printing.{Prints, is_write}
@@ -11,9 +11,9 @@ use Rattle.cap_source.proofs.Onward.{Goes-behind, Lasts-goes, Lasts-trans}
 use Rattle.cap_source.proofs.Walking.{Plan, Walking}
 use Rattle.cap_source.specs.ReadFaults.{FailsOf}
 use Rattle.std.proofs.lemmas.Bool.Decides.{nat_tests}
-use Rattle.cap_source.specs.Feed.{Feed, HasFile, Keeps, Knows, GivesHead, IsFeed, IfPacket, IsPacket, IsPacketOf}
+use Rattle.cap_source.specs.Feed.{Feed, HasFile, Keeps, Knows, GivesHead, IsFeed, IfPacket, IsPacket, IsPacketOf, SameItems}
 use Rattle.cap_source.specs.Growing.{OfMemory, IfMemory}
-use Rattle.cap_source.specs.Walk.{GivesPacket, Walks}
+use Rattle.cap_source.specs.Walk.{GivesPacket, SameEndings, Walks}
 use Rattle.cap_source.specs.declared.feeds.Head.{Head}
 use Rattle.cap_source.specs.declared.feeds.Head.TheVariants as heads
 use Rattle.cap_source.specs.declared.packets.Meta.{Meta}
@@ -108,6 +108,12 @@ Walks-first old mid new head (Err (Read file offset)) k keeps w = record {
 }
 Walks-first old mid new head (Err Write) k keeps w = Lasts-trans old mid new (Lasts-goes old mid k.goes) w
 Walks-first old mid new head (Err Memory) k keeps w = Lasts-trans old mid new (Lasts-goes old mid k.goes) w
+
+-- how the files end stays told, after what comes first was asked for
+pub Ends-first : {A : Type 0} (old mid new : Feed) (result : Result A Fault) → Keeps old mid → (IsTrue old.told → SameItems old mid)
+    → OnOk result (IsTrue mid.told → SameEndings mid new) → OnOk result (IsTrue old.told → SameEndings old new)
+Ends-first old mid new (Ok x) keeps same ends = λ t file. ends (keeps.told t) file ∙ (same t).endings file
+Ends-first old mid new (Err fault) keeps same ends = tt
 
 -- A failed read is of the only file.
 pub FailsOf-one : {A : Type 0} (old new : Feed) (can_fail : Bool) (result : Result A Fault) → Walks old result new → old.files ≡ 1 ∷ [] → old.can_fail 1 ≡ can_fail → FailsOf (can_fail ∷ []) result

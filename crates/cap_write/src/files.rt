@@ -1,11 +1,11 @@
 //! One capture file written in either format.
-ghost use Rattle.std.specs.Prelude.{◌≡◌, ◌⊎◌, None, IsSome, IsTrue};
+ghost use Rattle.std.specs.Prelude.{◌≡◌, ◌⊎◌, None, IsSome, IsTrue, OnOk};
 ghost use Rattle.cap_bytes.specs.Device.{WriterKeeps, writer_of};
 ghost use Rattle.cap_bytes.specs.Printing.{Prints, is_write};
 ghost use Rattle.cap_write.specs.Pcap.{pcap_bytes, pcap_refusal};
 ghost use Rattle.cap_write.specs.Texts.{pcapng_bytes, pcapng_refusal};
 ghost use Rattle.cap_source.specs.Feed.{Keeps};
-ghost use Rattle.cap_source.specs.Walk.{Walks};
+ghost use Rattle.cap_source.specs.Walk.{Walks, SameEndings};
 ghost use Rattle.cap_source.specs.Growing.{IfMemory, IsAtPacket};
 ghost use Rattle.cap_source.specs.Captures.{feed_of, number_of, first_of};
 
@@ -34,6 +34,7 @@ pub fn to_pcapng<R: Source, W: Sink>(
         (W.held writer.old) result (W.held writer.new) }
     ensures writer { WriterKeeps (writer_of W.Sink writer.old) (is_write result) (writer_of W.Sink writer.new) }
     ensures walks { Walks (feed_of capture.old) result (feed_of capture.new) }
+    ensures endings { OnOk result (IsTrue (feed_of capture.old).told → SameEndings (feed_of capture.old) (feed_of capture.new)) }
     ensures memory { IfMemory result (IsAtPacket (feed_of capture.new).known
         ⊎ (IsTrue (feed_of capture.old).told → IsSome (first_of capture.old))) }
     ensures keeps { Keeps (feed_of capture.old) (feed_of capture.new) }
@@ -62,6 +63,7 @@ pub fn to_pcap<R: Source, W: Sink>(
         (W.held writer.old) result (W.held writer.new) }
     ensures writer { WriterKeeps (writer_of W.Sink writer.old) (is_write result) (writer_of W.Sink writer.new) }
     ensures walks { Walks (feed_of capture.old) result (feed_of capture.new) }
+    ensures endings { OnOk result (IsTrue (feed_of capture.old).told → SameEndings (feed_of capture.old) (feed_of capture.new)) }
     ensures memory { IfMemory result ((feed_of capture.new).known ≡ None) }
     ensures keeps { Keeps (feed_of capture.old) (feed_of capture.new) }
 {

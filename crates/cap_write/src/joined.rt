@@ -7,7 +7,7 @@ ghost use Rattle.cap_join.specs.Joiners.{StandsFor};
 ghost use Rattle.cap_merge.specs.Parts.{feed_of, run_of};
 ghost use Rattle.cap_merge.specs.View.{parts_of};
 ghost use Rattle.cap_source.specs.Feed.{Keeps};
-ghost use Rattle.cap_source.specs.Walk.{Walks};
+ghost use Rattle.cap_source.specs.Walk.{Walks, SameEndings};
 ghost use Rattle.cap_source.specs.Growing.{IfMemory, IsAtPacket};
 ghost use Rattle.cap_write.specs.Datagrams.{Stands, origins_behind};
 ghost use Rattle.cap_write.specs.Joined.{datagram_meta, events_after, joined_items, joined_bytes, joined_refusal};
@@ -102,6 +102,7 @@ fn put_joined<F: PacketFeed, W: Sink>(
         (W.held writer.old) result (W.held writer.new) }
     ensures writer { WriterKeeps (writer_of W.Sink writer.old) (is_write result) (writer_of W.Sink writer.new) }
     ensures walks { Walks (feed_of (parts_of merged.old)) result (feed_of (parts_of merged.new)) }
+    ensures endings { OnOk result (IsTrue (feed_of (parts_of merged.old)).told → SameEndings (feed_of (parts_of merged.old)) (feed_of (parts_of merged.new))) }
     ensures memory { IfMemory result (IsAtPacket (feed_of (parts_of merged.new)).known) }
     ensures keeps { Keeps (feed_of (parts_of merged.old)) (feed_of (parts_of merged.new)) }
 {
@@ -148,6 +149,7 @@ pub fn write_joined<F: PacketFeed, W: Sink>(
         (W.held writer.old) result (W.held writer.new) }
     ensures writer { WriterKeeps (writer_of W.Sink writer.old) (is_write result) (writer_of W.Sink writer.new) }
     ensures walks { Walks (feed_of (parts_of merged.old)) result (feed_of (parts_of merged.new)) }
+    ensures endings { OnOk result (IsTrue (feed_of (parts_of merged.old)).told → SameEndings (feed_of (parts_of merged.old)) (feed_of (parts_of merged.new))) }
     ensures memory { IfMemory result (IsAtPacket (feed_of (parts_of merged.new)).known) }
     ensures keeps { Keeps (feed_of (parts_of merged.old)) (feed_of (parts_of merged.new)) }
 {

@@ -1,9 +1,9 @@
 //! Merged files.
-ghost use Rattle.std.specs.Prelude.{IsTrue};
+ghost use Rattle.std.specs.Prelude.{IsTrue, OnOk};
 ghost use Rattle.cap_bytes.specs.Device.{WriterKeeps, writer_of};
 ghost use Rattle.cap_bytes.specs.Printing.{Prints, is_write};
 ghost use Rattle.cap_source.specs.Feed.{Keeps};
-ghost use Rattle.cap_source.specs.Walk.{Walks};
+ghost use Rattle.cap_source.specs.Walk.{Walks, SameEndings};
 ghost use Rattle.cap_source.specs.Growing.{IfMemory, IsAtPacket};
 ghost use Rattle.cap_write.specs.Texts.{merged_bytes, merged_refusal};
 
@@ -30,6 +30,7 @@ pub fn write_merged<F: PacketFeed, W: Sink>(
         (W.held writer.old) result (W.held writer.new) }
     ensures writer { WriterKeeps (writer_of W.Sink writer.old) (is_write result) (writer_of W.Sink writer.new) }
     ensures walks { Walks (F.feed feed.old) result (F.feed feed.new) }
+    ensures endings { OnOk result (IsTrue (F.feed feed.old).told → SameEndings (F.feed feed.old) (F.feed feed.new)) }
     ensures memory { IfMemory result (IsAtPacket (F.feed feed.new).known) }
     ensures keeps { Keeps (F.feed feed.old) (F.feed feed.new) }
 {

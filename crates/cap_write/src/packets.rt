@@ -4,7 +4,7 @@ ghost use Rattle.cap_bytes.specs.Device.{Puts, WriterKeeps, writer_of};
 ghost use Rattle.cap_bytes.specs.Printing.{Prints, IsRead, is_write};
 ghost use Rattle.cap_blocks.specs.Grammar.{interface_bytes, packet_bytes};
 ghost use Rattle.cap_source.specs.Feed.{Keeps};
-ghost use Rattle.cap_source.specs.Walk.{Walks};
+ghost use Rattle.cap_source.specs.Walk.{Walks, SameEndings};
 ghost use Rattle.cap_source.specs.Growing.{IfMemory, IsAtPacket};
 ghost use Rattle.cap_write.specs.Numbering.{number_of, with_origin, refusal_in, refusal_by, write_fault};
 ghost use Rattle.cap_write.specs.Texts.{text_behind, one_bytes};
@@ -113,6 +113,7 @@ pub(crate) fn put_packets<F: PacketFeed, W: Sink>(
         (W.held writer.old) result (W.held writer.new) }
     ensures writer { WriterKeeps (writer_of W.Sink writer.old) (is_write result) (writer_of W.Sink writer.new) }
     ensures walks { Walks (F.feed feed.old) result (F.feed feed.new) }
+    ensures endings { OnOk result (IsTrue (F.feed feed.old).told → SameEndings (F.feed feed.old) (F.feed feed.new)) }
     ensures memory { IfMemory result (IsAtPacket (F.feed feed.new).known) }
     ensures keeps { Keeps (F.feed feed.old) (F.feed feed.new) }
 {

@@ -1,9 +1,9 @@
 //! A feed written as a pcapng file.
-ghost use Rattle.std.specs.Prelude.{◌≡◌, ◌⊎◌, IsErr, IsSome, IsTrue, is_err, IsOkUnless};
+ghost use Rattle.std.specs.Prelude.{◌≡◌, ◌⊎◌, IsErr, IsSome, IsTrue, is_err, IsOkUnless, OnOk};
 ghost use Rattle.cap_bytes.specs.Device.{Puts, WriterKeeps, writer_of};
 ghost use Rattle.cap_bytes.specs.Printing.{Prints, is_write};
 ghost use Rattle.cap_source.specs.Feed.{Keeps};
-ghost use Rattle.cap_source.specs.Walk.{Walks};
+ghost use Rattle.cap_source.specs.Walk.{Walks, SameEndings};
 ghost use Rattle.cap_source.specs.Growing.{IfMemory, IsAtPacket};
 ghost use Rattle.cap_write.specs.Interfaces.{Holds};
 ghost use Rattle.cap_write.specs.Texts.{first_origins, first_bytes, front_bytes, pcapng_bytes, pcapng_refusal};
@@ -73,6 +73,7 @@ pub(crate) fn put_pcapng<F: PacketFeed, W: Sink>(
         (W.held writer.old) result (W.held writer.new) }
     ensures writer { WriterKeeps (writer_of W.Sink writer.old) (is_write result) (writer_of W.Sink writer.new) }
     ensures walks { Walks (F.feed feed.old) result (F.feed feed.new) }
+    ensures endings { OnOk result (IsTrue (F.feed feed.old).told → SameEndings (F.feed feed.old) (F.feed feed.new)) }
     ensures memory { IfMemory result (IsAtPacket (F.feed feed.new).known ⊎ (IsSome start.first × (F.feed feed.new ≡ F.feed feed.old))) }
     ensures keeps { Keeps (F.feed feed.old) (F.feed feed.new) }
 {

@@ -4,13 +4,17 @@ use Rattle.cap_source.proofs.Onward.{Keeps-trans}
 use Rattle.std.proofs.lemmas.Result.{err_from_is_err_and}
 use Rattle.cap_source.specs.Captures.{feed_of, number_of, first_of}
 use Rattle.cap_write.specs.Texts.{pcapng_bytes}
-use Rattle.cap_write.proofs.Starting.{Prints-unread, Writer-unread, Walks-unread, Walks-first, memory-unread, memory-wider}
+use Rattle.cap_write.proofs.Starting.{Prints-unread, Writer-unread, Walks-unread, Walks-first, Ends-first, memory-unread, memory-wider}
 use Rattle.cap_write.proofs.files.to_pcapng.Goals as goal
 
 pub returns-clause-walks : goal.returns-clause-walks
 returns-clause-walks g c =
     let first = c.in_ok-first.ensures.answer in
     Walks-first _ _ _ first.0 _ first.1 c.in_ok-first.ensures.keeps c.put_pcapng.ensures.walks
+
+pub returns-clause-endings : goal.returns-clause-endings
+returns-clause-endings g c =
+    Ends-first (feed_of c.args.capture.now) (feed_of c.first.new.self) (feed_of c.put_pcapng.new.feed) c.put_pcapng.result c.in_ok-first.ensures.keeps (λ t. (c.in_ok-first.ensures.items t).0) c.put_pcapng.ensures.endings
 
 pub returns-clause-keeps : goal.returns-clause-keeps
 returns-clause-keeps g c = search (Keeps-trans, c.in_ok-first.ensures.keeps, c.put_pcapng.ensures.keeps)

@@ -4,7 +4,7 @@ use Rattle.cap_merge.specs.MergedLaws.{merged-is-feed}
 use Rattle.cap_merge.specs.Parts.{feed_of}
 use Rattle.cap_merge.specs.View.{parts_of}
 use Rattle.cap_source.proofs.Growing.{memory-asked, memory-more, memory-here, at-unknown, at-packet}
-use Rattle.cap_source.proofs.Onward.{Keeps-trans, Went-none}
+use Rattle.cap_source.proofs.Onward.{Keeps-trans, Went-none, Ends-none, Ends-end}
 use Rattle.cap_source.specs.Walk.{ShowsItem}
 use Rattle.cap_source.proofs.Walking.{Prints-fault, Prints-end}
 use Rattle.cap_write.proofs.Feeding.{plan_of, plan_of-is}
@@ -73,6 +73,11 @@ returns-clause-text g c = λ t w.
     Prints-end (plan_of c.args.order origins) _ _ _ _ rest rest (plan_of-is c.args.order origins) (i.walk.text t) w (i.walk.refusal_same t)
     (shows-end mid (feed_of shown) c.loop-joining.place i.events shows)
 
+pub returns-clause-endings : goal.returns-clause-endings
+returns-clause-endings g c =
+    let i = c.loop-joining.invariant in
+    Ends-end _ _ _ i.ends i.went.keeps (λ t. rw c.in_default.is at (c.in_ok-meta.ensures.items t))
+
 pub returns-in_err-meta-clause-walks : goal.returns-in_err-meta-clause-walks
 returns-in_err-meta-clause-walks g c = grind arith
 
@@ -93,7 +98,7 @@ returns-clause-keeps g c = grind arith
 
 pub loop-joining-init : goal.loop-joining-init
 loop-joining-init g c =
-    record { limit = c.requires.limit; went = Went-none _; events = []; stands = c.new.ensures.stands; next = omega (arith, c.new.ensures.next); places = omega arith; walk = Walking-none _ _ _ _ }
+    record { limit = c.requires.limit; went = Went-none _; ends = Ends-none (feed_of (parts_of c.args.merged.now)); events = []; stands = c.new.ensures.stands; next = omega (arith, c.new.ensures.next); places = omega arith; walk = Walking-none _ _ _ _ }
 
 pub returns-in_err-meta-clause-writer : goal.returns-in_err-meta-clause-writer
 returns-in_err-meta-clause-writer g c =

@@ -1,7 +1,7 @@
 use Rattle.std.proofs.Common.{arith, Some, None, Ok, drop, rules, refl}
 use Rattle.std.proofs.lemmas.Result.{err_from_is_err_and}
 use Rattle.cap_source.proofs.Growing.{memory-asked, memory-more}
-use Rattle.cap_source.proofs.Onward.{Went-more, Went-none}
+use Rattle.cap_source.proofs.Onward.{Went-more, Went-none, Ends-none, Ends-more, Ends-end}
 use Rattle.cap_source.proofs.Walking.{Walking-more, Prints-fault, Prints-end}
 use Rattle.cap_source.specs.Walk.{ShowsItem}
 use Rattle.cap_write.proofs.Records.{plan_of, plan_of-is, plan_of-next, plan_of-refused}
@@ -50,6 +50,9 @@ loop-meta-preserved g c =
       went =
           Went-more (g.F.PacketFeed.feed c.args.feed.now) mid shown (g.F.PacketFeed.feed c.pass.new.self) meta j.went
           (rw c.in-Some.is at c.in_ok-meta.ensures.answer) c.in_ok-meta.ensures.keeps c.pass.ensures.passes c.pass.ensures.keeps;
+      ends =
+          Ends-more (g.F.PacketFeed.feed c.args.feed.now) mid shown (g.F.PacketFeed.feed c.pass.new.self) meta j.ends j.went.keeps
+          c.in_ok-meta.ensures.keeps (λ t. rw c.in-Some.is at (c.in_ok-meta.ensures.items t)) c.pass.ensures.passes;
       walk =
           Walking-more _ _ _ _ mid shown (g.F.PacketFeed.feed c.pass.new.self) _ _ _ _ _ _ meta line
           i c.in_ok-meta.ensures.keeps (λ t. rw c.in-Some.is at (c.in_ok-meta.ensures.items t))
@@ -66,6 +69,11 @@ returns-clause-text g c = λ t w.
     let first = c.args.first.now in
     let shows : ShowsItem mid (Ok None) shown = rw c.in_default.is at (c.in_ok-meta.ensures.items (i.told t)) in
     Prints-end (plan_of c.args.order first) _ _ _ _ mid shown (plan_of-is c.args.order first) (i.text t) w (i.refusal_same t) shows
+
+pub returns-clause-endings : goal.returns-clause-endings
+returns-clause-endings g c =
+    let i = c.loop-meta.invariant in
+    Ends-end _ _ _ i.ends i.went.keeps (λ t. rw c.in_default.is at (c.in_ok-meta.ensures.items t))
 
 pub returns-in_err-meta-clause-walks : goal.returns-in_err-meta-clause-walks
 returns-in_err-meta-clause-walks g c = grind arith
@@ -86,7 +94,7 @@ pub returns-clause-keeps : goal.returns-clause-keeps
 returns-clause-keeps g c = grind arith
 
 pub loop-meta-init : goal.loop-meta-init
-loop-meta-init g c = record { went = Went-none _; walk = Walking-none _ _ _ _ }
+loop-meta-init g c = record { went = Went-none _; ends = Ends-none (g.F.PacketFeed.feed c.args.feed.now); walk = Walking-none _ _ _ _ }
 
 pub returns-in_err-meta-clause-writer : goal.returns-in_err-meta-clause-writer
 returns-in_err-meta-clause-writer g c =
