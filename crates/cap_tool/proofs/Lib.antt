@@ -1,4 +1,5 @@
 mod Merging
+mod Leaving
 pub mod BlockListing
 pub mod BlockWalking
 pub mod Listing

@@ -5,9 +5,11 @@
 mod blocks;
 mod closed;
 mod commands;
+mod counting;
 mod hints;
 mod jobs;
 mod kinds;
+mod left;
 mod lines;
 mod list;
 mod outcomes;
@@ -16,15 +18,18 @@ mod regular;
 mod remembered;
 mod shared;
 mod streams;
+mod time_watched;
 mod watched;
 mod whole;
 
 pub use crate::blocks::blocks_to;
 pub use crate::closed::{Closed, check_input};
 pub use crate::commands::{convert_to, join_to, merge_to};
+pub use crate::counting::{convert_and_count, join_and_count, merge_and_count};
 pub use crate::hints::hint;
-pub use crate::jobs::job_to;
+pub use crate::jobs::{job_and_count, job_to};
 pub use crate::kinds::{Kind, kind_at, kind_of};
+pub use crate::left::{Left, left_lines};
 pub use crate::list::list_to;
 pub use crate::outcomes::{Outcome, Stop, end_of, outcome_line, status_of, tell};
 pub use crate::progress::{Progress, progress_line};
@@ -34,6 +39,7 @@ pub use crate::shared::{Shared, SharedOutput};
 pub use crate::streams::{
     Input, Inputs, Output, check_terminal, create_output, open_all, watch_all,
 };
+pub use crate::time_watched::TimeWatched;
 pub use crate::watched::Watched;
 pub use crate::whole::{Beside, create_beside};
 pub use cap_line::{Job, LineFault, parse};

@@ -7,9 +7,9 @@ ghost use Rattle.cap_line.specs.Jobs.{IsWhole};
 use cap_bytes::{Fault, Source, Tracked, put_all};
 use cap_line::{Job, LineFault, NOT_UTF_8, USAGE, message, parse};
 use cap_tool::{
-    Beside, Closed, FileId, Inputs, Outcome, Output, Progress, Remembered, Shared, SharedOutput,
-    Stop, Watched, check_input, check_terminal, create_beside, create_output, end_of, hint, job_to,
-    open_all, status_of, tell, watch_all,
+    Beside, Closed, FileId, Inputs, Left, Outcome, Output, Progress, Remembered, Shared,
+    SharedOutput, Stop, Watched, check_input, check_terminal, create_beside, create_output, end_of,
+    hint, job_and_count, left_lines, open_all, status_of, tell, watch_all,
 };
 use std::alloc::Global;
 use std::env;
@@ -45,19 +45,20 @@ fn shared(alloc: Global, output: Output) -> Result<SharedOutput, Outcome> {
     }
 }
 
-// Does a job, and flushes what waits in the output's buffer.
+// Does a job, and flushes what waits in the output's buffer. `left` says what the job leaves out of what it writes.
 fn run_job<R: Source, C: Clock>(
     alloc: Global,
     job: &Job<'_>,
     sources: Vec<R>,
     output: &SharedOutput,
     progress: &Progress<'_, C>,
+    left: &mut Left,
 ) -> Result<(), Stop>
     requires whole { IsWhole job.now }
     requires sources { vec_len sources ≡ vec_len job.now.files }
 {
     let mut writer = Watched::new(Tracked::new(Shared::new(output)), progress);
-    let answer = job_to(alloc, job, sources, &mut writer);
+    let answer = job_and_count(alloc, job, sources, &mut writer, left);
     match end_of(answer, output.flush()) {
         Ok(()) => Ok(()),
         Err(outcome) => Err(Stop {
@@ -91,6 +92,7 @@ fn work<R: Files<File = File> + Clock + AllocGlobal>(
     faults: Stderr,
     inputs: Inputs,
     output: Output,
+    left: &mut Left,
 ) -> Result<(), Stop>
     requires whole { IsWhole job.now }
     requires sources { vec_len inputs.sources ≡ vec_len job.now.files }
@@ -111,7 +113,7 @@ fn work<R: Files<File = File> + Clock + AllocGlobal>(
         Ok(sources) => sources,
         Err(outcome) => return Err(Stop::from(outcome)),
     };
-    let answer = run_job(rt.alloc(), job, sources, &output, &progress);
+    let answer = run_job(rt.alloc(), job, sources, &output, &progress, left);
     progress.wipe();
     answer
 }
@@ -155,6 +157,7 @@ fn run<R: Files<File = File> + Clock + AllocGlobal>(
     job: &Job<'_>,
     streams: StandardStreams,
     has_no_input: bool,
+    left: &mut Left,
 ) -> Result<(), Stop>
     requires { IsWhole job.now }
 {
@@ -166,7 +169,7 @@ fn run<R: Files<File = File> + Clock + AllocGlobal>(
         Ok(created) => created,
         Err(outcome) => return Err(Stop::from(outcome)),
     };
-    let answer = work(rt, job, streams.faults, inputs, output);
+    let answer = work(rt, job, streams.faults, inputs, output, left);
     match beside {
         Some(beside) => beside.settle(rt, answer),
         None => answer,
@@ -181,7 +184,8 @@ fn stop_of(answer: Result<(), Stop>) -> Stop {
     }
 }
 
-// Whether a second line tells of a fault which file it is of: at a terminal, and where that is asked for.
+// Whether more is told than the line of a fault, at a terminal and where that is asked for: which file it is of, and what
+// is left out of what was written.
 fn explains(faults: Stderr, job: Option<&Job<'_>>) -> bool {
     match job {
         Some(job) => job.explain || faults.is_terminal(),
@@ -198,11 +202,18 @@ fn main(rt: HostRuntime) -> ExitCode {
         output: rt.stdout(),
         faults: rt.stderr(),
     };
+    let mut left = Left {
+        skipped: 0,
+        ran_back: 0,
+    };
     let ending = match words_of(&rt) {
         Ok(words) => {
             let parsed = parse(rt.alloc(), words.as_slice());
             let (stop, said) = match &parsed {
-                Ok(job) => (stop_of(run(&rt, job, streams, closed.has_no_input())), None),
+                Ok(job) => {
+                    let has_no_input = closed.has_no_input();
+                    (stop_of(run(&rt, job, streams, has_no_input, &mut left)), None)
+                }
                 Err(fault) => {
                     let stop = Stop::from(Outcome::Line(*fault));
                     (stop, message(rt.alloc(), words.as_slice()))
@@ -214,6 +225,8 @@ fn main(rt: HostRuntime) -> ExitCode {
             };
             let job = parsed.as_ref().ok();
             if explains(rt.stderr(), job) {
+                let lines = left_lines(&ending, &left);
+                let _ = put_all(&mut faults, lines.as_slice());
                 let stop = Stop {
                     outcome: ending,
                     error: stop.error,

@@ -1,0 +1,241 @@
+//! What `capt convert`, `merge` and `join` write of files, and what they leave out of it or as it was.
+ghost use Rattle.std.specs.Prelude.{◌≡◌, ◌≤◌, ◌∷◌, [], IsTrue, IfOk, IsOkUnless, OnOk, OnErr, Some, length, map, vec_len};
+ghost use Rattle.std.specs.List.{list_all, range_with_len};
+ghost use Rattle.cap_bytes.specs.Device.{WriterKeeps, writer_of};
+ghost use Rattle.cap_bytes.specs.Printing.{Prints, is_write};
+ghost use Rattle.cap_merge.specs.Files.{endings_of_files};
+ghost use Rattle.cap_merge.specs.Parts.{feed_of};
+ghost use Rattle.cap_merge.specs.Readers.{AreUnread, IsUnreadRun, reader_of};
+ghost use Rattle.cap_merge.specs.View.{parts_of, feeds_of};
+ghost use Rattle.cap_source.specs.Captures.{feed_of as file_of, number_of, first_of};
+ghost use Rattle.cap_source.specs.Feed.{Keeps};
+ghost use Rattle.cap_source.specs.Items.{file_ending};
+ghost use Rattle.cap_source.specs.ReadFaults.{FailsOf};
+ghost use Rattle.cap_source.specs.Walk.{SameEndings, Walks};
+ghost use Rattle.cap_source.specs.declared.feeds.Head.{Head};
+ghost use Rattle.cap_tool.specs.Converted.{convert_text, convert_refusal};
+ghost use Rattle.cap_tool.specs.FileText.{file_text, file_refusal};
+ghost use Rattle.cap_tool.specs.JoinText.{join_text, join_refusal};
+ghost use Rattle.cap_tool.specs.Left.{nothing_left, left_of, skipped_in};
+ghost use Rattle.cap_tool.specs.MergeText.{merge_text, merge_refusal};
+ghost use Rattle.cap_tool.specs.RanBack.{ran_back_in};
+
+use crate::left::Left;
+use crate::time_watched::TimeWatched;
+use cap_bytes::{Fault, Order, Sink, Source, Tail};
+use cap_merge::Merged;
+use cap_source::{Capture, Format, PacketFeed};
+use cap_write::{to_pcap, to_pcapng, write_joined, write_merged};
+use std::alloc::Global;
+
+/// Nothing was left out, and nothing ran back.
+pub(crate) const NOTHING_LEFT: Left = Left {
+    skipped: 0,
+    ran_back: 0,
+};
+
+// How many blocks were skipped of the files of a feed that has come to its end.
+fn skipped_of<F: PacketFeed>(feed: &F, files: u32) -> u128
+    requires end { (F.feed feed.now).known ≡ Some Head.End }
+    requires files { (F.feed feed.now).files ≡ range_with_len 1 files }
+    requires most { files ≤ 32 }
+    ensures { result ≡ skipped_in (F.feed feed.now).endings files }
+{
+    let mut skipped: u128 = 0;
+    for place in 0..files {
+        skipped += u128::from(feed.ending(place + 1).skipped);
+    }
+    skipped
+}
+
+// How many packets ran back of the files that were watched.
+fn ran_back_of<F: PacketFeed>(feeds: &[TimeWatched<F>]) -> u128
+    requires { length feeds.now ≤ 32 }
+    ensures { result ≡ ran_back_in feeds.now }
+{
+    let mut ran_back: u128 = 0;
+    for feed in feeds.iter() {
+        ran_back += u128::from(feed.ran_back());
+    }
+    ran_back
+}
+
+// What is left of files that were merged, after a call that answered so and took them to their end if it was done.
+fn left_after<F: PacketFeed>(
+    answer: &Result<(), Fault>,
+    merged: &Merged<TimeWatched<F>>,
+) -> Left
+    requires end { OnOk answer.now ((feed_of (parts_of merged.now)).known ≡ Some Head.End) }
+    ensures skipped { OnOk answer.now (result.skipped
+        ≡ skipped_in (feed_of (parts_of merged.now)).endings (length (feed_of (parts_of merged.now)).files)) }
+    ensures ran_back { OnOk answer.now (result.ran_back ≡ ran_back_in (feeds_of merged.now)) }
+    ensures fault { OnErr answer.now (result ≡ nothing_left) }
+{
+    match answer {
+        Ok(()) => Left {
+            skipped: skipped_of(merged, merged.files()),
+            ran_back: ran_back_of(merged.feeds()),
+        },
+        Err(_) => NOTHING_LEFT,
+    }
+}
+
+// What is left of a file after a call that answered so and took it to its end if it was done.
+fn left_of_one<F: PacketFeed>(answer: &Result<(), Fault>, feed: &F) -> Left
+    requires end { OnOk answer.now ((F.feed feed.now).known ≡ Some Head.End) }
+    requires file { (F.feed feed.now).files ≡ 1 ∷ [] }
+    ensures left { OnOk answer.now (result ≡ left_of ((F.feed feed.now).endings 1)) }
+    ensures fault { OnErr answer.now (result ≡ nothing_left) }
+{
+    match answer {
+        Ok(()) => Left {
+            skipped: u128::from(feed.ending(1).skipped),
+            ran_back: 0,
+        },
+        Err(_) => NOTHING_LEFT,
+    }
+}
+
+// The packets of files, which have the numbers from 1 on, each file's times watched. Nothing is read yet.
+fn watched_of<R: Source>(
+    alloc: Global,
+    sources: Vec<R>,
+    tail: Tail,
+) -> Result<Vec<TimeWatched<Capture<R>>>, Fault>
+    requires most { vec_len sources ≤ 32 }
+    ensures unread { IfOk result (λ feeds. AreUnread tail 1
+        (map (reader_of R.tells_coming R.can_fail R.coming) sources.items)
+        (map ⟦<TimeWatched<Capture<R>> as PacketFeed>⟧.feed feeds.items)) }
+    ensures memory { IsOkUnless result Fault.Memory }
+{
+    let mut feeds = Vec::new(alloc);
+    let mut file = 1u32;
+    for source in sources {
+        let capture = Capture::new(alloc, source, file, tail);
+        let watched = TimeWatched::new(capture);
+        feeds.push(watched)?;
+        file += 1;
+    }
+    Ok(feeds)
+}
+
+// The packets of 1 to 32 files in the order of exact time, each file's times watched. Nothing is read yet.
+fn merge_watched<R: Source>(
+    alloc: Global,
+    sources: Vec<R>,
+    tail: Tail,
+) -> Result<Merged<TimeWatched<Capture<R>>>, Fault>
+    requires some { 1 ≤ vec_len sources }
+    requires most { vec_len sources ≤ 32 }
+    ensures unread { IfOk result (λ merged. IsUnreadRun tail
+        (map (reader_of R.tells_coming R.can_fail R.coming) sources.items) (parts_of merged)) }
+    ensures memory { IsOkUnless result Fault.Memory }
+{
+    let feeds = watched_of(alloc, sources, tail)?;
+    Ok(Merged::new(feeds))
+}
+
+// Writes a file of which nothing was passed in that format.
+fn write_file<R: Source, W: Sink>(
+    alloc: Global,
+    capture: &mut Capture<R>,
+    order: Order,
+    format: Format,
+    writer: &mut W,
+) -> Result<(), Fault>
+    ensures text { IsTrue (file_of capture.old).told → IsTrue (W.tells_held writer.old)
+        → Prints (file_text format order (number_of capture.old) (first_of capture.old) (file_of capture.old).items)
+        (file_refusal format (number_of capture.old) (first_of capture.old) (file_of capture.old).items)
+        (W.held writer.old) result (W.held writer.new) }
+    ensures writer { WriterKeeps (writer_of W.Sink writer.old) (is_write result) (writer_of W.Sink writer.new) }
+    ensures walks { Walks (file_of capture.old) result (file_of capture.new) }
+    ensures endings { OnOk result (IsTrue (file_of capture.old).told → SameEndings (file_of capture.old) (file_of capture.new)) }
+    ensures keeps { Keeps (file_of capture.old) (file_of capture.new) }
+{
+    match format {
+        Format::Pcap => to_pcap(capture, order, writer),
+        Format::Pcapng => to_pcapng(alloc, capture, order, writer),
+    }
+}
+
+/// Writes what `convert_to` writes, and answers what it answers. `left` says how many blocks of the file aren't carried on;
+/// no packet is told as one that ran back, since each stays where it was. After a fault nothing is told.
+pub fn convert_and_count<R: Source, W: Sink>(
+    alloc: Global,
+    source: R,
+    tail: Tail,
+    order: Order,
+    format: Format,
+    writer: &mut W,
+    left: &mut Left,
+) -> Result<(), Fault>
+    ensures text { IsTrue (R.tells_coming source) → IsTrue (W.tells_held writer.old)
+        → Prints (convert_text format order tail (R.coming source)) (convert_refusal format tail (R.coming source))
+        (W.held writer.old) result (W.held writer.new) }
+    ensures writer { WriterKeeps (writer_of W.Sink writer.old) (is_write result) (writer_of W.Sink writer.new) }
+    ensures read { FailsOf (R.can_fail source ∷ []) result }
+    ensures left { OnOk result (IsTrue (R.tells_coming source)
+        → left.new ≡ left_of (file_ending tail 1 (R.coming source))) }
+    ensures fault { OnErr result (left.new ≡ nothing_left) }
+{
+    let mut capture = Capture::new(alloc, source, 1, tail);
+    let answer = write_file(alloc, &mut capture, order, format, writer);
+    *left = left_of_one(&answer, &capture);
+    answer
+}
+
+/// Writes what `merge_to` writes, and answers what it answers. `left` says how many blocks of the files aren't carried on,
+/// and how many packets had a time below the greatest so far of their file. After a fault nothing is told.
+pub fn merge_and_count<R: Source, W: Sink>(
+    alloc: Global,
+    sources: Vec<R>,
+    tail: Tail,
+    order: Order,
+    writer: &mut W,
+    left: &mut Left,
+) -> Result<(), Fault>
+    requires some { 1 ≤ vec_len sources }
+    requires most { vec_len sources ≤ 32 }
+    ensures text { IsTrue (list_all R.tells_coming sources.items) → IsTrue (W.tells_held writer.old)
+        → Prints (merge_text order tail (map R.coming sources.items)) (merge_refusal tail (map R.coming sources.items))
+        (W.held writer.old) result (W.held writer.new) }
+    ensures writer { WriterKeeps (writer_of W.Sink writer.old) (is_write result) (writer_of W.Sink writer.new) }
+    ensures read { FailsOf (map R.can_fail sources.items) result }
+    ensures skipped { OnOk result (IsTrue (list_all R.tells_coming sources.items)
+        → left.new.skipped ≡ skipped_in (endings_of_files tail (map R.coming sources.items)) (length sources.items)) }
+    ensures fault { OnErr result (left.new ≡ nothing_left) }
+{
+    *left = NOTHING_LEFT;
+    let mut merged = merge_watched(alloc, sources, tail)?;
+    let answer = write_merged(alloc, &mut merged, order, writer);
+    *left = left_after(&answer, &merged);
+    answer
+}
+
+/// Writes what `join_to` writes, and answers what it answers. `left` says how many blocks of the files aren't carried on,
+/// and how many packets had a time below the greatest so far of their file. After a fault nothing is told.
+pub fn join_and_count<R: Source, W: Sink>(
+    alloc: Global,
+    sources: Vec<R>,
+    tail: Tail,
+    order: Order,
+    writer: &mut W,
+    left: &mut Left,
+) -> Result<(), Fault>
+    requires some { 1 ≤ vec_len sources }
+    requires most { vec_len sources ≤ 32 }
+    ensures text { IsTrue (list_all R.tells_coming sources.items) → IsTrue (W.tells_held writer.old)
+        → Prints (join_text order tail (map R.coming sources.items)) (join_refusal tail (map R.coming sources.items))
+        (W.held writer.old) result (W.held writer.new) }
+    ensures writer { WriterKeeps (writer_of W.Sink writer.old) (is_write result) (writer_of W.Sink writer.new) }
+    ensures read { FailsOf (map R.can_fail sources.items) result }
+    ensures skipped { OnOk result (IsTrue (list_all R.tells_coming sources.items)
+        → left.new.skipped ≡ skipped_in (endings_of_files tail (map R.coming sources.items)) (length sources.items)) }
+    ensures fault { OnErr result (left.new ≡ nothing_left) }
+{
+    *left = NOTHING_LEFT;
+    let mut run = merge_watched(alloc, sources, tail)?;
+    let answer = write_joined(alloc, &mut run, order, writer);
+    *left = left_after(&answer, &run);
+    answer
+}

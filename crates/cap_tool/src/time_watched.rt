@@ -1,0 +1,135 @@
+//! A feed whose packets' times are watched for those that run back.
+ghost use Rattle.std.specs.Prelude.{◌≡◌, ◌+◌, ◌≤◌, ◌^◌, IsTrue};
+ghost use Rattle.cap_source.specs.Feed.{GivesHead, Keeps, KeepsItems, FindsPacket, ShowsPacket, FindsItem, SameItems, Passes, IsPacket, IfPacket};
+ghost use Rattle.cap_source.specs.Times.{meta_time};
+ghost use Rattle.cap_time.specs.Clock.{later};
+ghost use Rattle.cap_tool.specs.RunningBack.{runs_back, no_times, times_after};
+
+use cap_bytes::Fault;
+use cap_source::{Ending, FeedHeld, Head, Meta, PacketFeed};
+use cap_time::Stamp;
+
+/// The packets of a feed as they are. Of those that were passed it is counted how many ran back: had a time below the
+/// greatest of those before.
+#[derive(Drop)]
+pub struct TimeWatched<F: PacketFeed> {
+    inner: F,
+    greatest: Option<Stamp>,
+    ran_back: u64,
+    ghost few: { ran_back + (F.feed inner).left ≤ 2 ^ 40 },
+}
+
+// Takes a time into the greatest so far, and answers whether it is below that.
+#[inline(always)]
+fn takes_back(greatest: &mut Option<Stamp>, time: Option<Stamp>) -> bool
+    ensures greatest { greatest.new ≡ later greatest.old time }
+    ensures back { result ≡ runs_back greatest.old time }
+{
+    let Some(time) = time else {
+        return false;
+    };
+    match greatest {
+        None => {
+            *greatest = Some(time);
+            false
+        }
+        Some(greatest) => greatest.reach(&time).is_gt(),
+    }
+}
+
+impl<F: PacketFeed> TimeWatched<F> {
+    ghost use Rattle.cap_tool.specs.TimeWatched.{inner_of, times_of};
+
+    /// The packets of a feed that gives at most 2^40 of them, as the one of a file does.
+    pub fn new(inner: F) -> TimeWatched<F>
+        requires few { (F.feed inner).left ≤ 2 ^ 40 }
+        ensures inner { inner_of result ≡ inner }
+        ensures times { times_of result ≡ no_times }
+    {
+        TimeWatched {
+            inner,
+            greatest: None,
+            ran_back: 0,
+        }
+    }
+
+    /// How many of the packets that were passed had a time below the greatest of those before.
+    pub fn ran_back(&self) -> u64
+        ensures { result ≡ (times_of self.now).ran_back }
+    {
+        self.ran_back
+    }
+}
+
+impl<F: PacketFeed> PacketFeed for TimeWatched<F> {
+    ghost use Rattle.cap_tool.specs.TimeWatched.{inner_of, times_of};
+
+    ghost feed = { λ w. F.feed (inner_of w) };
+
+    ghost lawful = { λ w. F.lawful (inner_of w) };
+
+    fn head(&mut self) -> Result<Head, Fault>
+        ensures answer { GivesHead (F.feed (inner_of self.old)) result (F.feed (inner_of self.new)) }
+        ensures keeps { Keeps (F.feed (inner_of self.old)) (F.feed (inner_of self.new)) }
+        ensures items { IsTrue (F.feed (inner_of self.old)).told
+            → KeepsItems (F.feed (inner_of self.old)) result (F.feed (inner_of self.new)) }
+        ensures times { times_of self.new ≡ times_of self.old }
+    {
+        self.inner.head()
+    }
+
+    #[inline(always)]
+    fn has_packet(&mut self) -> Result<bool, Fault>
+        ensures answer { FindsPacket (F.feed (inner_of self.old)) result (F.feed (inner_of self.new)) }
+        ensures keeps { Keeps (F.feed (inner_of self.old)) (F.feed (inner_of self.new)) }
+        ensures items { IsTrue (F.feed (inner_of self.old)).told
+            → FindsItem (F.feed (inner_of self.old)) result (F.feed (inner_of self.new)) }
+        ensures times { times_of self.new ≡ times_of self.old }
+    {
+        self.inner.has_packet()
+    }
+
+    #[inline(always)]
+    fn shows_packet(&mut self) -> bool
+        ensures answer { ShowsPacket (F.feed (inner_of self.old)) result (F.feed (inner_of self.new)) }
+        ensures keeps { Keeps (F.feed (inner_of self.old)) (F.feed (inner_of self.new)) }
+        ensures items { IsTrue (F.feed (inner_of self.old)).told
+            → SameItems (F.feed (inner_of self.old)) (F.feed (inner_of self.new)) }
+        ensures times { times_of self.new ≡ times_of self.old }
+    {
+        self.inner.shows_packet()
+    }
+
+    #[inline(always)]
+    fn packet(&self) -> &Meta {
+        self.inner.packet()
+    }
+
+    #[inline(always)]
+    fn frame(&self) -> &[u8] {
+        self.inner.frame()
+    }
+
+    #[inline(always)]
+    fn pass(&mut self)
+        requires packet { IsPacket (F.feed (inner_of self.old)).known }
+        ensures passes { Passes (F.feed (inner_of self.old)) (F.feed (inner_of self.new)) }
+        ensures keeps { Keeps (F.feed (inner_of self.old)) (F.feed (inner_of self.new)) }
+        ensures times { IfPacket (F.feed (inner_of self.old)).known
+            (λ meta. times_of self.new ≡ times_after (times_of self.old) (meta_time meta)) }
+    {
+        let time = self.inner.packet().time();
+        self.inner.pass();
+        if takes_back(&mut self.greatest, time) {
+            self.ran_back += 1;
+        }
+    }
+
+    fn ending(&self, file: u32) -> Ending {
+        self.inner.ending(file)
+    }
+
+    fn feed_held(&self) -> FeedHeld {
+        self.inner.feed_held()
+    }
+}
