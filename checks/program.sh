@@ -207,6 +207,34 @@ left 'whole, after all' 'cut one out'; cd "$work" || exit 1
 "$program" merge -o x "$one" - <&- > "$work/out" 2> "$work/err"; status=$?; check 'closed standard input' 1 '' 'fault: open file 2'; absent 'closed standard input' x
 "$program" list "$one" 2> "$work/err" >&-; status=$?; : > "$work/out"; check 'closed standard output' 1 '' 'fault: write'
 "$program" convert --to pcapng -o "$work/new" - < "$work/empty.pcap" > "$work/out" 2>&-; status=$?; : > "$work/err"; check 'closed standard error' 1 '' ''; same 'closed standard error' "$work/new" "$work/section"
+# With --explain lines tell after work that is done how many blocks aren't carried on, of all files, and how many packets ran
+# back; without it nothing does, nor after a refusal.
+corpus=$top/checks/corpus
+many=$corpus/skipped-blocks-of-many-kinds.pcapng; one_skipped=$corpus/worked-options.pcapng; back=$corpus/runs-back.pcap
+counted() {
+    local name=$1 want=$2
+    shift 2
+    run "$@"; check "$name" 0 '' "$want"
+}
+counted 'blocks not carried on' 'not carried on: 8 blocks' merge --explain -o "$work/new" "$many"
+counted 'a block not carried on' 'not carried on: 1 block' convert --explain --to pcap -o "$work/new" "$one_skipped"
+counted 'a block not joined' 'not carried on: 1 block' join --explain -o "$work/new" "$one_skipped"
+counted 'blocks of two files' 'not carried on: 9 blocks' merge --explain -o "$work/new" "$one_skipped" "$one" "$many"
+counted 'a packet that ran back' 'ran back: 1 packet' merge --explain -o "$work/new" "$back" "$corpus/runs-on.pcap"
+counted 'packets of two files that ran back' 'ran back: 2 packets' join --explain -o "$work/new" "$back" "$back"
+counted 'both' 'not carried on: 1 block
+ran back: 2 packets' merge --explain --whole -o "$work/new" "$back" "$one_skipped" "$back"
+counted 'a packet that ran back, converted' '' convert --explain --to pcapng -o "$work/new" "$back"
+counted 'equal times' '' merge --explain -o "$work/new" "$corpus/equal-times.pcapng"
+counted 'nothing to tell' '' merge --explain -o "$work/new" "$one"
+counted 'blocks that no one asks for' '' merge -o "$work/new" "$many" "$back"
+run info --explain "$many"; check 'blocks that info counts' 0 '*' ''
+run merge --explain -o "$work/new" "$many" "$back" "$work/cut.pcap"; check 'blocks before a refusal' 1 '' "refused: file 3 offset 24 rule 3 cut
+  $work/cut.pcap: it is cut off: --allow-cut drops a last record or block, but not a file header"
+counted 'blocks and a cut end' 'not carried on: 8 blocks' merge --explain --allow-cut -o "$work/new" "$many" "$work/cut.pcap"
+run merge --explain -o - "$many"; check 'blocks, on standard output' 0 '*' 'not carried on: 8 blocks'
+run merge --explain -o /dev/full "$many"; check 'blocks and a full disk' 1 '' 'fault: write
+  /dev/full: No space left on device (os error 28)'
 # at a terminal a second line tells the file and why; elsewhere none does, as the checks before --explain show
 shown() {
     local name=$1 want=$2
@@ -236,6 +264,13 @@ if command -v script > /dev/null; then
   standard input, -, can be read once' info - -
     shown '33 captures at a terminal' 'fault: files
   a command reads at most 32 captures' info $(yes one.pcap | head -33)
+    # at a terminal the counts are told without --explain, also if what is written goes to a file or a pipe
+    shown 'blocks and packets at a terminal' 'not carried on: 8 blocks
+ran back: 1 packet' merge -o new "$many" "$back"
+    shown 'a block at a terminal' 'not carried on: 1 block' convert --to pcapng -o new "$one_skipped"
+    shown 'nothing to tell at a terminal' '' join -o new one.pcap
+    (cd "$work" && script -qec "$(printf '%q ' "$program" merge -o - "$many") | cat > written" /dev/null) < /dev/null | tr -d '\r' > "$work/shown"
+    if [ "$(cat "$work/shown")" = 'not carried on: 8 blocks' ]; then passed=$((passed + 1)); else failed=$((failed + 1)); echo 'blocks through a pipe at a terminal'; cat "$work/shown"; fi
     # a line is seen at a terminal as it comes, while the pipe it is read from stays open
     mkfifo "$work/slow"
     { cat "$one"; for _ in $(seq 100); do [ -e "$work/seen" ] && break; sleep 0.1; done; } > "$work/slow" &

@@ -70,7 +70,8 @@ interface.
 OUT has each packet's bytes, lengths and time; as pcapng, also the link type,
 snaplen, time resolution and time offset of its interface. Not carried on:
 names, descriptions and filters of interfaces, comments and other options,
-secrets, name records, statistics.
+secrets, name records, statistics. At a terminal, or with --explain, a line
+tells how many blocks aren't.
 
 Examples: capt convert --to pcapng -o trace.pcapng trace.pcap
           set -o pipefail  # else the status of a refused merge is lost
@@ -85,7 +86,9 @@ is changed: where the times of a file run back, those of OUT do too.
 OUT is a pcapng file. It has each packet's bytes, lengths and time, and the link
 type, snaplen, time resolution and time offset of its interface. Not carried
 on: names, descriptions and filters of interfaces, comments and other options,
-secrets, name records, statistics.
+secrets, name records, statistics. At a terminal, or with --explain, a line
+tells how many blocks aren't, and one how many packets ran back: had a time
+below the greatest so far in their file.
 More than 32 captures are merged in rounds: 32 at a time, in order, and then
 the results.
 
@@ -102,7 +105,8 @@ isn't IPv4, and what lacks a fragment, is left out.
 OUT is a pcapng file. It has each datagram's bytes and time, and the time
 resolution and time offset of its interface. Not carried on: link headers,
 names, descriptions and filters of interfaces, comments and other options,
-secrets, name records, statistics.
+secrets, name records, statistics. At a terminal, or with --explain, a line
+tells how many blocks aren't, and one how many packets ran back, as of merge.
 
 Example: capt join -o whole.pcapng morning.pcap evening.pcapng";
 

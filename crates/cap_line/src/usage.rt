@@ -25,8 +25,8 @@ Commands:
 Options:
   -h, --help     Print help; of a command: capt help merge
   -V, --version  Print version
-      --explain  Of each command: name the file of a fault, and why, as at a
-                 terminal
+      --explain  Of each command: name the file of a fault, and why, and count
+                 what isn't carried on, as at a terminal
       --whole    Of convert, merge and join: leave OUT as it was until all is
                  done
 

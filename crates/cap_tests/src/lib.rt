@@ -30,6 +30,8 @@ mod jobs;
 #[cfg(test)]
 mod join;
 #[cfg(test)]
+mod left;
+#[cfg(test)]
 mod link;
 #[cfg(test)]
 mod merge;

@@ -57,7 +57,7 @@ impl<F: PacketFeed> TimeWatched<F> {
     pub fn ran_back(&self) -> u64
         ensures { result ≡ (times_of self.now).ran_back }
     {
-        self.ran_back
+        self.ran_back // as `pass` has counted
     }
 }
 

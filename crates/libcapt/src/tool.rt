@@ -2,6 +2,7 @@
 
 pub use cap_line::Task;
 pub use cap_tool::{
-    Job, LineFault, Outcome, blocks_to, convert_to, job_to, join_to, list_to, merge_to,
+    Job, Left, LineFault, Outcome, TimeWatched, blocks_to, convert_and_count, convert_to,
+    job_and_count, job_to, join_and_count, join_to, left_lines, list_to, merge_and_count, merge_to,
     outcome_line, parse, status_of,
 };

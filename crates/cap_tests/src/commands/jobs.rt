@@ -7,7 +7,7 @@ use crate::files::{ask_written, readers_of, room_of};
 use cap_bytes::{Fault, Order, Sink};
 use cap_line::{Job, Task, can_replace, is_whole};
 use cap_source::Format;
-use cap_tool::job_to;
+use cap_tool::{Left, job_and_count, job_to};
 use std::alloc::Global;
 use std::process::Abort;
 
@@ -102,6 +102,24 @@ fn does<W: Sink>(
     job_to(alloc, job, sources, writer)
 }
 
+// What a job of two captures that writes answers, which counts what it leaves.
+fn counts<W: Sink>(
+    rt: &impl Abort,
+    alloc: Global,
+    job: &Job<'_>,
+    captures: &[&str],
+    writer: &mut W,
+    left: &mut Left,
+) -> Result<(), Fault> {
+    let sources = readers_of(rt, alloc, captures, 4096);
+    holds!(rt; sources.len() == job.files.len());
+    holds!(rt; !job.files.is_empty());
+    holds!(rt; job.files.len() <= 32);
+    holds!(rt; is_whole(job.task, job.files.len(), job.to, job.out));
+    holds!(rt; can_replace(job.whole, job.out));
+    job_and_count(alloc, job, sources, writer, left)
+}
+
 // A job of one capture that prints.
 fn printing(rt: &impl Abort, alloc: Global, task: Task, allow_cut: bool) -> Job<'static> {
     let mut files = Vec::new(alloc);
@@ -157,5 +175,36 @@ fn each_job_is_done(rt: HostRuntime) {
     }
     for row in &WRITTEN {
         writes(&rt, rt.alloc(), row);
+    }
+}
+
+// A section and a statistics block, which is skipped.
+const SKIPPING: &str = "0a0d0d0a1c0000004d3c2b1a01000000ffffffffffffffff1c000000\
+    05000000180000000000000000000000a025260018000000";
+
+// A task of two captures that skip a block each, and how many it says aren't carried on.
+fn leaves(rt: &impl Abort, alloc: Global, task: Task, skipped: u128) {
+    let mut job = printing(rt, alloc, task, false);
+    job.files.push("b").expect(rt, "memory");
+    job.out = if skipped == 0 { None } else { Some("c") };
+    let mut left = Left {
+        skipped: 7,
+        ran_back: 7,
+    };
+    let mut writer = room_of(rt, alloc, 1024);
+    let answer = counts(rt, alloc, &job, &[SKIPPING, SKIPPING], &mut writer, &mut left);
+    let ran_back = 0;
+    same!(rt; (answer, left), (Ok(()), Left { skipped, ran_back }), task);
+}
+
+#[test]
+fn always_memory_a_job_counts_what_it_leaves(rt: HostRuntime) {
+    for (task, skipped) in [
+        (Task::Info, 0),
+        (Task::Report, 0),
+        (Task::Merge, 2),
+        (Task::Join, 2),
+    ] {
+        leaves(&rt, rt.alloc(), task, skipped);
     }
 }

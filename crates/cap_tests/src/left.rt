@@ -1,0 +1,178 @@
+//! What commands leave out of what they write, or as it was, and the lines that tell it.
+
+use crate::checks::{holds, same};
+use crate::files::{reader_of, room_of, sources_of};
+use crate::hex_vectors::{CUT_PCAP, File, OPTIONS_PCAPNG, RUNS_BACK, RUNS_ON};
+use cap_bytes::{Fault, Order, Pieces, Refusal, Rule, Sink, Source, Tail};
+use cap_line::LineFault;
+use cap_source::{Capture, Format, PacketFeed};
+use cap_tool::{
+    Left, Outcome, TimeWatched, convert_and_count, join_and_count, left_lines, merge_and_count,
+};
+use std::alloc::Global;
+use std::process::Abort;
+
+const CUT: Fault = Fault::Refused(Refusal {
+    file: 2,
+    offset: 24,
+    rule: Rule::Cut,
+});
+
+// Files, how a merge or a join of them ends, how many blocks they hold that are skipped, and how many packets run back.
+type Row = (&'static [File], Result<(), Fault>, u128, u128);
+
+const LEFT: [Row; 5] = [
+    (&[OPTIONS_PCAPNG], Ok(()), 1, 0),
+    (&[RUNS_ON, RUNS_ON], Ok(()), 0, 0),
+    (&[RUNS_BACK, RUNS_BACK], Ok(()), 0, 2),
+    (&[OPTIONS_PCAPNG, RUNS_BACK, OPTIONS_PCAPNG], Ok(()), 2, 1),
+    (&[RUNS_BACK, CUT_PCAP], Err(CUT), 0, 0),
+];
+
+// What is left before a command is done.
+const BEFORE: Left = Left {
+    skipped: 7,
+    ran_back: 7,
+};
+
+// What a merge of 1 to 32 files answers.
+fn merge<R: Source, W: Sink>(
+    rt: &impl Abort,
+    alloc: Global,
+    sources: Vec<R>,
+    writer: &mut W,
+    left: &mut Left,
+) -> Result<(), Fault> {
+    holds!(rt; !sources.is_empty());
+    holds!(rt; sources.len() <= 32);
+    merge_and_count(alloc, sources, Tail::Refuse, Order::Little, writer, left)
+}
+
+// What a join of 1 to 32 files answers.
+fn join<R: Source, W: Sink>(
+    rt: &impl Abort,
+    alloc: Global,
+    sources: Vec<R>,
+    writer: &mut W,
+    left: &mut Left,
+) -> Result<(), Fault> {
+    holds!(rt; !sources.is_empty());
+    holds!(rt; sources.len() <= 32);
+    join_and_count(alloc, sources, Tail::Refuse, Order::Little, writer, left)
+}
+
+// What is left of files that are merged.
+fn merges(rt: &impl Abort, alloc: Global, row: &Row) {
+    let (files, ending, skipped, ran_back) = *row;
+    let mut left = BEFORE;
+    let mut writer = room_of(rt, alloc, 512);
+    let sources = sources_of(rt, alloc, files, 4096);
+    let answer = merge(rt, alloc, sources, &mut writer, &mut left);
+    let wanted = (ending, Left { skipped, ran_back });
+    same!(rt; (answer, left), wanted, files);
+}
+
+// What is left of files that are joined.
+fn joins(rt: &impl Abort, alloc: Global, row: &Row) {
+    let (files, ending, skipped, ran_back) = *row;
+    let mut left = BEFORE;
+    let mut writer = room_of(rt, alloc, 512);
+    let sources = sources_of(rt, alloc, files, 4096);
+    let answer = join(rt, alloc, sources, &mut writer, &mut left);
+    let wanted = (ending, Left { skipped, ran_back });
+    same!(rt; (answer, left), wanted, files);
+}
+
+#[test]
+fn always_memory_files_are_merged_with_a_count(rt: HostRuntime) {
+    for row in &LEFT {
+        merges(&rt, rt.alloc(), row);
+    }
+}
+
+#[test]
+fn always_memory_files_are_joined_with_a_count(rt: HostRuntime) {
+    for row in &LEFT {
+        joins(&rt, rt.alloc(), row);
+    }
+}
+
+// A file, the format that it is written in, and how many of its blocks are skipped.
+const CONVERTED: [(File, Format, u128); 3] = [
+    (OPTIONS_PCAPNG, Format::Pcapng, 1),
+    (OPTIONS_PCAPNG, Format::Pcap, 1),
+    (RUNS_BACK, Format::Pcapng, 0),
+];
+
+// What is left of a file that is converted.
+fn converts(rt: &impl Abort, alloc: Global, file: File, format: Format, skipped: u128) {
+    let mut left = BEFORE;
+    let mut writer = room_of(rt, alloc, 512);
+    let source = reader_of(rt, alloc, file, 4096);
+    let order = Order::Little;
+    let answer = convert_and_count(
+        alloc,
+        source,
+        Tail::Refuse,
+        order,
+        format,
+        &mut writer,
+        &mut left,
+    );
+    let ran_back = 0;
+    same!(rt; (answer, left), (Ok(()), Left { skipped, ran_back }), file);
+}
+
+#[test]
+fn always_memory_files_are_converted_with_a_count(rt: HostRuntime) {
+    for (file, format, skipped) in &CONVERTED {
+        converts(&rt, rt.alloc(), *file, *format, *skipped);
+    }
+}
+
+// A packet is passed, and then so many have run back.
+fn passes(rt: &impl Abort, feed: &mut TimeWatched<Capture<Pieces>>, ran_back: u64) {
+    same!(rt; feed.has_packet(), Ok(true));
+    feed.pass();
+    same!(rt; feed.ran_back(), ran_back);
+}
+
+// At 5 seconds and then at 1 second.
+#[test]
+fn a_packet_runs_back(rt: HostRuntime) {
+    let source = reader_of(&rt, rt.alloc(), RUNS_BACK, 1);
+    let capture = Capture::new(rt.alloc(), source, 1, Tail::Refuse);
+    let mut feed = TimeWatched::new(capture);
+    for ran_back in [0, 1] {
+        passes(&rt, &mut feed, ran_back);
+    }
+}
+
+// How a run ended, what is left, and what is told of it.
+const TOLD: [(Outcome, u128, u128, &str); 7] = [
+    (Outcome::Done, 0, 0, ""),
+    (Outcome::Done, 1, 0, "not carried on: 1 block\n"),
+    (Outcome::Done, 3, 0, "not carried on: 3 blocks\n"),
+    (Outcome::Done, 0, 2, "ran back: 2 packets\n"),
+    (
+        Outcome::Done,
+        12,
+        1,
+        "not carried on: 12 blocks\nran back: 1 packet\n",
+    ),
+    (Outcome::Fault(CUT), 12, 1, ""),
+    (Outcome::Line(LineFault::Help), 12, 1, ""),
+];
+
+// What is told of what is left.
+fn tells(rt: &impl Abort, outcome: &Outcome, skipped: u128, ran_back: u128, text: &str) {
+    let line = left_lines(outcome, &Left { skipped, ran_back });
+    same!(rt; line.as_slice(), text.as_bytes());
+}
+
+#[test]
+fn what_is_left_is_told(rt: HostRuntime) {
+    for (outcome, skipped, ran_back, text) in &TOLD {
+        tells(&rt, outcome, *skipped, *ran_back, *text);
+    }
+}
