@@ -61,10 +61,7 @@ fn ran_back_of<F: PacketFeed>(feeds: &[TimeWatched<F>]) -> u128
 }
 
 // What is left of files that were merged, after a call that answered so and took them to their end if it was done.
-fn left_after<F: PacketFeed>(
-    answer: &Result<(), Fault>,
-    merged: &Merged<TimeWatched<F>>,
-) -> Left
+fn left_after<F: PacketFeed>(answer: &Result<(), Fault>, merged: &Merged<TimeWatched<F>>) -> Left
     requires end { OnOk answer.now ((feed_of (parts_of merged.now)).known ≡ Some Head.End) }
     ensures skipped { OnOk answer.now (result.skipped
         ≡ skipped_in (feed_of (parts_of merged.now)).endings (length (feed_of (parts_of merged.now)).files)) }

@@ -35,8 +35,20 @@ fn count_lines(left: &Left) -> Line
     ensures { text_in result ≡ left_text left.now }
 {
     let mut line = Line::new();
-    put_count(&mut line, b"ran back: ", left.ran_back, b" packet\n", b" packets\n");
-    put_count(&mut line, b"not carried on: ", left.skipped, b" block\n", b" blocks\n");
+    put_count(
+        &mut line,
+        b"ran back: ",
+        left.ran_back,
+        b" packet\n",
+        b" packets\n",
+    );
+    put_count(
+        &mut line,
+        b"not carried on: ",
+        left.skipped,
+        b" block\n",
+        b" blocks\n",
+    );
     line
 }
 

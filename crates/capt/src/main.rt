@@ -9,7 +9,7 @@ use cap_line::{Job, LineFault, NOT_UTF_8, USAGE, message, parse};
 use cap_tool::{
     Beside, Closed, FileId, Inputs, Left, Outcome, Output, Progress, Remembered, Shared,
     SharedOutput, Stop, Watched, check_input, check_terminal, create_beside, create_output, end_of,
-    hint, job_and_count, left_lines, open_all, status_of, tell, watch_all,
+    hint, job_and_count, job_to, left_lines, open_all, status_of, tell, watch_all,
 };
 use std::alloc::Global;
 use std::env;
@@ -45,20 +45,31 @@ fn shared(alloc: Global, output: Output) -> Result<SharedOutput, Outcome> {
     }
 }
 
-// Does a job, and flushes what waits in the output's buffer. `left` says what the job leaves out of what it writes.
+// What a job leaves out of what it writes, which is counted if it is told.
+#[derive(Drop)]
+struct Told {
+    counts: bool,
+    left: Left,
+}
+
+// Does a job, and flushes what waits in the output's buffer.
 fn run_job<R: Source, C: Clock>(
     alloc: Global,
     job: &Job<'_>,
     sources: Vec<R>,
     output: &SharedOutput,
     progress: &Progress<'_, C>,
-    left: &mut Left,
+    told: &mut Told,
 ) -> Result<(), Stop>
     requires whole { IsWhole job.now }
     requires sources { vec_len sources ≡ vec_len job.now.files }
 {
     let mut writer = Watched::new(Tracked::new(Shared::new(output)), progress);
-    let answer = job_and_count(alloc, job, sources, &mut writer, left);
+    let answer = if told.counts {
+        job_and_count(alloc, job, sources, &mut writer, &mut told.left)
+    } else {
+        job_to(alloc, job, sources, &mut writer)
+    };
     match end_of(answer, output.flush()) {
         Ok(()) => Ok(()),
         Err(outcome) => Err(Stop {
@@ -92,7 +103,7 @@ fn work<R: Files<File = File> + Clock + AllocGlobal>(
     faults: Stderr,
     inputs: Inputs,
     output: Output,
-    left: &mut Left,
+    told: &mut Told,
 ) -> Result<(), Stop>
     requires whole { IsWhole job.now }
     requires sources { vec_len inputs.sources ≡ vec_len job.now.files }
@@ -113,7 +124,7 @@ fn work<R: Files<File = File> + Clock + AllocGlobal>(
         Ok(sources) => sources,
         Err(outcome) => return Err(Stop::from(outcome)),
     };
-    let answer = run_job(rt.alloc(), job, sources, &output, &progress, left);
+    let answer = run_job(rt.alloc(), job, sources, &output, &progress, told);
     progress.wipe();
     answer
 }
@@ -157,7 +168,7 @@ fn run<R: Files<File = File> + Clock + AllocGlobal>(
     job: &Job<'_>,
     streams: StandardStreams,
     has_no_input: bool,
-    left: &mut Left,
+    told: &mut Told,
 ) -> Result<(), Stop>
     requires { IsWhole job.now }
 {
@@ -169,7 +180,7 @@ fn run<R: Files<File = File> + Clock + AllocGlobal>(
         Ok(created) => created,
         Err(outcome) => return Err(Stop::from(outcome)),
     };
-    let answer = work(rt, job, streams.faults, inputs, output, left);
+    let answer = work(rt, job, streams.faults, inputs, output, told);
     match beside {
         Some(beside) => beside.settle(rt, answer),
         None => answer,
@@ -193,6 +204,21 @@ fn explains(faults: Stderr, job: Option<&Job<'_>>) -> bool {
     }
 }
 
+// Tells more of a run than its line, on standard error: what is left out of what was written, or why it isn't done.
+fn explain<R: Files<File = File> + AllocGlobal>(
+    rt: &R,
+    job: Option<&Job<'_>>,
+    stop: &Stop,
+    left: &Left,
+    faults: &mut Tracked<Stderr>,
+) {
+    let lines = left_lines(&stop.outcome, left);
+    let _ = put_all(faults, lines.as_slice());
+    if let Some(line) = hint(rt, rt.alloc(), stop, job) {
+        let _ = put_all(faults, line.as_bytes());
+    }
+}
+
 fn main(rt: HostRuntime) -> ExitCode {
     let closed = Closed::find(&rt, rt.stdin(), rt.stdout(), rt.stderr());
     let mut output = Tracked::new(rt.stdout());
@@ -202,17 +228,23 @@ fn main(rt: HostRuntime) -> ExitCode {
         output: rt.stdout(),
         faults: rt.stderr(),
     };
-    let mut left = Left {
-        skipped: 0,
-        ran_back: 0,
-    };
     let ending = match words_of(&rt) {
         Ok(words) => {
             let parsed = parse(rt.alloc(), words.as_slice());
+            let mut told = Told {
+                counts: explains(rt.stderr(), parsed.as_ref().ok()),
+                left: Left {
+                    skipped: 0,
+                    ran_back: 0,
+                },
+            };
             let (stop, said) = match &parsed {
                 Ok(job) => {
                     let has_no_input = closed.has_no_input();
-                    (stop_of(run(&rt, job, streams, has_no_input, &mut left)), None)
+                    (
+                        stop_of(run(&rt, job, streams, has_no_input, &mut told)),
+                        None,
+                    )
                 }
                 Err(fault) => {
                     let stop = Stop::from(Outcome::Line(*fault));
@@ -223,17 +255,12 @@ fn main(rt: HostRuntime) -> ExitCode {
                 Some(text) => tell(stop.outcome, text.as_bytes(), &mut output, &mut faults),
                 None => tell(stop.outcome, USAGE.as_bytes(), &mut output, &mut faults),
             };
-            let job = parsed.as_ref().ok();
-            if explains(rt.stderr(), job) {
-                let lines = left_lines(&ending, &left);
-                let _ = put_all(&mut faults, lines.as_slice());
+            if told.counts {
                 let stop = Stop {
                     outcome: ending,
                     error: stop.error,
                 };
-                if let Some(line) = hint(&rt, rt.alloc(), &stop, job) {
-                    let _ = put_all(&mut faults, line.as_bytes());
-                }
+                explain(&rt, parsed.as_ref().ok(), &stop, &told.left, &mut faults);
             }
             ending
         }

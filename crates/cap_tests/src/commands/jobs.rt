@@ -192,7 +192,14 @@ fn leaves(rt: &impl Abort, alloc: Global, task: Task, skipped: u128) {
         ran_back: 7,
     };
     let mut writer = room_of(rt, alloc, 1024);
-    let answer = counts(rt, alloc, &job, &[SKIPPING, SKIPPING], &mut writer, &mut left);
+    let answer = counts(
+        rt,
+        alloc,
+        &job,
+        &[SKIPPING, SKIPPING],
+        &mut writer,
+        &mut left,
+    );
     let ran_back = 0;
     same!(rt; (answer, left), (Ok(()), Left { skipped, ran_back }), task);
 }

@@ -1,0 +1,24 @@
+use Rattle.std.proofs.lemmas.Result.{err_from_is_err_and}
+use Rattle.std.proofs.Common.{arith}
+use Rattle.cap_merge.proofs.Unread.{Fails-merged}
+use Rattle.cap_merge.specs.Parts.{feed_of}
+use Rattle.cap_merge.specs.Readers.{reader_of}
+use Rattle.cap_merge.specs.View.{parts_of}
+use Rattle.cap_tool.proofs.Merging.{Prints-merged, Prints-nothing}
+use Rattle.cap_tool.proofs.commands.merge_to.Goals as goal
+
+pub returns-in_err-merged-clause-text : goal.returns-in_err-merged-clause-text
+returns-in_err-merged-clause-text g c = grind (arith, err_from_is_err_and, Prints-nothing)
+
+pub returns-clause-text : goal.returns-clause-text
+returns-clause-text g c = λ t w.
+    let reader = reader_of g.R.Source.tells_coming g.R.Device.can_fail g.R.Source.coming in
+    Prints-merged reader c.args.tail c.args.order c.args.sources.items _
+    (g.W.Sink.held c.args.writer.now) (g.W.Sink.held c.write_merged.new.writer) c.write_merged.result c.in_ok-merged.ensures.unread
+    (λ told. c.write_merged.ensures.text told w) t
+
+pub returns-clause-read : goal.returns-clause-read
+returns-clause-read g c =
+    let reader = reader_of g.R.Source.tells_coming g.R.Device.can_fail g.R.Source.coming in
+    Fails-merged reader c.args.tail c.args.sources.items _ (feed_of (parts_of c.write_merged.new.feed)) c.write_merged.result
+    c.in_ok-merged.ensures.unread c.write_merged.ensures.walks
