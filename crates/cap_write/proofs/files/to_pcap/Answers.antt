@@ -9,7 +9,7 @@ use Rattle.cap_write.proofs.files.to_pcap.Goals as goal
 pub returns-clause-walks : goal.returns-clause-walks
 returns-clause-walks g c =
     let first = c.in_ok-first.ensures.answer in
-    Walks-first _ _ _ first.0 _ first.1 c.in_ok-first.ensures.keeps c.put_pcap.ensures.walks
+    Walks-first _ _ _ first.0 _ first.1 c.in_ok-first.ensures.keeps (grind arith)
 
 pub returns-clause-endings : goal.returns-clause-endings
 returns-clause-endings g c =
@@ -39,4 +39,4 @@ returns-in_err-first-clause-memory g c =
     rw (p.1, p.2) (memory-unread _ _ _ c.in_err-first.ensures.answer)
 
 pub returns-clause-memory : goal.returns-clause-memory
-returns-clause-memory g c = c.put_pcap.ensures.memory
+returns-clause-memory g c = grind arith

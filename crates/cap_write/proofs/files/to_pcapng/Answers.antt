@@ -10,7 +10,7 @@ use Rattle.cap_write.proofs.files.to_pcapng.Goals as goal
 pub returns-clause-walks : goal.returns-clause-walks
 returns-clause-walks g c =
     let first = c.in_ok-first.ensures.answer in
-    Walks-first _ _ _ first.0 _ first.1 c.in_ok-first.ensures.keeps c.put_pcapng.ensures.walks
+    Walks-first _ _ _ first.0 _ first.1 c.in_ok-first.ensures.keeps (grind arith)
 
 pub returns-clause-endings : goal.returns-clause-endings
 returns-clause-endings g c =
