@@ -4,7 +4,7 @@ use crate::checks::same;
 use crate::files::room_of;
 use cap_bytes::{Fault, Refusal, Rule};
 use cap_line::{LineFault, USAGE};
-use cap_tool::{Outcome, end_of, outcome_line, status_of, tell};
+use cap_tool::{Outcome, end_of, fault_line, outcome_line, status_of, tell};
 use std::alloc::Global;
 use std::io;
 use std::io::{BufWriter, Write};
@@ -63,6 +63,9 @@ fn displayed(alloc: Global, outcome: &Outcome) -> Option<String> {
 fn always_memory_outcomes_print_one_line(rt: HostRuntime) {
     for (outcome, text, status) in &TOLD {
         tells(&rt, rt.alloc(), 64, *outcome, *text, *status);
+        if let Outcome::Fault(fault) = outcome {
+            same!(&rt; fault_line(*fault).as_slice(), text.as_bytes());
+        }
         if let Some(shown) = displayed(rt.alloc(), outcome) {
             same!(&rt; shown.as_str(), *text);
         }

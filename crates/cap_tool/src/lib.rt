@@ -33,7 +33,7 @@ pub use crate::jobs::job_to;
 pub use crate::kinds::{Kind, kind_at, kind_of};
 pub use crate::left::{Left, left_lines};
 pub use crate::list::list_to;
-pub use crate::outcomes::{Outcome, Stop, end_of, outcome_line, status_of, tell};
+pub use crate::outcomes::{Outcome, Stop, end_of, fault_line, outcome_line, status_of, tell};
 pub use crate::progress::{Progress, progress_line};
 pub use crate::regular::{FileId, Regular};
 pub use crate::remembered::Remembered;

@@ -116,8 +116,8 @@ fn short_line(text: &[u8]) -> Line
     line
 }
 
-// What is told of a fault of a run.
-fn fault_line(fault: Fault) -> Line
+/// The line that `outcome_line` writes of a fault of a run, with its end.
+pub fn fault_line(fault: Fault) -> Line
     ensures { text_in result ≡ fault_text fault }
 {
     match fault {

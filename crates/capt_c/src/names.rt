@@ -1,9 +1,14 @@
-//! The names of rules, and the version.
-ghost use Rattle.std.specs.Prelude.{◌≡◌, ◌<◌, ◌⊎◌, IfSome, None, length, codes};
+//! The names of rules, what is told of a fault, and the version.
+ghost use Rattle.std.specs.Prelude.{◌≡◌, ◌<◌, ◌⊎◌, IfSome, None, Some, length, codes};
 ghost use Rattle.cap_bytes.specs.Rules.{rule_number};
+ghost use Rattle.cap_bytes.specs.declared.faults.Fault.{Fault};
+ghost use Rattle.cap_tool.specs.Outcomes.{fault_text};
+ghost use Rattle.capt_c.specs.Answers.{status_of, place_of};
 ghost use Rattle.capt_c.specs.Names.{Names, PutsText};
 
-use cap_bytes::Rule;
+use crate::answers::{MEMORY, Place, READ, REFUSED, WRITE};
+use cap_bytes::{Fault, Refusal, Rule};
+use cap_tool::fault_line;
 use std::cmp::min;
 
 // The version of the library.
@@ -58,6 +63,48 @@ pub extern "C" fn capt_rule_name(rule: u32, buffer: &mut [u8]) -> usize
 {
     match rule_of(rule) {
         Some(rule) => put(rule.name().as_bytes(), buffer),
+        None => 0,
+    }
+}
+
+// The fault that a status and a place tell, if they tell one.
+fn fault_of(status: u32, place: &Place) -> Option<Fault>
+    ensures some { (fault : Fault) → status_of fault ≡ status → place_of fault ≡ place.now → result ≡ Some fault }
+    ensures none { ((fault : Fault) → status_of fault ≡ status → ⊥) → result ≡ None }
+{
+    if status == REFUSED {
+        match rule_of(place.rule) {
+            Some(rule) => Some(Fault::Refused(Refusal {
+                file: place.file,
+                offset: place.offset,
+                rule,
+            })),
+            None => None,
+        }
+    } else if status == READ {
+        Some(Fault::Read {
+            file: place.file,
+            offset: place.offset,
+        })
+    } else if status == WRITE {
+        Some(Fault::Write)
+    } else if status == MEMORY {
+        Some(Fault::Memory)
+    } else {
+        None
+    }
+}
+
+/// Puts as much of the line into a buffer as it has room for that `capt` prints of the fault that a status and a place
+/// tell, with its end, and answers how long the line is: 0 if the status tells no fault.
+#[unsafe(no_mangle)]
+pub extern "C" fn capt_error_text(status: u32, place: &Place, buffer: &mut [u8]) -> usize
+    ensures text { (fault : Fault) → status_of fault ≡ status → place_of fault ≡ place.now
+        → PutsText (fault_text fault) result (length buffer.old) buffer.new }
+    ensures none { ((fault : Fault) → status_of fault ≡ status → ⊥) → result ≡ 0 }
+{
+    match fault_of(status, place) {
+        Some(fault) => put(fault_line(fault).as_slice(), buffer),
         None => 0,
     }
 }
