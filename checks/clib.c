@@ -20,23 +20,11 @@ static capt_bytes bytes_of(const char *name) {
 }
 
 static int told(uint32_t status, capt_place place) {
-    char name[32];
-    switch (status) {
-    case CAPT_DONE:
-        return 0;
-    case CAPT_REFUSED:
-        fprintf(stderr, "refused: file %" PRIu32 " offset %" PRIu64 " rule %" PRIu32 " %.*s\n", place.file, place.offset, place.rule,
-                (int)capt_rule_name(place.rule, (uint8_t *)name, sizeof name), name);
-        return 1;
-    case CAPT_READ:
-        fprintf(stderr, "fault: read file %" PRIu32 " offset %" PRIu64 "\n", place.file, place.offset);
-        return 1;
-    case CAPT_MEMORY:
-        fprintf(stderr, "fault: memory\n");
-        return 1;
-    default:
-        return 4;
-    }
+    char line[128];
+    size_t len = capt_error_text(status, &place, (uint8_t *)line, sizeof line);
+    if (len > sizeof line) return 9;
+    fwrite(line, 1, len, stderr);
+    return status == CAPT_DONE ? 0 : status == CAPT_MISUSE ? 4 : 1;
 }
 
 /* Whole seconds, which may take more than 64 bits. */
@@ -163,6 +151,8 @@ static int misuse(const char *name) {
     free((void *)files[0].at);
     /* names are cut to the room, and there is none of a rule that isn't */
     if (capt_rule_name(6, buffer, 3) != 13 || memcmp(buffer, "blo.", 4)) return 14;
+    if (capt_error_text(CAPT_MISUSE, &place, buffer, 4) || capt_error_text(CAPT_PACKET, &place, buffer, 4)) return 20;
+    if (capt_error_text(CAPT_MEMORY, &place, buffer, 2) != 14 || memcmp(buffer, "fao.", 4)) return 21;
     return capt_rule_name(0, buffer, 4) || capt_rule_name(22, buffer, 4) ? 15 : 0;
 }
 

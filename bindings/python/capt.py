@@ -68,6 +68,7 @@ def _load():
         ("capt_merge", status, pointer, size, flag, flag, pointer, pointer),
         ("capt_join", status, pointer, size, flag, flag, pointer, pointer),
         ("capt_text_close", None, pointer),
+        ("capt_error_text", size, status, pointer, pointer, size),
         ("capt_rule_name", size, status, pointer, size),
         ("capt_version", size, pointer, size),
     ]:
@@ -90,10 +91,9 @@ class Error(Exception):
 class Refused(Error):
     """A capture breaks a rule, of that number and name; `text` is what was printed or written before."""
 
-    def __init__(self, file: int, offset: int, rule: int, text: bytes = b""):
-        name = rule_name(rule)
-        super().__init__(f"refused: file {file} offset {offset} rule {rule} {name}", file, offset)
-        self.rule, self.name, self.text = rule, name, text
+    def __init__(self, message: str, file: int, offset: int, rule: int, text: bytes = b""):
+        super().__init__(message, file, offset)
+        self.rule, self.name, self.text = rule, rule_name(rule), text
 
 
 class ReadFailed(Error):
@@ -101,7 +101,7 @@ class ReadFailed(Error):
 
 
 def _text_of(call, *words) -> str:
-    room = 64
+    room = 128
     buffer = (ctypes.c_uint8 * room)()
     return bytes(buffer[:call(*words, buffer, room)]).decode()
 
@@ -117,10 +117,11 @@ def version() -> str:
 
 
 def _check(status: int, place: _Place, text: bytes = b"") -> None:
-    if status == _REFUSED:
-        raise Refused(place.file, place.offset, place.rule, text)
-    if status == _READ:
-        raise ReadFailed(f"fault: read file {place.file} offset {place.offset}", place.file, place.offset)
+    if status in (_REFUSED, _READ):
+        message = _text_of(_library.capt_error_text, status, ctypes.byref(place)).rstrip("\n")
+        if status == _REFUSED:
+            raise Refused(message, place.file, place.offset, place.rule, text)
+        raise ReadFailed(message, place.file, place.offset)
     if status == _MEMORY:
         raise MemoryError
     if status == _MISUSE:

@@ -141,7 +141,9 @@ uint32_t capt_join(const capt_bytes *files, size_t count, bool allow_cut, bool b
 void capt_text_close(capt_text *text);
 
 /* Put as many bytes of a text into the buffer as it has room for, with no zero after them, and return how long the text is:
- * the name of a rule, as "block-trailer", or 0 if there is no such rule; and the version of the library. */
+ * the line that capt prints of a fault, with its end, as "refused: file 1 offset 24 rule 6 block-trailer\n", or 0 of a status
+ * that is none; the name of a rule, as "block-trailer", or 0 if there is no such rule; and the version of the library. */
+size_t capt_error_text(uint32_t status, const capt_place *place, uint8_t *buffer, size_t room);
 size_t capt_rule_name(uint32_t rule, uint8_t *buffer, size_t room);
 size_t capt_version(uint8_t *buffer, size_t room);
 
