@@ -40,6 +40,8 @@ pub(crate) fn only<R: Source>(mut sources: Vec<R>) -> R
 /// `Refused`, `Read` or `Memory`; the others write up to the first refusal, which they answer, and a prefix
 /// of their text if they answer another fault. `Read` comes if a read fails, `Write` if a write
 /// does, and `Memory` if a growth is refused.
+// It stands apart, so that the loops of its commands have the registers to themselves.
+#[inline(never)]
 pub fn job_to<R: Source, W: Sink>(
     alloc: Global,
     job: &Job<'_>,
