@@ -142,7 +142,7 @@ fn passes(rt: &impl Abort, feed: &mut TimeWatched<Capture<Pieces>>, ran_back: u6
 fn a_packet_runs_back(rt: HostRuntime) {
     let source = reader_of(&rt, rt.alloc(), RUNS_BACK, 1);
     let capture = Capture::new(rt.alloc(), source, 1, Tail::Refuse);
-    let mut feed = TimeWatched::new(capture);
+    let mut feed = TimeWatched::new(capture, true);
     for ran_back in [0, 1] {
         passes(&rt, &mut feed, ran_back);
     }

@@ -1,5 +1,5 @@
 -- Packets that run back: whose time is below the greatest time of those before them in their file.
-use Rattle.std.specs.Prelude.{ℕ, ◌+◌, Bool, false, Option, Some, None, if◌then◌else◌}
+use Rattle.std.specs.Prelude.{ℕ, ◌+◌, Bool, true, false, Option, Some, None, if◌then◌else◌}
 use Rattle.std.specs.Ordering.{is_gt}
 use Rattle.cap_time.specs.Clock.{clock_cmp, later}
 use Rattle.cap_time.specs.declared.stamps.Stamp.{Stamp}
@@ -25,3 +25,8 @@ times_after times time =
       greatest = later times.greatest time;
       ran_back = times.ran_back + (if runs_back times.greatest time then 1 else 0);
     }
+
+-- the same if times are watched, and else what was known
+abbrev pub times_by : Bool → Times → Option Stamp → Times
+times_by true times time = times_after times time
+times_by false times time = times

@@ -8,10 +8,9 @@ ghost use Rattle.cap_tool.specs.Converted.{convert_text, convert_refusal};
 ghost use Rattle.cap_tool.specs.JoinText.{join_text, join_refusal};
 ghost use Rattle.cap_tool.specs.MergeText.{merge_text, merge_refusal};
 
+use crate::counting::{NOTHING_LEFT, convert_and_count, join_with, merge_with};
 use cap_bytes::{Fault, Order, Sink, Source, Tail};
-use cap_merge::merge_files;
-use cap_source::{Capture, Format};
-use cap_write::{to_pcap, to_pcapng, write_joined, write_merged};
+use cap_source::Format;
 use std::alloc::Global;
 
 /// Writes the packets of a capture file of either format as a file of that format, with numbers in that
@@ -33,11 +32,8 @@ pub fn convert_to<R: Source, W: Sink>(
     ensures writer { WriterKeeps (writer_of W.Sink writer.old) (is_write result) (writer_of W.Sink writer.new) }
     ensures read { FailsOf (R.can_fail source ∷ []) result }
 {
-    let mut capture = Capture::new(alloc, source, 1, tail);
-    match format {
-        Format::Pcap => to_pcap(&mut capture, order, writer),
-        Format::Pcapng => to_pcapng(alloc, &mut capture, order, writer),
-    }
+    let mut left = NOTHING_LEFT;
+    convert_and_count(alloc, source, tail, order, format, writer, &mut left)
 }
 
 /// Writes the packets of 1 to 32 capture files, each of either format, as a pcapng file of one section in
@@ -61,8 +57,8 @@ pub fn merge_to<R: Source, W: Sink>(
     ensures writer { WriterKeeps (writer_of W.Sink writer.old) (is_write result) (writer_of W.Sink writer.new) }
     ensures read { FailsOf (map R.can_fail sources.items) result }
 {
-    let mut merged = merge_files(alloc, sources, tail)?;
-    write_merged(alloc, &mut merged, order, writer)
+    let mut left = NOTHING_LEFT;
+    merge_with(alloc, sources, tail, order, false, writer, &mut left)
 }
 
 /// Writes the whole IPv4 datagrams of 1 to 32 capture files, each of either format, as a pcapng file of
@@ -86,6 +82,6 @@ pub fn join_to<R: Source, W: Sink>(
     ensures writer { WriterKeeps (writer_of W.Sink writer.old) (is_write result) (writer_of W.Sink writer.new) }
     ensures read { FailsOf (map R.can_fail sources.items) result }
 {
-    let mut run = merge_files(alloc, sources, tail)?;
-    write_joined(alloc, &mut run, order, writer)
+    let mut left = NOTHING_LEFT;
+    join_with(alloc, sources, tail, order, false, writer, &mut left)
 }

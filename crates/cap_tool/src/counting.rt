@@ -98,6 +98,7 @@ fn watched_of<R: Source>(
     alloc: Global,
     sources: Vec<R>,
     tail: Tail,
+    counts: bool,
 ) -> Result<Vec<TimeWatched<Capture<R>>>, Fault>
     requires most { vec_len sources ≤ 32 }
     ensures unread { IfOk result (λ feeds. AreUnread tail 1
@@ -109,7 +110,7 @@ fn watched_of<R: Source>(
     let mut file = 1u32;
     for source in sources {
         let capture = Capture::new(alloc, source, file, tail);
-        let watched = TimeWatched::new(capture);
+        let watched = TimeWatched::new(capture, counts);
         feeds.push(watched)?;
         file += 1;
     }
@@ -121,6 +122,7 @@ fn merge_watched<R: Source>(
     alloc: Global,
     sources: Vec<R>,
     tail: Tail,
+    counts: bool,
 ) -> Result<Merged<TimeWatched<Capture<R>>>, Fault>
     requires some { 1 ≤ vec_len sources }
     requires most { vec_len sources ≤ 32 }
@@ -128,7 +130,7 @@ fn merge_watched<R: Source>(
         (map (reader_of R.tells_coming R.can_fail R.coming) sources.items) (parts_of merged)) }
     ensures memory { IsOkUnless result Fault.Memory }
 {
-    let feeds = watched_of(alloc, sources, tail)?;
+    let feeds = watched_of(alloc, sources, tail, counts)?;
     Ok(Merged::new(feeds))
 }
 
@@ -181,6 +183,34 @@ pub fn convert_and_count<R: Source, W: Sink>(
     answer
 }
 
+/// Writes what `merge_to` writes. `left` says of it what `merge_and_count` says, if times are watched.
+pub(crate) fn merge_with<R: Source, W: Sink>(
+    alloc: Global,
+    sources: Vec<R>,
+    tail: Tail,
+    order: Order,
+    counts: bool,
+    writer: &mut W,
+    left: &mut Left,
+) -> Result<(), Fault>
+    requires some { 1 ≤ vec_len sources }
+    requires most { vec_len sources ≤ 32 }
+    ensures text { IsTrue (list_all R.tells_coming sources.items) → IsTrue (W.tells_held writer.old)
+        → Prints (merge_text order tail (map R.coming sources.items)) (merge_refusal tail (map R.coming sources.items))
+        (W.held writer.old) result (W.held writer.new) }
+    ensures writer { WriterKeeps (writer_of W.Sink writer.old) (is_write result) (writer_of W.Sink writer.new) }
+    ensures read { FailsOf (map R.can_fail sources.items) result }
+    ensures skipped { OnOk result (IsTrue (list_all R.tells_coming sources.items)
+        → left.new.skipped ≡ skipped_in (endings_of_files tail (map R.coming sources.items)) (length sources.items)) }
+    ensures fault { OnErr result (left.new ≡ nothing_left) }
+{
+    *left = NOTHING_LEFT;
+    let mut merged = merge_watched(alloc, sources, tail, counts)?;
+    let answer = write_merged(alloc, &mut merged, order, writer);
+    *left = left_after(&answer, &merged);
+    answer
+}
+
 /// Writes what `merge_to` writes, and answers what it answers. `left` says how many blocks of the files aren't carried on,
 /// and how many packets had a time below the greatest so far of their file. After a fault nothing is told.
 pub fn merge_and_count<R: Source, W: Sink>(
@@ -202,10 +232,34 @@ pub fn merge_and_count<R: Source, W: Sink>(
         → left.new.skipped ≡ skipped_in (endings_of_files tail (map R.coming sources.items)) (length sources.items)) }
     ensures fault { OnErr result (left.new ≡ nothing_left) }
 {
+    merge_with(alloc, sources, tail, order, true, writer, left)
+}
+
+/// Writes what `join_to` writes. `left` says of it what `join_and_count` says, if times are watched.
+pub(crate) fn join_with<R: Source, W: Sink>(
+    alloc: Global,
+    sources: Vec<R>,
+    tail: Tail,
+    order: Order,
+    counts: bool,
+    writer: &mut W,
+    left: &mut Left,
+) -> Result<(), Fault>
+    requires some { 1 ≤ vec_len sources }
+    requires most { vec_len sources ≤ 32 }
+    ensures text { IsTrue (list_all R.tells_coming sources.items) → IsTrue (W.tells_held writer.old)
+        → Prints (join_text order tail (map R.coming sources.items)) (join_refusal tail (map R.coming sources.items))
+        (W.held writer.old) result (W.held writer.new) }
+    ensures writer { WriterKeeps (writer_of W.Sink writer.old) (is_write result) (writer_of W.Sink writer.new) }
+    ensures read { FailsOf (map R.can_fail sources.items) result }
+    ensures skipped { OnOk result (IsTrue (list_all R.tells_coming sources.items)
+        → left.new.skipped ≡ skipped_in (endings_of_files tail (map R.coming sources.items)) (length sources.items)) }
+    ensures fault { OnErr result (left.new ≡ nothing_left) }
+{
     *left = NOTHING_LEFT;
-    let mut merged = merge_watched(alloc, sources, tail)?;
-    let answer = write_merged(alloc, &mut merged, order, writer);
-    *left = left_after(&answer, &merged);
+    let mut run = merge_watched(alloc, sources, tail, counts)?;
+    let answer = write_joined(alloc, &mut run, order, writer);
+    *left = left_after(&answer, &run);
     answer
 }
 
@@ -230,9 +284,5 @@ pub fn join_and_count<R: Source, W: Sink>(
         → left.new.skipped ≡ skipped_in (endings_of_files tail (map R.coming sources.items)) (length sources.items)) }
     ensures fault { OnErr result (left.new ≡ nothing_left) }
 {
-    *left = NOTHING_LEFT;
-    let mut run = merge_watched(alloc, sources, tail)?;
-    let answer = write_joined(alloc, &mut run, order, writer);
-    *left = left_after(&answer, &run);
-    answer
+    join_with(alloc, sources, tail, order, true, writer, left)
 }

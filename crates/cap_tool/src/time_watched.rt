@@ -3,7 +3,7 @@ ghost use Rattle.std.specs.Prelude.{◌≡◌, ◌+◌, ◌≤◌, ◌^◌, IsTr
 ghost use Rattle.cap_source.specs.Feed.{GivesHead, Keeps, KeepsItems, FindsPacket, ShowsPacket, FindsItem, SameItems, Passes, IsPacket, IfPacket};
 ghost use Rattle.cap_source.specs.Times.{meta_time};
 ghost use Rattle.cap_time.specs.Clock.{later};
-ghost use Rattle.cap_tool.specs.RunningBack.{runs_back, no_times, times_after};
+ghost use Rattle.cap_tool.specs.RunningBack.{runs_back, no_times, times_by};
 
 use cap_bytes::Fault;
 use cap_source::{Ending, FeedHeld, Head, Meta, PacketFeed};
@@ -16,6 +16,8 @@ pub struct TimeWatched<F: PacketFeed> {
     inner: F,
     greatest: Option<Stamp>,
     ran_back: u64,
+    // whether it is counted
+    watches: bool,
     ghost few: { ran_back + (F.feed inner).left ≤ 2 ^ 40 },
 }
 
@@ -38,18 +40,20 @@ fn takes_back(greatest: &mut Option<Stamp>, time: Option<Stamp>) -> bool
 }
 
 impl<F: PacketFeed> TimeWatched<F> {
-    ghost use Rattle.cap_tool.specs.TimeWatched.{inner_of, times_of};
+    ghost use Rattle.cap_tool.specs.TimeWatched.{inner_of, times_of, watches_of};
 
-    /// The packets of a feed that gives at most 2^40 of them, as the one of a file does.
-    pub fn new(inner: F) -> TimeWatched<F>
+    /// The packets of a feed that gives at most 2^40 of them, as the one of a file does. They are counted if it `watches`.
+    pub fn new(inner: F, watches: bool) -> TimeWatched<F>
         requires few { (F.feed inner).left ≤ 2 ^ 40 }
         ensures inner { inner_of result ≡ inner }
         ensures times { times_of result ≡ no_times }
+        ensures watches { watches_of result ≡ watches }
     {
         TimeWatched {
             inner,
             greatest: None,
             ran_back: 0,
+            watches,
         }
     }
 
@@ -62,7 +66,7 @@ impl<F: PacketFeed> TimeWatched<F> {
 }
 
 impl<F: PacketFeed> PacketFeed for TimeWatched<F> {
-    ghost use Rattle.cap_tool.specs.TimeWatched.{inner_of, times_of};
+    ghost use Rattle.cap_tool.specs.TimeWatched.{inner_of, times_of, watches_of};
 
     ghost feed = { λ w. F.feed (inner_of w) };
 
@@ -116,8 +120,12 @@ impl<F: PacketFeed> PacketFeed for TimeWatched<F> {
         ensures passes { Passes (F.feed (inner_of self.old)) (F.feed (inner_of self.new)) }
         ensures keeps { Keeps (F.feed (inner_of self.old)) (F.feed (inner_of self.new)) }
         ensures times { IfPacket (F.feed (inner_of self.old)).known
-            (λ meta. times_of self.new ≡ times_after (times_of self.old) (meta_time meta)) }
+            (λ meta. times_of self.new ≡ times_by (watches_of self.old) (times_of self.old) (meta_time meta)) }
+        ensures watches { watches_of self.new ≡ watches_of self.old }
     {
+        if !self.watches {
+            return self.inner.pass();
+        }
         let time = self.inner.packet().time();
         self.inner.pass();
         if takes_back(&mut self.greatest, time) {

@@ -22,7 +22,6 @@ use std::alloc::Global;
 /// (rule 17, no-time), at one whose interface would be the 1,025th (rule 13, interface-limit), and if
 /// the file's packets end in a refusal: what is written is the text of the packets before it. After
 /// `Read`, `Write` or `Memory` a prefix of the text is written.
-#[inline(always)]
 pub fn to_pcapng<R: Source, W: Sink>(
     alloc: Global,
     capture: &mut Capture<R>,
@@ -53,7 +52,6 @@ pub fn to_pcapng<R: Source, W: Sink>(
 /// and if the file's packets end in a refusal: what is written is the text of the packets before it. A
 /// file that describes no interface before its first packet is refused, by its own refusal or by rule 21,
 /// no-interface, and nothing is written. After `Read`, `Write` or `Memory` a prefix of the text is written.
-#[inline(always)]
 pub fn to_pcap<R: Source, W: Sink>(
     capture: &mut Capture<R>,
     order: Order,

@@ -53,7 +53,6 @@ fn datagram_meta(meta: &Meta, size: u32) -> Meta
 }
 
 // Writes the datagram that a packet of a run completes, if it does.
-#[inline(always)]
 fn put_completed<W: Sink>(
     origins: &mut Origins,
     joining: &mut Joining,

@@ -6,7 +6,7 @@ use Rattle.cap_merge.specs.Readers.{reader_of}
 use Rattle.cap_merge.specs.View.{parts_of}
 use Rattle.cap_tool.proofs.Leaving.{Walks-done, Skipped-merged}
 use Rattle.cap_tool.proofs.Merging.{Prints-merged, Prints-nothing}
-use Rattle.cap_tool.proofs.counting.merge_and_count.Goals as goal
+use Rattle.cap_tool.proofs.counting.merge_with.Goals as goal
 
 pub returns-in_err-merged-clause-text : goal.returns-in_err-merged-clause-text
 returns-in_err-merged-clause-text g c = grind (arith, err_from_is_err_and, Prints-nothing)

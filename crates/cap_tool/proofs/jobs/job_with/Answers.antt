@@ -1,6 +1,6 @@
 use Rattle.std.proofs.lemmas.Grind.{common_steps}
 use Rattle.std.proofs.Common.{rules, arith}
-use Rattle.cap_tool.proofs.counted_jobs.job_and_count.Goals as goal
+use Rattle.cap_tool.proofs.jobs.job_with.Goals as goal
 
 pub returns-in-List-clause-text : goal.returns-in-List-clause-text
 returns-in-List-clause-text c = search rules
