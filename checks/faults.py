@@ -212,6 +212,21 @@ def endless(count, bench, shim, out):
         seen = bench.run(task, [SECTION], task == "list", out=out, faults=(shim, {"ENDLESS": 1}))
         is_so = (seen[0], seen[2]) == (1, f"refused: file 1 offset {offset} rule 14 file-limit\n".encode())
         count.check(f"{task} of a file without end", is_so and seen[4] < 16_384 and (task != "blocks" or seen[1].count(b"\n") == 257), seen)
+    name = bench.name(SECTION)
+    seen = run(["info", "--explain", name], bench.program, (shim, {"ENDLESS": 1}))
+    told = f"refused: file 1 offset {offset} rule 14 file-limit\n  {name}: a record or block of it ends after 2^40 bytes\n"
+    count.check("info of a file without end, explained", (seen[0], seen[2]) == (1, told.encode()), seen)
+
+
+def standard(count, bench, shim, out):
+    """Each read of standard input failing in turn, where a read gives one byte."""
+    content = vector("CARRY_PCAP")
+    places = places_of(content)
+    for call in range(1, len(content) + 2):
+        with open(bench.name(content), "rb") as file:
+            seen = run(["list", "-"], bench.program, (shim, {"READ": f"0-{call}", "PIECE": 1}), stdin=file)
+        told = f"fault: read file 1 offset {max(place for place in places if place <= call - 1)}\n"
+        count.check(f"list of standard input, read {call}", (seen[0], seen[2], seen[3]) == (1, told.encode(), 1), seen)
 
 
 def far(count, bench, shim, out):
@@ -229,7 +244,7 @@ def devices(count, bench, shim, pool):
         for row in rows:
             for check in (reads_of, writes_of):
                 jobs.append(pool.submit(check, count, bench, shim, os.path.join(bench.folder, f"{check.__name__}-{task}-{row}"), task, row))
-    for check in (endless, far):
+    for check in (endless, far, standard):
         jobs.append(pool.submit(check, count, bench, shim, os.path.join(bench.folder, check.__name__)))
     for job in jobs:
         job.result()

@@ -1,6 +1,6 @@
 #!/usr/bin/env python3
-"""What a terminal shows beside a refusal, for each rule that a small capture breaks (not 14 and 16, whose captures are large, nor 15, which is
-never answered), and how much of two regular files was read, of a run that takes over two seconds.
+"""What a terminal shows beside a refusal, for each rule that a small capture breaks (14 and 16, whose captures are large, are explained in
+faults.py and limits.py; 15 is never answered), and how much of two regular files was read, of a run that takes over two seconds.
 
 Use: checks/hints.py [PROGRAM]     (as after `rt run` or `rt ci` in crates/capt; some four seconds)"""
 import sys

@@ -272,6 +272,8 @@ def conversations(edges):
     edges.refuses("1,048,577 conversations", ["report", name], refused)
     more = edges.file("more", pcap_header(101), record(0, there(0)))
     edges.refuses("1,048,577 conversations of two files", ["report", more, name], refused.replace("file 1", "file 2"))
+    explained = f"{refused}\n  {name}: there are more than 1,048,576 conversations"
+    edges.refuses("1,048,577 conversations, explained", ["report", "--explain", name], explained)
     edges.accepts("1,048,577 conversations, info", ["info", name], "packets 2097153 ")
 
 
