@@ -1,5 +1,5 @@
 #!/usr/bin/env bash
-# What the papers show is so: each line that begins with `$ ` in a block of README.md or docs/RECIPES.md is run over a copy of examples/,
+# What the papers show is so: each line that begins with `$ ` in a block of README.md, docs/GUIDE.md or docs/RECIPES.md is run over a copy of examples/,
 # with the lines that go on with it, and what stands under it must be what it prints, on both streams; the captures are made anew by
 # examples/make.py; docs/RULES.md and the manual page have the numbers and names of the rules, and their definitions and functions stand
 # where the first says; the manual page has the lines that the helps show; docs/CLAIMS.md has the lengths of what must be read,
@@ -42,7 +42,7 @@ def kept_in(folder):
     return os.listdir(folder) if os.path.isdir(folder) else []
 
 # A command goes on in the lines after it that begin with two spaces.
-for page in ("README.md", "docs/RECIPES.md"):
+for page in ("README.md", "docs/GUIDE.md", "docs/RECIPES.md"):
     place = tempfile.mkdtemp(dir=os.path.dirname(folder))
     shutil.copytree(f"{top}/examples", place, dirs_exist_ok=True)
     for block in re.findall(r"^```\w*\n(.*?)^```$", text_of(page), re.M | re.S):
@@ -71,7 +71,7 @@ judged("man/capt.1, lines", len(shown) == 9 and shown <= lines, f"lacks {sorted(
 
 # a pipe into or out of capt fails if any of its programs does
 TASK = "(?:report|info|list|blocks|convert|merge|join)"
-for page in ("README.md", "docs/RULES.md", "docs/RECIPES.md", "man/capt.1", "checks/says.txt"):
+for page in ("README.md", "docs/GUIDE.md", "docs/RULES.md", "docs/RECIPES.md", "man/capt.1", "checks/says.txt"):
     lines = text_of(page).split("\n")
     pipes = [n for n, line in enumerate(lines) if re.search(rf"\| capt {TASK} |\bcapt {TASK} [^|`]*\|(?!\|)", line)]
     lost = [lines[n] for n in pipes if "pipefail" not in " ".join(lines[max(0, n - 2):n + 1])]
@@ -125,7 +125,7 @@ def files_named(line):
         folder = os.path.dirname(path)
         yield named, path
 
-for page in ["README.md"] + [f"docs/{name}" for name in sorted(os.listdir(f"{top}/docs"))]:
+for page in ["README.md", "SECURITY.md", "bench/RESULTS.md"] + [f"docs/{name}" for name in sorted(os.listdir(f"{top}/docs"))]:
     lost = [named for line in text_of(page).split("\n") for named, path in files_named(line) if not os.path.exists(f"{top}/{path}")]
     judged(f"{page}, files", not lost, f"names files that aren't there: {lost}")
 
