@@ -1,4 +1,4 @@
-//! The example of the README: the report over a file that is in memory.
+//! The example of docs/LIBRARY.md: the report over a file that is in memory.
 use crate::checks::same;
 use libcapt::bytes::{Pieces, Room, Tail};
 use libcapt::report::report;
