@@ -3,8 +3,9 @@
 memory and from standard input, also if that comes by one byte a read; a failed read and refused growths are told; each misuse that
 the header names is told; only names that begin with capt_ are seen; and where valgrind is, it sees no error and no leak.
 
-Use: checks/clib.py [PROGRAM [FOLDER]]     (FOLDER as crates/capt_c/link.sh leaves it; without it the library is built, with proofs:
-                                            `rt lib` in crates/capt_c; it wants a C compiler, and uses valgrind and cargo if they are there)"""
+Use: checks/clib.py [PROGRAM [FOLDER]]     (FOLDER as crates/capt_c/link.sh leaves it; without it the library is built, with proofs, over
+                                            the libraries that `rt ci` leaves; it wants a C compiler and binutils, and uses valgrind
+                                            and cargo if they are there)"""
 import sys
 
 sys.dont_write_bytecode = True
@@ -20,11 +21,24 @@ TASKS = ("list", "blocks", "info", "report", "pcap", "pcapng", "merge", "join")
 
 
 def build(folder):
-    """Proves and links the library."""
-    made = subprocess.run(["rt", "lib"], cwd=CRATE, stdout=subprocess.PIPE, stderr=subprocess.STDOUT, text=True)
+    """Proves capt_c over the libraries that `rt ci` left, and links the library."""
+    kit = os.path.dirname(subprocess.run(["rt", "doc"], stdout=subprocess.PIPE, text=True, check=True).stdout.strip())
+    with open(os.path.join(TOP, "crates.txt")) as lines:
+        libraries = dict(re.findall(r"^(cap\w+)(?: staticlib)?:(.*)", lines.read(), re.M))
+    archive = os.path.join(folder, "libcapt_c.a")
+    words = ["build", "--crate-name", "capt_c", "src/lib.rt", "--crate-type", "staticlib", "--toolchain", f"{kit}/toolchain", "-o", archive]
+    for library in ["std", *libraries["capt_c"].split()]:
+        place = os.path.join(TOP, "crates", library, "out", "rlib") if library in libraries else f"{kit}/rlibs"
+        words += ["--extern", f"{library}={place}/{library}.rlib"]
+    for library in libraries:
+        words += ["-L", "dependency=" + os.path.join(TOP, "crates", library, "out", "rlib")]
+    words += ["-L", f"dependency={kit}/rlibs", "--links", "capt_c=", "--jobs", "2"]
+    words += ["--antt-project", f"{kit}/rattle/logic/antt-project.json", "--logic-built", f"{kit}/logic_built"]
+    made = subprocess.run([f"{kit}/bin/rattle", *words], cwd=CRATE, stdout=subprocess.PIPE, stderr=subprocess.STDOUT, text=True)
     if made.returncode:
-        sys.exit(made.stdout[-2000:] + "0 passed, 1 failed")
-    subprocess.run([os.path.join(CRATE, "link.sh"), os.path.join(CRATE, "out", "libcapt_c.a"), folder], check=True)
+        print(made.stdout[-2000:] + "\n0 passed, 1 failed")
+        sys.exit(1)
+    subprocess.run([os.path.join(CRATE, "link.sh"), archive, os.path.join(folder, "lib")], check=True)
 
 
 def files():
@@ -193,7 +207,7 @@ def main():
     with tempfile.TemporaryDirectory() as folder:
         library = sys.argv[2] if len(sys.argv) > 2 else os.path.join(folder, "lib")
         if len(sys.argv) < 3:
-            build(library)
+            build(folder)
         os.environ["CAPT_LIBRARY"] = os.path.join(os.path.abspath(library), "libcapt.so")
         sys.path.insert(0, os.path.join(TOP, "bindings", "python"))
         import capt
