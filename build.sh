@@ -121,8 +121,10 @@ if [ "$program" = capt_c ]; then
     ls lib
     exit
 fi
+# the object stays beside the program, for a program that is linked otherwise (packaging/make.sh)
 mkdir -p crates/capt/out
+mv "$room/capt.o" crates/capt/out/capt.o
 "$kit/bin/rattle-link" --target x86_64-unknown-linux-gnu --toolchain "$kit/toolchain" -o crates/capt/out/capt \
-    "$room/capt.o" "$kit/c/libos_c.a" "$kit/c/liblibc_c.a"
+    crates/capt/out/capt.o "$kit/c/libos_c.a" "$kit/c/liblibc_c.a"
 ln -sf crates/capt/out/capt capt
 ./capt --help

@@ -16,6 +16,7 @@
 #   small.pcap   5,000,000 packets of 64 bytes in 1,000 conversations, in random order, 0.4 GB
 #   turns.pcap   as many, one of each conversation in turn, which a processor learns to foresee
 #   many.pcap    2,000,000 packets of 64 bytes in 1,000,000 conversations, 0.16 GB
+#   far.pcap     800,000 fragments of 8 bytes, each of which opens a group of 65,512 bytes, 47 MB
 #   part1 to 8   1,200,000 packets of 64 to 1,514 bytes, whose times come in turn, 1 GB together
 # and mixed.pcapng and small.pcapng, which capt makes of the first two. Holds the conversations that capt prints to those
 # of count.c, and what it prints of a file to what info.c counts. A row has the processor seconds of capt (user and system,
@@ -49,39 +50,11 @@ cc -O2 -o "$work/copy" "$work/copy.c"
 
 cd "$work"
 PYTHONPATH="$top/bench" PYTHONDONTWRITEBYTECODE=1 python3 - "$program" "$percent" "$runs" <<'PY'
-import os, platform, random, shutil, struct, subprocess, sys
+import os, platform, random, shutil, subprocess, sys
+from captures import SIZES, far, frame, make
 from measure import measure
 
 program, percent, runs = sys.argv[1], int(sys.argv[2]), int(sys.argv[3])
-HEADER = bytes.fromhex("d4c3b2a1" "02000400" "00000000" "00000000" "00000400" "01000000")
-ETHERNET = bytes.fromhex("020000000002" "020000000001" "0800")
-UDP, TCP = 17, 6
-SIZES = [64, 1514, 90, 1514, 576, 1514, 128, 1000]
-
-def frame(talk, back, size):
-    """A frame of a conversation by its number: every fourth one is of TCP."""
-    protocol = UDP if talk % 4 else TCP
-    ends = [(0x0A000000 + talk // 500, 1024 + talk % 500), (0xC0A80000 + talk % 7, 53)]
-    (source, source_port), (destination, destination_port) = reversed(ends) if back else ends
-    length = size - 14
-    ip = struct.pack(">BBHHHBBHII", 0x45, 0, length, talk % 65536, 0, 64, protocol, 0, source, destination)
-    if protocol == UDP:
-        rest = struct.pack(">HHHH", source_port, destination_port, length - 20, 0)
-    else:
-        rest = struct.pack(">HHIIBBHHH", source_port, destination_port, 1, 1, 0x50, 0x10, 8192, 0, 0)
-    return (ETHERNET + ip + rest).ljust(size, b"\0")
-
-def make(name, packets, frame_at, first=0, step=1):
-    """A file of packets whose times are a millisecond apart, or `step` of them."""
-    with open(name, "wb") as out:
-        out.write(HEADER)
-        for begin in range(0, packets, 1000):
-            part = []
-            for i in range(begin, min(begin + 1000, packets)):
-                bytes_, time = frame_at(i), first + i * step
-                part.append(struct.pack("<IIII", 1000 + time // 1000, time % 1000 * 1000, len(bytes_), len(bytes_)) + bytes_)
-            out.write(b"".join(part))
-
 mixed = [frame(i * 37 % 1000, i % 3 == 0, SIZES[i % 8]) for i in range(8000)]
 small = [frame(i, back, 64) for i in range(1000) for back in (False, True)]
 turns = [frame(i, i % 3 == 0, 64) for i in range(1000)]
@@ -91,6 +64,7 @@ make("mixed.pcap", 14_700 * percent, lambda i: mixed[i % 8000])
 make("small.pcap", 50_000 * percent, lambda i: small[choice.randrange(2000)])
 make("turns.pcap", 50_000 * percent, lambda i: turns[i % 1000])
 make("many.pcap", 2 * talks, lambda i: frame(i * 617 % talks, i >= talks, 64))
+make("far.pcap", 8_000 * percent, far)
 parts = [f"part{n}.pcap" for n in range(1, 9)]
 for n, part in enumerate(parts):
     make(part, 1_500 * percent, lambda i: mixed[i % 8000], n, 8)
@@ -153,5 +127,7 @@ for source, target in (("mixed.pcap", "pcapng"), ("small.pcap", "pcapng"), ("mix
 for label, files in (("8 parts", parts), ("small twice", ["small.pcap", "small.pcapng"])):
     row(f"merge {label}", [program, "merge", "-o", "out", *files],
         {"cat > OUT": copy(*files), "mergecap -I none": ["mergecap", "-I", "none", "-F", "pcapng", "-w", "out", *files]})
+row("report far.pcap", [program, "report", "far.pcap"], {"cat": ["cat", "far.pcap"]})
+row("join far.pcap", [program, "join", "-o", "out", "far.pcap"], {"cat > OUT": copy("far.pcap")})
 row("join small.pcap", [program, "join", "-o", "out", "small.pcap"], {"cat > OUT": copy("small.pcap")})
 PY

@@ -1,6 +1,7 @@
 // Joins the IPv4 fragments of a pcap file (link type 101, microseconds) as `capt join` does, the plain way: a bitmap
-// of the blocks of 8 bytes that are covered, groups in a hash table and in a list in the order of their opening, and
-// expiry from the front of that list, since clocks never fall. It is what bench/join.sh measures capt beside.
+// of the blocks of 8 bytes that are covered, buffers that are used again and never filled with zeros, groups in a hash
+// table and in a list in the order of their opening, and expiry from the front of that list, since clocks never fall.
+// It is what bench/join.sh measures capt beside.
 //
 // Use: join IN OUT
 #include <stdint.h>
@@ -15,7 +16,7 @@ typedef struct group {
     uint16_t identification;
     uint8_t protocol;
     uint64_t clock;
-    uint32_t length, size, total, low;
+    uint32_t size, total, low;
     int has_total;
     uint8_t header[20];
     uint8_t *buffer;
@@ -81,10 +82,6 @@ static void put(group *g, uint32_t from, const uint8_t *data, uint32_t length, i
         g->size = end > 2 * g->size ? end : 2 * g->size;
         if (!(g->buffer = realloc(g->buffer, g->size)))
             exit(1);
-    }
-    if (end > g->length) {
-        memset(g->buffer + g->length, 0, end - g->length);
-        g->length = end;
     }
     memcpy(g->buffer + from, data, length);
     for (uint32_t k = from / 8; k < end / 8; k++)

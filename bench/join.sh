@@ -3,9 +3,9 @@
 #
 # Makes a pcap file for each row (deterministic, in a folder of its own that is removed again), runs both programs on
 # it, sees that both join as many datagrams of the same bytes, and prints the processor seconds of each (user and
-# system, the best of several runs) and their ratio. The fragments have 8 bytes each. Aims: in the rows of groups at
-# most 6 times plain C, and within a tenth of one another with one group open and with 1,023 others; in the rows of
-# holes, whose list must be walked, at most 60 times.
+# system, the best of several runs) and their ratio. The fragments have 8 bytes each. Aims: in the rows of groups and of
+# offsets at most 5 times plain C, and within a tenth of one another with one group open and with 1,023 others; in the
+# rows of holes, whose list must be walked, at most 60 times.
 #
 # Use: bench/join.sh [PROGRAM] [PERCENT OF THE ROWS' SIZES] [RUNS] [WORDS OF THE ROWS..]
 set -eu
@@ -51,6 +51,13 @@ def new_keys(step):
     for i in range(some(1000000)):
         yield fragment(i, 0, 1, i * step)
 
+def far(others, keys, step):
+    """Fragments of the block 8,188, each of which opens a group of 65,512 bytes."""
+    for key in range(others):
+        yield fragment(5000000 + key, 8188, 1, 0)
+    for i in range(some(800000)):
+        yield fragment(i % keys, 8188, 1, i * step)
+
 def pairs(others):
     for key in range(others):
         yield fragment(5000000 + key, 0, 1, 0)
@@ -80,6 +87,10 @@ ROWS = {
     "groups: pairs, 1,022 others open": lambda: pairs(1022),
     "groups: new keys, the oldest given up": lambda: new_keys(1),
     "groups: new keys, the oldest too old": lambda: new_keys(40000),
+    "offsets: new keys, the oldest given up": lambda: far(0, 800000, 1),
+    "offsets: new keys, 1,024 others open": lambda: far(1024, 800000, 0),
+    "offsets: new keys, each too old at the next": lambda: far(0, 800000, 31000000),
+    "offsets: one key, too old at the next": lambda: far(0, 1, 31000000),
     "holes: copies of the last block, no hole": lambda: copies(0),
     "holes: copies of the last block, 4,094 holes": lambda: copies(4094),
     "holes: rising": lambda: ordered(lambda blocks: blocks),

@@ -22,10 +22,13 @@ static inline uint64_t fold(uint64_t state, uint64_t value, unsigned length) {
 static inline uint64_t with_word(uint64_t state, uint32_t word) { return fold(state, word | (uint64_t)word << 32, 4); }
 static inline uint64_t with_half(uint64_t state, uint32_t half) { return fold(state, half | (half & 0xff00) << 8, 2); }
 static inline uint64_t with_byte(uint64_t state, uint32_t byte) { return fold(state, byte * 0x010101, 1); }
-/* Eight bytes are read as one number. */
-static inline uint64_t with_long(uint64_t state, uint64_t value) { return fold(state, value, 8); }
-/* An end of a conversation as one number. */
-static inline uint64_t end_number(uint32_t address, uint32_t port) { return (uint64_t)address << 16 | port; }
+/* Sixteen bytes are read as two numbers, of one product: a conversation's lesser end with its protocol, and its greater end. */
+static inline uint64_t with_ends(uint64_t state, uint64_t lesser, uint64_t greater) {
+    unsigned __int128 product = (unsigned __int128)(greater ^ (state + 16)) * (lesser ^ MULTIPLIER);
+    return (uint64_t)product ^ (uint64_t)(product >> 64);
+}
+/* An end of a conversation as one number: a port counts from 1. */
+static inline uint64_t end_number(uint32_t address, uint32_t port) { return (uint64_t)address * 131072 + port + 1; }
 /* The table goes by the low bits of both halves together. */
 static inline uint32_t place(uint64_t hash) { return (uint32_t)(hash ^ hash >> 32); }
 
@@ -45,10 +48,10 @@ static void write_record(const uint8_t *bytes) { fwrite(bytes, 1, RECORD, stdout
 static long talks(long left, uint32_t mask) {
     put(record + 36, PORT, 2);
     put(record + 40, 8, 2);
-    uint64_t state = with_long(START, end_number(SOURCE, PORT) << 8 | UDP);
+    uint64_t lesser = end_number(SOURCE, PORT) * 256 + UDP;
     for (uint32_t address = SOURCE + 1; left > 0 && address != 0; address++) {
         for (uint32_t port = 0; left > 0 && port < 0x10000; port++) {
-            if ((place(with_long(state, end_number(address, port))) & mask) != 0) continue;
+            if ((place(with_ends(START, lesser, end_number(address, port))) & mask) != 0) continue;
             put(record + 32, address, 4);
             put(record + 38, port, 2);
             write_record(record);

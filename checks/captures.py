@@ -38,6 +38,9 @@ VECTORS = {
         SECTION, "01000000 20000000 65000000 00000000 09000100 06000000 00000000 20000000",
         "06000000 4c000000 00000000 00000000 00093d00 2c000000 2c000000 4500002c 00070000 401166b8 0a000001 0a000002 "
         "03e907d100180000 a0a1a2a3a4a5a6a7 b0b1b2b3b4b5b6b7 4c000000"],
+    "JOINED_PCAP": [
+        "d4c3b2a1 02000400 00000000 00000000 00000000 65000000",
+        "04000000 00000000 2c000000 2c000000 4500002c 00070000 401166b8 0a000001 0a000002 03e907d100180000 a0a1a2a3a4a5a6a7 b0b1b2b3b4b5b6b7"],
 }
 
 
@@ -119,13 +122,14 @@ class Count:
         sys.exit(self.failed != 0)
 
 
-WRITING = ("merge", "join", "pcap", "pcapng")
+# The command of each task that writes a capture.
+WRITING = {"merge": ["merge"], "join": ["join"], "pcap": ["convert", "--to", "pcap"], "pcapng": ["convert", "--to", "pcapng"],
+           "merge-pcap": ["merge", "--to", "pcap"], "join-pcap": ["join", "--to", "pcap"]}
 
 
 def words_of(task, files, allow_cut=False, order="<", out=None):
-    """The command line of a task: a command, or `pcap` or `pcapng` for `convert` to that format."""
-    words = ["convert", "--to", task] if task in ("pcap", "pcapng") else [task]
-    writes = task in WRITING
+    """The command line of a task: a command, `pcap` or `pcapng` for `convert` to that format, or `merge-pcap` or `join-pcap`."""
+    words, writes = WRITING.get(task, [task]), task in WRITING
     return words + ["--allow-cut"] * allow_cut + ["--order", "big"] * (writes and order == ">") + ["-o", out] * writes + files
 
 

@@ -231,7 +231,7 @@ def main():
         with open(os.path.join(library, "capt.h")) as header:
             declared = set(re.findall(r"^\w+ (capt_\w+)\(", header.read(), re.M))
         count.check("the names that are seen", seen == declared, seen ^ declared)
-        count.check("the version", run([program, "--version"])[1].decode().strip() == f"capt {capt.version()}")
+        count.check("the version", run([program, "--version"])[1].decode().split()[:2] == ["capt", capt.version()])
         check_faults(count, checker, shim, path, example)
         many = [example] * 32
         count.check("32 files", capt.report_text(many).encode() == bench.run("report", many)[1])

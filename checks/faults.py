@@ -61,7 +61,9 @@ GROWTHS = {
                "conversations", "groups", "interfaces", "longest"],
     "info": ["runs-back and options", "cut"],
     "merge": ["runs-back", "interfaces"],
+    "merge-pcap": ["runs-back"],
     "join": ["overlapped-fragments", "interfaces"],
+    "join-pcap": ["overlapped-fragments"],
     "pcapng": ["carry-pcap", "interfaces"],
     "pcap": ["carry-pcapng", "longest"],
     "list": ["options", "carry-pcap", "longest"],
@@ -71,7 +73,9 @@ DEVICES = {
     "report": ["tagged-frames", "overlapped-fragments", "runs-back and options"],
     "info": ["runs-back and options"],
     "merge": ["runs-back", "runs-back and options"],
+    "merge-pcap": ["runs-back", "runs-back and options"],
     "join": ["overlapped-fragments", "runs-back"],
+    "join-pcap": ["overlapped-fragments", "runs-back"],
     "pcapng": ["carry-pcap", "carry-pcapng", "options"],
     "pcap": ["carry-pcap", "carry-pcapng"],
     "list": ["options", "tagged-frames"],
@@ -190,7 +194,7 @@ def reads_of(count, bench, shim, out, task, row):
             is_so = told_as(task, seen, wanted, f"fault: read file {number} offset {offset}\n".encode()) and seen[3] == 1
             if task in ("list", "blocks"):
                 is_so = is_so and seen[1] == wanted_of(task, [content[:offset]])[1]
-            if task == "merge":
+            if task in ("merge", "merge-pcap"):
                 is_so = is_so and len(model.File(1, seen[1], True).packets) == MERGED_BEFORE[row][number, offset]
             count.check(f"{task} of {row}, read {call} of file {number}", is_so, seen)
 
@@ -208,7 +212,7 @@ def writes_of(count, bench, shim, out, task, row):
 def endless(count, bench, shim, out):
     """A section, and then blocks of 2^32 - 4 bytes without end: 256 of them end by byte 2^40, and the next begins there."""
     offset = 28 + 256 * (2**32 - 4)
-    for task in ("list", "blocks", "info", "report", "pcap", "pcapng", "merge", "join"):
+    for task in ("list", "blocks", "info", "report", "pcap", "pcapng", "merge", "join", "merge-pcap", "join-pcap"):
         seen = bench.run(task, [SECTION], task == "list", out=out, faults=(shim, {"ENDLESS": 1}))
         is_so = (seen[0], seen[2]) == (1, f"refused: file 1 offset {offset} rule 14 file-limit\n".encode())
         count.check(f"{task} of a file without end", is_so and seen[4] < 16_384 and (task != "blocks" or seen[1].count(b"\n") == 257), seen)
@@ -232,7 +236,7 @@ def standard(count, bench, shim, out):
 def far(count, bench, shim, out):
     """A read that fails beyond byte 2^32 of such a file, in the second of its blocks, is told with all of that block's offset."""
     offset = 28 + (2**32 - 4)
-    for task in ("list", "blocks", "info", "report", "pcap", "pcapng", "merge", "join"):
+    for task in ("list", "blocks", "info", "report", "pcap", "pcapng", "merge", "join", "merge-pcap", "join-pcap"):
         seen = bench.run(task, [SECTION], out=out, faults=(shim, {"ENDLESS": 1, "READ": "3-99999"}))
         is_so = (seen[0], seen[2], seen[3]) == (1, f"fault: read file 1 offset {offset}\n".encode(), 1)
         count.check(f"{task}, a read that fails beyond byte 2^32", is_so, seen)

@@ -95,6 +95,13 @@ def main():
             text, status = rest_of(*begun(words, folder, program))
             wanted = rf"(?:packet .*\n)*refused: file 1 offset \d+ rule {rule}\n  capture: {re.escape(said)}\n"
             count.check(f"rule {rule} at a terminal", status == 1 and re.fullmatch(wanted, text), status, text)
+        with open(os.path.join(folder, "no packet"), "wb") as file:
+            file.write(ETHERNET)
+        for command in ("merge", "join"):
+            seen = rest_of(*begun([command, "--to", "pcap", "-o", "out", "no packet"], folder, program))
+            wanted = ("refused: file 1 offset 0 rule 21 no-interface\n"
+                      "  there is no packet or datagram to write, and so no link type for the pcap header\n")
+            count.check(f"rule 21 of {command} at a terminal", seen == (wanted, 1), seen)
         for name, capture in (("a", DESCRIBED), ("b", DESCRIBED), (" c", HEADER[:-1])):
             with open(os.path.join(folder, name), "wb") as file:
                 file.write(capture)

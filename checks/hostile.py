@@ -16,8 +16,8 @@ import multiprocessing, os, tempfile
 import model
 from captures import PROGRAM, VECTORS, Bench, Count, block, make_shim, vector
 
-ONE = ["list", "blocks", "info", "report", "pcapng", "pcap", "merge", "join"]
-MANY = ["info", "report", "merge", "join"]
+ONE = ["list", "blocks", "info", "report", "pcapng", "pcap", "merge", "join", "merge-pcap", "join-pcap"]
+MANY = ["info", "report", "merge", "join", "merge-pcap", "join-pcap"]
 
 # The lengths at which `list` accepts a worked file that is cut; at every other it is refused by rule 3, at the greatest of
 # these and 0 that isn't above the length.
@@ -53,6 +53,7 @@ FRAGMENT_REPORT = ("files 1\n"
 # What is written of worked files, worked out by hand: the model is held to it.
 WORKED = [("pcapng", "CARRY_PCAP", vector("CARRY_PCAPNG")), ("pcap", "CARRY_PCAPNG", vector("CARRIED_PCAP")),
           ("merge", "CARRY_PCAP", vector("CARRY_PCAPNG")), ("join", "FRAGMENT_FRAMES", vector("JOINED")),
+          ("merge-pcap", "CARRY_PCAPNG", vector("CARRIED_PCAP")), ("join-pcap", "FRAGMENT_FRAMES", vector("JOINED_PCAP")),
           ("report", "TAGGED_FRAMES", TAGGED_REPORT), ("report", "FRAGMENT_FRAMES", FRAGMENT_REPORT)]
 
 

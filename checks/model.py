@@ -446,20 +446,36 @@ def write_packets(order, packets, refusal, first=None):
     return b"".join(out), refusal
 
 
+def write_records(order, first, packets, refusal):
+    """The text of packets as pcap, with the link, the snaplen and the fraction of that interface, up to the first refusal."""
+    unit = 10**6 if 10**6 % units_in_second(first.code) == 0 else 10**9
+    out = [struct.pack(order + "IHHIIII", 0xA1B2C3D4 if unit == 10**6 else 0xA1B23C4D, 2, 4, 0, 0, first.snaplen, first.link)]
+    for packet in packets:
+        time = time_of(packet)
+        rule = (17 if time is None else 18 if packet.interface.link != first.link
+                else 19 if (time * unit).denominator != 1 else 20 if not 0 <= time < 2**32 else None)
+        if rule:
+            return b"".join(out), Refusal(packet.file, packet.offset, rule)
+        seconds, fraction = divmod(int(time * unit), unit)
+        out.append(struct.pack(order + "IIII", seconds, fraction, packet.captured, packet.original) + packet.data)
+    return b"".join(out), refusal
+
+
 def to_pcap(order, file):
     if file.first is None:
         return b"", file.refusal or Refusal(1, 0, 21)
-    unit = 10**6 if 10**6 % units_in_second(file.first.code) == 0 else 10**9
-    out = [struct.pack(order + "IHHIIII", 0xA1B2C3D4 if unit == 10**6 else 0xA1B23C4D, 2, 4, 0, 0, file.first.snaplen, file.first.link)]
-    for packet in file.packets:
-        time = time_of(packet)
-        rule = (17 if time is None else 18 if packet.interface.link != file.first.link
-                else 19 if (time * unit).denominator != 1 else 20 if not 0 <= time < 2**32 else None)
-        if rule:
-            return b"".join(out), Refusal(1, packet.offset, rule)
-        seconds, fraction = divmod(int(time * unit), unit)
-        out.append(struct.pack(order + "IIII", seconds, fraction, packet.captured, packet.original) + packet.data)
-    return b"".join(out), file.refusal
+    return write_records(order, file.first, file.packets, file.refusal)
+
+
+def write_run(to, order, packets, refusal):
+    """The text of the packets of a run in that format: in pcap by the first one's interface."""
+    if to == "pcapng":
+        return write_packets(order, packets, refusal)
+    if not packets:
+        return b"", refusal or Refusal(1, 0, 21)
+    if packets[0].units is None:
+        return b"", Refusal(packets[0].file, packets[0].offset, 17)
+    return write_records(order, packets[0].interface, packets, refusal)
 
 
 def checksum(header):
@@ -469,7 +485,7 @@ def checksum(header):
     return ~total & 0xFFFF
 
 
-def join(order, files):
+def join(to, order, files):
     run, refusal = run_of(files)
     table, packets = Table(), []
     for place, (clock, packet) in enumerate(run):
@@ -485,20 +501,21 @@ def join(order, files):
             datagram = struct.pack(">BBHHHBBHII", *fields) + data
             packets.append(packet._replace(interface=packet.interface._replace(link=101, snaplen=0), data=datagram,
                                            captured=len(datagram), original=len(datagram)))
-    return write_packets(order, packets, refusal)
+    return write_run(to, order, packets, refusal)
 
 
 def answer(task, contents, allow_cut=False, order="<"):
-    """What a task has to write over the contents of files, and the refusal or None. The task is a command's name, or
-    `pcap` or `pcapng` for `convert` to that format."""
+    """What a task has to write over the contents of files, and the refusal or None. The task is a command's name, `pcap` or
+    `pcapng` for `convert` to that format, or `merge-pcap` or `join-pcap` for `merge` or `join` to pcap."""
     files = [File(number, data, allow_cut, task == "blocks") for number, data in enumerate(contents, 1)]
-    if task == "merge":
+    to = "pcap" if task.endswith("-pcap") else "pcapng"
+    if task in ("merge", "merge-pcap"):
         run, refusal = run_of(files)
-        return write_packets(order, [packet for _, packet in run], refusal)
+        return write_run(to, order, [packet for _, packet in run], refusal)
     if task == "pcapng":
         return write_packets(order, files[0].packets, files[0].refusal, files[0].first)
     if task == "pcap":
         return to_pcap(order, files[0])
-    if task == "join":
-        return join(order, files)
+    if task in ("join", "join-pcap"):
+        return join(to, order, files)
     return {"list": list_, "blocks": blocks, "info": info, "report": report}[task](files)

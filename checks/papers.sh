@@ -1,10 +1,15 @@
 #!/usr/bin/env bash
-# What the papers show is so: each line that begins with `$ ` in a block of README.md, docs/GUIDE.md or docs/RECIPES.md is run over a copy of examples/,
-# with the lines that go on with it, and what stands under it must be what it prints, on both streams; the captures are made anew by
-# examples/make.py; docs/RULES.md and the manual page have the numbers and names of the rules, and their definitions and functions stand
-# where the first says; the manual page has the lines that the helps show; docs/CLAIMS.md has the lengths of what must be read,
-# docs/TRUSTED.md its names; each file that a page names or links to is there; the program needs what README says; the manual page and
-# the completions are read without a complaint. The last two are asked if the programs for them are there.
+# What the pages show is so:
+# - each line that begins with `$ ` in a block of README.md, docs/GUIDE.md or docs/RECIPES.md is run over a copy of examples/, with the
+#   lines that go on with it, and prints what stands under it, on both streams; the captures are made anew by examples/make.py, the
+#   picture by packaging/picture.py;
+# - docs/RULES.md and the manual page have the numbers and names of the rules, whose definitions and functions stand where the first says;
+#   the manual page has the lines that the helps show; docs/CLAIMS.md has the lengths of what must be read and names each test,
+#   docs/TRUSTED.md has the definitions' names;
+# - each file that a page names or links to is there, and so is each heading; a block that names a file is a part of it;
+# - a page says for whom it is, has lines of 120 columns, and is as short as it is to be;
+# - the version, the kits and what the program needs are as README and others say; the manual page and the completions are read without a
+#   complaint, if the programs for them are there.
 #
 # Use: checks/papers.sh [PROGRAM]
 set -u
@@ -102,7 +107,7 @@ edits = [text_of(f"crates/{crate}/must-fail/{name}") for crate in os.listdir(f"{
     for name in kept_in(f"{top}/crates/{crate}/must-fail")]
 judged("README.md, edits", f"{len(edits)} edits in" in readme, f"there are {len(edits)}")
 turned = len([edit for edit in edits if re.search(r"^file: specs/", edit, re.M)])
-judged("README.md, definitions", f"{turned} of them that of a definition" in readme, f"there are {turned}")
+judged("README.md, definitions", f"definition ({turned} of them)" in " ".join(readme.split()), f"there are {turned}")
 for number in ran_merge.groups():
     judged("README.md, merge", f" {number} " in readme, f"wants {number}")
 
@@ -125,9 +130,25 @@ def files_named(line):
         folder = os.path.dirname(path)
         yield named, path
 
-for page in ["README.md", "SECURITY.md", "bench/RESULTS.md"] + [f"docs/{name}" for name in sorted(os.listdir(f"{top}/docs"))]:
+docs = [f"docs/{name}" for name in sorted(os.listdir(f"{top}/docs")) if name.endswith(".md")]
+pages = ["README.md", "SECURITY.md", "CONTRIBUTING.md", "CHANGELOG.md", "bench/RESULTS.md"] + docs
+for page in pages:
     lost = [named for line in text_of(page).split("\n") for named, path in files_named(line) if not os.path.exists(f"{top}/{path}")]
     judged(f"{page}, files", not lost, f"names files that aren't there: {lost}")
+
+# A name that a page has is a word of the sources, if it has `_` or a capital and a small letter.
+words = set()
+for folder in ("crates", "checks", "bench", "bindings", "packaging", "examples"):
+    for place, folders, names in os.walk(f"{top}/{folder}"):
+        folders[:] = [name for name in folders if name not in ("out", "corpus", "__pycache__")]
+        for name in names:
+            if not name.endswith((".pcap", ".pcapng")):
+                with open(f"{place}/{name}", encoding="utf-8", errors="replace") as file:
+                    words.update(re.findall(r"\w+", file.read()))
+for page in pages:
+    named = set(re.findall(r"`(\w+)`", text_of(page)))
+    lost = sorted(name for name in named - words if re.search(r"\w_\w|[a-z][A-Z]|^[A-Z][a-z]", name))
+    judged(f"{page}, names", not lost, f"names what the sources don't have: {lost}")
 
 # A rule's definitions stand in the file that is named after them, and so do the functions.
 for number, cell in re.findall(r"^\| (\d+) `[\w-]+` \|.*\|([^|]*)\|$", text_of("docs/RULES.md"), re.M):
@@ -142,13 +163,56 @@ for number, cell in re.findall(r"^\| (\d+) `[\w-]+` \|.*\|([^|]*)\|$", text_of("
         waiting = []
     judged(f"docs/RULES.md, rule {number}", not lost, f"not where it says: {lost}")
 
-pages = ["README.md", "CHANGELOG.md"] + [f"docs/{name}" for name in sorted(os.listdir(f"{top}/docs"))]
+# A link's place is a heading of its page, spelled as a place: small letters, dashes for spaces, no other marks.
+def places_of(path):
+    with open(path, encoding="utf-8") as file:
+        headings = re.findall(r"^#+ (.*)$", file.read(), re.M)
+    return {re.sub(r"[^\w -]", "", heading).replace(" ", "-").lower() for heading in headings}
+
 for page in pages:
-    links = re.findall(r"\]\(([^)#:]+)(?:#[^)]*)?\)", text_of(page))
-    lost = [link for link in links if not os.path.exists(os.path.join(top, os.path.dirname(page), link))]
+    lost = []
+    for link, place in re.findall(r"\]\(([^)#:]*)(?:#([^)]*))?\)", text_of(page)):
+        path = os.path.join(top, os.path.dirname(page), link) if link else f"{top}/{page}"
+        if not os.path.exists(path) or place and place not in places_of(path):
+            lost.append(f"{link}#{place}" if place else link)
     judged(page, not lost, f"links to nothing: {lost}")
 
-if shutil.which("objdump"):
+# how a page begins and how long it is: but for README, its first words say for whom it is
+for page in pages[1:]:
+    judged(f"{page}, its readers", text_of(page).split("\n\n")[1].startswith("For "), "doesn't begin with whom it is for")
+for page in pages:
+    prose = re.sub(r"^```.*?^```$", lambda block: "\n" * block[0].count("\n"), text_of(page), flags=re.M | re.S)
+    # a block that names a file after its language is a part of that file
+    for path, part in re.findall(r"^```\w+ (\S+)\n(.*?)^```$", text_of(page), re.M | re.S):
+        judged(f"{page}, {path}", part in text_of(path), f"shows what {path} doesn't have:\n{part}")
+    long = [n for n, line in enumerate(prose.split("\n"), 1) if len(line) > 120 and not line.startswith("|")]
+    judged(f"{page}, columns", not long, f"lines of more than 120 columns: {long}")
+judged("README.md, lines", readme.count("\n") <= 100, f"{readme.count(chr(10))} lines, at most 100")
+words = len(text_of("docs/DECISIONS.md").split())
+judged("docs/DECISIONS.md, words", words <= 3000, f"{words} words, at most 3,000")
+
+# the version, and the kit that proves it, where they are told
+version = re.search(r'VERSION: &str =\s+"([^"]*)";', text_of("crates/cap_line/src/texts.rt"))[1]
+number = version.split()[0]
+for page, told in [
+    ("crates/capt_c/src/names.rt", f'VERSION: &str = "{number}";'),
+    ("bindings/rust/Cargo.toml", f'\nversion = "{number}"\n'),
+    ("man/capt.1", f'"capt {number}" "User commands"'),
+    ("CHANGELOG.md", f"\n## [{number}] - 20"),
+]:
+    judged(f"{page}, version", told in text_of(page), f"wants {told}")
+kits, logic = re.search(r"\((.*), (logic \w+)\)", version).groups()
+judged("README.md, kits", all(part in readme for part in [*kits.split(" or "), logic]), f"wants {kits}, {logic}")
+if shutil.which("rt"):
+    kit, _, present = subprocess.run(["rt", "version"], capture_output=True, text=True).stdout.strip().partition(" ")
+    names = [name if name.startswith("rattle-kit-") else f"rattle-kit-{name}" for name in kits.split(" or ")]
+    judged("crates/cap_line/src/texts.rt, kit", kit in names and present == logic, f"rt is {kit} {present}")
+
+if shutil.which("capt"):
+    ran = subprocess.run([f"{top}/packaging/picture.py", shutil.which("capt")], capture_output=True, text=True)
+    judged("docs/report.svg", ran.returncode == 0 and ran.stdout == text_of("docs/report.svg"), "isn't what packaging/picture.py prints")
+
+if shutil.which("objdump") and shutil.which("capt"):
     told = subprocess.run(["objdump", "-Tx", os.path.realpath(shutil.which("capt"))], capture_output=True, text=True).stdout
     newest = max(re.findall(r"GLIBC_([\d.]+)", told), key=lambda version: [int(part) for part in version.split(".")])
     wanted = re.findall(r"^  NEEDED +(\S+)$", told, re.M)

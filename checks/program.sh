@@ -146,7 +146,7 @@ explained() {
     local name=$1 want=$2
     shift 2
     (cd "$work" && "$program" "$@") > "$work/out" 2> "$work/err" < "${input:-/dev/null}"; status=$?
-    check "$name" 1 '' "$want"
+    check "$name" "${ends:-1}" '' "$want"
 }
 explained 'a cut file, explained' 'refused: file 2 offset 24 rule 3 cut
   cut.pcap: it is cut off: --allow-cut drops a last record or block, but not a file header' info --explain one.pcap cut.pcap
@@ -172,6 +172,18 @@ for kind in 'gzip zcat \x1f\x8b\x08\0' 'zstd zstdcat \x28\xb5\x2f\xfd' 'xz xzcat
 done
 explained 'a folder, explained' 'fault: read file 1 offset 0
   folder: it is a folder' list --explain folder
+head -c 24 "$one" > "$work/header.pcap"
+explained 'no packet for a pcap file, explained' 'refused: file 1 offset 0 rule 21 no-interface
+  there is no packet or datagram to write, and so no link type for the pcap header' merge --explain --to pcap -o - header.pcap
+ends=2
+# shellcheck disable=SC2046 # a word each
+explained 'too many files, explained' 'fault: files
+  a command reads at most 32 captures' info --explain $(yes one.pcap | head -n 33)
+explained 'standard input twice, explained' 'fault: input
+  standard input, -, can be read once' report - --explain -
+explained 'OUT that is a FILE, explained' 'fault: output
+  the output is one of the captures that are read' merge --explain -o one.pcap one.pcap
+ends=
 explained 'OUT on a full disk, explained' 'fault: write
   /dev/full: No space left on device (os error 28)' merge --explain -o /dev/full one.pcap
 "$program" list --explain "$one" > /dev/full 2> "$work/err"; status=$?; : > "$work/out"; check 'a full disk, explained' 1 '' 'fault: write
@@ -207,8 +219,8 @@ left 'whole, after all' 'cut one out'; cd "$work" || exit 1
 "$program" merge -o x "$one" - <&- > "$work/out" 2> "$work/err"; status=$?; check 'closed standard input' 1 '' 'fault: open file 2'; absent 'closed standard input' x
 "$program" list "$one" 2> "$work/err" >&-; status=$?; : > "$work/out"; check 'closed standard output' 1 '' 'fault: write'
 "$program" convert --to pcapng -o "$work/new" - < "$work/empty.pcap" > "$work/out" 2>&-; status=$?; : > "$work/err"; check 'closed standard error' 1 '' ''; same 'closed standard error' "$work/new" "$work/section"
-# With --explain lines tell after work that is done how many blocks aren't carried on, of all files, and how many packets ran
-# back; without it nothing does, nor after a refusal.
+# With --explain lines tell after work that is done how many blocks and names of interfaces aren't carried on, of all files, and
+# how many packets ran back; without it nothing does, nor after a refusal.
 corpus=$top/checks/corpus
 many=$corpus/skipped-blocks-of-many-kinds.pcapng; one_skipped=$corpus/worked-options.pcapng; back=$corpus/runs-back.pcap
 counted() {
@@ -217,12 +229,16 @@ counted() {
     run "$@"; check "$name" 0 '' "$want"
 }
 counted 'blocks not carried on' 'not carried on: 8 blocks' merge --explain -o "$work/new" "$many"
-counted 'a block not carried on' 'not carried on: 1 block' convert --explain --to pcap -o "$work/new" "$one_skipped"
-counted 'a block not joined' 'not carried on: 1 block' join --explain -o "$work/new" "$one_skipped"
-counted 'blocks of two files' 'not carried on: 9 blocks' merge --explain -o "$work/new" "$one_skipped" "$one" "$many"
+counted 'a block not carried on' 'not carried on: 1 block, names of 1 interface' convert --explain --to pcap -o "$work/new" "$one_skipped"
+counted 'a block not joined' 'not carried on: 1 block, names of 1 interface' join --explain -o "$work/new" "$one_skipped"
+head -c 144 "$one_skipped" > "$work/named"
+counted 'a name alone' 'not carried on: names of 1 interface' convert --explain --to pcapng -o "$work/new" "$work/named"
+counted 'names of two files' 'not carried on: names of 2 interfaces' merge --explain -o "$work/new" "$work/named" "$one" "$work/named"
+counted 'a name in what was written of one' '' convert --explain --to pcapng -o "$work/newer" "$work/new"
+counted 'blocks of two files' 'not carried on: 9 blocks, names of 1 interface' merge --explain -o "$work/new" "$one_skipped" "$one" "$many"
 counted 'a packet that ran back' 'ran back: 1 packet' merge --explain -o "$work/new" "$back" "$corpus/runs-on.pcap"
 counted 'packets of two files that ran back' 'ran back: 2 packets' join --explain -o "$work/new" "$back" "$back"
-counted 'both' 'not carried on: 1 block
+counted 'both' 'not carried on: 1 block, names of 1 interface
 ran back: 2 packets' merge --explain --whole -o "$work/new" "$back" "$one_skipped" "$back"
 counted 'a packet that ran back, converted' '' convert --explain --to pcapng -o "$work/new" "$back"
 counted 'equal times' '' merge --explain -o "$work/new" "$corpus/equal-times.pcapng"
@@ -267,7 +283,7 @@ if command -v script > /dev/null; then
     # at a terminal the counts are told without --explain, also if what is written goes to a file or a pipe
     shown 'blocks and packets at a terminal' 'not carried on: 8 blocks
 ran back: 1 packet' merge -o new "$many" "$back"
-    shown 'a block at a terminal' 'not carried on: 1 block' convert --to pcapng -o new "$one_skipped"
+    shown 'a block at a terminal' 'not carried on: 1 block, names of 1 interface' convert --to pcapng -o new "$one_skipped"
     shown 'nothing to tell at a terminal' '' join -o new one.pcap
     (cd "$work" && script -qec "$(printf '%q ' "$program" merge -o - "$many") | cat > written" /dev/null) < /dev/null | tr -d '\r' > "$work/shown"
     if [ "$(cat "$work/shown")" = 'not carried on: 8 blocks' ]; then passed=$((passed + 1)); else failed=$((failed + 1)); echo 'blocks through a pipe at a terminal'; cat "$work/shown"; fi

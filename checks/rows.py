@@ -15,6 +15,8 @@ from captures import (CARRIED as PACKET, INTERFACE, MICRO_LITTLE, PROGRAM, SECTI
 ETHERNET = f"{MICRO_LITTLE} 01000000"
 SECTION_BIG = "0a0d0d0a 0000001c 1a2b3c4d 0001 0000 ffffffffffffffff 0000001c"
 CARRIED = f"{ETHERNET} 02000000 20a10700 04000000 04000000 01020304"
+# The same in the other order.
+CARRIED_BIG = "a1b2c3d4 0002 0004 00000000 00000000 00040000 00000001 00000002 0007a120 00000004 00000004 01020304"
 # CARRY_PCAPNG in the other order, and three times: a section, and for each file its interface and its packet.
 CARRY_BIG = (f"{SECTION_BIG} 00000001 00000020 0001 0000 00040000 0009 0001 06000000 0000 0000 00000020 "
              "00000006 00000024 00000000 00000000 002625a0 00000004 00000004 01020304 00000024")
@@ -354,6 +356,66 @@ def joined(data, order):
 JOINED = [joined(b"".join(struct.pack(">H6s", n, bytes(range(1, 7))) for n in RISING), order) for order in ORDERS]
 JOINED.append(joined(b"".join(bytes([2 - n % 2]) * 8 for n in RISING[:-1]) + b"\x03" * 11, [*RISING[1:-1:2], *RISING[:-1:2], 8_188]))
 
+def of_units(code, *units, data="0a", link="0100"):
+    """A pcapng file of packets at so many units of that resolution, of one interface, whose block takes 28 bytes."""
+    form = interface(f"0900 0100 {code:02x}000000", link)
+    return f"{SECTION} {form}" + "".join(packet(0, number, bytes.fromhex(data)).hex() for number in units)
+
+
+SIMPLE = "03000000 14000000 04000000 01020304 14000000"
+MICRO_255, NANO = MICRO_LITTLE.replace("00000400", "ff000000"), MICRO_LITTLE.replace("d4c3b2a1", "4d3cb2a1")
+NO_PACKET = "file 1 offset 0 rule 21 no-interface"
+# Seconds from 2^32 - 1 on.
+LAST_SECOND = interface("0e00 0800 ffffffff00000000")
+
+# Captures that are merged as pcap, what is written of them, and how that is refused, if it is.
+MERGED_AS_PCAP = [
+    ([of_link(1, at(2, "0a")), of_link(1, at(1, "0b", 60))], of_link(1, at(1, "0b", 60), at(2, "0a")), None),
+    ([f"{SECTION} {INTERFACE} {enhanced(0)}", of_link(1, at(1, "0b"))], of_link(1, at(1, "0b"), at(2, "01020304", micros=500_000)), None),
+    # the snaplen of the first packet's interface, and its fraction; each unit of a tenth of a second is whole in microseconds
+    ([f"{SECTION} {interface(snaplen='ff000000')} {enhanced(0)}", of_link(1, at(3, "0b"))],
+     f"{MICRO_255} 01000000 {at(2, '01020304', micros=500_000)} {at(3, '0b')}", None),
+    ([of_units(9, 1), of_link(1, at(1, "0b", micros=5))], f"{NANO} 01000000 {at(0, '0a', micros=1)} {at(1, '0b', micros=5_000)}", None),
+    ([of_units(1, 5), of_units(9, 2_000_001_000)], of_link(1, at(0, "0a", micros=500_000), at(2, "0a", micros=1)), None),
+    # times that aren't whole: in the first packet's fraction, and in none
+    ([of_link(1, at(0, "0b")), of_units(9, 1_000_000_001, 2_000_000_000)], of_link(1, at(0, "0b")), "file 2 offset 56 rule 19 inexact"),
+    ([of_units(138, 1)], f"{NANO} 01000000", "file 1 offset 56 rule 19 inexact"),
+    # a second link, also if its time isn't whole
+    ([of_link(1, at(1, "0a"), at(3, "0c")), of_link(101, at(2, "0b"))], of_link(1, at(1, "0a")), "file 2 offset 24 rule 18 link-mixed"),
+    ([of_link(1, at(1, "0a")), of_units(9, 1_000_000_001, link="6500")], of_link(1, at(1, "0a")), "file 2 offset 56 rule 18 link-mixed"),
+    # the last second, and the one after it
+    ([of_link(1, at(1, "0a")), f"{SECTION} {LAST_SECOND}" + packet(0, 0, b"\x0b").hex() + packet(0, 1_000_000, b"\x0b").hex()],
+     of_link(1, at(1, "0a"), at(2**32 - 1, "0b")), "file 2 offset 96 rule 20 time-range"),
+    # a packet without a time, before one that has one, and behind it
+    ([of_link(1, at(1, "0a")), f"{SECTION} {PLAIN} {SIMPLE}"], "", "file 2 offset 48 rule 17 no-time"),
+    ([f"{SECTION} {PLAIN} {enhanced(0)} {SIMPLE}"], of_link(1, at(2, "01020304", micros=500_000)), "file 1 offset 84 rule 17 no-time"),
+    # no packet; a file that is none, before the first packet; a rest behind the last
+    ([ETHERNET, f"{SECTION} {PLAIN}"], "", NO_PACKET),
+    ([of_link(1, at(1, "0a")), "00000000"], "", "file 2 offset 0 rule 1 magic"),
+    ([of_link(1, at(1, "0a")), of_link(1, at(2, "0b")) + "00000000"], of_link(1, at(1, "0a"), at(2, "0b")), "file 2 offset 41 rule 3 cut"),
+]
+
+# The same of their datagrams: UDP with its header's checksum.
+WHOLE_UDP = "4500001e 00010000 401166cc 0a000001 0a000002 03e807d0 000a0000 6869"
+RAW, NANO_RAW = (f"{header[:36]} 00000000 65000000" for header in (MICRO_LITTLE, NANO))
+JOINED_AS_PCAP = [
+    ([vector("FRAGMENT_FRAMES").hex()], vector("JOINED_PCAP").hex(), None),
+    # of two links, in the fraction of the first datagram, not of the first packet
+    ([of_link(1, at(1, f"{'00' * 12} 0800 {UDP}")), of_link(101, at(2, UDP))], f"{RAW} {at(1, WHOLE_UDP)} {at(2, WHOLE_UDP)}", None),
+    ([of_units(9, 1, data="00" * 13), of_link(101, at(2, UDP))], f"{RAW} {at(2, WHOLE_UDP)}", None),
+    ([of_units(9, 1_000_000_001, data=UDP, link="6500"), of_link(101, at(2, UDP, micros=5))],
+     f"{NANO_RAW} {at(1, WHOLE_UDP, micros=1)} {at(2, WHOLE_UDP, micros=5_000)}", None),
+    ([of_link(101, at(1, UDP)), of_units(9, 1_000_000_001, data=UDP, link="6500")], f"{RAW} {at(1, WHOLE_UDP)}",
+     "file 2 offset 56 rule 19 inexact"),
+    ([of_units(138, 1, data=UDP, link="6500")], NANO_RAW, "file 1 offset 56 rule 19 inexact"),
+    ([of_link(101, at(1, UDP)), f"{SECTION} {LAST_SECOND}" + packet(0, 1_000_000, bytes.fromhex(f"{'00' * 12} 0800 {UDP}")).hex()],
+     f"{RAW} {at(1, WHOLE_UDP)}", "file 2 offset 60 rule 20 time-range"),
+    # a packet without a time, whatever it holds; no datagram, at the end and at a refusal
+    ([f"{SECTION} {PLAIN} {SIMPLE}"], "", "file 1 offset 48 rule 17 no-time"),
+    ([of_link(1, at(1, "00" * 13)), of_link(101, at(1, FRAGMENTS[0]))], "", NO_PACKET),
+    ([of_link(101, at(1, FRAGMENTS[0])) + "00"], "", "file 1 offset 68 rule 3 cut"),
+]
+
 BLOCKS = ("block 1 offset 0 order little kind 0a0d0d0a total 28\nblock 2 offset 28 order little kind 00000001 total 32\n"
           "block 3 offset 60 order little kind 00000006 total 36\n")
 TOLD_CUT = "files 1\nfile 1 pcapng packets 0 bytes 0 truncated 0 skipped 0 first - last - cut\n"
@@ -361,6 +423,7 @@ TWO = f"files 2\n{TOLD.format(1)}{TOLD.format(2)}"
 FILES, INPUT, OUTPUT = ((2, b"", f"fault: {part}\n".encode(), None) for part in ("files", "input", "output"))
 # Words that clap refuses, and help that was asked for: says.txt has the texts.
 FAULTY, HELP = (2, b"", ..., None), (0, ..., b"", None)
+VERSION = "capt 1.0.0 (rattle-kit-13b or 13f, logic dac8208d650f15bf)\n"
 
 
 def prints(text):
@@ -390,20 +453,24 @@ LINES = [
     ("convert --to pcap -o c a", writes(CARRIED)), ("convert --order little --to pcap -o - -", gives(CARRIED)),
     ("convert a -o - --order=big --to=pcapng --allow-cut", gives(CARRY_BIG)), ("convert --to pcap -o a a", OUTPUT),
     ("merge -o c a b -", writes(THRICE)), ("merge --order big -o - -", gives(CARRY_BIG)), ("join -o c --order=big a b", writes(SECTION_BIG)),
+    ("merge --to pcap -o c a", writes(CARRIED)), ("merge --to=pcap --order big -o - -", gives(CARRIED_BIG)),
+    ("merge -o c --to pcapng a b -", writes(THRICE)), ("merge --whole --to pcap -o c a", writes(CARRIED)),
+    ("join --to pcap -o c a b", (1, b"", f"refused: {NO_PACKET}\n".encode(), b"")), ("join --to pcapng -o c --order=big a b", writes(SECTION_BIG)),
     ("merge -o c - -", INPUT), ("merge -o a a b", OUTPUT), ("merge -o a a - -", INPUT), (f"merge -o a a - - {'a ' * 30}", FILES),
     ("list --explain a", prints(listed(1, 60))), ("merge --output c a b -", writes(THRICE)), ("merge a b - --output=c", writes(THRICE)),
     ("list --explain cut", (1, b"", b"refused: file 1 offset 60 rule 3 cut\n  cut: it is cut off: --allow-cut drops a last record or block, but not a file "
         b"header\n", None)),
     ("merge --whole -o c a b -", writes(THRICE)), ("merge --whole -o c cut", (1, b"", b"refused: file 1 offset 60 rule 3 cut\n", None)),
-    ("--version", prints("capt 0.1.0\n")), ("-V", prints("capt 0.1.0\n")),
+    ("--version", prints(VERSION)), ("-V", prints(VERSION)),
     *((words, HELP) for words in ("--help", "-h", "list --help", "list -h", "blocks -h", "info --help", "convert -h", "help",
         "help merge")),
     *((words, FAULTY) for words in (
         "", "help frobnicate", "frobnicate a", "--allow-cut list a", "list", "list a b", "list --version", "list --allow-cut --allow-cut a",
         "list --allow-cut=yes a", "list --order big a", "list -x a", "blocks", "blocks a b", "info", "info -o c a", "report", "report -o c a",
         "convert -o c a", "convert --to pcap a", "convert --to pcap -o c", "convert --to tar -o c a", "convert --to pcap -o c a b",
-        "convert --order middle --to pcap -o c a", "convert --to pcap --to pcap -o c a", "merge a b", "merge -o c", "merge --to pcap -o c a",
-        "merge -o c -o d a", "merge -o c --output d a", "merge --whole -o - a", "report --whole a", "join a")),
+        "convert --order middle --to pcap -o c a", "convert --to pcap --to pcap -o c a", "merge a b", "merge -o c", "merge --to tar -o c a",
+        "merge -o c -o d a", "merge -o c --output d a", "merge --whole -o - a", "report --whole a", "join a", "join --to pcap a",
+        "merge --to pcap --to pcap -o c a", "report --to pcap a")),
 ]
 
 
@@ -455,6 +522,10 @@ def main():
         for files in itertools.permutations(SPELLINGS):
             wanted = merged(files)
             holds([file[3] for file in files], "merge", [file[0].hex() for file in files], False, lambda *seen: seen == (0, wanted, b""))
+        for task, rows in (("merge-pcap", MERGED_AS_PCAP), ("join-pcap", JOINED_AS_PCAP)):
+            for contents, written, told in rows:
+                ended = (1 if told else 0, bytes.fromhex(written), f"refused: {told}\n".encode() if told else b"")
+                holds(contents, task, contents, False, lambda *seen: seen == ended)
         for content, text in REPORTED:
             holds(content[:200], "report", [content], False,
                   lambda status, out, error: (status, error) == (0, b"") and out.endswith(text.encode()))

@@ -8,10 +8,10 @@ from collections import Counter
 from concurrent.futures import ProcessPoolExecutor
 
 import model
-from captures import PROGRAM, VECTORS, Bench, datagram, make_shim, run, udp, vector, wanted_of, words_of
+from captures import PROGRAM, VECTORS, WRITING, Bench, datagram, make_shim, run, udp, vector, wanted_of, words_of
 
-TASKS = ["list", "blocks", "info", "report", "merge", "join", "pcap", "pcapng"]
-MANY = ("info", "report", "merge", "join")
+TASKS = ["list", "blocks", "info", "report", "merge", "join", "pcap", "pcapng", "merge-pcap", "join-pcap"]
+MANY = ("info", "report", "merge", "join", "merge-pcap", "join-pcap")
 NUMBERS = [0, 1, 2, 3, 4, 28, 32, 262_144, 262_145, 524_288, 524_292, 2**31, 2**32 - 4, 2**32 - 1]
 LINE = re.compile(rb"refused: file \d+ offset \d+ rule \d+ [a-z-]+\n|fault: (read file \d+ offset \d+|write|memory|open file \d+|create output)\n|")
 MOST_MEMORY = 16 * 1024     # KiB
@@ -205,7 +205,7 @@ def case(rng, bench, shim, out, counts):
             counts[int(rule[1])] += 1
         counts["faults"] += seen[3] > 0
         counts["memory"] = max(counts["memory"], seen[4])
-        if not wrong and task in ("merge", "join", "pcap", "pcapng") and seen[1]:
+        if not wrong and task in WRITING and seen[1]:
             counts["read again"] += 1
             again = run(words_of("list", [out]), bench.program)
             if again[0] != 0 and not (seen[3] and again[2].endswith(b" rule 3 cut\n")):

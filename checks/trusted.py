@@ -10,7 +10,10 @@ the fields of the types in src/ aren't listed.
 
 Use: checks/trusted.py [COMMAND | --page]
 """
-import pathlib, re, sys
+import pathlib, re, signal, sys
+
+# a reader of what is printed may stop, as `head` does
+signal.signal(signal.SIGPIPE, signal.SIG_DFL)
 
 TOP = pathlib.Path(__file__).resolve().parent.parent
 PRINTS, TELLS = "cap_bytes.Printing.Prints", "cap_talks.talks.Telling.Tells"
@@ -23,9 +26,10 @@ ROOTS = {
         "cap_merge.Files.endings_of_files", TELLS,
     ],
     "convert": ["cap_tool.Converted.convert_text", "cap_tool.Converted.convert_refusal", PRINTS],
-    "merge": ["cap_tool.MergeText.merge_text", "cap_tool.MergeText.merge_refusal", PRINTS],
+    "merge": ["cap_tool.MergeText.merge_text_in", "cap_tool.MergeText.merge_refusal_in", PRINTS],
     "join": [
-        "cap_laws.JoinedByPlaces.bytes_by_places", "cap_laws.JoinedByPlaces.refusal_by_places", "cap_merge.Files.clocked_run", PRINTS,
+        "cap_laws.JoinedByPlaces.bytes_by_places", "cap_laws.JoinedByPlaces.refusal_by_places", "cap_laws.JoinedByPlaces.pcap_by_places",
+        "cap_laws.JoinedByPlaces.pcap_refusal_by_places", "cap_merge.Files.clocked_run", PRINTS,
     ],
 }
 
@@ -105,9 +109,10 @@ for path in sorted(TOP.glob("crates/*/specs/**/*.antt")):
 
 PAGE = """# What must be read
 
-The definitions on which the text of a command rests, by file, what stands on nothing first; a type of several cases by its
-first. This page is written by `checks/trusted.py --page`, and `checks/papers.sh` compares; `checks/trusted.py merge` prints
-the definitions of `capt merge` themselves. What the numbers leave out: [CLAIMS.md](CLAIMS.md#to-believe-a-command)."""
+For verifiers: the definitions on which the text of a command rests, by file, what stands on nothing first; a type of
+several cases by its first. `checks/trusted.py --page` writes this page and `checks/papers.sh` compares it;
+`checks/trusted.py merge` prints the definitions of `capt merge` themselves. [VERIFYING.md](VERIFYING.md) says how to
+read them, and [CLAIMS.md](CLAIMS.md#to-believe-a-command) what the numbers leave out."""
 is_page = sys.argv[1:] == ["--page"]
 if is_page:
     print(PAGE)

@@ -18,8 +18,7 @@ _capt() {
     esac
     case ${COMP_WORDS[1]} in
         help) mapfile -t COMPREPLY < <(compgen -W "$commands" -- "$word"); return ;;
-        convert) options='--allow-cut --explain --order --output --to --whole -o --help' ;;
-        merge | join) options='--allow-cut --explain --order --output --whole -o --help' ;;
+        convert | merge | join) options='--allow-cut --explain --order --output --to --whole -o --help' ;;
         *) options='--allow-cut --explain --help' ;;
     esac
     if [[ $word == -* ]]; then

@@ -8,12 +8,14 @@ use Rattle.cap_blocks.specs.Grammar.{section_kind, order_magic}
 use Rattle.cap_blocks.specs.Split.{AreBytes}
 
 -- a section header's kind reads the same in both orders
-pub kind_same : (p q : Order) (bytes : List ℕ) → AreBytes bytes → number p 4 bytes ≡ section_kind → number q 4 bytes ≡ section_kind
+pub kind_same : (p q : Order) (bytes : List ℕ) → AreBytes bytes → number p 4 bytes ≡ section_kind
+    → number q 4 bytes ≡ section_kind
 unfolding number
 kind_same p q bytes fits is = grind arith
 
 -- an order magic doesn't
-pub magic_one : (bytes : List ℕ) → AreBytes bytes → number Big 4 bytes ≡ order_magic → number Little 4 bytes ≡ order_magic → ⊥
+pub magic_one : (bytes : List ℕ) → AreBytes bytes → number Big 4 bytes ≡ order_magic
+    → number Little 4 bytes ≡ order_magic → ⊥
 unfolding number
 magic_one bytes fits big little = grind arith
 

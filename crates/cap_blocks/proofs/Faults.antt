@@ -1,5 +1,6 @@
 -- When the bytes at a place are refused.
-use Rattle.std.proofs.Common.{◌≡◌, ℕ, ◌+◌, ◌^◌, ◌≤◌, ◌<◌, List, ◌++◌, length, drop, Option, Some, None, is_some, true, false, not, refl, arith, length-append, ◌&&◌}
+use Rattle.std.proofs.Common.{◌≡◌, ℕ, ◌+◌, ◌^◌, ◌≤◌, ◌<◌, List, ◌++◌, length, drop, Option, Some, None, is_some, true}
+use Rattle.std.proofs.Common.{false, not, refl, arith, length-append, ◌&&◌}
 use Rattle.std.proofs.lemmas.Bool.Decides.{nat_tests}
 use Rattle.cap_bytes.specs.Number.{number}
 use Rattle.cap_bytes.specs.declared.faults.Rule.{Rule}
@@ -9,7 +10,8 @@ use Rattle.cap_bytes.specs.declared.numbers.Order.{Order}
 use Rattle.cap_bytes.proofs.Items.{stop_where-whole, no_fault}
 use Rattle.cap_bytes.proofs.Spelling.{number-append, number-drop_append}
 use Rattle.cap_blocks.specs.Grammar.{section_kind, is_total, is_known}
-use Rattle.cap_blocks.specs.Split.{kind_at, total_at, is_section, is_ordered, order_at, or_else, first_fault, fields_fault, header_fault, body_fault, block_fault, block_at, stop_at}
+use Rattle.cap_blocks.specs.Split.{kind_at, total_at, is_section, is_ordered, order_at, or_else, first_fault}
+use Rattle.cap_blocks.specs.Split.{fields_fault, header_fault, body_fault, block_fault, block_at, stop_at}
 
 -- what a total length that a kind allows is
 pub total-least : (kind total : ℕ) → is_total kind total ≡ true → 12 ≤ total
@@ -31,7 +33,8 @@ pub record FieldsFit (order : Order) (offset : ℕ) (bytes : List ℕ) : Type 0 
   pub allowed : is_total (kind_at order bytes) (total_at order bytes) ≡ true
   pub limit : offset + total_at order bytes ≤ 2 ^ 40
 
-pub fields_fault-short : (order : Order) (offset : ℕ) (bytes : List ℕ) → length bytes < 12 → fields_fault order offset bytes ≡ Some Cut
+pub fields_fault-short : (order : Order) (offset : ℕ) (bytes : List ℕ) → length bytes < 12
+    → fields_fault order offset bytes ≡ Some Cut
 unfolding fields_fault
 fields_fault-short order offset bytes short = grind (arith, nat_tests)
 
@@ -53,11 +56,13 @@ pub fields_fault-limit : (order : Order) (offset : ℕ) (bytes : List ℕ) → 1
 unfolding fields_fault
 fields_fault-limit order offset bytes head ordered allowed past = rw (ordered, allowed) (grind (arith, nat_tests))
 
-pub fields_fault-fits : (order : Order) (offset : ℕ) (bytes : List ℕ) → FieldsFit order offset bytes → fields_fault order offset bytes ≡ None
+pub fields_fault-fits : (order : Order) (offset : ℕ) (bytes : List ℕ) → FieldsFit order offset bytes
+    → fields_fault order offset bytes ≡ None
 unfolding fields_fault
 fields_fault-fits order offset bytes f = grind arith
 
-pub FieldsFit-from_none : (order : Order) (offset : ℕ) (bytes : List ℕ) → fields_fault order offset bytes ≡ None → FieldsFit order offset bytes
+pub FieldsFit-from_none : (order : Order) (offset : ℕ) (bytes : List ℕ) → fields_fault order offset bytes ≡ None
+    → FieldsFit order offset bytes
 unfolding fields_fault
 FieldsFit-from_none order offset bytes h = grind arith
 
@@ -75,13 +80,15 @@ first_fault-section bytes h = grind (arith, nat_tests)
 pub or_else-none : (a b : Option Rule) → or_else a b ≡ None → (a ≡ None) × (b ≡ None)
 or_else-none a b h = grind arith
 
-pub FieldsFit-from_header : (section : Option Order) (offset : ℕ) (bytes : List ℕ) → header_fault section offset bytes ≡ None
+pub FieldsFit-from_header : (section : Option Order) (offset : ℕ) (bytes : List ℕ)
+    → header_fault section offset bytes ≡ None
     → FieldsFit (order_at section bytes) offset bytes
 FieldsFit-from_header section offset bytes h = grind (arith, FieldsFit-from_none, or_else-none)
 
 -- The first 12 bytes tell all of that.
 order_same : (section : Option Order) (xs zs : List ℕ) → ((order : Order) → number order 4 zs ≡ number order 4 xs)
-    → ((order : Order) → number order 4 (drop 8 zs) ≡ number order 4 (drop 8 xs)) → order_at section zs ≡ order_at section xs
+    → ((order : Order) → number order 4 (drop 8 zs) ≡ number order 4 (drop 8 xs))
+    → order_at section zs ≡ order_at section xs
 order_same section xs zs kind magic = grind arith
 
 first_same : (section : Option Order) (xs zs : List ℕ) → 12 ≤ length xs → 12 ≤ length zs
@@ -97,9 +104,11 @@ head_same : (order : Order) (offset : ℕ) (xs zs : List ℕ) → 12 ≤ length 
 unfolding fields_fault
 head_same order offset xs zs long longer kind total magic = grind arith
 
-pub order_at-append : (section : Option Order) (xs ys : List ℕ) → 12 ≤ length xs → order_at section (xs ++ ys) ≡ order_at section xs
+pub order_at-append : (section : Option Order) (xs ys : List ℕ) → 12 ≤ length xs
+    → order_at section (xs ++ ys) ≡ order_at section xs
 order_at-append section xs ys h =
-    order_same section xs (xs ++ ys) (λ order. number-append order 4 xs ys (omega arith)) (λ order. number-drop_append order 4 8 xs ys (omega arith))
+    order_same section xs (xs ++ ys) (λ order. number-append order 4 xs ys (omega arith))
+    (λ order. number-drop_append order 4 8 xs ys (omega arith))
 
 pub header_fault-append : (section : Option Order) (offset : ℕ) (xs ys : List ℕ) → 12 ≤ length xs
     → header_fault section offset (xs ++ ys) ≡ header_fault section offset xs
@@ -120,12 +129,14 @@ unfolding block_at
 block_at-append section offset xs ys h = grind (arith, order_at-append, number-append, number-drop_append)
 
 -- what ends the blocks, by the condition that is met
-pub block_fault-header : (section : Option Order) (offset : ℕ) (bytes : List ℕ) (rule : Rule) → header_fault section offset bytes ≡ Some rule
+pub block_fault-header : (section : Option Order) (offset : ℕ) (bytes : List ℕ) (rule : Rule)
+    → header_fault section offset bytes ≡ Some rule
     → block_fault section offset bytes ≡ Some rule
 unfolding block_fault
 block_fault-header section offset bytes rule is = rw is refl
 
-pub block_fault-body : (section : Option Order) (offset : ℕ) (bytes : List ℕ) (fault : Option Rule) → header_fault section offset bytes ≡ None
+pub block_fault-body : (section : Option Order) (offset : ℕ) (bytes : List ℕ) (fault : Option Rule)
+    → header_fault section offset bytes ≡ None
     → body_fault (order_at section bytes) bytes ≡ fault → block_fault section offset bytes ≡ fault
 unfolding block_fault
 block_fault-body section offset bytes fault none is = rw (none, is) refl
@@ -142,9 +153,11 @@ block_fault-from_none section tail file offset bytes h = search (no_fault, is_so
 pub faults-from_none : (section : Option Order) (offset : ℕ) (bytes : List ℕ) → block_fault section offset bytes ≡ None
     → (header_fault section offset bytes ≡ None) × (body_fault (order_at section bytes) bytes ≡ None)
 unfolding block_fault
-faults-from_none section offset bytes h = or_else-none (header_fault section offset bytes) (body_fault (order_at section bytes) bytes) h
+faults-from_none section offset bytes h = or_else-none (header_fault section offset bytes)
+    (body_fault (order_at section bytes) bytes) h
 
 pub FieldsFit-from_stop_at : (section : Option Order) (tail : Tail) (file offset : ℕ) (bytes : List ℕ)
     → stop_at section tail file offset bytes ≡ None → FieldsFit (order_at section bytes) offset bytes
 FieldsFit-from_stop_at section tail file offset bytes h =
-    FieldsFit-from_header section offset bytes (faults-from_none section offset bytes (block_fault-from_none section tail file offset bytes h)).0
+    FieldsFit-from_header section offset bytes (faults-from_none section offset bytes
+    (block_fault-from_none section tail file offset bytes h)).0

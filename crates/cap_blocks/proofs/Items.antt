@@ -1,5 +1,6 @@
 -- The items of some bytes, by what stands at their front.
-use Rattle.std.proofs.Common.{◌≡◌, ℕ, ◌+◌, ◌==◌, ◌&&◌, false, List, [], ◌∷◌, length, drop, Option, Some, None, is_some, IsSome, arith}
+use Rattle.std.proofs.Common.{◌≡◌, ℕ, ◌+◌, ◌==◌, ◌&&◌, false, List, [], ◌∷◌, length, drop, Option, Some, None, is_some}
+use Rattle.std.proofs.Common.{IsSome, arith}
 use Rattle.cap_bytes.specs.Items.{stop_by, given, stopped}
 use Rattle.cap_bytes.specs.declared.faults.Rule.{Rule}
 use Rattle.cap_bytes.specs.declared.faults.Tail.{Tail}
@@ -17,7 +18,8 @@ advances section tail file offset bytes is = grind (arith, FieldsFit-from_stop_a
 -- If something ends the blocks, that is the one item.
 pub items_from-stop : (section : Option Order) (tail : Tail) (file offset : ℕ) (bytes : List ℕ) (stop : Stop)
     → stop_at section tail file offset bytes ≡ Some stop → items_from section tail file offset bytes ≡ stopped stop ∷ []
-items_from-stop section tail file offset bytes stop is = items.items_in-stop blocks tail file section offset bytes stop is
+items_from-stop section tail file offset bytes stop is =
+    items.items_in-stop blocks tail file section offset bytes stop is
 
 -- At no bytes after a whole block they end.
 pub items_from-none : (section : Option Order) (tail : Tail) (file offset : ℕ) → IsSome section
@@ -36,4 +38,5 @@ pub items_from-block : (section : Option Order) (tail : Tail) (file offset : ℕ
     → items_from section tail file offset bytes ≡ given (block_at section offset bytes) (body_at section bytes)
     ∷ items_from (Some (order_at section bytes)) tail file (offset + total_at (order_at section bytes) bytes)
     (drop (total_at (order_at section bytes) bytes) bytes)
-items_from-block section tail file offset bytes is = items.items_in-piece blocks tail file advances section offset bytes is
+items_from-block section tail file offset bytes is =
+    items.items_in-piece blocks tail file advances section offset bytes is

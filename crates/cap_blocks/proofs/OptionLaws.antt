@@ -1,5 +1,6 @@
 -- The options of some bytes, case by case.
-use Rattle.std.proofs.Common.{◌≡◌, ◌≢◌, ◌==◌, ℕ, zero, suc, ◌+◌, ◌<◌, ◌≤◌, nat_lt, if◌then◌else◌, List, [], ◌∷◌, length, take, drop, Ok, Err, refl, ◌∙◌, arith, length-drop, lt-ltb}
+use Rattle.std.proofs.Common.{◌≡◌, ◌≢◌, ◌==◌, ℕ, zero, suc, ◌+◌, ◌<◌, ◌≤◌, nat_lt, if◌then◌else◌, List, [], ◌∷◌, length}
+use Rattle.std.proofs.Common.{take, drop, Ok, Err, refl, ◌∙◌, arith, length-drop, lt-ltb}
 use Rattle.std.proofs.lemmas.Bool.Decides.{nat_tests}
 use Rattle.cap_bytes.specs.declared.faults.Rule.TheVariants.{OptionEnd}
 use Rattle.cap_bytes.specs.declared.numbers.Order.{Order}
@@ -17,26 +18,32 @@ options_by-enough : (n m : ℕ) (order : Order) (bytes : List ℕ) → length by
     → options_by n order bytes ≡ options_by m order bytes
 unfolding options_by
 options_by-enough zero zero order bytes p q = refl
-options_by-enough zero (suc m) order bytes p q = let short : length bytes < 4 = omega arith in rw (lt-ltb (length bytes) 4 short) refl
-options_by-enough (suc n) zero order bytes p q = let short : length bytes < 4 = omega arith in rw (lt-ltb (length bytes) 4 short) refl
+options_by-enough zero (suc m) order bytes p q = let short : length bytes < 4 = omega arith in
+    rw (lt-ltb (length bytes) 4 short) refl
+options_by-enough (suc n) zero order bytes p q = let short : length bytes < 4 = omega arith in
+    rw (lt-ltb (length bytes) 4 short) refl
 options_by-enough (suc n) (suc m) order bytes p q = grind (arith, options_by-enough n m order, length-drop, chosen)
 
 -- the options by the first one
 options_of-chosen : (order : Order) (bytes : List ℕ)
     → options_of order bytes
-    ≡ chosen (length bytes) (code_at order bytes) (length_at order bytes) (Ok (code_at order bytes, take (length_at order bytes) (drop 4 bytes)))
+    ≡ chosen (length bytes) (code_at order bytes) (length_at order bytes)
+    (Ok (code_at order bytes, take (length_at order bytes) (drop 4 bytes)))
     (options_of order (drop (4 + padded (length_at order bytes)) bytes))
 unfolding options_by options_of
 options_of-chosen order bytes = grind (arith, length-drop, options_by-enough, chosen)
 
 -- which of them is chosen
-chosen-short : (size code length : ℕ) (first : OptionItem) (rest : List OptionItem) → size < 4 → chosen size code length first rest ≡ []
+chosen-short : (size code length : ℕ) (first : OptionItem) (rest : List OptionItem) → size < 4
+    → chosen size code length first rest ≡ []
 chosen-short size code length first rest short = rw (lt-ltb size 4 short) refl
 
-chosen-end : (size code length : ℕ) (first : OptionItem) (rest : List OptionItem) → code ≡ 0 → chosen size code length first rest ≡ []
+chosen-end : (size code length : ℕ) (first : OptionItem) (rest : List OptionItem) → code ≡ 0
+    → chosen size code length first rest ≡ []
 chosen-end size code length first rest end = grind (arith, nat_tests)
 
-chosen-overrun : (size code length : ℕ) (first : OptionItem) (rest : List OptionItem) → 4 ≤ size → code ≢ 0 → size < 4 + length
+chosen-overrun : (size code length : ℕ) (first : OptionItem) (rest : List OptionItem) → 4 ≤ size → code ≢ 0
+    → size < 4 + length
     → chosen size code length first rest ≡ Err OptionEnd ∷ []
 chosen-overrun size code length first rest head some past = grind (arith, nat_tests)
 
@@ -58,7 +65,8 @@ pub options_of-overrun : (order : Order) (bytes : List ℕ) → 4 ≤ length byt
 options_of-overrun order bytes head some past = options_of-chosen order bytes ∙ chosen-overrun _ _ _ _ _ head some past
 
 -- an option, and those after its padding
-pub options_of-more : (order : Order) (bytes : List ℕ) → code_at order bytes ≢ 0 → 4 + length_at order bytes ≤ length bytes
+pub options_of-more : (order : Order) (bytes : List ℕ) → code_at order bytes ≢ 0
+    → 4 + length_at order bytes ≤ length bytes
     → options_of order bytes
     ≡ Ok (code_at order bytes, take (length_at order bytes) (drop 4 bytes))
     ∷ options_of order (drop (4 + padded (length_at order bytes)) bytes)

@@ -1,5 +1,7 @@
 -- What a look at the window makes of a reader, and what that does to the items to come.
-use Rattle.std.proofs.Common.{arith, ◌≡◌, ℕ, ◌+◌, ◌-◌, ◌≤◌, List, ◌∷◌, ◌++◌, length, drop, Option, Some, None, Ok, IfSome, Bool, true, false, is_some, IsTrue, Result, ap, refl, sym, ◌∙◌, length-drop, length-take-le}
+use Rattle.std.proofs.Common.{arith, ◌≡◌, ℕ, ◌+◌, ◌-◌, ◌≤◌, List, ◌∷◌, ◌++◌, length, drop, Option, Some, None, Ok}
+use Rattle.std.proofs.Common.{IfSome, Bool, true, false, is_some, IsTrue, Result, ap, refl, sym, ◌∙◌, length-drop}
+use Rattle.std.proofs.Common.{length-take-le}
 use Rattle.std.proofs.lemmas.List.{take-append-le, drop-append-le}
 use Rattle.cap_bytes.specs.Items.{given, items_by_stop}
 use Rattle.cap_bytes.specs.Reader.{State, Keeps}
@@ -17,43 +19,60 @@ use Rattle.cap_blocks.specs.declared.blocks.Block.{Block}
 use Rattle.cap_blocks.proofs.Items.{items_from-stop, items_from-block}
 
 -- the body of a block stands in its bytes, whatever comes after them
-body_in-append : (total : ℕ) (xs ys : List ℕ) → 12 ≤ total → total ≤ length xs → body_in total (xs ++ ys) ≡ body_in total xs
+body_in-append : (total : ℕ) (xs ys : List ℕ) → 12 ≤ total → total ≤ length xs
+    → body_in total (xs ++ ys) ≡ body_in total xs
 body_in-append total xs ys least enough =
-    rw (drop-append-le 8 xs ys (omega arith), take-append-le (total - 12) (drop 8 xs) ys (omega (arith, length-drop 8 xs))) refl
+    rw (
+      drop-append-le 8 xs ys (omega arith),
+      take-append-le (total - 12) (drop 8 xs) ys
+          (omega (arith, length-drop 8 xs)),
+    ) refl
 
 -- a block that is given is the first item
-taken_items : (s t : Option Stop) (a b : Option Order) (tail tail' : Tail) (file file' offset offset' : ℕ) (bytes bytes' : List ℕ) (block : Block)
+taken_items : (s t : Option Stop) (a b : Option Order) (tail tail' : Tail) (file file' offset offset' : ℕ)
+    (bytes bytes' : List ℕ) (block : Block)
     → s ≡ None → t ≡ None → b ≡ Some block.order → tail' ≡ tail → file' ≡ file → offset' ≡ offset + block.total
     → stop_at a tail file offset bytes ≡ None → block ≡ block_at a offset bytes → bytes' ≡ drop block.total bytes
     → items_by_stop s (items_from a tail file offset bytes)
     ≡ given block (body_in block.total bytes) ∷ items_by_stop t (items_from b tail' file' offset' bytes')
 unfolding block_at
-taken_items s t a b tail tail' file file' offset offset' bytes bytes' block ss ts bb e f o none is l = grind (arith, items_from-block)
+taken_items s t a b tail tail' file file' offset offset' bytes bytes' block ss ts bb e f o none is l =
+    grind (arith, items_from-block)
 
 taken : (old new : State Order) (block : Block) → GivesBlock old block new → Keeps old new → IsTrue old.told
     → items_of old ≡ given block (body_in block.total old.coming) ∷ items_of new
 taken old new block g k t = grind (arith, taken_items)
 
 -- What `next_block` answers tells what it does to the items to come.
-pub TakesItem_next : (old new : State Order) (result : Result (Option Block) Fault) → GivesNext old result new → Keeps old new → IsTrue old.told
+pub TakesItem_next : (old new : State Order) (result : Result (Option Block) Fault) → GivesNext old result new
+    → Keeps old new → IsTrue old.told
     → TakesItem old result new
 TakesItem_next old new result g k t = grind (arith, is_some, items_from-stop, taken)
 
 -- A block is found after the one that was given last.
-pub GivesBlock-found : (known : Bool) (w u v : WindowState) (tail : Tail) (section : Option Order) (shown : Option ℕ) (stop : Option Stop) (block : Block)
-    → stop ≡ None → size_of shown ≤ length w.shown → Passes (size_of shown) w u → is_known block.kind ≡ known → SeesBlock section tail block u v
-    → GivesBlock (state_of w tail section shown stop) block (state_of v tail (Some block.order) (shown_size known block.total) stop)
+pub GivesBlock-found : (known : Bool) (w u v : WindowState) (tail : Tail) (section : Option Order) (shown : Option ℕ)
+    (stop : Option Stop) (block : Block)
+    → stop ≡ None → size_of shown ≤ length w.shown → Passes (size_of shown) w u → is_known block.kind ≡ known
+    → SeesBlock section tail block u v
+    → GivesBlock (state_of w tail section shown stop) block
+    (state_of v tail (Some block.order) (shown_size known block.total) stop)
 GivesBlock-found true w u v tail section shown stop block free within p known s =
     let at = Stands-passed w u tail section (size_of shown) (body_of shown w.shown) stop free within p in
     let left : Leaves true block.total u v = rw known at s.left in
     let enough = left.1 in record {
-      gives = Gives-seen (state_of w tail section shown stop) u v at (Some block.order) block.total block.total (body_of (Some block.total) v.shown)
+      gives = Gives-seen (state_of w tail section shown stop) u v at (Some block.order) block.total block.total
+          (body_of (Some block.total) v.shown)
           s.goes (ap (λ n. n + block.total) left.0) (λ t. ap (drop block.total) (left.2 t));
       offset = s.offset ∙ p.offset;
       allowed = s.allowed;
       least = s.least;
       known = sym known;
-      size = omega (arith, length-take-le (block.total - 12) (drop 8 v.shown) (omega (arith, enough, s.least, length-drop 8 v.shown)), s.least);
+      size = omega (
+        arith,
+        length-take-le (block.total - 12) (drop 8 v.shown)
+            (omega (arith, enough, s.least, length-drop 8 v.shown)),
+        s.least,
+      );
       none = λ t. rw (at.file, at.offset, at.coming_same) at (s.none (at.told t));
       block_is = λ t. rw (at.offset, at.coming_same) at (s.block_is (at.told t));
       body_is = λ t. sym (body_in-append block.total v.shown v.unread s.least enough)
@@ -62,7 +81,8 @@ GivesBlock-found true w u v tail section shown stop block free within p known s 
 GivesBlock-found false w u v tail section shown stop block free within p known s =
     let at = Stands-passed w u tail section (size_of shown) (body_of shown w.shown) stop free within p in
     let left : Leaves false block.total u v = rw known at s.left in record {
-      gives = Gives-seen (state_of w tail section shown stop) u v at (Some block.order) block.total 0 None s.goes (omega (arith, left.0)) left.1;
+      gives = Gives-seen (state_of w tail section shown stop) u v at (Some block.order) block.total 0 None s.goes
+          (omega (arith, left.0)) left.1;
       offset = s.offset ∙ p.offset;
       allowed = s.allowed;
       least = s.least;
@@ -74,7 +94,8 @@ GivesBlock-found false w u v tail section shown stop block free within p known s
     }
 
 -- What a block that was shown already does to the items to come.
-pub TakesItem_shown : (old new : State Order) (found : Option Block) → IfSome found (λ block. GivesNext old (Ok (Some block)) new) → Keeps old new
+pub TakesItem_shown : (old new : State Order) (found : Option Block)
+    → IfSome found (λ block. GivesNext old (Ok (Some block)) new) → Keeps old new
     → IsTrue old.told → IfSome found (λ block. TakesItem old (Ok (Some block)) new)
 TakesItem_shown old new None g k t = tt
 TakesItem_shown old new (Some block) g k t = TakesItem_next old new (Ok (Some block)) g k t

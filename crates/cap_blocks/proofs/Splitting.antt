@@ -1,6 +1,7 @@
 -- A file splits in one way, and its items are those of the split.
 use Rattle.std.proofs.lemmas.Grind.{common_steps}
-use Rattle.std.proofs.Common.{◌≡◌, ℕ, zero, suc, IsSome, false, length-drop, ◌+◌, ◌≤◌, ◌<◌, ◌==◌, ◌&&◌, List, [], ◌∷◌, ◌++◌, length, take, drop, Option, Some, None, is_some, refl, sym, ◌∙◌, ap, subst, arith}
+use Rattle.std.proofs.Common.{◌≡◌, ℕ, zero, suc, IsSome, false, length-drop, ◌+◌, ◌≤◌, ◌<◌, ◌==◌, ◌&&◌, List, [], ◌∷◌}
+use Rattle.std.proofs.Common.{◌++◌, length, take, drop, Option, Some, None, is_some, refl, sym, ◌∙◌, ap, subst, arith}
 use Rattle.std.proofs.lemmas.Bool.Decides.{nat_tests}
 use Rattle.std.proofs.lemmas.List.{take_at, drop_at}
 use Rattle.cap_bytes.specs.Items.{given, stopped}
@@ -10,8 +11,10 @@ use Rattle.cap_bytes.specs.declared.faults.Tail.TheVariants.{Refuse}
 use Rattle.cap_bytes.specs.declared.numbers.Order.{Order}
 use Rattle.cap_bytes.proofs.Spelling.{number-lt, number-drop_append}
 use Rattle.cap_blocks.specs.Grammar.{SpellsBlock}
-use Rattle.cap_blocks.specs.Laws.{OneBlock, OneSplit, EverySplit, SplitItems, ItemsAtFault, ItemsAtBlock, BlockRead, BlockThere, block_of}
-use Rattle.cap_blocks.specs.Split.{block_at, Piece, piece_size, MayFollow, Begins, Splits, AreBytes, stop_at, items_from}
+use Rattle.cap_blocks.specs.Laws.{OneBlock, OneSplit, EverySplit, SplitItems, ItemsAtFault, ItemsAtBlock, BlockRead}
+use Rattle.cap_blocks.specs.Laws.{BlockThere, block_of}
+use Rattle.cap_blocks.specs.Split.{block_at, Piece, piece_size, MayFollow, Begins, Splits, AreBytes, stop_at}
+use Rattle.cap_blocks.specs.Split.{items_from}
 use Rattle.cap_bytes.specs.declared.stops.Stop.{Stop}
 use Rattle.cap_blocks.proofs.Bytes.{AreBytes-drop}
 use Rattle.cap_blocks.proofs.Faults.{block_fault-from_none, faults-from_none, FieldsFit-from_header, stop_at-whole}
@@ -19,10 +22,12 @@ use Rattle.cap_blocks.proofs.Items.{items_from-stop, items_from-fault, items_fro
 use Rattle.cap_blocks.proofs.Spelling.{piece_at, Begins-at, Reads, Reads-spelled, plain}
 
 -- the piece that begins is the one that is read
-pub piece_read : (section : Option Order) (offset : ℕ) (piece : Piece) (bytes : List ℕ) → Reads section offset piece bytes → piece_at section bytes ≡ piece
+pub piece_read : (section : Option Order) (offset : ℕ) (piece : Piece) (bytes : List ℕ)
+    → Reads section offset piece bytes → piece_at section bytes ≡ piece
 piece_read section offset piece bytes r = rw (r.order_is, r.kind_is, r.total_is, r.body_is) refl
 
-piece_one : (section : Option Order) (offset : ℕ) (p q : Piece) (bytes : List ℕ) → AreBytes bytes → Begins section offset p bytes
+piece_one : (section : Option Order) (offset : ℕ) (p q : Piece) (bytes : List ℕ) → AreBytes bytes
+    → Begins section offset p bytes
     → Begins section offset q bytes → p ≡ q
 piece_one section offset p q bytes fits a b =
     sym (piece_read section offset p bytes (Reads-spelled section offset p bytes (plain bytes fits) a))
@@ -42,12 +47,14 @@ one_split-law section offset bytes (p ∷ ps) [] r s fits a b =
     absurd (b.1 p (subst (λ (l : List ℕ). Begins section offset p l) b.0 a.0))
 one_split-law section offset bytes (p ∷ ps) (q ∷ qs) r s fits a b =
     let same = piece_one section offset p q bytes fits a.0 b.0 in
-    let rest = one_split-law (Some p.order) (offset + piece_size p) (drop (piece_size p) bytes) ps qs r s (AreBytes-drop (piece_size p) bytes fits)
+    let rest = one_split-law (Some p.order) (offset + piece_size p) (drop (piece_size p) bytes) ps qs r s
+    (AreBytes-drop (piece_size p) bytes fits)
     a.1 (moved offset bytes p q qs s same b.1) in
     (cc, rest.1)
 
 -- the total length stands in the first 8 bytes
-length_told : (order : Order) (a x : List ℕ) → number order 4 (drop 4 a) ≡ length a → 8 ≤ length a → number order 4 (drop 4 (a ++ x)) ≡ length a
+length_told : (order : Order) (a x : List ℕ) → number order 4 (drop 4 a) ≡ length a → 8 ≤ length a
+    → number order 4 (drop 4 (a ++ x)) ≡ length a
 length_told order a x is head = number-drop_append order 4 4 a x (omega arith) ∙ is
 
 -- a spelling begins what it stands in front of
@@ -83,7 +90,8 @@ block_read : (section : Option Order) (offset : ℕ) (piece : Piece) (bytes : Li
 unfolding block_at
 block_read section offset piece bytes r = rw (r.order_is, r.kind_is, r.total_is) refl
 
-pub items_from-reads : (section : Option Order) (tail : Tail) (file offset : ℕ) (piece : Piece) (bytes : List ℕ) → Reads section offset piece bytes
+pub items_from-reads : (section : Option Order) (tail : Tail) (file offset : ℕ) (piece : Piece) (bytes : List ℕ)
+    → Reads section offset piece bytes
     → items_from section tail file offset bytes
     ≡ given (block_of offset piece) piece.body
     ∷ items_from (Some piece.order) tail file (offset + piece_size piece) (drop (piece_size piece) bytes)
@@ -91,11 +99,15 @@ items_from-reads section tail file offset piece bytes r = grind (arith, stop_at-
 
 pub block_read-law : BlockRead
 block_read-law section tail file offset piece bytes fits b =
-    items_from-reads section tail file offset piece bytes (Reads-spelled section offset piece bytes (plain bytes fits) b)
+    items_from-reads section tail file offset piece bytes
+    (Reads-spelled section offset piece bytes (plain bytes fits) b)
 
 pub block_there-law : BlockThere
-block_there-law section tail file offset bytes fits none =
-    (piece_at section bytes, Begins-at section offset bytes (plain bytes fits) (block_fault-from_none section tail file offset bytes none))
+block_there-law section tail file offset bytes fits none = (
+  piece_at section bytes,
+  Begins-at section offset bytes (plain bytes fits)
+      (block_fault-from_none section tail file offset bytes none),
+)
 
 -- a block that begins goes on
 begins_goes : (section : Option Order) (tail : Tail) (file offset : ℕ) (bytes : List ℕ) (p : Piece) → AreBytes bytes
@@ -105,25 +117,30 @@ begins_goes section tail file offset bytes p fits b =
     stop_at-whole section tail file offset bytes (omega (arith, r.whole)) r.none
 
 -- what ends the blocks if none begins
-ends : (section : Option Order) (tail : Tail) (file offset : ℕ) (bytes : List ℕ) (stop : Option Stop) → stop_at section tail file offset bytes ≡ stop
+ends : (section : Option Order) (tail : Tail) (file offset : ℕ) (bytes : List ℕ) (stop : Option Stop)
+    → stop_at section tail file offset bytes ≡ stop
     → AreBytes bytes → ((piece : Piece) → Begins section offset piece bytes → ⊥)
-    → (s : Stop) × (stop_at section tail file offset bytes ≡ Some s) × (items_from section tail file offset bytes ≡ stopped s ∷ [])
+    → (s : Stop) × (stop_at section tail file offset bytes ≡ Some s)
+    × (items_from section tail file offset bytes ≡ stopped s ∷ [])
 ends section tail file offset bytes stop is fits none = grind (arith, items_from-stop, block_there-law)
 
 pub split_items-law : SplitItems
 split_items-law section tail file offset bytes [] rest fits split =
-    let end = ends section tail file offset rest (stop_at section tail file offset rest) refl (subst (λ (l : List ℕ). AreBytes l) split.0 fits) split.1 in
+    let end = ends section tail file offset rest (stop_at section tail file offset rest) refl
+    (subst (λ (l : List ℕ). AreBytes l) split.0 fits) split.1 in
     (end.0, end.1, ap (items_from section tail file offset) split.0 ∙ end.2)
 split_items-law section tail file offset bytes (p ∷ ps) rest fits split =
     let later = split_items-law (Some p.order) tail file (offset + piece_size p) (drop (piece_size p) bytes) ps rest
     (AreBytes-drop (piece_size p) bytes fits) split.1 in (
       later.0,
       later.1,
-      block_read-law section tail file offset p bytes fits split.0 ∙ ap (λ l. given (block_of offset p) p.body ∷ l) later.2,
+      block_read-law section tail file offset p bytes fits split.0
+          ∙ ap (λ l. given (block_of offset p) p.body ∷ l) later.2,
     )
 
 -- a split by what ends the blocks
-split_by : (section : Option Order) (offset : ℕ) (bytes : List ℕ) (stop : Option Stop) → stop_at section Refuse 0 offset bytes ≡ stop → AreBytes bytes
+split_by : (section : Option Order) (offset : ℕ) (bytes : List ℕ) (stop : Option Stop)
+    → stop_at section Refuse 0 offset bytes ≡ stop → AreBytes bytes
     → ((order : Order) (later : ℕ) (rest : List ℕ) → AreBytes rest → length rest < length bytes
     → (ps : List Piece) × (r : List ℕ) × Splits (Some order) later rest ps r)
     → (pieces : List Piece) × (rest : List ℕ) × Splits section offset bytes pieces rest
@@ -132,7 +149,8 @@ split_by section offset bytes None is fits behind =
     let there = block_there-law section Refuse 0 offset bytes fits is in
     let size = piece_size there.0 in
     let whole = (Reads-spelled section offset there.0 bytes (plain bytes fits) there.1).whole in
-    let later = behind there.0.order (offset + size) (drop size bytes) (AreBytes-drop size bytes fits) (omega (arith, length-drop size bytes)) in
+    let later = behind there.0.order (offset + size) (drop size bytes) (AreBytes-drop size bytes fits)
+    (omega (arith, length-drop size bytes)) in
     (there.0 ∷ later.0, later.1, (there.1, later.2))
 
 every : (n : ℕ) (section : Option Order) (offset : ℕ) (bytes : List ℕ) → AreBytes bytes → length bytes < n
@@ -146,7 +164,8 @@ pub every_split-law : EverySplit
 every_split-law section offset bytes fits = every (suc (length bytes)) section offset bytes fits (omega arith)
 
 -- the items at a fault, and at a block
-no_end : (section : Option Order) (bytes : List ℕ) → (IsSome section → bytes ≡ [] → ⊥) → (is_some section && (length bytes == 0)) ≡ false
+no_end : (section : Option Order) (bytes : List ℕ) → (IsSome section → bytes ≡ [] → ⊥)
+    → (is_some section && (length bytes == 0)) ≡ false
 no_end section bytes some = grind (arith, common_steps, nat_tests)
 
 pub items_at_fault-law : ItemsAtFault

@@ -1,5 +1,6 @@
 -- Which bytes spell the blocks of a pcapng file, and which bytes are written for them.
-use Rattle.std.specs.Prelude.{◌≡◌, ◌==◌, ◌||◌, ◌&&◌, ℕ, ◌+◌, ◌/◌, ◌%◌, ◌-◌, nat_le, not, Bool, IsTrue, ◌^◌, if◌then◌else◌, List, [], ◌∷◌, ◌++◌, length, take, drop, replicate}
+use Rattle.std.specs.Prelude.{◌≡◌, ◌==◌, ◌||◌, ◌&&◌, ℕ, ◌+◌, ◌/◌, ◌%◌, ◌-◌, nat_le, not, Bool, IsTrue, ◌^◌}
+use Rattle.std.specs.Prelude.{if◌then◌else◌, List, [], ◌∷◌, ◌++◌, length, take, drop, replicate}
 use Rattle.std.specs.Int.{w64, cast_unsigned}
 use Rattle.cap_bytes.specs.Number.{number, bytes_of}
 use Rattle.cap_bytes.specs.declared.numbers.Order.{Order}
@@ -27,7 +28,8 @@ enhanced_kind = 6
 
 abbrev pub is_known : ℕ → Bool
 is_known kind =
-    (kind == section_kind) || (kind == interface_kind) || (kind == obsolete_kind) || (kind == simple_kind) || (kind == enhanced_kind)
+    (kind == section_kind) || (kind == interface_kind) || (kind == obsolete_kind) || (kind == simple_kind)
+    || (kind == enhanced_kind)
 
 -- the least total length of a block of that kind: its fixed fields and the 12 bytes round the body
 abbrev pub least_total : ℕ → ℕ
@@ -82,7 +84,8 @@ section_body order =
 -- an option, of which the value is padded by zeros (draft-ietf-opsawg-pcapng, 3.5).
 abbrev pub option_bytes : Order → ℕ → List ℕ → List ℕ
 option_bytes order code value =
-    bytes_of order 2 code ++ bytes_of order 2 (length value) ++ value ++ replicate (padded (length value) - length value) 0
+    bytes_of order 2 code ++ bytes_of order 2 (length value) ++ value
+    ++ replicate (padded (length value) - length value) 0
 
 -- the options of an interface: its resolution, its offset if that isn't 0, in two's complement, and the
 -- end (draft-ietf-opsawg-pcapng, 4.2).
@@ -98,7 +101,8 @@ interface_options order interface =
 -- the body of an interface block
 abbrev pub interface_body : Order → Interface → List ℕ
 interface_body order interface =
-    bytes_of order 2 interface.link ++ bytes_of order 2 0 ++ bytes_of order 4 interface.snaplen ++ interface_options order interface
+    bytes_of order 2 interface.link ++ bytes_of order 2 0 ++ bytes_of order 4 interface.snaplen
+    ++ interface_options order interface
 
 -- the body of an enhanced packet block without options
 abbrev pub packet_body : Order → ℕ → ℕ → ℕ → List ℕ → List ℕ

@@ -1,5 +1,6 @@
 -- What is true of the grammar of pcapng files, whatever reads or writes them.
-use Rattle.std.specs.Prelude.{◌≡◌, ◌==◌, if◌then◌else◌, ◌+◌, ◌*◌, ◌^◌, ◌≤◌, ◌<◌, ℕ, List, [], ◌∷◌, ◌++◌, length, drop, take, Option, Some, None, is_some, IsSome, Ok}
+use Rattle.std.specs.Prelude.{◌≡◌, ◌==◌, if◌then◌else◌, ◌+◌, ◌*◌, ◌^◌, ◌≤◌, ◌<◌, ℕ, List, [], ◌∷◌, ◌++◌, length, drop}
+use Rattle.std.specs.Prelude.{take, Option, Some, None, is_some, IsSome, Ok}
 use Rattle.std.specs.Int.{w64, cast_unsigned}
 use Rattle.cap_bytes.specs.Items.{stop_by, Item, given, stopped}
 use Rattle.cap_bytes.specs.Number.{number, bytes_of}
@@ -8,9 +9,11 @@ use Rattle.cap_bytes.specs.declared.faults.Rule.{Rule}
 use Rattle.cap_bytes.specs.declared.faults.Tail.{Tail}
 use Rattle.cap_time.specs.Resolution.{code_of}
 use Rattle.cap_time.specs.declared.resolutions.Interface.{Interface}
-use Rattle.cap_blocks.specs.Grammar.{section_kind, interface_kind, enhanced_kind, SpellsBlock, section_body, section_bytes, interface_body, interface_bytes, packet_body, packet_bytes}
+use Rattle.cap_blocks.specs.Grammar.{section_kind, interface_kind, enhanced_kind, SpellsBlock, section_body}
+use Rattle.cap_blocks.specs.Grammar.{section_bytes, interface_body, interface_bytes, packet_body, packet_bytes}
 use Rattle.cap_blocks.specs.OptionList.{OptionItem, options_of}
-use Rattle.cap_blocks.specs.Split.{Piece, piece_size, MayFollow, Begins, Splits, AreBytes, order_at, total_at, body_at, block_fault, block_at, stop_at, items_from}
+use Rattle.cap_blocks.specs.Split.{Piece, piece_size, MayFollow, Begins, Splits, AreBytes, order_at, total_at, body_at}
+use Rattle.cap_blocks.specs.Split.{block_fault, block_at, stop_at, items_from}
 use Rattle.cap_blocks.specs.declared.blocks.Block.{Block}
 use Rattle.cap_bytes.specs.declared.stops.Stop.{Stop}
 use Rattle.cap_bytes.specs.declared.stops.Stop.TheVariants as stops
@@ -72,7 +75,8 @@ EverySplit =
 -- and its items are those of the split: its blocks, and what the rest is.
 abbrev pub SplitItems : Type 0
 SplitItems =
-    (section : Option Order) (tail : Tail) (file offset : ℕ) (bytes : List ℕ) (pieces : List Piece) (rest : List ℕ) → AreBytes bytes
+    (section : Option Order) (tail : Tail) (file offset : ℕ) (bytes : List ℕ) (pieces : List Piece) (rest : List ℕ)
+    → AreBytes bytes
     → Splits section offset bytes pieces rest
     → (stop : Stop) × (stop_at (section_behind section pieces) tail file (place_behind offset pieces) rest ≡ Some stop)
     × (items_from section tail file offset bytes ≡ items_with offset pieces stop)
@@ -133,7 +137,8 @@ PacketAgain =
     (order : Order) (interface units original : ℕ) (bytes : List ℕ)
     → interface < 2 ^ 32 → units < 2 ^ 64 → original < 2 ^ 32 → length bytes ≤ 262144
     → (let body = packet_body order interface units original bytes in
-    IsRead (Some order) (record { order = order; kind = enhanced_kind; body = body }) (packet_bytes order interface units original bytes)
+    IsRead (Some order) (record { order = order; kind = enhanced_kind; body = body })
+    (packet_bytes order interface units original bytes)
     × (number order 4 body ≡ interface)
     × (number order 4 (drop 4 body) * 2 ^ 32 + number order 4 (drop 8 body) ≡ units)
     × (number order 4 (drop 12 body) ≡ length bytes)

@@ -1,5 +1,6 @@
 -- What is seen at the front of the bytes that a window shows.
-use Rattle.std.specs.Prelude.{◌≡◌, ◌&&◌, not, true, false, Bool, ◌≤◌, ◌<◌, ◌+◌, ◌^◌, ℕ, List, length, drop, IsTrue, Option, Some, None, is_some, IsSome, Result, Ok, Err, ⊤}
+use Rattle.std.specs.Prelude.{◌≡◌, ◌&&◌, not, true, false, Bool, ◌≤◌, ◌<◌, ◌+◌, ◌^◌, ℕ, List, length, drop, IsTrue}
+use Rattle.std.specs.Prelude.{Option, Some, None, is_some, IsSome, Result, Ok, Err, ⊤}
 use Rattle.cap_bytes.specs.Parsing.{FailsBy, LooksFor}
 use Rattle.cap_bytes.specs.Window.{State, Goes, Shows, coming, read_to}
 use Rattle.cap_bytes.specs.declared.faults.Fault.{Fault}
@@ -8,7 +9,8 @@ use Rattle.cap_bytes.specs.declared.faults.Tail.{Tail}
 use Rattle.cap_bytes.specs.declared.numbers.Order.{Order}
 use Rattle.cap_bytes.specs.declared.stops.Stop.{Stop}
 use Rattle.cap_blocks.specs.Grammar.{is_known, is_total}
-use Rattle.cap_blocks.specs.Split.{kind_at, total_at, is_section, is_ordered, own_order, order_at, header_fault, body_fault, block_fault, block_at, stop_at, LacksRoom}
+use Rattle.cap_blocks.specs.Split.{kind_at, total_at, is_section, is_ordered, own_order, order_at, header_fault}
+use Rattle.cap_blocks.specs.Split.{body_fault, block_fault, block_at, stop_at, LacksRoom}
 use Rattle.cap_blocks.specs.declared.blocks.Block.{Block}
 
 -- the order in which the order magic of a section header reads, if it does in either
@@ -18,12 +20,14 @@ FindsOwnOrder bytes None = is_ordered (own_order bytes) bytes ≡ false
 
 -- the order of the block at the front, unless it is a section header whose order magic doesn't read in it
 abbrev pub FindsOrder : Option Order → List ℕ → Option Order → Type 0
-FindsOrder section bytes (Some order) = (order ≡ order_at section bytes) × ((is_section bytes && not (is_ordered (order_at section bytes) bytes)) ≡ false)
+FindsOrder section bytes (Some order) = (order ≡ order_at section bytes)
+    × ((is_section bytes && not (is_ordered (order_at section bytes) bytes)) ≡ false)
 FindsOrder section bytes None = (is_section bytes && not (is_ordered (order_at section bytes) bytes)) ≡ true
 
 -- the block at the front of some bytes, or the first condition that its first 12 bytes meet
 abbrev pub ParsesHeader : Option Order → ℕ → List ℕ → Result Block Rule → Type 0
-ParsesHeader section offset bytes (Ok block) = (header_fault section offset bytes ≡ None) × (block ≡ block_at section offset bytes)
+ParsesHeader section offset bytes (Ok block) = (header_fault section offset bytes ≡ None)
+    × (block ≡ block_at section offset bytes)
 ParsesHeader section offset bytes (Err rule) = header_fault section offset bytes ≡ Some rule
 
 -- The header of a block stands at the front of some bytes.
@@ -58,7 +62,8 @@ pub record SeesHeader (section : Option Order) (block : Block) (old new : State)
 -- what a look at the header answers
 abbrev pub LooksAtHeader : Option Order → Tail → State → Result (Result Block Stop) Fault → State → Type 0
 LooksAtHeader section tail old result new =
-    LooksFor (λ block. SeesHeader section block old new) (is_some section) (block_fault section old.offset (coming old)) 12 ⊤ tail old result new
+    LooksFor (λ block. SeesHeader section block old new) (is_some section)
+    (block_fault section old.offset (coming old)) 12 ⊤ tail old result new
 
 -- A block of a known kind is shown whole, and one of another kind is passed.
 abbrev pub Leaves : Bool → ℕ → State → State → Type 0
@@ -76,7 +81,8 @@ pub record SeesBody (block : Block) (fault : Option Rule) (old new : State) : Ty
 -- what a look at the body of a block answers
 abbrev pub LooksAtBody : Block → State → Result (Option Rule) Fault → State → Type 0
 LooksAtBody block old (Ok fault) new = SeesBody block fault old new
-LooksAtBody block old (Err fault) new = FailsBy 524288 ((is_known block.kind ≡ true) × (old.room < block.total)) old fault new
+LooksAtBody block old (Err fault) new = FailsBy 524288 ((is_known block.kind ≡ true)
+    × (old.room < block.total)) old fault new
 
 -- the same of a block that is skipped, if no fault but that of a read comes, which may fail after the block's
 -- beginning, before all of it came
@@ -99,5 +105,6 @@ pub record SeesBlock (section : Option Order) (tail : Tail) (block : Block) (old
 -- what a look for a block answers
 abbrev pub LooksForBlock : Option Order → Tail → State → Result (Result Block Stop) Fault → State → Type 0
 LooksForBlock section tail old result new =
-    LooksFor (λ block. SeesBlock section tail block old new) (is_some section) (block_fault section old.offset (coming old))
+    LooksFor (λ block. SeesBlock section tail block old new) (is_some section)
+    (block_fault section old.offset (coming old))
     524288 (LacksRoom section old.offset (coming old) old.room) tail old result new

@@ -1,5 +1,6 @@
 -- What a reader of a pcapng file is at one moment, and what its calls do.
-use Rattle.std.specs.Prelude.{◌≡◌, ◌+◌, ◌^◌, ◌≤◌, ℕ, List, ◌∷◌, length, Bool, true, false, IsTrue, Option, Some, None, option_map, is_some, IfSome, Result}
+use Rattle.std.specs.Prelude.{◌≡◌, ◌+◌, ◌^◌, ◌≤◌, ℕ, List, ◌∷◌, length, Bool, true, false, IsTrue, Option, Some, None}
+use Rattle.std.specs.Prelude.{option_map, is_some, IfSome, Result}
 use Rattle.cap_bytes.specs.Items.{Item, given, items_by_stop}
 use Rattle.cap_bytes.specs.Items as items
 use Rattle.cap_bytes.specs.Reach.{Reaches}
@@ -16,7 +17,8 @@ use Rattle.cap_blocks.specs.declared.blocks.Block.{Block}
 
 -- the items to come
 abbrev pub items_of : State Order → List (Item Block)
-items_of reader = items_by_stop reader.stop (items_from reader.known reader.tail reader.file reader.offset reader.coming)
+items_of reader = items_by_stop reader.stop
+    (items_from reader.known reader.tail reader.file reader.offset reader.coming)
 
 -- how many bytes a block takes
 abbrev pub block_size : Block → ℕ
@@ -38,7 +40,8 @@ pub record GivesBlock (old : State Order) (block : Block) (new : State Order) : 
 -- what `next_block` answers
 abbrev pub GivesNext : State Order → Result (Option Block) Fault → State Order → Type 0
 GivesNext old result new =
-    readers.GivesNext (λ block. GivesBlock old block new) (is_some old.known) (block_fault old.known old.offset old.coming)
+    readers.GivesNext (λ block. GivesBlock old block new) (is_some old.known)
+    (block_fault old.known old.offset old.coming)
     524288 (LacksRoom old.known old.offset old.coming old.room) old result new
 
 -- how far it reads
@@ -49,7 +52,8 @@ ReachesNext old result new =
 -- what it does to the items to come
 abbrev pub TakesItem : State Order → Result (Option Block) Fault → State Order → Type 0
 TakesItem old result new =
-    items.TakesItem (λ block. items_of old ≡ given block (body_in block.total old.coming) ∷ items_of new) (items_of old) result (items_of new)
+    items.TakesItem (λ block. items_of old ≡ given block (body_in block.total old.coming) ∷ items_of new)
+    (items_of old) result (items_of new)
 
 -- how many bytes the block takes that was given last and that the window still shows
 abbrev pub size_of : Option ℕ → ℕ
@@ -69,7 +73,8 @@ shown_size false total = None
 -- a reader by the window over its file, its tail, the section's order, the total length of the block that
 -- was given last and that the window still shows, and what ended the blocks
 abbrev pub state_of : WindowState → Tail → Option Order → Option ℕ → Option Stop → State Order
-state_of window tail section shown stop = readers.state_of window tail section (size_of shown) (body_of shown window.shown) stop
+state_of window tail section shown stop = readers.state_of window tail section (size_of shown)
+    (body_of shown window.shown) stop
 
 -- what a reader's fields always meet
 pub record IsSound (given : Option ℕ) (shown offset held : ℕ) : Type 0 where

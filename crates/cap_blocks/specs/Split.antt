@@ -1,9 +1,11 @@
 -- How a file splits into its blocks and a rest, and what the rest is refused by.
-use Rattle.std.specs.Prelude.{◌≡◌, ◌≢◌, ◌==◌, ◌&&◌, ◌⊎◌, not, ℕ, ◌+◌, ◌-◌, ◌^◌, ◌≤◌, ◌<◌, nat_lt, max, if◌then◌else◌, Bool, true, List, [], ◌∷◌, length, take, drop, slice_index, Option, Some, None, is_some}
+use Rattle.std.specs.Prelude.{◌≡◌, ◌≢◌, ◌==◌, ◌&&◌, ◌⊎◌, not, ℕ, ◌+◌, ◌-◌, ◌^◌, ◌≤◌, ◌<◌, nat_lt, max, if◌then◌else◌}
+use Rattle.std.specs.Prelude.{Bool, true, List, [], ◌∷◌, length, take, drop, slice_index, Option, Some, None, is_some}
 use Rattle.cap_bytes.specs.Items.{stop_where, Item, Format, items_in}
 use Rattle.cap_bytes.specs.Number.{number}
 use Rattle.cap_bytes.specs.declared.faults.Rule.{Rule}
-use Rattle.cap_bytes.specs.declared.faults.Rule.TheVariants.{Magic, Version, Cut, BlockLength, BlockTrailer, OrderMagic, FileLimit}
+use Rattle.cap_bytes.specs.declared.faults.Rule.TheVariants.{Magic, Version, Cut, BlockLength, BlockTrailer, OrderMagic}
+use Rattle.cap_bytes.specs.declared.faults.Rule.TheVariants.{FileLimit}
 use Rattle.cap_bytes.specs.declared.faults.Tail.{Tail}
 use Rattle.cap_bytes.specs.declared.numbers.Order.{Order}
 use Rattle.cap_bytes.specs.declared.numbers.Order.TheVariants.{Big, Little}
@@ -58,12 +60,14 @@ fields_fault order offset bytes =
 
 -- What the header of a block is refused by: both of these.
 abbrev pub header_fault : Option Order → ℕ → List ℕ → Option Rule
-header_fault section offset bytes = or_else (first_fault section bytes) (fields_fault (order_at section bytes) offset bytes)
+header_fault section offset bytes = or_else (first_fault section bytes)
+    (fields_fault (order_at section bytes) offset bytes)
 
 -- whether a section header at the front has a version that isn't read
 abbrev pub has_other_version : Order → List ℕ → Bool
 has_other_version order bytes =
-    (kind_at order bytes == section_kind) && not (is_version (number order 2 (drop 12 bytes)) (number order 2 (drop 14 bytes)))
+    (kind_at order bytes == section_kind)
+    && not (is_version (number order 2 (drop 12 bytes)) (number order 2 (drop 14 bytes)))
 
 -- what a block is refused by, the header of which isn't
 unfoldable pub body_fault : Order → List ℕ → Option Rule
@@ -75,7 +79,8 @@ body_fault order bytes =
 -- The first condition that some bytes, which begin at `offset`, meet in a block's place, if one does. The
 -- order is that of the section that is being read, if one is.
 unfoldable pub block_fault : Option Order → ℕ → List ℕ → Option Rule
-block_fault section offset bytes = or_else (header_fault section offset bytes) (body_fault (order_at section bytes) bytes)
+block_fault section offset bytes = or_else (header_fault section offset bytes)
+    (body_fault (order_at section bytes) bytes)
 
 -- the block at the front of some bytes that meet none of them, and its body
 unfoldable pub block_at : Option Order → ℕ → List ℕ → Block
@@ -91,10 +96,12 @@ block_at section offset bytes =
 abbrev pub wanted_at : Option Order → ℕ → List ℕ → ℕ
 wanted_at section offset bytes = max 12 (block_at section offset bytes).total
 
--- There is less room than a look for the block at the front needs: that is 12 bytes, and all of a block of a known kind.
+-- There is less room than a look for the block at the front needs: that is 12 bytes, and all of a block of a known
+-- kind.
 abbrev pub LacksRoom : Option Order → ℕ → List ℕ → ℕ → Type 0
 LacksRoom section offset bytes room =
-    (room < 12) ⊎ ((is_known (block_at section offset bytes).kind ≡ true) × (room < (block_at section offset bytes).total))
+    (room < 12) ⊎ ((is_known (block_at section offset bytes).kind ≡ true)
+    × (room < (block_at section offset bytes).total))
 
 -- the body of a block of that total length
 abbrev pub body_in : ℕ → List ℕ → List ℕ
@@ -106,7 +113,8 @@ body_at section bytes = body_in (total_at (order_at section bytes) bytes) bytes
 -- What ends the blocks at some bytes, if anything does: none are left after a whole block, or a rule is
 -- broken. A rest that is cut is never dropped within the first section header.
 abbrev pub stop_at : Option Order → Tail → ℕ → ℕ → List ℕ → Option Stop
-stop_at section tail file offset bytes = stop_where (is_some section) tail file offset bytes (block_fault section offset bytes)
+stop_at section tail file offset bytes = stop_where (is_some section) tail file offset bytes
+    (block_fault section offset bytes)
 
 -- how a file goes on, in a section of that order; before the first, in none
 abbrev pub blocks : Format (Option Order) Block

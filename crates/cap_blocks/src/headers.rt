@@ -106,9 +106,10 @@ pub fn header_of(section: Option<Order>, offset: u64, bytes: &[u8]) -> Result<Bl
     })
 }
 
-/// The enhanced packet block (draft-ietf-opsawg-pcapng, 4.3) that stands at the front of some bytes, which begin at `offset`, as far as
-/// its first 12 bytes tell it, in that order, which is that of the section: what `header_of` answers then, with no table of kinds on
-/// the way of a packet. `None` says nothing: the block is another one, or breaks a rule.
+/// The enhanced packet block (draft-ietf-opsawg-pcapng, 4.3) that stands at the front of some bytes, which begin at
+/// `offset`, as far as its first 12 bytes tell it, in that order, which is that of the section: what `header_of`
+/// answers then, with no table of kinds on the way of a packet. `None` says nothing: the block is another one, or
+/// breaks a rule.
 #[inline(always)]
 pub fn enhanced_at(order: Order, offset: u64, bytes: &[u8]) -> Option<Block>
     requires head { 12 ≤ length bytes.now }

@@ -2,7 +2,8 @@
 ghost use Rattle.std.specs.Prelude.{◌≡◌, ◌+◌, ◌≤◌, ◌++◌, length, IsTrue, is_err, IsOkUnless};
 ghost use Rattle.std.specs.Int.{w64, cast_unsigned};
 ghost use Rattle.cap_bytes.specs.Device.{Puts, WriterKeeps, writer_of};
-ghost use Rattle.cap_blocks.specs.Grammar.{section_bytes, interface_bytes, interface_total, packet_bytes, packet_head, packet_tail, offset_option};
+ghost use Rattle.cap_blocks.specs.Grammar.{section_bytes, interface_bytes, interface_total, packet_bytes, packet_head};
+ghost use Rattle.cap_blocks.specs.Grammar.{packet_tail, offset_option};
 ghost use Rattle.cap_blocks.specs.OptionList.{padded};
 
 use crate::blocks::{ENHANCED_PACKET, INTERFACE, ORDER_MAGIC, SECTION};
@@ -136,7 +137,8 @@ pub fn put_packet<W: Sink>(
 ) -> Result<(), Fault>
     requires captured { length «data».now ≤ 262144 }
     ensures bytes { IsTrue (W.tells_held writer.old)
-        → Puts (W.held writer.old) result (W.held writer.new) (packet_bytes order packet.interface packet.units packet.original «data».now) }
+        → Puts (W.held writer.old) result (W.held writer.new)
+        (packet_bytes order packet.interface packet.units packet.original «data».now) }
     ensures writer { WriterKeeps (writer_of W.Sink writer.old) (is_err result) (writer_of W.Sink writer.new) }
     ensures fault { IsOkUnless result Fault.Write }
 {
@@ -168,7 +170,8 @@ fn put_parts<W: Sink>(
 ) -> Result<(), Fault>
     requires captured { length «data».now ≤ 262144 }
     ensures bytes { IsTrue (W.tells_held writer.old)
-        → Puts (W.held writer.old) result (W.held writer.new) (packet_bytes order packet.interface packet.units packet.original «data».now) }
+        → Puts (W.held writer.old) result (W.held writer.new)
+        (packet_bytes order packet.interface packet.units packet.original «data».now) }
     ensures writer { WriterKeeps (writer_of W.Sink writer.old) (is_err result) (writer_of W.Sink writer.new) }
     ensures fault { IsOkUnless result Fault.Write }
 {

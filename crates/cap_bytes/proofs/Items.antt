@@ -1,5 +1,6 @@
 -- What ends the pieces of a file, and the items of some bytes by what stands at their front.
-use Rattle.std.proofs.Common.{◌≡◌, ℕ, suc, ◌+◌, ◌<◌, ◌==◌, ◌&&◌, Bool, true, false, List, [], ◌∷◌, length, drop, Option, Some, None, refl, arith, length-drop}
+use Rattle.std.proofs.Common.{◌≡◌, ℕ, suc, ◌+◌, ◌<◌, ◌==◌, ◌&&◌, Bool, true, false, List, [], ◌∷◌, length, drop, Option}
+use Rattle.std.proofs.Common.{Some, None, refl, arith, length-drop}
 use Rattle.cap_bytes.specs.Items.{stop_by, stop_where, IsStopAt, given, stopped, Format, items_by, items_in}
 use Rattle.cap_bytes.specs.declared.faults.Refusal.{Refusal}
 use Rattle.cap_bytes.specs.declared.faults.Rule.{Rule}
@@ -17,16 +18,19 @@ pub stop_where-end : (inside : Bool) (tail : Tail) (file offset : ℕ) (fault : 
 unfolding stop_where
 stop_where-end inside tail file offset fault is = rw is refl
 
-pub stop_where-fault : (inside : Bool) (tail : Tail) (file offset : ℕ) (bytes : List ℕ) (fault : Option Rule) (rule : Rule)
+pub stop_where-fault : (inside : Bool) (tail : Tail) (file offset : ℕ) (bytes : List ℕ) (fault : Option Rule)
+    (rule : Rule)
     → (inside && (length bytes == 0)) ≡ false → fault ≡ Some rule
     → stop_where inside tail file offset bytes fault ≡ Some (stop_by inside tail file offset rule)
 unfolding stop_where
 stop_where-fault inside tail file offset bytes fault rule some is = rw (some, is) refl
 
-pub stop_where-whole : (inside : Bool) (tail : Tail) (file offset : ℕ) (bytes : List ℕ) (fault : Option Rule) → 0 < length bytes → fault ≡ None
+pub stop_where-whole : (inside : Bool) (tail : Tail) (file offset : ℕ) (bytes : List ℕ) (fault : Option Rule)
+    → 0 < length bytes → fault ≡ None
     → stop_where inside tail file offset bytes fault ≡ None
 unfolding stop_where
-stop_where-whole inside tail file offset bytes fault some is = let there = not_empty inside (length bytes) some in rw (there, is) refl
+stop_where-whole inside tail file offset bytes fault some is = let there = not_empty inside (length bytes) some in
+    rw (there, is) refl
 
 -- if nothing ends them, no condition is met
 pub no_fault : (inside : Bool) (tail : Tail) (file offset : ℕ) (bytes : List ℕ) (fault : Option Rule)
@@ -41,7 +45,8 @@ unfolding stop_where
 rule_told tail file offset bytes fault refusal h = grind arith
 
 -- a rule is told with its file and place
-pub IsStopAt-stop_by : (inside : Bool) (tail : Tail) (file offset : ℕ) (rule : Rule) → IsStopAt inside tail file offset (stop_by inside tail file offset rule)
+pub IsStopAt-stop_by : (inside : Bool) (tail : Tail) (file offset : ℕ) (rule : Rule)
+    → IsStopAt inside tail file offset (stop_by inside tail file offset rule)
 IsStopAt-stop_by inside tail file offset rule = grind arith
 
 -- a piece takes bytes, which are there, if nothing ends the pieces
@@ -53,19 +58,23 @@ Advances {K} {P} format =
 module _ {K P : Type 0} (format : Format K P) (tail : Tail) (file : ℕ) where
   -- the items, by what ends the pieces
   items_by-stop : (n : ℕ) (known : K) (offset : ℕ) (bytes : List ℕ) (stop : Stop)
-      → format.stop known tail file offset bytes ≡ Some stop → items_by format (suc n) known tail file offset bytes ≡ stopped stop ∷ []
+      → format.stop known tail file offset bytes ≡ Some stop
+      → items_by format (suc n) known tail file offset bytes ≡ stopped stop ∷ []
   unfolding items_by
   items_by-stop n known offset bytes stop is = rw is refl
 
   items_by-piece : (n : ℕ) (known : K) (offset : ℕ) (bytes : List ℕ) → format.stop known tail file offset bytes ≡ None
-      → items_by format (suc n) known tail file offset bytes ≡ given (format.piece known offset bytes) (format.lent known bytes)
-      ∷ items_by format n (format.next known bytes) tail file (offset + format.size known bytes) (drop (format.size known bytes) bytes)
+      → items_by format (suc n) known tail file offset bytes
+      ≡ given (format.piece known offset bytes) (format.lent known bytes)
+      ∷ items_by format n (format.next known bytes) tail file (offset + format.size known bytes)
+      (drop (format.size known bytes) bytes)
   unfolding items_by
   items_by-piece n known offset bytes is = rw is refl
 
   -- if something ends the pieces, that is the one item
   pub items_in-stop : (known : K) (offset : ℕ) (bytes : List ℕ) (stop : Stop)
-      → format.stop known tail file offset bytes ≡ Some stop → items_in format known tail file offset bytes ≡ stopped stop ∷ []
+      → format.stop known tail file offset bytes ≡ Some stop
+      → items_in format known tail file offset bytes ≡ stopped stop ∷ []
   unfolding items_in
   items_in-stop known offset bytes stop is = items_by-stop (length bytes) known offset bytes stop is
 
@@ -80,7 +89,8 @@ module _ {K P : Type 0} (format : Format K P) (tail : Tail) (file : ℕ) where
     items_by-step m n known offset bytes None is p q behind = grind (arith, length-drop, items_by-piece)
 
     items_by-enough : (m n : ℕ) (known : K) (offset : ℕ) (bytes : List ℕ)
-        → length bytes < m → length bytes < n → items_by format m known tail file offset bytes ≡ items_by format n known tail file offset bytes
+        → length bytes < m → length bytes < n → items_by format m known tail file offset bytes
+        ≡ items_by format n known tail file offset bytes
     items_by-enough (suc m) (suc n) known offset bytes p q =
         items_by-step m n known offset bytes (format.stop known tail file offset bytes) refl p q
         (λ next later rest few enough. items_by-enough m n next later rest few enough)
@@ -88,7 +98,9 @@ module _ {K P : Type 0} (format : Format K P) (tail : Tail) (file : ℕ) where
 
     -- if nothing does, a piece is the first item, and those of the bytes after it follow
     pub items_in-piece : (known : K) (offset : ℕ) (bytes : List ℕ) → format.stop known tail file offset bytes ≡ None
-        → items_in format known tail file offset bytes ≡ given (format.piece known offset bytes) (format.lent known bytes)
-        ∷ items_in format (format.next known bytes) tail file (offset + format.size known bytes) (drop (format.size known bytes) bytes)
+        → items_in format known tail file offset bytes
+        ≡ given (format.piece known offset bytes) (format.lent known bytes)
+        ∷ items_in format (format.next known bytes) tail file (offset + format.size known bytes)
+        (drop (format.size known bytes) bytes)
     unfolding items_in
     items_in-piece known offset bytes is = grind (arith, length-drop, items_by-piece, items_by-enough)

@@ -1,6 +1,7 @@
 -- Lemmas on lists that several proofs cite.
 use Rattle.std.proofs.lemmas.Grind.{common_steps}
-use Rattle.std.proofs.Common.{◌≡◌, ℕ, ◌+◌, ◌-◌, ◌≤◌, List, ◌++◌, length, take, drop, sym, ◌∙◌, ap, drop-drop, take-take, slice_range, ◌<◌, arith, length-drop, length-append, length-take-le}
+use Rattle.std.proofs.Common.{◌≡◌, ℕ, ◌+◌, ◌-◌, ◌≤◌, List, ◌++◌, length, take, drop, sym, ◌∙◌, ap, drop-drop, take-take}
+use Rattle.std.proofs.Common.{slice_range, ◌<◌, arith, length-drop, length-append, length-take-le}
 use Rattle.std.proofs.Math.Seq.{drop-append-add}
 use Rattle.std.proofs.lemmas.List.{drop-append-le}
 use Rattle.std.proofs.lemmas.Slice.{between_is}
@@ -22,7 +23,8 @@ pub length-slice_range : (xs : List ℕ) (s e : ℕ) → s ≤ e → e ≤ lengt
 length-slice_range xs s e order within = search (between_is, length-drop, length-take-le)
 
 -- Of a part of xs and what follows it, n places are dropped that the part has; ys is longer than xs.
-pub dropped_here : (xs ys unread : List ℕ) (len s e n : ℕ) → take len ys ≡ xs → len ≤ length ys → s ≤ e → e ≤ len → n ≤ e - s
+pub dropped_here : (xs ys unread : List ℕ) (len s e n : ℕ) → take len ys ≡ xs → len ≤ length ys → s ≤ e
+    → e ≤ len → n ≤ e - s
     → (slice_range ys (s + n) e ≡ drop n (slice_range xs s e))
     × (slice_range ys (s + n) e ++ unread ≡ drop n (slice_range xs s e ++ unread))
     × (n ≤ length (slice_range xs s e ++ unread))

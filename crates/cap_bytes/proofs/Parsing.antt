@@ -1,5 +1,7 @@
 -- What a window shows of a piece, in one look and in another after it.
-use Rattle.std.proofs.Common.{◌≡◌, ℕ, ◌≤◌, ◌<◌, ◌==◌, ◌&&◌, [], ◌++◌, length, drop, Option, Some, None, IfSome, IfNone, Bool, true, false, IsTrue, Err, sym, ◌∙◌, ap, arith, append-nil, length-append, take-take, length-take}
+use Rattle.std.proofs.Common.{◌≡◌, ℕ, ◌≤◌, ◌<◌, ◌==◌, ◌&&◌, [], ◌++◌, length, drop, Option, Some, None, IfSome, IfNone}
+use Rattle.std.proofs.Common.{Bool, true, false, IsTrue, Err, sym, ◌∙◌, ap, arith, append-nil, length-append, take-take}
+use Rattle.std.proofs.Common.{length-take}
 use Rattle.std.proofs.lemmas.List.{drop-append-le}
 use Rattle.cap_bytes.specs.Items.{stop_by}
 use Rattle.cap_bytes.specs.Parsing.{FailsBy, SeesStop}
@@ -21,7 +23,8 @@ pub from_some : {A : Type 0} (o : Option A) (x : A) (P : A → Type 0) → o ≡
 from_some o x P e g = grind arith
 
 -- if the input ends, what is shown is all that comes
-pub all_shown : (old new : State) → Shows old new → (IsTrue old.told → new.unread ≡ []) → IsTrue old.told → coming old ≡ new.shown
+pub all_shown : (old new : State) → Shows old new → (IsTrue old.told → new.unread ≡ []) → IsTrue old.told
+    → coming old ≡ new.shown
 all_shown old new s none t = sym (s.coming_same t) ∙ (ap (λ l. new.shown ++ l) (none t) ∙ append-nil new.shown)
 
 -- what a look shows is at least what was shown
@@ -40,18 +43,21 @@ pub coming-passed : (n : ℕ) (v u : State) → n ≤ length v.shown → Passes 
 coming-passed n v u few p = grind (arith, drop-append-le)
 
 -- the fault of a first look
-pub FailsBy-need : (n size : ℕ) (Lacks : Type 0) (old new : State) (f : Fault) → n ≤ size → (old.room < n → Lacks) → Needs n old (Err f) new
+pub FailsBy-need : (n size : ℕ) (Lacks : Type 0) (old new : State) (f : Fault) → n ≤ size → (old.room < n → Lacks)
+    → Needs n old (Err f) new
     → FailsBy size Lacks old f new
 FailsBy-need n size Lacks old new f few lacks k = grind arith
 
 -- and that of a second one
 pub FailsBy-later : (size : ℕ) (First Second : Type 0) (a b c : State) (f : Fault) → Shows a b → b.file ≡ a.file
-    → (IsTrue a.told → IsTrue b.told) → (IsTrue b.can_fail → IsTrue a.can_fail) → a.room ≤ b.room → (IsTrue a.told → Second → First)
+    → (IsTrue a.told → IsTrue b.told) → (IsTrue b.can_fail → IsTrue a.can_fail) → a.room ≤ b.room
+    → (IsTrue a.told → Second → First)
     → FailsBy size Second b f c → FailsBy size First a f c
 FailsBy-later size First Second a b c f p named told cannot room lacks was = grind (arith, Shows-trans)
 
 -- some bytes are to come if some are shown
-pub some_left : (inside : Bool) (old new : State) → Shows old new → 0 < length new.shown → IsTrue old.told → (inside && (length (coming old) == 0)) ≡ false
+pub some_left : (inside : Bool) (old new : State) → Shows old new → 0 < length new.shown → IsTrue old.told
+    → (inside && (length (coming old) == 0)) ≡ false
 some_left inside old new s some t = grind (arith, length-append)
 
 -- no piece is there, since a rule is broken

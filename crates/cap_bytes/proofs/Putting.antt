@@ -1,6 +1,7 @@
 -- A text that is being written in pieces.
 use Rattle.std.proofs.lemmas.Grind.{common_steps}
-use Rattle.std.proofs.Common.{◌≡◌, ℕ, ◌+◌, ◌≤◌, min, List, [], ◌++◌, length, take, drop, IsTrue, Option, Result, Ok, Err, sym, ◌∙◌, ap, arith, take-add, append_assoc, append-nil, take-append-drop}
+use Rattle.std.proofs.Common.{◌≡◌, ℕ, ◌+◌, ◌≤◌, min, List, [], ◌++◌, length, take, drop, IsTrue, Option, Result, Ok}
+use Rattle.std.proofs.Common.{Err, sym, ◌∙◌, ap, arith, take-add, append_assoc, append-nil, take-append-drop}
 use Rattle.std.proofs.lemmas.List.{take-append-le, take_min}
 use Rattle.std.proofs.Math.Nat.{min-le_right}
 use Rattle.std.proofs.Math.Seq.{take-append-add}
@@ -29,7 +30,8 @@ pub Putting-more : (old mid new : Writer) (bytes rest : List ℕ) (n : ℕ)
 Putting-more old mid new bytes rest n p fits more told cannot = grind (arith, common_steps, take-add)
 
 -- If nothing is left to write, all is written.
-pub Putting-all : (from to : Writer) (text rest : List ℕ) → Putting from to text rest → rest ≡ [] → IsTrue from.told → to.held ≡ from.held ++ text
+pub Putting-all : (from to : Writer) (text rest : List ℕ) → Putting from to text rest → rest ≡ [] → IsTrue from.told
+    → to.held ≡ from.held ++ text
 Putting-all from to text rest p none t =
     p.written t
     ∙ ap (λ l. from.held ++ l)
@@ -54,26 +56,37 @@ Putting-front from mid held text line behind n p t more =
     )
 
 -- A writer that failed in the first part of a text wrote a prefix of the whole.
-pub Prints-head : (refusal : Option Refusal) (old new head text : List ℕ) (fault : Fault) → fault ≡ Write → Puts {A = Unit {0}} old (Err fault) new head
+pub Prints-head : (refusal : Option Refusal) (old new head text : List ℕ) (fault : Fault) → fault ≡ Write
+    → Puts {A = Unit {0}} old (Err fault) new head
     → Prints {A = Unit {0}} (head ++ text) refusal old (Err fault) new
 Prints-head refusal old new head text fault is p =
     let m = min p.0 (length head) in
     rw is
-    ((m, p.1 ∙ ap (λ l. old ++ l) (sym (take-append-le m head text (omega (arith, min-le_right p.0 (length head))) ∙ take_min p.0 head))))
+    ((
+      m,
+      p.1 ∙ ap (λ l. old ++ l) (sym (take-append-le m head text (omega (arith, min-le_right p.0 (length head)))
+          ∙ take_min p.0 head)),
+    ))
 
 joined : (old mid head text new : List ℕ) → mid ≡ old ++ head → new ≡ mid ++ text → new ≡ old ++ (head ++ text)
 joined old mid head text new first p = p ∙ (ap (λ l. l ++ text) first ∙ append_assoc old head text)
 
-front_behind : (old mid new head text : List ℕ) → mid ≡ old ++ head → PrintsFront text mid new → PrintsFront (head ++ text) old new
-front_behind old mid new head text first p =
-    (length head + p.0, joined old mid head (take p.0 text) new first p.1 ∙ ap (λ l. old ++ l) (sym (take-append-add head text p.0)))
+front_behind : (old mid new head text : List ℕ) → mid ≡ old ++ head → PrintsFront text mid new
+    → PrintsFront (head ++ text) old new
+front_behind old mid new head text first p = (
+  length head + p.0,
+  joined old mid head (take p.0 text) new first p.1
+      ∙ ap (λ l. old ++ l) (sym (take-append-add head text p.0)),
+)
 
 -- the rest of a text is written after its first part
-pub Prints-behind : (refusal : Option Refusal) (old mid new head text : List ℕ) (result : Result (Unit {0}) Fault) → mid ≡ old ++ head
+pub Prints-behind : (refusal : Option Refusal) (old mid new head text : List ℕ) (result : Result (Unit {0}) Fault)
+    → mid ≡ old ++ head
     → Prints text refusal mid result new → Prints (head ++ text) refusal old result new
 Prints-behind refusal old mid new head text (Ok x) first p = (p.0, joined old mid head text new first p.1)
 Prints-behind refusal old mid new head text (Err (Refused r)) first p = (p.0, joined old mid head text new first p.1)
-Prints-behind refusal old mid new head text (Err (Read file offset)) first p = front_behind old mid new head text first p
+Prints-behind refusal old mid new head text (Err (Read file offset)) first p =
+    front_behind old mid new head text first p
 Prints-behind refusal old mid new head text (Err Write) first p = front_behind old mid new head text first p
 Prints-behind refusal old mid new head text (Err Memory) first p = front_behind old mid new head text first p
 
@@ -86,7 +99,8 @@ Puts-first A old new head rest fault p = (
 )
 
 -- The second part follows the first.
-pub Puts-second : (A : Type 0) (old mid new head rest : List ℕ) (result : Result A Fault) → mid ≡ old ++ head → Puts mid result new rest
+pub Puts-second : (A : Type 0) (old mid new head rest : List ℕ) (result : Result A Fault) → mid ≡ old ++ head
+    → Puts mid result new rest
     → Puts old result new (head ++ rest)
 Puts-second A old mid new head rest (Ok x) first second = grind (arith, append_assoc)
 Puts-second A old mid new head rest (Err fault) first second = (

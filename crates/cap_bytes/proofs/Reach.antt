@@ -1,5 +1,6 @@
 -- How far a file is read for a piece of it.
-use Rattle.std.proofs.Common.{◌≡◌, ℕ, ◌+◌, ◌≤◌, ◌<◌, length, Option, None, Bool, true, false, IsTrue, Ok, Err, sym, ap, subst, length-drop, arith}
+use Rattle.std.proofs.Common.{◌≡◌, ℕ, ◌+◌, ◌≤◌, ◌<◌, length, Option, None, Bool, true, false, IsTrue, Ok, Err, sym, ap}
+use Rattle.std.proofs.Common.{subst, length-drop, arith}
 use Rattle.cap_bytes.specs.Reach.{ReachesTo, Reaches}
 use Rattle.cap_bytes.specs.SourceState.{IsWithin}
 use Rattle.cap_bytes.specs.Window.{State, Shows, Needs, Passes, Skips, position, read_to}
@@ -20,16 +21,19 @@ pub ReachesTo-ended : (most : Option ℕ) (end old new : ℕ) → old ≤ new �
 ReachesTo-ended most end old new further few = grind arith
 
 -- a look at the front of a piece, and then one at all of it
-pub ReachesTo-later : (most : Option ℕ) (a b r s t : ℕ) → a ≤ b → ReachesTo most a r s → ReachesTo most b s t → ReachesTo most b r t
+pub ReachesTo-later : (most : Option ℕ) (a b r s t : ℕ) → a ≤ b → ReachesTo most a r s → ReachesTo most b s t
+    → ReachesTo most b r t
 ReachesTo-later most a b r s t less p q = grind (arith, IsWithin-longer)
 
 -- the same of two looks at a window
-ReachesTo-moved : (most : Option ℕ) (offset end : ℕ) (a : State) (r s : ℕ) → most ≡ a.most → offset ≡ a.offset → ReachesTo most (offset + end) r s
+ReachesTo-moved : (most : Option ℕ) (offset end : ℕ) (a : State) (r s : ℕ) → most ≡ a.most → offset ≡ a.offset
+    → ReachesTo most (offset + end) r s
     → ReachesTo a.most (a.offset + end) r s
 ReachesTo-moved most offset end a r s same at h = rw (same, at) at h
 
 pub ReachesTo-looks : (n size : ℕ) (a b c : State) → n ≤ size → b.most ≡ a.most → b.offset ≡ a.offset
-    → ReachesTo a.most (a.offset + n) (read_to a) (read_to b) → ReachesTo b.most (b.offset + size) (read_to b) (read_to c)
+    → ReachesTo a.most (a.offset + n) (read_to a) (read_to b)
+    → ReachesTo b.most (b.offset + size) (read_to b) (read_to c)
     → ReachesTo a.most (a.offset + size) (read_to a) (read_to c)
 ReachesTo-looks n size a b c less same at p q =
     ReachesTo-later a.most (a.offset + n) (a.offset + size) (read_to a) (read_to b) (read_to c) (omega arith) p
@@ -37,7 +41,8 @@ ReachesTo-looks n size a b c less same at p q =
 
 -- n bytes are shown, or fewer come
 pub ReachesTo-need : (n : ℕ) (there : Bool) (old new : State) → Needs n old (Ok there) new
-    → (n ≤ length old.shown → old.broken ≡ None → new ≡ old) → (length old.shown < n → IsWithin old.most n (length new.shown))
+    → (n ≤ length old.shown → old.broken ≡ None → new ≡ old)
+    → (length old.shown < n → IsWithin old.most n (length new.shown))
     → ReachesTo old.most (old.offset + n) (read_to old) (read_to new)
 ReachesTo-need n there old new h same asked = by there h where
   from : Shows old new → ReachesTo old.most (old.offset + n) (read_to old) (read_to new)
@@ -51,13 +56,16 @@ ReachesTo-need n there old new h same asked = by there h where
   by false h = from h.0
 
 -- a read failed before they came
-pub Reaches-need : {A : Type 0} (size : A → Option ℕ) (n wanted : ℕ) (old new : State) (f : Fault) → (IsTrue old.told → n ≤ wanted)
+pub Reaches-need : {A : Type 0} (size : A → Option ℕ) (n wanted : ℕ) (old new : State) (f : Fault)
+    → (IsTrue old.told → n ≤ wanted)
     → Needs n old (Err f) new → Reaches size wanted (position old) (Err f) (read_to new)
 Reaches-need size n wanted old new f few h = grind arith
 
 -- the same in a second look
-pub Reaches-later : {A B : Type 0} (size : A → Option ℕ) (found : B → Option ℕ) (wanted : ℕ) (a b : State) (f : Fault) (read : ℕ) → Shows a b
-    → (IsTrue a.told → IsTrue b.told) → Reaches found wanted (position b) (Err f) read → Reaches size wanted (position a) (Err f) read
+pub Reaches-later : {A B : Type 0} (size : A → Option ℕ) (found : B → Option ℕ) (wanted : ℕ) (a b : State) (f : Fault)
+    (read : ℕ) → Shows a b
+    → (IsTrue a.told → IsTrue b.told) → Reaches found wanted (position b) (Err f) read
+    → Reaches size wanted (position a) (Err f) read
 Reaches-later size found wanted a b f read s told h = grind arith
 
 -- n bytes are dropped, or all that come
@@ -70,6 +78,8 @@ ReachesTo-skip n old new all d asked = grind (arith, length-drop)
 pub read_to-passed : (n : ℕ) (old new : State) → n ≤ length old.shown → Passes n old new → read_to new ≡ read_to old
 read_to-passed n old new within p = omega (arith, p.offset, ap length p.shown, length-drop n old.shown)
 
-pub ReachesTo-passed : (most : Option ℕ) (end n : ℕ) (a b c : State) → n ≤ length b.shown → Passes n b c → ReachesTo most end (read_to a) (read_to b)
+pub ReachesTo-passed : (most : Option ℕ) (end n : ℕ) (a b c : State) → n ≤ length b.shown → Passes n b c
+    → ReachesTo most end (read_to a) (read_to b)
     → ReachesTo most end (read_to a) (read_to c)
-ReachesTo-passed most end n a b c within p h = subst (λ r. ReachesTo most end (read_to a) r) (sym (read_to-passed n b c within p)) h
+ReachesTo-passed most end n a b c within p h =
+    subst (λ r. ReachesTo most end (read_to a) r) (sym (read_to-passed n b c within p)) h

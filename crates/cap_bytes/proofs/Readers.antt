@@ -1,5 +1,6 @@
 -- What a look at the window makes of a reader, and what that does to the items to come.
-use Rattle.std.proofs.Common.{◌≡◌, ℕ, ◌+◌, ◌≤◌, List, [], ◌∷◌, length, drop, Option, Some, None, option_map, Bool, IsTrue, Result, Err, length-drop, arith}
+use Rattle.std.proofs.Common.{◌≡◌, ℕ, ◌+◌, ◌≤◌, List, [], ◌∷◌, length, drop, Option, Some, None, option_map, Bool}
+use Rattle.std.proofs.Common.{IsTrue, Result, Err, length-drop, arith}
 use Rattle.cap_bytes.specs.Items.{stop_where, answer_of, Item, stopped, items_by_stop, TakesItem}
 use Rattle.cap_bytes.specs.Reach.{Position, ReachesTo, Reaches}
 use Rattle.cap_bytes.specs.Reader.{State, Keeps, Waits, Gives, GivesStop, GivesNext, state_of, position}
@@ -28,21 +29,26 @@ pub record Stands {K : Type 0} (old : State K) (u : WindowState) : Type 0 where
   pub room : u.room ≡ old.room
 
 -- it does once it has passed what it shows of the piece that was given last
-pub Stands-passed : {K : Type 0} (w u : WindowState) (tail : Tail) (known : Option K) (size : ℕ) (lent : Option (List ℕ)) (stop : Option Stop)
+pub Stands-passed : {K : Type 0} (w u : WindowState) (tail : Tail) (known : Option K) (size : ℕ)
+    (lent : Option (List ℕ)) (stop : Option Stop)
     → stop ≡ None → size ≤ length w.shown → Passes size w u → Stands (state_of w tail known size lent stop) u
 Stands-passed w u tail known size lent stop free within p = grind (arith, coming-passed, length-drop)
 
-pub Stands-here : {K : Type 0} (w : WindowState) (tail : Tail) (known : Option K) → Stands (state_of w tail known 0 None None) w
+pub Stands-here : {K : Type 0} (w : WindowState) (tail : Tail) (known : Option K)
+    → Stands (state_of w tail known 0 None None) w
 Stands-here w tail known = grind arith
 
 module _ {K : Type 0} (old : State K) (u v : WindowState) (at : Stands old u) where
   -- that many bytes are read, of which the window still shows `left`
-  pub Gives-seen : (known : Option K) (size left : ℕ) (lent : Option (List ℕ)) → windows.Goes u v → v.offset + left ≡ u.offset + size
-      → (IsTrue u.told → drop left (coming v) ≡ drop size (coming u)) → Gives known size old (state_of v old.tail known left lent old.stop)
+  pub Gives-seen : (known : Option K) (size left : ℕ) (lent : Option (List ℕ)) → windows.Goes u v
+      → v.offset + left ≡ u.offset + size
+      → (IsTrue u.told → drop left (coming v) ≡ drop size (coming u))
+      → Gives known size old (state_of v old.tail known left lent old.stop)
   Gives-seen known size left lent g next rest = grind arith
 
   -- how far that was read for a piece that is given
-  pub Reaches-given : (n : ℕ) → ReachesTo u.most (u.offset + n) (read_to u) (read_to v) → ReachesTo old.most (old.offset + n) old.read (read_to v)
+  pub Reaches-given : (n : ℕ) → ReachesTo u.most (u.offset + n) (read_to u) (read_to v)
+      → ReachesTo old.most (old.offset + n) old.read (read_to v)
   Reaches-given n h = grind arith
 
   pub Reaches-here : (n : ℕ) → ReachesTo old.most (old.offset + n) old.read (read_to u)
@@ -54,10 +60,12 @@ module _ {K : Type 0} (old : State K) (u v : WindowState) (at : Stands old u) wh
       → Reaches size (wanted old.offset old.coming) (position old) (Err f) (read_to v)
   Reaches-failed size found wanted f h = grind arith
 
-  module _ {P : Type 0} (Comes : P → Type 0) (inside : Bool) (fault : ℕ → List ℕ → Option Rule) (size : ℕ) (lacks : ℕ → List ℕ → ℕ → Type 0) where
+  module _ {P : Type 0} (Comes : P → Type 0) (inside : Bool) (fault : ℕ → List ℕ → Option Rule) (size : ℕ) (lacks : ℕ
+      → List ℕ → ℕ → Type 0) where
     -- the same by what is answered
     pub GivesNext-stopped : (end : Stop) → SeesStop inside (fault u.offset (coming u)) old.tail end u v
-        → GivesNext Comes inside (fault old.offset old.coming) size (lacks old.offset old.coming old.room) old (answer_of end)
+        → GivesNext Comes inside (fault old.offset old.coming) size (lacks old.offset old.coming old.room) old
+        (answer_of end)
         (state_of v old.tail old.known 0 None (Some end))
     GivesNext-stopped end s = grind arith
 
@@ -68,7 +76,8 @@ module _ {K : Type 0} (old : State K) (u v : WindowState) (at : Stands old u) wh
     GivesNext-failed f h = grind arith
 
 -- What ended the pieces is answered with no more read.
-pub Reaches-stopped : {P : Type 0} (size : P → ℕ) (wanted read : ℕ) (at : Position) (end : Stop) → Reaches (option_map size) wanted at (answer_of end) read
+pub Reaches-stopped : {P : Type 0} (size : P → ℕ) (wanted read : ℕ) (at : Position) (end : Stop)
+    → Reaches (option_map size) wanted at (answer_of end) read
 Reaches-stopped size wanted read at end = grind arith
 
 -- What ended the pieces is the one item to come, now and again.
@@ -77,11 +86,13 @@ module _ {K P : Type 0} (items : Option K → Tail → ℕ → ℕ → List ℕ 
   abbrev pub to_come : State K → List (Item P)
   to_come reader = items_by_stop reader.stop (items reader.known reader.tail reader.file reader.offset reader.coming)
 
-  pub waits_kept : (size : ℕ) (old new : State K) → Waits size old new → Keeps old new → IsTrue old.told → to_come new ≡ to_come old
+  pub waits_kept : (size : ℕ) (old new : State K) → Waits size old new → Keeps old new → IsTrue old.told
+      → to_come new ≡ to_come old
   waits_kept size old new w k t = grind arith
 
   module _ (inside : Bool) (fault : Option Rule) (old new : State K)
-      (ends : old.stop ≡ None → (stop : Stop) → stop_where inside old.tail old.file old.offset old.coming fault ≡ Some stop
+      (ends : old.stop ≡ None → (stop : Stop)
+      → stop_where inside old.tail old.file old.offset old.coming fault ≡ Some stop
       → items old.known old.tail old.file old.offset old.coming ≡ stopped stop ∷ []) where
     pub stop_kept : (stop : Stop) (was : Option Stop) → old.stop ≡ was → GivesStop inside fault stop old new
         → IsTrue old.told → (to_come old ≡ stopped stop ∷ []) × (to_come new ≡ to_come old)
@@ -89,6 +100,7 @@ module _ {K P : Type 0} (items : Option K → Tail → ℕ → ℕ → List ℕ 
 
     -- What a call for a piece answers tells what it does to the items to come.
     pub TakesItem-next : (Comes Takes : P → Type 0) (size : ℕ) (Lacks : Type 0) (result : Result (Option P) Fault)
-        → ((piece : P) → Comes piece → Takes piece) → GivesNext Comes inside fault size Lacks old result new → Keeps old new → IsTrue old.told
+        → ((piece : P) → Comes piece → Takes piece) → GivesNext Comes inside fault size Lacks old result new
+        → Keeps old new → IsTrue old.told
         → TakesItem Takes (to_come old) result (to_come new)
     TakesItem-next Comes Takes size Lacks result takes g k t = grind arith

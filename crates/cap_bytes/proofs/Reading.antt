@@ -1,5 +1,7 @@
 -- Reading into a buffer after what stands there.
-use Rattle.std.proofs.Common.{◌≡◌, ℕ, ◌+◌, ◌-◌, ◌≤◌, ◌<◌, List, [], ◌++◌, length, take, drop, IsTrue, Bool, false, ◌||◌, Result, IfOk, IfSome, OnErr, arith, append_assoc, length-append, length-take-le, slice_range}
+use Rattle.std.proofs.Common.{◌≡◌, ℕ, ◌+◌, ◌-◌, ◌≤◌, ◌<◌, List, [], ◌++◌, length, take, drop, IsTrue, Bool, false, ◌||◌}
+use Rattle.std.proofs.Common.{Result, IfOk, IfSome, OnErr, arith, append_assoc, length-append, length-take-le}
+use Rattle.std.proofs.Common.{slice_range}
 use Rattle.std.proofs.lemmas.Grind.{common_steps}
 use Rattle.std.proofs.lemmas.List.{drop-append-le}
 use Rattle.std.proofs.lemmas.Slice.{between_is}
@@ -13,7 +15,8 @@ pub Reads-room : (old new : SourceState) (front room : List ℕ) (end n : ℕ) �
     → (IsTrue old.told → old.coming ≡ take n room ++ new.coming)
     → (IsTrue old.told → IsTrue new.told) → new.most ≡ old.most → (IsTrue new.can_fail → IsTrue old.can_fail)
     → Reads old new front (take (end + n) (front ++ room))
-Reads-room old new front room end n size came told most cannot = grind (arith, take-append-add, take-append_seam, append_assoc)
+Reads-room old new front room end n size came told most cannot =
+    grind (arith, take-append-add, take-append_seam, append_assoc)
 
 -- the same of what a read answered
 pub Reads-taken : (old new : SourceState) (front room : List ℕ) (end : ℕ) (r : Result ℕ Broken) → length front ≡ end
@@ -31,7 +34,8 @@ pub Reads-failed : (old new : SourceState) (front room : List ℕ) (end : ℕ) (
 Reads-failed old new front room end r size bytes told most cannot = grind (arith, take-append_seam, take-length)
 
 -- a read of none into some room is the end
-pub ended_at_none : (told : Bool) (old new room : List ℕ) (r : Result ℕ Broken) → 0 < length room → (IsTrue told → Takes old r new room)
+pub ended_at_none : (told : Bool) (old new room : List ℕ) (r : Result ℕ Broken) → 0 < length room
+    → (IsTrue told → Takes old r new room)
     → IfOk r (λ n. n ≡ 0 → IsTrue told → new ≡ [])
 ended_at_none told old new room r some bytes = grind arith
 
@@ -49,10 +53,13 @@ pub Filled-none : (s : SourceState) (buffer : List ℕ) (end n : ℕ) → end �
 Filled-none s buffer end n some room = grind (arith, take-length)
 
 -- k bytes more came
-pub Filled-more : (old mid new : SourceState) (front whole longer : List ℕ) (end count k room left n : ℕ) → Filled old mid front whole end count room n
-    → count < n → IfSome mid.most (λ most. k ≤ most) → (count + k ≤ left) × Reads mid new whole longer → new.failed ≡ (mid.failed || false)
+pub Filled-more : (old mid new : SourceState) (front whole longer : List ℕ) (end count k room left n : ℕ)
+    → Filled old mid front whole end count room n
+    → count < n → IfSome mid.most (λ most. k ≤ most) → (count + k ≤ left) × Reads mid new whole longer
+    → new.failed ≡ (mid.failed || false)
     → Filled old new front longer end (count + k) left n
-Filled-more old mid new front whole longer end count k room left n filled few most reads failed = grind (arith, common_steps)
+Filled-more old mid new front whole longer end count k room left n filled few most reads failed =
+    grind (arith, common_steps)
 
 -- n bytes are being dropped from a reader, `left` of which are still to come
 pub record Dropping (n left : ℕ) (old new : SourceState) : Type 0 where
@@ -66,13 +73,16 @@ pub record Dropping (n left : ℕ) (old new : SourceState) : Type 0 where
   pub bytes : IsTrue old.told → drop left new.coming ≡ drop n old.coming
 
 -- a piece came, all of which is dropped, and it isn't enough
-pub Dropping-more : (n left count : ℕ) (old mid new : SourceState) (piece : List ℕ) → length piece ≡ count → count < left
+pub Dropping-more : (n left count : ℕ) (old mid new : SourceState) (piece : List ℕ) → length piece ≡ count
+    → count < left
     → Dropping n left old mid → Reads mid new [] piece → new.failed ≡ mid.failed → Dropping n (left - count) old new
 Dropping-more n left count old mid new piece size few p r failed = grind (arith, length-append, drop-append-add)
 
 -- a piece came that has all that is left to drop, and `rest` after it
-pub Dropping-last : (n left count : ℕ) (old mid new : SourceState) (buffer : List ℕ) → count ≤ length buffer → left ≤ count
+pub Dropping-last : (n left count : ℕ) (old mid new : SourceState) (buffer : List ℕ) → count ≤ length buffer
+    → left ≤ count
     → Dropping n left old mid → Reads mid new [] (take count buffer)
     → (IsTrue old.told → n ≤ length old.coming)
     × (IsTrue old.told → slice_range buffer left count ++ new.coming ≡ drop n old.coming)
-Dropping-last n left count old mid new buffer within enough p r = grind (arith, length-take-le, length-append, between_is, drop-append-le)
+Dropping-last n left count old mid new buffer within enough p r =
+    grind (arith, length-take-le, length-append, between_is, drop-append-le)

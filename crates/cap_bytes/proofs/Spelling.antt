@@ -1,12 +1,16 @@
 -- What the n bytes at the front of a list spell, and what spells a number.
-use Rattle.std.proofs.Common.{◌≡◌, ℕ, ◌+◌, ◌^◌, ◌≤◌, ◌<◌, List, ◌++◌, length, take, drop, slice_index, sym, ◌∙◌, ap, arith, length-drop, length-take-le}
+use Rattle.std.proofs.Common.{◌≡◌, ℕ, ◌+◌, ◌^◌, ◌≤◌, ◌<◌, List, ◌++◌, length, take, drop, slice_index, sym, ◌∙◌, ap}
+use Rattle.std.proofs.Common.{arith, length-drop, length-take-le}
 use Rattle.std.proofs.lemmas.List.{drop-append-le, take-append-drop}
-use Rattle.byteorder.specs.Numbers.{big_from-append, big_from-lt, big_from-take, big_number-reads_back, length-bytes_high_first, length-bytes_low_first, little_from-append, little_from-lt, little_from-take, little_number-reads_back}
+use Rattle.byteorder.specs.Numbers.{big_from-append, big_from-lt, big_from-take, big_number-reads_back}
+use Rattle.byteorder.specs.Numbers.{length-bytes_high_first, length-bytes_low_first, little_from-append, little_from-lt}
+use Rattle.byteorder.specs.Numbers.{little_from-take, little_number-reads_back}
 use Rattle.cap_bytes.specs.Number.{number, bytes_of}
 use Rattle.cap_bytes.specs.declared.numbers.Order.{Order}
 
 -- bytes after the first n change nothing
-pub number-append : (order : Order) (n : ℕ) (xs ys : List ℕ) → n ≤ length xs → number order n (xs ++ ys) ≡ number order n xs
+pub number-append : (order : Order) (n : ℕ) (xs ys : List ℕ) → n ≤ length xs
+    → number order n (xs ++ ys) ≡ number order n xs
 unfolding number
 number-append order n xs ys few = grind (arith, big_from-append, little_from-append)
 
@@ -33,7 +37,8 @@ unfolding number
 number-lt order n xs fits = grind (arith, big_from-lt, little_from-lt)
 
 -- what is written of a number is read again, whatever follows
-pub number-bytes_of : (order : Order) (n x : ℕ) (rest : List ℕ) → x < 256 ^ n → number order n (bytes_of order n x ++ rest) ≡ x
+pub number-bytes_of : (order : Order) (n x : ℕ) (rest : List ℕ) → x < 256 ^ n
+    → number order n (bytes_of order n x ++ rest) ≡ x
 unfolding number bytes_of
 number-bytes_of order n x rest fits = grind (arith, big_number-reads_back, little_number-reads_back)
 

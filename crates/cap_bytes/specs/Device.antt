@@ -19,7 +19,8 @@ abbrev pub Puts : {A : Type 0} → List ℕ → Result A Fault → List ℕ → 
 Puts old (Ok _) new bytes = new ≡ old ++ bytes
 Puts old (Err _) new bytes = (n : ℕ) × (new ≡ old ++ take n bytes)
 
--- A writer at one moment: whether it tells the bytes that it holds, which they are, whether it has failed, whether it can.
+-- A writer at one moment: whether it tells the bytes that it holds, which they are, whether it has failed, whether it
+-- can.
 pub record Writer : Type 0 where
   pub told : Bool
   pub held : List ℕ
@@ -27,8 +28,20 @@ pub record Writer : Type 0 where
   pub can_fail : Bool
 
 -- a writer by the ghost members of `Sink`
-abbrev pub writer_of : {W : Type 0} → record { has_failed : W → Bool; can_fail : W → Bool; tells_held : W → Bool; held : W → List ℕ } → W → Writer
-writer_of sink w = record { told = sink.tells_held w; held = sink.held w; failed = sink.has_failed w; can_fail = sink.can_fail w }
+abbrev pub writer_of : {W : Type 0} → record {
+  has_failed : W → Bool;
+  can_fail : W → Bool;
+  tells_held : W
+      → Bool;
+  held : W → List ℕ;
+} → W → Writer
+writer_of sink w = record {
+  told = sink.tells_held w;
+  held = sink.held w;
+  failed = sink.has_failed w;
+  can_fail =
+      sink.can_fail w;
+}
 
 -- What every call that writes keeps of its writer. `fails` says whether the writer failed in this call.
 pub record WriterKeeps (old : Writer) (fails : Bool) (new : Writer) : Type 0 where

@@ -1,5 +1,6 @@
 -- What comes of a file that is read piece by piece: record by record, or block by block.
-use Rattle.std.specs.Prelude.{◌≡◌, ◌==◌, ◌&&◌, ◌+◌, ℕ, zero, suc, Bool, true, IsTrue, if◌then◌else◌, List, [], ◌∷◌, length, drop, Option, Some, None, option_map, Result, Ok, Err, ⊤}
+use Rattle.std.specs.Prelude.{◌≡◌, ◌==◌, ◌&&◌, ◌+◌, ℕ, zero, suc, Bool, true, IsTrue, if◌then◌else◌, List, [], ◌∷◌}
+use Rattle.std.specs.Prelude.{length, drop, Option, Some, None, option_map, Result, Ok, Err, ⊤}
 use Rattle.cap_bytes.specs.declared.faults.Fault.{Fault}
 use Rattle.cap_bytes.specs.declared.faults.Fault.TheVariants.{Refused, Read, Write, Memory}
 use Rattle.cap_bytes.specs.declared.faults.Rule.{Rule}
@@ -66,7 +67,8 @@ unfoldable pub items_by : {K P : Type 0} → Format K P → ℕ → K → Tail �
 items_by format zero known tail file offset bytes = []
 items_by format (suc fuel) known tail file offset bytes =
     let size = format.size known bytes in
-    item_or (format.stop known tail file offset bytes) (given (format.piece known offset bytes) (format.lent known bytes))
+    item_or (format.stop known tail file offset bytes)
+    (given (format.piece known offset bytes) (format.lent known bytes))
     (items_by format fuel (format.next known bytes) tail file (offset + size) (drop size bytes))
 
 -- the items of some bytes that begin at `offset`

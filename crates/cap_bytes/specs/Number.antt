@@ -1,6 +1,6 @@
--- Numbers as the bytes that spell them. A list of bytes is a list of numbers below 256. A pcap file and a section of a pcapng file
--- each have one order (draft-ietf-opsawg-pcap, 4; draft-ietf-opsawg-pcapng, 3.6), IPv4 headers the highest byte first (RFC 791,
--- Appendix B).
+-- Numbers as the bytes that spell them. A list of bytes is a list of numbers below 256. A pcap file and a section of a
+-- pcapng file each have one order (draft-ietf-opsawg-pcap, 4; draft-ietf-opsawg-pcapng, 3.6), IPv4 headers the highest
+-- byte first (RFC 791, Appendix B).
 use Rattle.std.specs.Prelude.{ℕ, ◌+◌, List, ◌++◌, take, drop}
 use Rattle.byteorder.specs.Endian.{big_bytes, big_number, little_bytes, little_number}
 use Rattle.cap_bytes.specs.declared.numbers.Order.{Order}

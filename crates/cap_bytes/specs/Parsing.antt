@@ -31,7 +31,8 @@ FailsBy size Lacks old Write new = ⊥
 FailsBy size Lacks old (Refused refusal) new = ⊥
 
 -- what a look for a piece answers that is seen in this way
-abbrev pub LooksFor : {P : Type 0} → (P → Type 0) → Bool → Option Rule → ℕ → Type 0 → Tail → State → Result (Result P Stop) Fault → State → Type 0
+abbrev pub LooksFor : {P : Type 0} → (P → Type 0) → Bool → Option Rule → ℕ → Type 0 → Tail → State
+    → Result (Result P Stop) Fault → State → Type 0
 LooksFor Sees inside fault size Lacks tail old (Ok (Ok piece)) new = Sees piece
 LooksFor Sees inside fault size Lacks tail old (Ok (Err stop)) new = SeesStop inside fault tail stop old new
 LooksFor Sees inside fault size Lacks tail old (Err f) new = FailsBy size Lacks old f new

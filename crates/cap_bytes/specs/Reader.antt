@@ -1,5 +1,6 @@
 -- What a reader that gives a file piece by piece is at one moment, and what its calls do.
-use Rattle.std.specs.Prelude.{◌≡◌, ◌+◌, ◌^◌, ◌≤◌, ◌<◌, ℕ, List, drop, Bool, IsTrue, Option, Some, None, IfSome, IfNone, IsSome, Result, Ok, Err}
+use Rattle.std.specs.Prelude.{◌≡◌, ◌+◌, ◌^◌, ◌≤◌, ◌<◌, ℕ, List, drop, Bool, IsTrue, Option, Some, None, IfSome, IfNone}
+use Rattle.std.specs.Prelude.{IsSome, Result, Ok, Err}
 use Rattle.cap_bytes.specs.Reach.{Position}
 use Rattle.cap_bytes.specs.Window.{State as WindowState}
 use Rattle.cap_bytes.specs.Window as windows
@@ -133,10 +134,13 @@ pub record GivesStop {K : Type 0} (inside : Bool) (fault : Option Rule) (stop : 
 
 -- What a call for a piece answers: a piece that comes in this way, what ended the pieces, or a fault, that of a growth
 -- to `size` bytes only if there is less room than is told.
-abbrev pub GivesNext : {K P : Type 0} → (P → Type 0) → Bool → Option Rule → ℕ → Type 0 → State K → Result (Option P) Fault → State K → Type 0
+abbrev pub GivesNext : {K P : Type 0} → (P → Type 0) → Bool → Option Rule → ℕ → Type 0 → State K
+    → Result (Option P) Fault → State K → Type 0
 GivesNext Comes inside fault size Lacks old (Ok (Some piece)) new = Comes piece
-GivesNext Comes inside fault size Lacks old (Ok None) new = (stop : Stop) × IsEnd stop × GivesStop inside fault stop old new
-GivesNext Comes inside fault size Lacks old (Err (Refused refusal)) new = GivesStop inside fault (stops.Refused refusal) old new
+GivesNext Comes inside fault size Lacks old (Ok None) new = (stop : Stop) × IsEnd stop
+    × GivesStop inside fault stop old new
+GivesNext Comes inside fault size Lacks old (Err (Refused refusal)) new =
+    GivesStop inside fault (stops.Refused refusal) old new
 GivesNext Comes inside fault size Lacks old (Err (Read file offset)) new = Breaks old file offset new
 GivesNext Comes inside fault size Lacks old (Err Memory) new = Waits size old new × (IsTrue old.told → Lacks)
 GivesNext Comes inside fault size Lacks old (Err Write) new = ⊥

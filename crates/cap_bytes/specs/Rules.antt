@@ -1,7 +1,11 @@
 -- The printed numbers and names of the rules.
 use Rattle.std.specs.Prelude.{ℕ, List, codes}
 use Rattle.cap_bytes.specs.declared.faults.Rule.{Rule}
-use Rattle.cap_bytes.specs.declared.faults.Rule.TheVariants.{Magic, Version, Cut, PacketLong, BlockLength, BlockTrailer, OrderMagic, Captured, InterfaceUnknown, OptionEnd, OptionLength, Resolution, InterfaceLimit, FileLimit, OpenLimit, TalkLimit, NoTime, LinkMixed, Inexact, TimeRange, NoInterface}
+use Rattle.cap_bytes.specs.declared.faults.Rule.TheVariants.{Magic, Version, Cut, PacketLong, BlockLength, BlockTrailer}
+use Rattle.cap_bytes.specs.declared.faults.Rule.TheVariants.{OrderMagic, Captured, InterfaceUnknown, OptionEnd}
+use Rattle.cap_bytes.specs.declared.faults.Rule.TheVariants.{OptionLength, Resolution, InterfaceLimit, FileLimit}
+use Rattle.cap_bytes.specs.declared.faults.Rule.TheVariants.{OpenLimit, TalkLimit, NoTime, LinkMixed, Inexact}
+use Rattle.cap_bytes.specs.declared.faults.Rule.TheVariants.{TimeRange, NoInterface}
 
 abbrev pub rule_number : Rule → ℕ
 rule_number Magic = 1

@@ -1,5 +1,6 @@
 -- What a reader is at one moment, and what reading from it into a buffer does.
-use Rattle.std.specs.Prelude.{◌≡◌, ◌+◌, ◌≤◌, ◌<◌, ℕ, List, [], ◌++◌, length, take, drop, Bool, IsTrue, Option, Some, None, ⊤}
+use Rattle.std.specs.Prelude.{◌≡◌, ◌+◌, ◌≤◌, ◌<◌, ℕ, List, [], ◌++◌, length, take, drop, Bool, IsTrue, Option, Some}
+use Rattle.std.specs.Prelude.{None, ⊤}
 use Rattle.cap_bytes.specs.declared.buffers.Discarded.{Discarded}
 use Rattle.cap_bytes.specs.declared.buffers.Filling.{Filling}
 use Rattle.cap_bytes.specs.declared.buffers.Filling.TheVariants.{Whole, Ended, Failed}
@@ -14,7 +15,14 @@ pub record SourceState : Type 0 where
   pub can_fail : Bool
 
 -- a reader by the ghost members of `Source`
-abbrev pub source_of : {R : Type 0} → record { has_failed : R → Bool; can_fail : R → Bool; tells_coming : R → Bool; coming : R → List ℕ; most : R → Option ℕ } → R → SourceState
+abbrev pub source_of : {R : Type 0} → record {
+  has_failed : R → Bool;
+  can_fail : R → Bool;
+  tells_coming : R
+      → Bool;
+  coming : R → List ℕ;
+  most : R → Option ℕ;
+} → R → SourceState
 source_of source r =
     record {
       told = source.tells_coming r;
@@ -43,7 +51,8 @@ Fills n count Whole old new = (n ≤ count) × (new.failed ≡ old.failed)
 Fills n count Ended old new = (count < n) × (IsTrue old.told → new.coming ≡ []) × (new.failed ≡ old.failed)
 Fills n count Failed old new = IsTrue new.failed × IsTrue old.can_fail × (count < n)
 
--- How dropping the next n bytes of a reader ended: `rest` was read after them, and no read began when they were dropped.
+-- How dropping the next n bytes of a reader ended: `rest` was read after them, and no read began when they were
+-- dropped.
 abbrev pub DiscardsBy : ℕ → Filling → ℕ → SourceState → SourceState → List ℕ → Type 0
 DiscardsBy n Whole left old new rest =
     (left ≡ 0) × (new.failed ≡ old.failed) × (IsTrue old.told → n ≤ length old.coming)

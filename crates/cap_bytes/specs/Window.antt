@@ -1,13 +1,14 @@
 -- What a window over a reader is at one moment, and what its calls do.
-use Rattle.std.specs.Prelude.{◌≡◌, ◌+◌, ◌^◌, ◌≤◌, ◌<◌, ℕ, List, [], ◌++◌, length, take, drop, Bool, true, false, IsTrue, Option, Some, None, IfSome, IfNone, IsSome, Result, Ok, Err}
+use Rattle.std.specs.Prelude.{◌≡◌, ◌+◌, ◌^◌, ◌≤◌, ◌<◌, ℕ, List, [], ◌++◌, length, take, drop, Bool, true, false, IsTrue}
+use Rattle.std.specs.Prelude.{Option, Some, None, IfSome, IfNone, IsSome, Result, Ok, Err}
 use Rattle.cap_bytes.specs.Reach.{Position}
 use Rattle.cap_bytes.specs.SourceState.{SourceState}
 use Rattle.cap_bytes.specs.declared.faults.Fault.{Fault}
 use Rattle.cap_bytes.specs.declared.faults.Fault.TheVariants.{Refused, Read, Write, Memory}
 
--- A window shows the bytes `shown` of the input, which begin at `offset`. After them come those that
--- the reader still gives, `unread`, if it tells them, at most `most` at a time, if it tells that. `broken` is the offset at which a read failed,
--- once one has. `held` bytes are kept in its buffer, which has room for `room`.
+-- A window shows the bytes `shown` of the input, which begin at `offset`. After them come those that the reader still
+-- gives, `unread`, if it tells them, at most `most` at a time, if it tells that. `broken` is the offset at which a read
+-- failed, once one has. `held` bytes are kept in its buffer, which has room for `room`.
 pub record State : Type 0 where
   pub file : ℕ
   pub offset : ℕ
@@ -137,7 +138,8 @@ pub record DropsAll (n : ℕ) (old new : State) : Type 0 where
 abbrev pub Skips : ℕ → State → Result Bool Fault → State → Type 0
 Skips n old (Ok true) new = Drops n old new
 Skips n old (Ok false) new = DropsAll n old new
-Skips n old (Err (Read file offset)) new = Breaks old file offset new × (new.offset ≤ old.offset + n) × IfNone old.broken (read_to new < old.offset + n)
+Skips n old (Err (Read file offset)) new = Breaks old file offset new × (new.offset ≤ old.offset + n)
+    × IfNone old.broken (read_to new < old.offset + n)
 Skips n old (Err Memory) new = Shows old new × (old.room < 12)
 Skips n old (Err Write) new = ⊥
 Skips n old (Err (Refused refusal)) new = ⊥

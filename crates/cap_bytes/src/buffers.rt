@@ -1,5 +1,6 @@
 //! A buffer that is read into after what it holds.
-ghost use Rattle.std.specs.Prelude.{◌≡◌, ◌||◌, ◌+◌, ◌-◌, ◌≤◌, ◌<◌, [], length, take, is_err, IsTrue, IsErr, IfOk, IfSome, OnOk, OnErr, vec_len, slice_range};
+ghost use Rattle.std.specs.Prelude.{◌≡◌, ◌||◌, ◌+◌, ◌-◌, ◌≤◌, ◌<◌, [], length, take, is_err, IsTrue, IsErr, IfOk};
+ghost use Rattle.std.specs.Prelude.{IfSome, OnOk, OnErr, vec_len, slice_range};
 ghost use Rattle.cap_bytes.specs.SourceState.{source_of, Reads, IsWithin, Fills, Discards};
 
 use crate::devices::{Broken, Source};
@@ -119,7 +120,8 @@ pub fn read_on<R: Source>(
     ensures reads { IfOk result (λ r. Reads (source_of R.Source reader.old) (source_of R.Source reader.new)
         (slice_range buffer.old.items start end) (take r.0 buffer.new.items)) }
     ensures asked { end - start < n → IfOk result (λ r. IsWithin (R.most reader.old) n r.0) }
-    ensures outcome { IfOk result (λ r. Fills n r.0 r.1 (source_of R.Source reader.old) (source_of R.Source reader.new)) }
+    ensures outcome { IfOk result (λ r. Fills n r.0 r.1 (source_of R.Source reader.old)
+        (source_of R.Source reader.new)) }
     ensures full { OnErr result (vec_len buffer.old < n) }
     ensures err { OnErr result ((buffer.new.items ≡ buffer.old.items) × (reader.new ≡ reader.old)) }
 {

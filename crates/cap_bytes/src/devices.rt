@@ -1,5 +1,6 @@
 //! What bytes come from and go to, as far as a contract can speak of it.
-ghost use Rattle.std.specs.Prelude.{◌≡◌, ℕ, List, Option, Bool, ◌||◌, ◌≤◌, ◌<◌, length, is_err, IsTrue, IsErr, IfOk, IfSome, IsOkUnless};
+ghost use Rattle.std.specs.Prelude.{◌≡◌, ℕ, List, Option, Bool, ◌||◌, ◌≤◌, ◌<◌, length, is_err, IsTrue, IsErr, IfOk};
+ghost use Rattle.std.specs.Prelude.{IfSome, IsOkUnless};
 ghost use Rattle.cap_bytes.specs.Device.{Takes, Gives, Puts, WriterKeeps, writer_of};
 
 use crate::faults::Fault;

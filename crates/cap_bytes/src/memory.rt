@@ -1,5 +1,6 @@
 //! Devices over memory, which cut and fail as they are told.
-ghost use Rattle.std.specs.Prelude.{◌≡◌, ◌≤◌, ◌<◌, ◌++◌, [], take, drop, length, true, false, Some, is_some, vec_len, vec_capacity, min, ◌-◌, ◌||◌, IfOk, IsErr, IsTrue, is_err, ◌↔◌};
+ghost use Rattle.std.specs.Prelude.{◌≡◌, ◌≤◌, ◌<◌, ◌++◌, [], take, drop, length, true, false, Some, is_some, vec_len};
+ghost use Rattle.std.specs.Prelude.{vec_capacity, min, ◌-◌, ◌||◌, IfOk, IsErr, IsTrue, is_err, ◌↔◌};
 ghost use Rattle.cap_bytes.specs.Device.{Gives, Takes};
 ghost use Rattle.cap_bytes.specs.Calls.{one_call_less};
 
@@ -62,7 +63,8 @@ impl Source for Pieces {
         ensures count { IfOk result (λ n. n ≤ length buffer.new) }
         ensures few { IfOk result (λ n. n ≤ self.old.piece) }
         ensures most { self.new.piece ≡ self.old.piece }
-        ensures bytes { Takes (drop self.old.at self.old.bytes.items) result (drop self.new.at self.new.bytes.items) buffer.new }
+        ensures bytes { Takes (drop self.old.at self.old.bytes.items) result
+            (drop self.new.at self.new.bytes.items) buffer.new }
         ensures failed { self.new.failed ≡ (self.old.failed || is_err result) }
         ensures can { IsErr result → IsTrue (is_some self.old.failing) }
         ensures cannot { IsTrue (is_some self.new.failing) → IsTrue (is_some self.old.failing) }
@@ -145,7 +147,8 @@ impl Sink for Room {
     ghost held = { λ r. r.bytes.items };
 
     fn give(&mut self, bytes: &[u8]) -> Result<usize, Broken>
-        ensures full { IsErr result ↔ ((0 < length bytes.now) × (vec_capacity self.old.bytes ≡ vec_len self.old.bytes)) }
+        ensures full { IsErr result ↔ ((0 < length bytes.now)
+            × (vec_capacity self.old.bytes ≡ vec_len self.old.bytes)) }
         ensures count { IfOk result (λ n. n ≤ length bytes.now) }
         ensures some { IfOk result (λ n. 0 < length bytes.now → 0 < n) }
         ensures bytes { Gives self.old.bytes.items result self.new.bytes.items bytes.now }

@@ -82,7 +82,8 @@ impl<R: Source> Window<R> {
         self.need_more(n)
     }
 
-    /// Whether the next n bytes are shown already, and no read has failed: `need` answers true then, and changes nothing.
+    /// Whether the next n bytes are shown already, and no read has failed: `need` answers true then, and changes
+    /// nothing.
     #[inline(always)]
     pub fn shows(&self, n: usize) -> bool
         ensures { IsTrue result ↔ ((self.now.broken ≡ None) × (n ≤ length self.now.shown)) }

@@ -1,6 +1,7 @@
 -- Ones' complement sums by their plain sums.
 use Rattle.std.specs.List.{AllByRecursion}
-use Rattle.std.proofs.Common.{◌≡◌, ◌<◌, ◌≤◌, ◌+◌, ◌*◌, ◌/◌, ◌%◌, ℕ, List, [], ◌∷◌, length, drop, get_or, suc, length-drop, subst, sym, refl, arith}
+use Rattle.std.proofs.Common.{◌≡◌, ◌<◌, ◌≤◌, ◌+◌, ◌*◌, ◌/◌, ◌%◌, ℕ, List, [], ◌∷◌, length, drop, get_or, suc}
+use Rattle.std.proofs.Common.{length-drop, subst, sym, refl, arith}
 use Rattle.std.proofs.lemmas.List.{drop-drop}
 use Rattle.cap_bytes.specs.Number.{number}
 use Rattle.cap_bytes.specs.declared.numbers.Order.TheVariants.{Big}
@@ -32,7 +33,8 @@ IsFolded-add sum word w f fits = record {
 }
 
 -- two folds of a sum of at most ten words
-pub IsFolded-folds : (sum : ℕ) → sum ≤ 655350 → IsFolded sum ((sum % 65536 + sum / 65536) % 65536 + (sum % 65536 + sum / 65536) / 65536)
+pub IsFolded-folds : (sum : ℕ) → sum ≤ 655350 → IsFolded sum
+    ((sum % 65536 + sum / 65536) % 65536 + (sum % 65536 + sum / 65536) / 65536)
 IsFolded-folds sum few = record {
   carries = sum / 65536 + (sum % 65536 + sum / 65536) / 65536;
   same = omega arith;
@@ -51,7 +53,8 @@ IsFolded-ones_sum [] fit = record { carries = 0; same = refl; fits = omega arith
 IsFolded-ones_sum (w ∷ ws) fit = IsFolded-add (total ws) (ones_sum ws) w (IsFolded-ones_sum ws fit.1) fit.0
 
 -- the first word of some bytes
-pub total-words : (bytes : List ℕ) → 2 ≤ length bytes → total (words bytes) ≡ number Big 2 bytes + total (words (drop 2 bytes))
+pub total-words : (bytes : List ℕ) → 2 ≤ length bytes
+    → total (words bytes) ≡ number Big 2 bytes + total (words (drop 2 bytes))
 unfolding words number
 total-words bytes long = grind arith
 
@@ -70,14 +73,18 @@ AllByRecursion-bytes [] fit = tt
 AllByRecursion-bytes (b ∷ bytes) fit = (fit 0, AllByRecursion-bytes bytes (λ i. fit (suc i)))
 
 -- two folds of the plain sum give the ones' complement sum, of at most ten words
-pub ones_sum-folds : (bytes : List ℕ) → AllByRecursion (λ b. b < 256) bytes → (sum : ℕ) → sum ≡ total (words bytes) → sum ≤ 655350 → (sum % 65536 + sum / 65536) % 65536 + (sum % 65536 + sum / 65536) / 65536 ≡ ones_sum (words bytes)
+pub ones_sum-folds : (bytes : List ℕ) → AllByRecursion (λ b. b < 256) bytes → (sum : ℕ) → sum ≡ total (words bytes)
+    → sum ≤ 655350 → (sum % 65536 + sum / 65536) % 65536 + (sum % 65536 + sum / 65536) / 65536 ≡ ones_sum (words bytes)
 ones_sum-folds bytes fit sum same few =
     let P : ℕ → Type 0 = λ n. IsFolded n (ones_sum (words bytes)) in
-    IsFolded-unique sum _ _ (IsFolded-folds sum few) (subst P (sym same) (IsFolded-ones_sum (words bytes) (AreWords-words bytes fit)))
+    IsFolded-unique sum _ _ (IsFolded-folds sum few)
+    (subst P (sym same) (IsFolded-ones_sum (words bytes) (AreWords-words bytes fit)))
 
 -- the word at a place, and those after it
-pub total-words-from : (bytes : List ℕ) (i next : ℕ) → next ≡ i + 2 → next ≤ length bytes → total (words (drop i bytes)) ≡ number Big 2 (drop i bytes) + total (words (drop next bytes))
+pub total-words-from : (bytes : List ℕ) (i next : ℕ) → next ≡ i + 2 → next ≤ length bytes
+    → total (words (drop i bytes)) ≡ number Big 2 (drop i bytes) + total (words (drop next bytes))
 total-words-from bytes i next step long =
-    let P : ℕ → Type 0 = λ n. total (words (drop i bytes)) ≡ number Big 2 (drop i bytes) + total (words (drop n bytes)) in
+    let P : ℕ → Type 0 = λ n. total (words (drop i bytes))
+    ≡ number Big 2 (drop i bytes) + total (words (drop n bytes)) in
     let seam = total-words (drop i bytes) (omega (arith, length-drop i bytes)) in
     subst P (sym step) (rw drop-drop at seam)

@@ -9,7 +9,8 @@ pub put-all : (first service time protocol total identification checksum source 
     with_number Big 4 destination 16 (with_number Big 4 source 12 (with_number Big 2 checksum 10
     (with_number Big 2 identification 4 (with_number Big 2 total 2
     (first ∷ service ∷ 0 ∷ 0 ∷ 0 ∷ 0 ∷ 0 ∷ 0 ∷ time ∷ protocol ∷ 0 ∷ 0 ∷ 0 ∷ 0 ∷ 0 ∷ 0 ∷ 0 ∷ 0 ∷ 0 ∷ 0 ∷ [])))))
-    ≡ checked (first ∷ service ∷ (bytes_of Big 2 total ++ (bytes_of Big 2 identification ++ (0 ∷ 0 ∷ time ∷ protocol ∷ []))))
+    ≡ checked (first ∷ service ∷ (bytes_of Big 2 total
+    ++ (bytes_of Big 2 identification ++ (0 ∷ 0 ∷ time ∷ protocol ∷ []))))
     checksum (bytes_of Big 4 source ++ bytes_of Big 4 destination)
 unfolding checked bytes_of with_number
 put-all first service time protocol total identification checksum source destination fits =

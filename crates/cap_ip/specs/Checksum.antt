@@ -32,4 +32,5 @@ SumsToOnes front back = ones_sum (words (checked front (checksum_of (checked fro
 -- this holds of every header of 20 bytes
 abbrev pub ChecksumLaw : Type 0
 ChecksumLaw =
-    (front back : List ℕ) → length front ≡ 10 → length back ≡ 8 → All (λ b. b < 256) front → All (λ b. b < 256) back → SumsToOnes front back
+    (front back : List ℕ) → length front ≡ 10 → length back ≡ 8 → All (λ b. b < 256) front → All (λ b. b < 256) back
+    → SumsToOnes front back

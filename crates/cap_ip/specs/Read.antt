@@ -1,10 +1,12 @@
 -- How an IPv4 header is read from the bytes of a packet.
-use Rattle.std.specs.Prelude.{◌≡◌, ℕ, List, Bool, Option, Some, None, ◌+◌, ◌≤◌, ◌%◌, ◌==◌, ◌||◌, ◌&&◌, length, take, drop, nat_lt, not, IsSome, if◌then◌else◌, ⊤}
+use Rattle.std.specs.Prelude.{◌≡◌, ℕ, List, Bool, Option, Some, None, ◌+◌, ◌≤◌, ◌%◌, ◌==◌, ◌||◌, ◌&&◌, length, take}
+use Rattle.std.specs.Prelude.{drop, nat_lt, not, IsSome, if◌then◌else◌, ⊤}
 use Rattle.cap_ip.specs.declared.headers.Key.{Key}
 use Rattle.cap_ip.specs.declared.headers.Fragment.{Fragment}
 use Rattle.cap_ip.specs.declared.headers.HeaderOr.{HeaderOr}
 use Rattle.cap_ip.specs.declared.headers.HeaderOr.TheVariants as variant
-use Rattle.cap_ip.specs.Fields.{version, header_length, service, total_length, identification, more_fragments, offset, time_to_live, protocol, source, destination, data_length, is_fragment}
+use Rattle.cap_ip.specs.Fields.{version, header_length, service, total_length, identification, more_fragments, offset}
+use Rattle.cap_ip.specs.Fields.{time_to_live, protocol, source, destination, data_length, is_fragment}
 use Rattle.cap_ip.specs.Header.{HeaderFields, IsWellFormed}
 
 -- what reading answers: a header with the captured part of its data, or that it is bad or cut
@@ -22,7 +24,12 @@ seen variant.Cut = Reading.cut
 -- a datagram is named by these four (RFC 791, 3.2)
 unfoldable pub key_of : List ℕ → Key
 key_of bytes =
-    record { source = source bytes; destination = destination bytes; protocol = protocol bytes; identification = identification bytes }
+    record {
+      source = source bytes;
+      destination = destination bytes;
+      protocol = protocol bytes;
+      identification = identification bytes;
+    }
 
 unfoldable pub fragment_of : List ℕ → Option Fragment
 fragment_of bytes =
@@ -32,7 +39,13 @@ fragment_of bytes =
 
 unfoldable pub fields_of : List ℕ → HeaderFields
 fields_of bytes =
-    record { key = key_of bytes; service = service bytes; time_to_live = time_to_live bytes; data_length = data_length bytes; fragment = fragment_of bytes }
+    record {
+      key = key_of bytes;
+      service = service bytes;
+      time_to_live = time_to_live bytes;
+      data_length = data_length bytes;
+      fragment = fragment_of bytes;
+    }
 
 -- the captured part of the data
 unfoldable pub data_of : List ℕ → List ℕ
@@ -44,7 +57,8 @@ ended whole = if whole then Reading.bad else Reading.cut
 
 -- the version isn't 4, or the header is shorter than its least, or longer than header and data
 unfoldable pub is_malformed : List ℕ → Bool
-is_malformed bytes = not (version bytes == 4) || nat_lt (header_length bytes) 20 || nat_lt (total_length bytes) (header_length bytes)
+is_malformed bytes = not (version bytes == 4) || nat_lt (header_length bytes) 20
+    || nat_lt (total_length bytes) (header_length bytes)
 
 -- some of the data isn't captured
 unfoldable pub lacks_data : List ℕ → Bool

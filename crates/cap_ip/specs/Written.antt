@@ -5,8 +5,8 @@ use Rattle.cap_bytes.specs.declared.numbers.Order.TheVariants.{Big}
 use Rattle.cap_ip.specs.Checksum.{checked, checksum_of}
 use Rattle.cap_ip.specs.Header.{HeaderFields}
 
--- What stands in front of its checksum, of a datagram with that many bytes of data: version 4 and five words, type of service,
--- total length, identification, no flags and no offset, time to live, protocol.
+-- What stands in front of its checksum, of a datagram with that many bytes of data: version 4 and five words, type of
+-- service, total length, identification, no flags and no offset, time to live, protocol.
 abbrev pub front_of : HeaderFields → ℕ → List ℕ
 front_of header size =
     0x45 ∷ header.service ∷ (bytes_of Big 2 (20 + size)

@@ -1,6 +1,7 @@
 //! The fields of an IPv4 header, by their places in its first 20 bytes (RFC 791, 3.1).
 ghost use Rattle.std.specs.Prelude.{◌≡◌, ◌+◌, ◌*◌, ◌≤◌, length};
-ghost use Rattle.cap_ip.specs.Fields.{version, header_length, service, total_length, identification, more_fragments, offset, time_to_live, protocol, source, destination, data_length, is_fragment};
+ghost use Rattle.cap_ip.specs.Fields.{version, header_length, service, total_length, identification, more_fragments};
+ghost use Rattle.cap_ip.specs.Fields.{offset, time_to_live, protocol, source, destination, data_length, is_fragment};
 
 use cap_bytes::{Order, u16_at, u32_at};
 

@@ -3,7 +3,8 @@ ghost use Rattle.std.specs.Prelude.{◌≡◌, ◌≤◌, false, length};
 ghost use Rattle.std.specs.Bool.{OnFalse};
 ghost use Rattle.cap_ip.specs.Fields.{header_length, total_length};
 ghost use Rattle.cap_ip.specs.Header.{IsWellFormed};
-ghost use Rattle.cap_ip.specs.Read.{seen, ended, key_of, fragment_of, is_malformed, lacks_data, is_overstated, is_misfit, is_partial, fields_of, data_of, read_of};
+ghost use Rattle.cap_ip.specs.Read.{seen, ended, key_of, fragment_of, is_malformed, lacks_data, is_overstated};
+ghost use Rattle.cap_ip.specs.Read.{is_misfit, is_partial, fields_of, data_of, read_of};
 
 use crate::fields::{
     data_length, destination, header_length, identification, is_fragment, more_fragments, offset,
@@ -66,7 +67,14 @@ impl Model for Header {
 
     ghost invariant = { λ h. IsWellFormed (header_view h) };
 
-    ghost inverse = { λ v. record { key = v.key; service = v.service; time_to_live = v.time_to_live; data_length = v.data_length; fragment = v.fragment } };
+    ghost inverse = { λ v. record {
+      key = v.key;
+      service = v.service;
+      time_to_live = v.time_to_live;
+      data_length =
+          v.data_length;
+      fragment = v.fragment;
+    } };
 }
 
 /// What reading a header answers.

@@ -1,5 +1,6 @@
 -- The groups by steps are the groups by places.
-use Rattle.std.proofs.Common.{◌≡◌, ℕ, ◌+◌, ◌≤◌, ◌<◌, Bool, true, false, List, [], ◌∷◌, ◌++◌, length, refl, sym, ◌∙◌, ap, subst, arith, ◌&&◌, not, Option, Some, None}
+use Rattle.std.proofs.Common.{◌≡◌, ℕ, ◌+◌, ◌≤◌, ◌<◌, Bool, true, false, List, [], ◌∷◌, ◌++◌, length, refl, sym, ◌∙◌, ap}
+use Rattle.std.proofs.Common.{subst, arith, ◌&&◌, not, Option, Some, None}
 use Rattle.std.specs.Prelude.{nat_lt, ◌==◌, if◌then◌else◌}
 use Rattle.std.proofs.lemmas.Bool.Decides.{nat_tests}
 use Rattle.cap_time.specs.declared.stamps.Stamp.{Stamp}
@@ -7,11 +8,20 @@ use Rattle.cap_ip.specs.declared.headers.Key.{Key}
 use Rattle.cap_join.specs.Fragments.{Piece}
 use Rattle.cap_join.specs.ByteMap.{completes}
 use Rattle.cap_join.specs.Frames.{is_before, is_too_old}
-use Rattle.cap_join.specs.History.{Event, arrives, flushes, OpenGroup, State, same_key, key_of, opened, with_piece, live_at, group_at, without, extended, trimmed, pieces_with, opens_with, gives_up_with, state_of, step, joined_pieces}
-use Rattle.cap_join.specs.Places.{Mark, fragment, whole, unless_given, goes_on, group_by, first_at, going_on, lowest, given_up_at, mark_of, marks, one_if, times_given_up, latest_clock, next_place, AreInOrder, Agree}
+use Rattle.cap_join.specs.History.{Event, arrives, flushes, OpenGroup, State, same_key, key_of, opened, with_piece}
+use Rattle.cap_join.specs.History.{live_at, group_at, without, extended, trimmed, pieces_with, opens_with}
+use Rattle.cap_join.specs.History.{gives_up_with, state_of, step, joined_pieces}
+use Rattle.cap_join.specs.Places.{Mark, fragment, whole, unless_given, goes_on, group_by, first_at, going_on, lowest}
+use Rattle.cap_join.specs.Places.{given_up_at, mark_of, marks, one_if, times_given_up, latest_clock, next_place}
+use Rattle.cap_join.specs.Places.{AreInOrder, Agree}
 use Rattle.cap_join.proofs.Entries.{same_key-is, group_at-live}
 use Rattle.cap_join.proofs.Steps.{live_at-extended, group_at-extended}
-use Rattle.cap_join.proofs.OpenGroups.{before_later, same_key-sym, filter-push, filter-commute, live_at-later, group_at-filter-none, group_at-without-same, group_at-without-other, group_at-extended-other, group_at-extended-none, group_at-push-none, group_at-push-other, IsApart, Up, apart-filter, Up-wider, up-filter, apart-extended, up-extended, apart-push, up-push, up-found, group_at-live-old, gone, but_gone, but_none, trimmed-but, given_some}
+use Rattle.cap_join.proofs.OpenGroups.{before_later, same_key-sym, filter-push, filter-commute, live_at-later}
+use Rattle.cap_join.proofs.OpenGroups.{group_at-filter-none, group_at-without-same, group_at-without-other}
+use Rattle.cap_join.proofs.OpenGroups.{group_at-extended-other, group_at-extended-none, group_at-push-none}
+use Rattle.cap_join.proofs.OpenGroups.{group_at-push-other, IsApart, Up, apart-filter, Up-wider, up-filter}
+use Rattle.cap_join.proofs.OpenGroups.{apart-extended, up-extended, apart-push, up-push, up-found, group_at-live-old}
+use Rattle.cap_join.proofs.OpenGroups.{gone, but_gone, but_none, trimmed-but, given_some}
 
 -- ---- what goes on
 
@@ -32,11 +42,14 @@ AreBelow n (fragment own g gave ∷ ms) = (own < n) × AreBelow n ms
 AreBelow-wider : (n m : ℕ) (ms : List Mark) → n ≤ m → AreBelow n ms → AreBelow m ms
 AreBelow-wider n m [] le h = tt
 AreBelow-wider n m (whole k ∷ ms) le h = AreBelow-wider n m ms le h
-AreBelow-wider n m (fragment own g gave ∷ ms) le h = let a : own < n = h.0 in (omega arith, AreBelow-wider n m ms le h.1)
+AreBelow-wider n m (fragment own g gave ∷ ms) le h = let a : own < n = h.0 in
+    (omega arith, AreBelow-wider n m ms le h.1)
 
 -- what one more mark makes of the groups that go on, by what it makes of each key's
-module _ (change : List OpenGroup → List OpenGroup) (none : change [] ≡ []) (each : (a b : List OpenGroup) → change (a ++ b) ≡ change a ++ change b) (new old : List Mark) (n : ℕ)
-    (one : (own : ℕ) (key : Key) → own < n → first_at own (goes_on key new) ≡ change (first_at own (goes_on key old))) where
+module _ (change : List OpenGroup → List OpenGroup) (none : change [] ≡ []) (each : (a b : List OpenGroup)
+    → change (a ++ b) ≡ change a ++ change b) (new old : List Mark) (n : ℕ)
+    (one : (own : ℕ) (key : Key) → own < n → first_at own (goes_on key new)
+    ≡ change (first_at own (goes_on key old))) where
   pub going_on-change : (ms : List Mark) → AreBelow n ms → going_on new ms ≡ change (going_on old ms)
   going_on-change [] h = sym none
   going_on-change (whole k ∷ ms) h = going_on-change ms h
@@ -44,46 +57,59 @@ module _ (change : List OpenGroup → List OpenGroup) (none : change [] ≡ []) 
 
 -- ---- what a mark makes of a key's group
 
-one_flush : (own : ℕ) (key k : Key) (o : Option OpenGroup) → ((g : OpenGroup) → o ≡ Some g → key ≡ g.key) → first_at own (if same_key key k then None else o) ≡ without k (first_at own o)
+one_flush : (own : ℕ) (key k : Key) (o : Option OpenGroup) → ((g : OpenGroup) → o ≡ Some g → key ≡ g.key)
+    → first_at own (if same_key key k then None else o) ≡ without k (first_at own o)
 one_flush own key k o keyed = grind arith
 
 -- a fragment that joins the group o
-module _ (p : Piece) (o : OpenGroup) (ms : List Mark) (mine : o.key ≡ key_of p) (on : goes_on (key_of p) ms ≡ Some o) (n : ℕ) where
+module _ (p : Piece) (o : OpenGroup) (ms : List Mark) (mine : o.key ≡ key_of p) (on : goes_on (key_of p) ms ≡ Some o)
+    (n : ℕ) where
   here : (key : Key) → same_key key o.key ≡ true → goes_on key ms ≡ Some o
   here key e = ap (λ (k : Key). goes_on k ms) (same_key-is key o.key e ∙ mine) ∙ on
 
   self : same_key (key_of p) o.key ≡ true
   self = grind arith
 
-  one_more : completes (p ∷ o.pieces) ≡ false → (own : ℕ) (key : Key) → own < n → first_at own (goes_on key (fragment n (with_piece p o) None ∷ ms)) ≡ extended p (first_at own (goes_on key ms))
+  one_more : completes (p ∷ o.pieces) ≡ false → (own : ℕ) (key : Key) → own < n
+      → first_at own (goes_on key (fragment n (with_piece p o) None ∷ ms)) ≡ extended p (first_at own (goes_on key ms))
   one_more done own key lt = joined (goes_on key ms) (goes_on-key key ms) (here key)
     where
-      joined : (x : Option OpenGroup) → ((g : OpenGroup) → x ≡ Some g → key ≡ g.key) → (same_key key o.key ≡ true → x ≡ Some o)
-          → first_at own (if same_key key o.key then (if completes (p ∷ o.pieces) then None else Some (with_piece p o)) else unless_given None x) ≡ extended p (first_at own x)
+      joined : (x : Option OpenGroup) → ((g : OpenGroup) → x ≡ Some g → key ≡ g.key)
+          → (same_key key o.key ≡ true → x ≡ Some o)
+          → first_at own (if same_key key o.key then (if completes (p ∷ o.pieces) then None else Some (with_piece p o))
+          else unless_given None x) ≡ extended p (first_at own x)
       joined x keyed found = grind arith
 
-  one_done : completes (p ∷ o.pieces) ≡ true → (own : ℕ) (key : Key) → own < n → first_at own (goes_on key (fragment n (with_piece p o) None ∷ ms)) ≡ without (key_of p) (first_at own (goes_on key ms))
+  one_done : completes (p ∷ o.pieces) ≡ true → (own : ℕ) (key : Key) → own < n
+      → first_at own (goes_on key (fragment n (with_piece p o) None ∷ ms))
+      ≡ without (key_of p) (first_at own (goes_on key ms))
   one_done done own key lt = joined (goes_on key ms) (goes_on-key key ms) (here key)
     where
-      joined : (x : Option OpenGroup) → ((g : OpenGroup) → x ≡ Some g → key ≡ g.key) → (same_key key o.key ≡ true → x ≡ Some o)
-          → first_at own (if same_key key o.key then (if completes (p ∷ o.pieces) then None else Some (with_piece p o)) else unless_given None x) ≡ without (key_of p) (first_at own x)
+      joined : (x : Option OpenGroup) → ((g : OpenGroup) → x ≡ Some g → key ≡ g.key)
+          → (same_key key o.key ≡ true → x ≡ Some o)
+          → first_at own (if same_key key o.key then (if completes (p ∷ o.pieces) then None else Some (with_piece p o))
+          else unless_given None x) ≡ without (key_of p) (first_at own x)
       joined x keyed found = grind arith
 
 but_push : (gave : Option ℕ) (xs ys : List OpenGroup) → but_gone gave (xs ++ ys) ≡ but_gone gave xs ++ but_gone gave ys
 but_push gave xs ys = filter-push (λ o. not (gone gave o.place)) xs ys
 
 -- a fragment that opens a group
-one_opened : (clock : Option Stamp) (p : Piece) (gave : Option ℕ) (ms : List Mark) → completes (p ∷ []) ≡ false → (own : ℕ) (key : Key) → own < p.stamped.place
-    → first_at own (goes_on key (fragment p.stamped.place (opened clock p) gave ∷ ms)) ≡ but_gone gave (without (key_of p) (first_at own (goes_on key ms)))
+one_opened : (clock : Option Stamp) (p : Piece) (gave : Option ℕ) (ms : List Mark) → completes (p ∷ []) ≡ false
+    → (own : ℕ) (key : Key) → own < p.stamped.place
+    → first_at own (goes_on key (fragment p.stamped.place (opened clock p) gave ∷ ms))
+    ≡ but_gone gave (without (key_of p) (first_at own (goes_on key ms)))
 one_opened clock p gave ms done own key lt = new (goes_on key ms) (goes_on-key key ms)
   where
     new : (x : Option OpenGroup) → ((g : OpenGroup) → x ≡ Some g → key ≡ g.key)
-        → first_at own (if same_key key (key_of p) then (if completes (p ∷ []) then None else Some (opened clock p)) else unless_given gave x) ≡ but_gone gave (without (key_of p) (first_at own x))
+        → first_at own (if same_key key (key_of p) then (if completes (p ∷ []) then None else Some (opened clock p))
+        else unless_given gave x) ≡ but_gone gave (without (key_of p) (first_at own x))
     new None keyed = grind arith
     new (Some g) keyed = grind (arith, nat_tests, same_key-sym)
 
 -- a group that was given up isn't found
-but_found : (key : Key) (gave : Option ℕ) (os : List OpenGroup) → IsApart os → group_at key (but_gone gave os) ≡ unless_given gave (group_at key os)
+but_found : (key : Key) (gave : Option ℕ) (os : List OpenGroup) → IsApart os
+    → group_at key (but_gone gave os) ≡ unless_given gave (group_at key os)
 but_found key (Some place) (o ∷ os) a = grind (arith, but_found key (Some place) os a.1)
 but_found key gave os a = grind (arith, but_none)
 
@@ -97,20 +123,22 @@ append_none (o ∷ os) = ap (λ (l : List OpenGroup). o ∷ l) (append_none os)
 
 pub extended_push : (p : Piece) (xs ys : List OpenGroup) → extended p (xs ++ ys) ≡ extended p xs ++ extended p ys
 extended_push p [] ys = refl
-extended_push p (o ∷ xs) ys = ap (λ (l : List OpenGroup). (if same_key (key_of p) o.key then with_piece p o else o) ∷ l) (extended_push p xs ys)
+extended_push p (o ∷ xs) ys = ap (λ (l : List OpenGroup). (if same_key (key_of p) o.key then with_piece p o else o) ∷ l)
+    (extended_push p xs ys)
 
 -- ---- the induction
 
 abbrev pub as_number : Bool → ℕ
 as_number b = if b then 1 else 0
 
--- What holds of the open groups after some events, and of what is known by places: what is found at a clock from the latest one on is
--- what goes on and isn't too old.
+-- What holds of the open groups after some events, and of what is known by places: what is found at a clock from the
+-- latest one on is what goes on and isn't too old.
 pub record Holds (s : State) (ms : List Mark) (c : Option Stamp) (n : ℕ) : Type 0 where
   pub apart : IsApart s.opens
   pub up : Up 0 n s.opens
   pub below : AreBelow n ms
-  pub goes : (key : Key) (now : Option Stamp) → is_before now c ≡ false → group_at key (live_at now s.opens) ≡ live_option now (goes_on key ms)
+  pub goes : (key : Key) (now : Option Stamp) → is_before now c ≡ false
+      → group_at key (live_at now s.opens) ≡ live_option now (goes_on key ms)
   pub among : (now : Option Stamp) → is_before now c ≡ false → live_at now s.opens ≡ live_at now (going_on ms ms)
   pub given_up : s.given_up ≡ times_given_up ms
 
@@ -118,7 +146,15 @@ not_before : (c b a : Option Stamp) → is_before b c ≡ false → is_before a 
 not_before c b a h k = grind (arith, before_later a c b)
 
 pub Holds-none : Holds (record { opens = []; given_up = 0 }) [] None 0
-Holds-none = record { apart = tt; up = tt; below = tt; goes = λ key now h. refl; among = λ now h. refl; given_up = refl }
+Holds-none = record {
+  apart = tt;
+  up = tt;
+  below = tt;
+  goes = λ key now h. refl;
+  among =
+      λ now h. refl;
+  given_up = refl;
+}
 
 module _ (s : State) (ms : List Mark) (c : Option Stamp) (n : ℕ) (h : Holds s ms c n) where
   Holds-flush : (k : Key) → Holds (record { opens = without k s.opens; given_up = s.given_up }) (whole k ∷ ms) c n
@@ -129,7 +165,8 @@ module _ (s : State) (ms : List Mark) (c : Option Stamp) (n : ℕ) (h : Holds s 
     goes = λ key now late. ap (group_at key) (commute now s.opens) ∙ found key now late (same_key key k) refl;
     among = λ now late.
         commute now s.opens ∙ ap (without k) (h.among now late) ∙ sym (commute now (going_on ms ms))
-        ∙ ap (live_at now) (sym (going_on-change (without k) refl (filter-push (λ o. not (same_key k o.key))) (whole k ∷ ms) ms n
+        ∙ ap (live_at now) (sym (going_on-change (without k) refl (filter-push (λ o. not (same_key k o.key)))
+        (whole k ∷ ms) ms n
         (λ own key lt. one_flush own key k (goes_on key ms) (goes_on-key key ms)) ms h.below));
     given_up = h.given_up;
   }
@@ -138,7 +175,8 @@ module _ (s : State) (ms : List Mark) (c : Option Stamp) (n : ℕ) (h : Holds s 
       commute now os = filter-commute (λ o. not (is_too_old o.clock now)) (λ o. not (same_key k o.key)) os
 
       found : (key : Key) (now : Option Stamp) → is_before now c ≡ false → (b : Bool) → same_key key k ≡ b
-          → group_at key (without k (live_at now s.opens)) ≡ live_option now (if same_key key k then None else goes_on key ms)
+          → group_at key (without k (live_at now s.opens))
+          ≡ live_option now (if same_key key k then None else goes_on key ms)
       found key now late b e = grind (arith, group_at-without-same, group_at-without-other)
 
   -- a fragment at a clock that isn't below the latest
@@ -146,7 +184,8 @@ module _ (s : State) (ms : List Mark) (c : Option Stamp) (n : ℕ) (h : Holds s 
     after : (now : Option Stamp) → is_before now clock ≡ false → is_before now c ≡ false
     after now late = not_before c clock now later late
 
-    live_now : (now : Option Stamp) → is_before now clock ≡ false → live_at now (live_at clock s.opens) ≡ live_at now s.opens
+    live_now : (now : Option Stamp) → is_before now clock ≡ false
+        → live_at now (live_at clock s.opens) ≡ live_at now s.opens
     live_now now late = live_at-later clock now late s.opens
 
     apart0 : IsApart (live_at clock s.opens)
@@ -157,19 +196,27 @@ module _ (s : State) (ms : List Mark) (c : Option Stamp) (n : ℕ) (h : Holds s 
 
     -- it opens a group, and one may be given up for it
     Holds-opened : (gave : Option ℕ) → completes (p ∷ []) ≡ false → group_at (key_of p) (live_at clock s.opens) ≡ None
-        → Holds (record { opens = but_gone gave (live_at clock s.opens) ++ opened clock p ∷ []; given_up = s.given_up + one_if gave })
+        → Holds (record {
+          opens = but_gone gave (live_at clock s.opens) ++ opened clock p ∷ [];
+          given_up = s.given_up + one_if gave;
+        })
         (fragment p.stamped.place (opened clock p) gave ∷ ms) clock (p.stamped.place + 1)
     Holds-opened gave alone none = record {
-      apart = apart-push (opened clock p) (but_gone gave (live_at clock s.opens)) absent (apart-filter (λ o. not (gone gave o.place)) (live_at clock s.opens) apart0);
-      up = up-push 0 n (opened clock p) (but_gone gave (live_at clock s.opens)) (omega arith) place (up-filter (λ o. not (gone gave o.place)) 0 n (live_at clock s.opens) up0);
+      apart = apart-push (opened clock p) (but_gone gave (live_at clock s.opens)) absent
+          (apart-filter (λ o. not (gone gave o.place)) (live_at clock s.opens) apart0);
+      up = up-push 0 n (opened clock p) (but_gone gave (live_at clock s.opens)) (omega arith) place
+          (up-filter (λ o. not (gone gave o.place)) 0 n (live_at clock s.opens) up0);
       below = (omega arith, AreBelow-wider n (p.stamped.place + 1) ms (omega arith) h.below);
       goes = λ key now late.
-          ap (group_at key) (filter-push (λ o. not (is_too_old o.clock now)) (but_gone gave (live_at clock s.opens)) (opened clock p ∷ []) ∙ ap (λ (l : List OpenGroup). l ++ live_at now (opened clock p ∷ [])) (staying now late))
+          ap (group_at key) (filter-push (λ o. not (is_too_old o.clock now)) (but_gone gave (live_at clock s.opens))
+          (opened clock p ∷ []) ∙ ap (λ (l : List OpenGroup). l ++ live_at now (opened clock p ∷ []))
+          (staying now late))
           ∙ found key now late (same_key key (key_of p)) refl (is_too_old clock now) refl;
       among = λ now late.
           filter-push (λ o. not (is_too_old o.clock now)) (but_gone gave (live_at clock s.opens)) (opened clock p ∷ [])
           ∙ ap (λ (l : List OpenGroup). l ++ live_at now (opened clock p ∷ [])) (rest_among now late)
-          ∙ sym (filter-push (λ o. not (is_too_old o.clock now)) (but_gone gave (without (key_of p) (going_on ms ms))) (opened clock p ∷ []))
+          ∙ sym (filter-push (λ o. not (is_too_old o.clock now)) (but_gone gave (without (key_of p) (going_on ms ms)))
+          (opened clock p ∷ []))
           ∙ sym (ap (live_at now) (λ i. changed i ++ newest i));
       given_up = ap (λ (x : ℕ). x + one_if gave) h.given_up;
     }
@@ -178,42 +225,69 @@ module _ (s : State) (ms : List Mark) (c : Option Stamp) (n : ℕ) (h : Holds s 
         absent = group_at-filter-none (key_of p) (λ o. not (gone gave o.place)) (live_at clock s.opens) none
 
         -- what stays of the groups before
-        staying : (now : Option Stamp) → is_before now clock ≡ false → live_at now (but_gone gave (live_at clock s.opens)) ≡ but_gone gave (live_at now s.opens)
-        staying now late = filter-commute (λ o. not (is_too_old o.clock now)) (λ o. not (gone gave o.place)) (live_at clock s.opens) ∙ ap (but_gone gave) (live_now now late)
+        staying : (now : Option Stamp) → is_before now clock ≡ false
+            → live_at now (but_gone gave (live_at clock s.opens)) ≡ but_gone gave (live_at now s.opens)
+        staying now late = filter-commute (λ o. not (is_too_old o.clock now)) (λ o. not (gone gave o.place))
+            (live_at clock s.opens) ∙ ap (but_gone gave) (live_now now late)
 
-        absent_now : (now : Option Stamp) → is_before now clock ≡ false → group_at (key_of p) (but_gone gave (live_at now s.opens)) ≡ None
-        absent_now now late = ap (group_at (key_of p)) (sym (staying now late)) ∙ group_at-filter-none (key_of p) (λ o. not (is_too_old o.clock now)) (but_gone gave (live_at clock s.opens)) absent
+        absent_now : (now : Option Stamp) → is_before now clock ≡ false
+            → group_at (key_of p) (but_gone gave (live_at now s.opens)) ≡ None
+        absent_now now late = ap (group_at (key_of p)) (sym (staying now late))
+            ∙ group_at-filter-none (key_of p) (λ o. not (is_too_old o.clock now))
+            (but_gone gave (live_at clock s.opens)) absent
 
-        found : (key : Key) (now : Option Stamp) → is_before now clock ≡ false → (b : Bool) → same_key key (key_of p) ≡ b → (t : Bool) → is_too_old clock now ≡ t
-            → group_at key (but_gone gave (live_at now s.opens) ++ live_at now (opened clock p ∷ [])) ≡ live_option now (goes_on key (fragment p.stamped.place (opened clock p) gave ∷ ms))
-        found key now late true e t old = grind (arith, but_gone, goes_on, same_key-is, absent_now, append_none, group_at-push-none)
-        found key now late false e t old = grind (arith, append_none, group_at-push-other, but_found, apart-filter (λ o. not (is_too_old o.clock now)) s.opens h.apart, h.goes key now (after now late))
+        found : (key : Key) (now : Option Stamp) → is_before now clock ≡ false → (b : Bool)
+            → same_key key (key_of p) ≡ b → (t : Bool) → is_too_old clock now ≡ t
+            → group_at key (but_gone gave (live_at now s.opens) ++ live_at now (opened clock p ∷ []))
+            ≡ live_option now (goes_on key (fragment p.stamped.place (opened clock p) gave ∷ ms))
+        found key now late true e t old =
+            grind (arith, but_gone, goes_on, same_key-is, absent_now, append_none, group_at-push-none)
+        found key now late false e t old =
+            grind (
+              arith,
+              append_none,
+              group_at-push-other,
+              but_found,
+              apart-filter (λ o. not (is_too_old o.clock now)) s.opens h.apart,
+              h.goes key now (after now late),
+            )
 
         -- by places: the groups before, and this one
-        changed : going_on (fragment p.stamped.place (opened clock p) gave ∷ ms) ms ≡ but_gone gave (without (key_of p) (going_on ms ms))
+        changed : going_on (fragment p.stamped.place (opened clock p) gave ∷ ms) ms
+            ≡ but_gone gave (without (key_of p) (going_on ms ms))
         changed = going_on-change (λ l. but_gone gave (without (key_of p) l)) refl
-            (λ a b. ap (but_gone gave) (filter-push (λ o. not (same_key (key_of p) o.key)) a b) ∙ but_push gave (without (key_of p) a) (without (key_of p) b))
+            (λ a b. ap (but_gone gave) (filter-push (λ o. not (same_key (key_of p) o.key)) a b)
+            ∙ but_push gave (without (key_of p) a) (without (key_of p) b))
             (fragment p.stamped.place (opened clock p) gave ∷ ms) ms n
             (λ own key lt. one_opened clock p gave ms alone own key (omega arith)) ms h.below
 
-        newest : (if p.stamped.place == p.stamped.place then first_at p.stamped.place (goes_on (key_of p) (fragment p.stamped.place (opened clock p) gave ∷ ms)) else []) ≡ opened clock p ∷ []
+        newest : (if p.stamped.place == p.stamped.place then first_at p.stamped.place
+            (goes_on (key_of p) (fragment p.stamped.place (opened clock p) gave ∷ ms)) else []) ≡ opened clock p ∷ []
         newest = grind arith
 
-        rest_among : (now : Option Stamp) → is_before now clock ≡ false → live_at now (but_gone gave (live_at clock s.opens)) ≡ live_at now (but_gone gave (without (key_of p) (going_on ms ms)))
+        rest_among : (now : Option Stamp) → is_before now clock ≡ false
+            → live_at now (but_gone gave (live_at clock s.opens))
+            ≡ live_at now (but_gone gave (without (key_of p) (going_on ms ms)))
         rest_among now late =
             staying now late
-            ∙ ap (but_gone gave) (sym (without_absent (key_of p) (live_at now s.opens) (ap (group_at (key_of p)) (sym (live_now now late)) ∙ group_at-filter-none (key_of p) (λ o. not (is_too_old o.clock now)) (live_at clock s.opens) none))
+            ∙ ap (but_gone gave) (sym (without_absent (key_of p) (live_at now s.opens)
+            (ap (group_at (key_of p)) (sym (live_now now late))
+            ∙ group_at-filter-none (key_of p) (λ o. not (is_too_old o.clock now)) (live_at clock s.opens) none))
             ∙ ap (without (key_of p)) (h.among now (after now late))
-            ∙ filter-commute (λ o. not (same_key (key_of p) o.key)) (λ o. not (is_too_old o.clock now)) (going_on ms ms))
-            ∙ filter-commute (λ o. not (gone gave o.place)) (λ o. not (is_too_old o.clock now)) (without (key_of p) (going_on ms ms))
+            ∙ filter-commute (λ o. not (same_key (key_of p) o.key)) (λ o. not (is_too_old o.clock now))
+            (going_on ms ms))
+            ∙ filter-commute (λ o. not (gone gave o.place)) (λ o. not (is_too_old o.clock now))
+            (without (key_of p) (going_on ms ms))
 
     -- it joins the group o
-    module _ (o : OpenGroup) (on : goes_on (key_of p) ms ≡ Some o) (found : group_at (key_of p) (live_at clock s.opens) ≡ Some o) where
+    module _ (o : OpenGroup) (on : goes_on (key_of p) ms ≡ Some o)
+        (found : group_at (key_of p) (live_at clock s.opens) ≡ Some o) where
       mine : o.key ≡ key_of p
       mine = sym (goes_on-key (key_of p) ms o on)
 
       not_first : (o.place == p.stamped.place) ≡ false
-      not_first = (let low : (0 ≤ o.place) × (o.place < n) = up-found (key_of p) 0 n o (live_at clock s.opens) up0 found in grind (arith, nat_tests))
+      not_first = (let low : (0 ≤ o.place) × (o.place < n) =
+          up-found (key_of p) 0 n o (live_at clock s.opens) up0 found in grind (arith, nat_tests))
 
       below_more : AreBelow (p.stamped.place + 1) (fragment p.stamped.place (with_piece p o) None ∷ ms)
       below_more = (omega arith, AreBelow-wider n (p.stamped.place + 1) ms (omega arith) h.below)
@@ -221,121 +295,171 @@ module _ (s : State) (ms : List Mark) (c : Option Stamp) (n : ℕ) (h : Holds s 
       wider : AreBelow p.stamped.place ms
       wider = AreBelow-wider n p.stamped.place ms place h.below
 
-      no_newest : (l : List OpenGroup) → l ++ (if (with_piece p o).place == p.stamped.place then first_at p.stamped.place (goes_on o.key (fragment p.stamped.place (with_piece p o) None ∷ ms)) else []) ≡ l
-      no_newest l = ap (λ (b : Bool). l ++ (if b then first_at p.stamped.place (goes_on o.key (fragment p.stamped.place (with_piece p o) None ∷ ms)) else [])) not_first ∙ append_none l
+      no_newest : (l : List OpenGroup)
+          → l ++ (if (with_piece p o).place == p.stamped.place then first_at p.stamped.place
+          (goes_on o.key (fragment p.stamped.place (with_piece p o) None ∷ ms)) else []) ≡ l
+      no_newest l = ap (λ (b : Bool). l
+          ++ (if b then first_at p.stamped.place (goes_on o.key (fragment p.stamped.place (with_piece p o) None ∷ ms))
+          else [])) not_first ∙ append_none l
 
       -- and completes it
-      Holds-done : completes (p ∷ o.pieces) ≡ true → Holds (record { opens = without (key_of p) (live_at clock s.opens); given_up = s.given_up + 0 }) (fragment p.stamped.place (with_piece p o) None ∷ ms) clock (p.stamped.place + 1)
+      Holds-done : completes (p ∷ o.pieces) ≡ true → Holds
+          (record { opens = without (key_of p) (live_at clock s.opens); given_up = s.given_up + 0 })
+          (fragment p.stamped.place (with_piece p o) None ∷ ms) clock (p.stamped.place + 1)
       Holds-done done = record {
         apart = apart-filter (λ o. not (same_key (key_of p) o.key)) (live_at clock s.opens) apart0;
-        up = Up-wider 0 n 0 (p.stamped.place + 1) (without (key_of p) (live_at clock s.opens)) (omega arith) (omega arith) (up-filter (λ o. not (same_key (key_of p) o.key)) 0 n (live_at clock s.opens) up0);
+        up = Up-wider 0 n 0 (p.stamped.place + 1) (without (key_of p) (live_at clock s.opens)) (omega arith)
+            (omega arith) (up-filter (λ o. not (same_key (key_of p) o.key)) 0 n (live_at clock s.opens) up0);
         below = below_more;
         goes = λ key now late. ap (group_at key) (commute now late) ∙ by key now late (same_key key o.key) refl;
         among = λ now late.
             commute now late ∙ ap (without (key_of p)) (h.among now (after now late))
             ∙ filter-commute (λ o. not (same_key (key_of p) o.key)) (λ o. not (is_too_old o.clock now)) (going_on ms ms)
             ∙ ap (live_at now) (sym (no_newest (going_on (fragment p.stamped.place (with_piece p o) None ∷ ms) ms)
-            ∙ going_on-change (without (key_of p)) refl (filter-push (λ o. not (same_key (key_of p) o.key))) (fragment p.stamped.place (with_piece p o) None ∷ ms) ms p.stamped.place
+            ∙ going_on-change (without (key_of p)) refl (filter-push (λ o. not (same_key (key_of p) o.key)))
+            (fragment p.stamped.place (with_piece p o) None ∷ ms) ms p.stamped.place
             (one_done p o ms mine on p.stamped.place done) ms wider));
         given_up = ap (λ (x : ℕ). x + 0) h.given_up;
       }
         where
-          commute : (now : Option Stamp) → is_before now clock ≡ false → live_at now (without (key_of p) (live_at clock s.opens)) ≡ without (key_of p) (live_at now s.opens)
-          commute now late = filter-commute (λ o. not (is_too_old o.clock now)) (λ o. not (same_key (key_of p) o.key)) (live_at clock s.opens) ∙ ap (without (key_of p)) (live_now now late)
+          commute : (now : Option Stamp) → is_before now clock ≡ false
+              → live_at now (without (key_of p) (live_at clock s.opens)) ≡ without (key_of p) (live_at now s.opens)
+          commute now late = filter-commute (λ o. not (is_too_old o.clock now)) (λ o. not (same_key (key_of p) o.key))
+              (live_at clock s.opens) ∙ ap (without (key_of p)) (live_now now late)
 
           by : (key : Key) (now : Option Stamp) → is_before now clock ≡ false → (b : Bool) → same_key key o.key ≡ b
-              → group_at key (without (key_of p) (live_at now s.opens)) ≡ live_option now (goes_on key (fragment p.stamped.place (with_piece p o) None ∷ ms))
+              → group_at key (without (key_of p) (live_at now s.opens))
+              ≡ live_option now (goes_on key (fragment p.stamped.place (with_piece p o) None ∷ ms))
           by key now late true e = grind (arith, group_at-without-same, mine)
           by key now late false e = grind (arith, mine, h.goes key now (after now late), group_at-without-other)
 
       -- and doesn't complete it
-      Holds-more : completes (p ∷ o.pieces) ≡ false → Holds (record { opens = extended p (live_at clock s.opens); given_up = s.given_up + 0 }) (fragment p.stamped.place (with_piece p o) None ∷ ms) clock (p.stamped.place + 1)
+      Holds-more : completes (p ∷ o.pieces) ≡ false → Holds
+          (record { opens = extended p (live_at clock s.opens); given_up = s.given_up + 0 })
+          (fragment p.stamped.place (with_piece p o) None ∷ ms) clock (p.stamped.place + 1)
       Holds-more done = record {
         apart = apart-extended p (live_at clock s.opens) apart0;
-        up = Up-wider 0 n 0 (p.stamped.place + 1) (extended p (live_at clock s.opens)) (omega arith) (omega arith) (up-extended p 0 n (live_at clock s.opens) up0);
+        up = Up-wider 0 n 0 (p.stamped.place + 1) (extended p (live_at clock s.opens)) (omega arith) (omega arith)
+            (up-extended p 0 n (live_at clock s.opens) up0);
         below = below_more;
-        goes = λ key now late. ap (group_at key) (live_at-extended now p (live_at clock s.opens)) ∙ by key now late (same_key key o.key) refl;
+        goes = λ key now late. ap (group_at key) (live_at-extended now p (live_at clock s.opens))
+            ∙ by key now late (same_key key o.key) refl;
         among = λ now late.
-            live_at-extended now p (live_at clock s.opens) ∙ ap (extended p) (live_now now late ∙ h.among now (after now late))
+            live_at-extended now p (live_at clock s.opens)
+            ∙ ap (extended p) (live_now now late ∙ h.among now (after now late))
             ∙ sym (live_at-extended now p (going_on ms ms))
             ∙ ap (live_at now) (sym (no_newest (going_on (fragment p.stamped.place (with_piece p o) None ∷ ms) ms)
-            ∙ going_on-change (extended p) refl (extended_push p) (fragment p.stamped.place (with_piece p o) None ∷ ms) ms p.stamped.place
+            ∙ going_on-change (extended p) refl (extended_push p)
+            (fragment p.stamped.place (with_piece p o) None ∷ ms) ms p.stamped.place
             (one_more p o ms mine on p.stamped.place done) ms wider));
         given_up = ap (λ (x : ℕ). x + 0) h.given_up;
       }
         where
           by : (key : Key) (now : Option Stamp) → is_before now clock ≡ false → (b : Bool) → same_key key o.key ≡ b
-              → group_at key (extended p (live_at now (live_at clock s.opens))) ≡ live_option now (goes_on key (fragment p.stamped.place (with_piece p o) None ∷ ms))
+              → group_at key (extended p (live_at now (live_at clock s.opens)))
+              ≡ live_option now (goes_on key (fragment p.stamped.place (with_piece p o) None ∷ ms))
           by key now late true e =
-              ap (λ (k : Key). group_at k (extended p (live_at now (live_at clock s.opens)))) (same_key-is key o.key e ∙ mine)
+              ap (λ (k : Key). group_at k (extended p (live_at now (live_at clock s.opens))))
+              (same_key-is key o.key e ∙ mine)
               ∙ old (is_too_old o.clock now) refl
-              ∙ sym (ap (λ (b : Bool). live_option now (if b then (if completes (p ∷ o.pieces) then None else Some (with_piece p o)) else unless_given None (goes_on key ms))) e
+              ∙ sym (ap (λ (b : Bool). live_option now
+              (if b then (if completes (p ∷ o.pieces) then None else Some (with_piece p o)) else unless_given None
+              (goes_on key ms))) e
               ∙ ap (λ (b : Bool). live_option now (if b then None else Some (with_piece p o))) done)
             where
-              old : (t : Bool) → is_too_old o.clock now ≡ t → group_at (key_of p) (extended p (live_at now (live_at clock s.opens))) ≡ live_option now (Some (with_piece p o))
+              old : (t : Bool) → is_too_old o.clock now ≡ t → group_at (key_of p)
+                  (extended p (live_at now (live_at clock s.opens))) ≡ live_option now (Some (with_piece p o))
               old true t =
-                  group_at-extended-none (key_of p) p (live_at now (live_at clock s.opens)) (group_at-live-old (key_of p) now o (live_at clock s.opens) apart0 found t)
+                  group_at-extended-none (key_of p) p (live_at now (live_at clock s.opens))
+                  (group_at-live-old (key_of p) now o (live_at clock s.opens) apart0 found t)
                   ∙ sym (ap (λ (b : Bool). if b then None else Some (with_piece p o)) t)
               old false t =
-                  group_at-extended p o (live_at now (live_at clock s.opens)) (group_at-live (key_of p) now o (live_at clock s.opens) found (ap not t))
+                  group_at-extended p o (live_at now (live_at clock s.opens))
+                  (group_at-live (key_of p) now o (live_at clock s.opens) found (ap not t))
                   ∙ sym (ap (λ (b : Bool). if b then None else Some (with_piece p o)) t)
-          by key now late false e = grind (arith, mine, h.goes key now (after now late), live_now now late, group_at-extended-other)
+          by key now late false e =
+              grind (arith, mine, h.goes key now (after now late), live_now now late, group_at-extended-other)
 
     itself : (p.stamped.place == p.stamped.place) ≡ true
     itself = grind arith
 
     -- what a fragment makes of the state and of what is known by places: it opens a group
-    arrives_new : (limit : ℕ) → 0 < limit → completes (p ∷ []) ≡ false → group_at (key_of p) (live_at clock s.opens) ≡ None → group_by clock p (goes_on (key_of p) ms) ≡ opened clock p
+    arrives_new : (limit : ℕ) → 0 < limit → completes (p ∷ []) ≡ false
+        → group_at (key_of p) (live_at clock s.opens) ≡ None → group_by clock p (goes_on (key_of p) ms) ≡ opened clock p
         → Holds (record {
           opens = opens_with limit clock p (group_at (key_of p) (live_at clock s.opens)) (live_at clock s.opens);
-          given_up = s.given_up + (if gives_up_with limit p (group_at (key_of p) (live_at clock s.opens)) (live_at clock s.opens) then 1 else 0);
+          given_up = s.given_up + (if gives_up_with limit p (group_at (key_of p) (live_at clock s.opens))
+              (live_at clock s.opens) then 1 else 0);
         }) (mark_of limit clock p ms ∷ ms) clock (p.stamped.place + 1)
     arrives_new limit some alone none group =
-        let gave : Option ℕ = if not (nat_lt (length (live_at clock s.opens)) limit) then lowest (live_at clock s.opens) else None in
-        let opens_is : but_gone gave (live_at clock s.opens) ++ opened clock p ∷ [] ≡ opens_with limit clock p (group_at (key_of p) (live_at clock s.opens)) (live_at clock s.opens) =
+        let gave : Option ℕ = if not (nat_lt (length (live_at clock s.opens)) limit) then lowest
+        (live_at clock s.opens) else None in
+        let opens_is : but_gone gave (live_at clock s.opens) ++ opened clock p ∷ []
+        ≡ opens_with limit clock p (group_at (key_of p) (live_at clock s.opens)) (live_at clock s.opens) =
         sym (ap (λ (x : Option OpenGroup). opens_with limit clock p x (live_at clock s.opens)) none
-        ∙ ap (λ (b : Bool). if b then live_at clock s.opens else trimmed limit (live_at clock s.opens) ++ opened clock p ∷ []) alone
-        ∙ ap (λ (l : List OpenGroup). l ++ opened clock p ∷ []) (trimmed-but limit 0 n (live_at clock s.opens) some up0)) in
-        let count_is : one_if gave ≡ (if gives_up_with limit p (group_at (key_of p) (live_at clock s.opens)) (live_at clock s.opens) then 1 else 0) =
+        ∙ ap (λ (b : Bool). if b then live_at clock s.opens else trimmed limit (live_at clock s.opens)
+        ++ opened clock p ∷ []) alone
+        ∙ ap (λ (l : List OpenGroup). l ++ opened clock p ∷ [])
+        (trimmed-but limit 0 n (live_at clock s.opens) some up0)) in
+        let count_is : one_if gave
+        ≡ (if gives_up_with limit p (group_at (key_of p) (live_at clock s.opens))
+        (live_at clock s.opens) then 1 else 0) =
         sym (ap (λ (x : Option OpenGroup). as_number (gives_up_with limit p x (live_at clock s.opens))) none
         ∙ ap (λ (b : Bool). as_number (not b && not (nat_lt (length (live_at clock s.opens)) limit))) alone
         ∙ given_some limit 0 n (live_at clock s.opens) some up0) in
         let mark_is : fragment p.stamped.place (opened clock p) gave ≡ mark_of limit clock p ms =
-        sym (ap (λ (l : List OpenGroup). fragment p.stamped.place (group_by clock p (goes_on (key_of p) ms)) (given_up_at limit p.stamped.place (group_by clock p (goes_on (key_of p) ms)) l)) (sym (h.among clock later))
-        ∙ ap (λ (g : OpenGroup). fragment p.stamped.place g (given_up_at limit p.stamped.place g (live_at clock s.opens))) group
-        ∙ ap (λ (b : Bool). fragment p.stamped.place (opened clock p) (if b && not (nat_lt (length (live_at clock s.opens)) limit) then lowest (live_at clock s.opens) else None)) itself) in
+        sym (ap (λ (l : List OpenGroup). fragment p.stamped.place (group_by clock p (goes_on (key_of p) ms))
+        (given_up_at limit p.stamped.place (group_by clock p (goes_on (key_of p) ms)) l))
+        (sym (h.among clock later))
+        ∙ ap (λ (g : OpenGroup). fragment p.stamped.place g
+        (given_up_at limit p.stamped.place g (live_at clock s.opens))) group
+        ∙ ap (λ (b : Bool). fragment p.stamped.place (opened clock p)
+        (if b && not (nat_lt (length (live_at clock s.opens)) limit) then lowest
+        (live_at clock s.opens) else None)) itself) in
         subst (λ (m : Mark). Holds (record {
           opens = opens_with limit clock p (group_at (key_of p) (live_at clock s.opens)) (live_at clock s.opens);
-          given_up = s.given_up + (if gives_up_with limit p (group_at (key_of p) (live_at clock s.opens)) (live_at clock s.opens) then 1 else 0);
+          given_up = s.given_up + (if gives_up_with limit p (group_at (key_of p) (live_at clock s.opens))
+              (live_at clock s.opens) then 1 else 0);
         }) (m ∷ ms) clock (p.stamped.place + 1)) mark_is
-        (subst (λ (x : ℕ). Holds (record { opens = opens_with limit clock p (group_at (key_of p) (live_at clock s.opens)) (live_at clock s.opens); given_up = s.given_up + x })
+        (subst (λ (x : ℕ). Holds
+        (record {
+          opens = opens_with limit clock p (group_at (key_of p) (live_at clock s.opens))
+              (live_at clock s.opens);
+          given_up = s.given_up + x;
+        })
         (fragment p.stamped.place (opened clock p) gave ∷ ms) clock (p.stamped.place + 1)) count_is
-        (subst (λ (l : List OpenGroup). Holds (record { opens = l; given_up = s.given_up + one_if gave }) (fragment p.stamped.place (opened clock p) gave ∷ ms) clock (p.stamped.place + 1)) opens_is
+        (subst (λ (l : List OpenGroup). Holds (record { opens = l; given_up = s.given_up + one_if gave })
+        (fragment p.stamped.place (opened clock p) gave ∷ ms) clock (p.stamped.place + 1)) opens_is
         (Holds-opened gave alone none)))
 
     -- or it joins one
-    arrives_more : (limit : ℕ) (o : OpenGroup) → goes_on (key_of p) ms ≡ Some o → group_at (key_of p) (live_at clock s.opens) ≡ Some o → is_too_old o.clock clock ≡ false
+    arrives_more : (limit : ℕ) (o : OpenGroup) → goes_on (key_of p) ms ≡ Some o
+        → group_at (key_of p) (live_at clock s.opens) ≡ Some o → is_too_old o.clock clock ≡ false
         → Holds (record {
           opens = opens_with limit clock p (group_at (key_of p) (live_at clock s.opens)) (live_at clock s.opens);
-          given_up = s.given_up + (if gives_up_with limit p (group_at (key_of p) (live_at clock s.opens)) (live_at clock s.opens) then 1 else 0);
+          given_up = s.given_up + (if gives_up_with limit p (group_at (key_of p) (live_at clock s.opens))
+              (live_at clock s.opens) then 1 else 0);
         }) (mark_of limit clock p ms ∷ ms) clock (p.stamped.place + 1)
     arrives_more limit o on found fresh = grind (arith, goes_on, lowest, not_first, Holds-done, Holds-more)
 
     Holds-arrives : (limit : ℕ) → 0 < limit → completes (p ∷ []) ≡ false
         → Holds (record {
           opens = opens_with limit clock p (group_at (key_of p) (live_at clock s.opens)) (live_at clock s.opens);
-          given_up = s.given_up + (if gives_up_with limit p (group_at (key_of p) (live_at clock s.opens)) (live_at clock s.opens) then 1 else 0);
+          given_up = s.given_up + (if gives_up_with limit p (group_at (key_of p) (live_at clock s.opens))
+              (live_at clock s.opens) then 1 else 0);
         }) (mark_of limit clock p ms ∷ ms) clock (p.stamped.place + 1)
     Holds-arrives limit some alone = grind (arith, arrives_new, arrives_more)
 
 -- after any events in order
-pub holds : (limit : ℕ) (es : List Event) → 0 < limit → AreInOrder es → Holds (state_of limit es) (marks limit es) (latest_clock es) (next_place es)
+pub holds : (limit : ℕ) (es : List Event) → 0 < limit → AreInOrder es
+    → Holds (state_of limit es) (marks limit es) (latest_clock es) (next_place es)
 unfolding state_of step
 holds limit [] some order = Holds-none
 holds limit (arrives clock p ∷ es) some order = search (holds limit es some order.3, Holds-arrives)
 holds limit (flushes key ∷ es) some order = search (holds limit es some order, Holds-flush)
 
-same_pieces : (clock : Option Stamp) (p : Piece) (x : Option OpenGroup) → pieces_with p (live_option clock x) ≡ (group_by clock p x).pieces
+same_pieces : (clock : Option Stamp) (p : Piece) (x : Option OpenGroup)
+    → pieces_with p (live_option clock x) ≡ (group_by clock p x).pieces
 same_pieces clock p x = grind arith
 
 pub agree : (limit : ℕ) (es : List Event) → 0 < limit → AreInOrder es → Agree limit es

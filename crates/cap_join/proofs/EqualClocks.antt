@@ -1,4 +1,5 @@
--- What fragments make of the open groups depends on clocks by the order of times alone: fragments that are equal are alike.
+-- What fragments make of the open groups depends on clocks by the order of times alone: fragments that are equal are
+-- alike.
 use Rattle.std.proofs.Common.{arith, ◌≡◌, List, ◌∷◌}
 use Rattle.std.specs.List.{AllZip}
 use Rattle.cap_join.specs.EqualClocks.{IsSameEvent, EqualClocksLaw}
@@ -25,4 +26,13 @@ same-events (e ∷ es) (f ∷ fs) h = grind (arith, same-events es fs h.1)
 same-events es fs h = grind arith
 
 pub same-groups : EqualClocksLaw
-same-groups limit es fs h = grind (arith, alike-groups IsSame alike limit es fs (same-events es fs h), same-lists, alike-groups, alike, same-events, same-pieces)
+same-groups limit es fs h =
+    grind (
+      arith,
+      alike-groups IsSame alike limit es fs (same-events es fs h),
+      same-lists,
+      alike-groups,
+      alike,
+      same-events,
+      same-pieces,
+    )

@@ -1,5 +1,6 @@
 -- What a group is once one more fragment is put into it, and when it is complete.
-use Rattle.std.proofs.Common.{◌≡◌, ℕ, zero, suc, ◌+◌, ◌*◌, ◌/◌, ◌<◌, ◌≤◌, Bool, true, false, List, [], ◌∷◌, length, take, refl, sym, ◌∙◌, ap, arith, min, not, true≢false, Option, Some, None, length-take}
+use Rattle.std.proofs.Common.{◌≡◌, ℕ, zero, suc, ◌+◌, ◌*◌, ◌/◌, ◌<◌, ◌≤◌, Bool, true, false, List, [], ◌∷◌, length}
+use Rattle.std.proofs.Common.{take, refl, sym, ◌∙◌, ap, arith, min, not, true≢false, Option, Some, None, length-take}
 use Rattle.std.specs.Prelude.{nat_le, ◌==◌, if◌then◌else◌, IfSome, map}
 use Rattle.std.specs.List.{range_with_len}
 use Rattle.std.specs.Option.{option_map_or}
@@ -12,7 +13,8 @@ use Rattle.cap_join.specs.declared.datagrams.Stamped.{Stamped}
 use Rattle.cap_join.specs.declared.datagrams.Datagram.{Datagram}
 use Rattle.cap_join.specs.Holes.{Span, in_hole, IsChain}
 use Rattle.cap_join.specs.Fragments.{Piece, piece_of, end_of, IsShaped, AreShaped}
-use Rattle.cap_join.specs.ByteMap.{is_covered, covers_below, total_of, header_of, byte_at, blocks, completes, data_of, greatest_end}
+use Rattle.cap_join.specs.ByteMap.{is_covered, covers_below, total_of, header_of, byte_at, blocks, completes, data_of}
+use Rattle.cap_join.specs.ByteMap.{greatest_end}
 use Rattle.cap_join.specs.Buffers.{Maps}
 use Rattle.cap_join.specs.Frames.{timed, earlier, later}
 use Rattle.cap_join.specs.Groups.{GroupState, IsGroupOf, IsDatagramOf}
@@ -20,7 +22,8 @@ use Rattle.cap_join.proofs.Chains.{in_hole-below}
 use Rattle.cap_join.proofs.Punching.{IsChain-here}
 
 -- the fragment that a header and its data are
-module _ (header : HeaderFields) (bytes : List ℕ) (stamped : Stamped) (f : Fragment) (is : header.fragment ≡ Some f) where
+module _ (header : HeaderFields) (bytes : List ℕ) (stamped : Stamped) (f : Fragment)
+    (is : header.fragment ≡ Some f) where
   pub piece_of-start : (piece_of header bytes stamped).start ≡ f.start
   unfolding piece_of
   piece_of-start = ap (λ (o : Option Fragment). option_map_or (λ g. g.start) o 0) is
@@ -48,7 +51,8 @@ module _ (header : HeaderFields) (bytes : List ℕ) (stamped : Stamped) (f : Fra
 pub IsGroupOf-more : (s t : GroupState) (p : Piece) (ps : List Piece) → IsGroupOf s ps → Maps t.buffer t.hole (p ∷ ps)
     → t.total ≡ (if p.more then s.total else Some (end_of p)) → t.header ≡ (if p.start == 0 then p.header else s.header)
     → t.frames ≡ s.frames + 1 → t.bytes ≡ s.bytes + p.stamped.original
-    → t.first ≡ earlier s.first (timed p.stamped p.stamped.time) → t.last ≡ later s.last (timed p.stamped p.stamped.time)
+    → t.first ≡ earlier s.first (timed p.stamped p.stamped.time)
+    → t.last ≡ later s.last (timed p.stamped p.stamped.time)
     → IsGroupOf t (p ∷ ps)
 IsGroupOf-more s t p ps g maps total header frames bytes first last = grind arith
 
@@ -64,6 +68,10 @@ Maps-short xs hole ps m = omega (arith, m.length_is, greatest_end-short ps m.sha
 pub total_of-reached : (ps : List Piece) (n : ℕ) → AreShaped ps → total_of ps ≡ Some n → (n ≤ greatest_end ps) × (0 < n)
 total_of-reached [] n shaped h = cc
 total_of-reached (p ∷ ps) n shaped h = grind (arith, total_of-reached ps n shaped.1)
+
+-- it is within the part that is held
+pub total-held : (s : GroupState) (ps : List Piece) (n : ℕ) → IsGroupOf s ps → s.total ≡ Some n → n ≤ length s.buffer
+total-held s ps n g is = omega (arith, g.maps.length_is, (total_of-reached ps n g.maps.shaped (sym g.total ∙ is)).0)
 
 -- blocks that are covered below a number
 pub covers_below-all : (ps : List Piece) (n : ℕ) → ((k : ℕ) → k < n → is_covered ps k ≡ true) → covers_below ps n ≡ true
@@ -86,11 +94,13 @@ module _ (xs : List ℕ) (hole n : ℕ) (ps : List Piece) (m : Maps xs hole ps) 
   covered_below h k p =
       let short : 8 * k < length xs = omega (arith, m.length_is) in
       let low : 8 * k < hole = omega arith in
-      let none : in_hole m.spans (8 * k) ≡ false = in_hole-below xs hole (length xs) hole m.spans (8 * k) (IsChain-here xs 0 (length xs) hole m.spans m.chain) low in
+      let none : in_hole m.spans (8 * k) ≡ false = in_hole-below xs hole (length xs) hole m.spans (8 * k)
+      (IsChain-here xs 0 (length xs) hole m.spans m.chain) low in
       let same : 8 * k / 8 ≡ k = omega arith in
       ap (is_covered ps) (sym same) ∙ flipped (is_covered ps (8 * k / 8)) (sym (m.holes (8 * k) short) ∙ none)
 
-  uncovered_first : (ss : List Span) → m.spans ≡ ss → IsChain xs 0 (length xs) hole ss → hole < n → is_covered ps (hole / 8) ≡ false
+  uncovered_first : (ss : List Span) → m.spans ≡ ss → IsChain xs 0 (length xs) hole ss → hole < n
+      → is_covered ps (hole / 8) ≡ false
   uncovered_first [] e chain h = absurd (omega (arith, chain, greatest_end-short ps m.shaped))
   uncovered_first (s ∷ ss) e chain h = grind arith
 
@@ -110,20 +120,24 @@ unfolding data_of
 data_of-some ps n h = sym (ap (λ (o : Option ℕ). option_map_or (λ n. map (byte_at ps) (range_with_len 0 n)) o []) h)
 
 -- the front of the buffer up to the length is the data
-pub Maps-data : (xs : List ℕ) (hole n : ℕ) (ps : List Piece) → Maps xs hole ps → total_of ps ≡ Some n → completes ps ≡ true → take n xs ≡ data_of ps
+pub Maps-data : (xs : List ℕ) (hole n : ℕ) (ps : List Piece) → Maps xs hole ps → total_of ps ≡ Some n
+    → completes ps ≡ true → take n xs ≡ data_of ps
 Maps-data xs hole n ps m total done =
     let reached : (n ≤ greatest_end ps) × (0 < n) = total_of-reached ps n m.shaped total in
     let all : covers_below ps (blocks n) ≡ true = completes-some ps n total ∙ done in
-    let size : length (take n xs) ≡ n = length-take n xs ∙ shorter n (length xs) (omega (arith, m.length_is, reached.0)) in
+    let size : length (take n xs) ≡ n = length-take n xs
+    ∙ shorter n (length xs) (omega (arith, m.length_is, reached.0)) in
     fill_by_all (byte_at ps) (take n xs) n 0 size
-    (λ k h. get_or-take n xs k 0 h ∙ m.filled k (omega (arith, m.length_is, reached.0)) (covers_below-each ps (blocks n) (k / 8) all (omega arith)))
+    (λ k h. get_or-take n xs k 0 h ∙ m.filled k (omega (arith, m.length_is, reached.0))
+    (covers_below-each ps (blocks n) (k / 8) all (omega arith)))
     ∙ data_of-some ps n total
   where
     shorter : (a b : ℕ) → a ≤ b → min a b ≡ a
     shorter a b h = omega arith
 
 -- if the first block is covered, a fragment begins at 0
-pub header_of-covered : (ps : List Piece) (d : HeaderFields) → is_covered ps 0 ≡ true → IfSome (header_of ps) (λ h. d ≡ h) → header_of ps ≡ Some d
+pub header_of-covered : (ps : List Piece) (d : HeaderFields) → is_covered ps 0 ≡ true
+    → IfSome (header_of ps) (λ h. d ≡ h) → header_of ps ≡ Some d
 header_of-covered [] d h e = absurd (true≢false (sym h))
 header_of-covered (p ∷ ps) d h e = grind (arith, header_of-covered ps d)
 
@@ -138,7 +152,8 @@ IsDatagramOf-group s d ps g done header payload frames bytes first last = by (to
         let reached : (n ≤ greatest_end ps) × (0 < n) = total_of-reached ps n g.maps.shaped is in
         let all : covers_below ps (blocks n) ≡ true = completes-some ps n is ∙ done in
         record {
-          header = header_of-covered ps s.header (covers_below-each ps (blocks n) 0 all (omega (arith, reached.1))) g.header ∙ ap Some (sym header);
+          header = header_of-covered ps s.header (covers_below-each ps (blocks n) 0 all (omega (arith, reached.1)))
+              g.header ∙ ap Some (sym header);
           payload = payload n (g.total ∙ is) ∙ Maps-data s.buffer s.hole n ps g.maps is done;
           frames = frames ∙ g.frames;
           bytes = bytes ∙ g.bytes;
@@ -148,8 +163,10 @@ IsDatagramOf-group s d ps g done header payload frames bytes first last = by (to
 
 pub IsGroupOf-put : (s t : GroupState) (header : HeaderFields) (bytes : List ℕ) (stamped : Stamped) (f : Fragment)
     → header.fragment ≡ Some f → IsPiece (length bytes) f
-    → ((p : Piece) (ps : List Piece) → p.start ≡ f.start → p.bytes ≡ bytes → IsShaped p → Maps s.buffer s.hole ps → Maps t.buffer t.hole (p ∷ ps))
-    → t.total ≡ (if f.more then s.total else Some (f.start + f.length)) → t.header ≡ (if f.start == 0 then header else s.header)
+    → ((p : Piece) (ps : List Piece) → p.start ≡ f.start → p.bytes ≡ bytes → IsShaped p → Maps s.buffer s.hole ps
+    → Maps t.buffer t.hole (p ∷ ps))
+    → t.total ≡ (if f.more then s.total else Some (f.start + f.length))
+    → t.header ≡ (if f.start == 0 then header else s.header)
     → t.frames ≡ s.frames + 1 → t.bytes ≡ s.bytes + stamped.original
     → t.first ≡ earlier s.first (timed stamped stamped.time) → t.last ≡ later s.last (timed stamped stamped.time)
     → (ps : List Piece) → IsGroupOf s ps → IsGroupOf t (piece_of header bytes stamped ∷ ps)

@@ -4,12 +4,14 @@ pub mod Chains
 pub mod Punching
 pub mod Reading
 pub mod Growing
+pub mod Sparing
 pub mod Mapping
 pub mod Cursors
 pub mod Grouping
 pub mod Entries
 pub mod Aging
 pub mod Tabling
+pub mod Queueing
 pub mod Steps
 pub mod Putting
 pub mod Most

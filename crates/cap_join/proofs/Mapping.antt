@@ -1,7 +1,8 @@
 -- What a buffer holds once one more fragment is put into it.
 use Rattle.std.proofs.lemmas.Bool.Decides.{nat_tests}
 use Rattle.std.proofs.lemmas.Grind.{common_steps}
-use Rattle.std.proofs.Common.{◌≡◌, ℕ, ◌-◌, ◌*◌, ◌/◌, ◌<◌, ◌≤◌, Bool, true, false, List, [], ◌∷◌, length, refl, arith, max, ◌||◌, not}
+use Rattle.std.proofs.Common.{◌≡◌, ℕ, ◌-◌, ◌*◌, ◌/◌, ◌<◌, ◌≤◌, Bool, true, false, List, [], ◌∷◌, length, refl, arith}
+use Rattle.std.proofs.Common.{max, ◌||◌, not}
 use Rattle.std.specs.Prelude.{slice_index}
 use Rattle.std.proofs.lemmas.Bool.{cases_lt}
 use Rattle.cap_join.specs.Holes.{Span, is_within, in_hole, ChangesWithin, Punched}
@@ -19,7 +20,8 @@ uncovered_beyond (p ∷ ps) k h = grind (arith, uncovered_beyond ps k (omega ari
 -- a byte of a block that none covers is 0
 pub byte_at-uncovered : (ps : List Piece) (i : ℕ) → AreShaped ps → is_covered ps (i / 8) ≡ false → byte_at ps i ≡ 0
 byte_at-uncovered [] i shaped h = refl
-byte_at-uncovered (p ∷ ps) i shaped h = grind (arith, byte_at-uncovered ps i shaped.1 (or_false_right (holds p (8 * (i / 8))) (is_covered ps (i / 8)) h))
+byte_at-uncovered (p ∷ ps) i shaped h =
+    grind (arith, byte_at-uncovered ps i shaped.1 (or_false_right (holds p (8 * (i / 8))) (is_covered ps (i / 8)) h))
 
 or_first : (x y : Bool) → (x || y) ≡ true → y ≡ false → x ≡ true
 or_first x y h k = grind arith
@@ -28,7 +30,8 @@ sized : (n g e end l : ℕ) → n ≡ rounded g → end ≡ rounded e → l ≡ 
 sized n g e end l p q r = grind arith
 
 -- a hole that is left lies outside of what is copied
-pub outside_after : (a e b : ℕ) (old mid new : List ℕ) (ss : List Span) (first : ℕ) → e ≤ b → (u : Punched a b old ss 0 (length old) first mid) → ChangesWithin a e mid new
+pub outside_after : (a e b : ℕ) (old mid new : List ℕ) (ss : List Span) (first : ℕ) → e ≤ b
+    → (u : Punched a b old ss 0 (length old) first mid) → ChangesWithin a e mid new
     → (k : ℕ) → in_hole u.spans k ≡ true → slice_index new k ≡ slice_index mid k
 outside_after a e b old mid new ss first le u w k h = grind arith
 
@@ -55,10 +58,12 @@ module _ (p : Piece) (ps : List Piece) (end hole0 hole1 hole2 : ℕ) (xs0 xs1 xs
   outside_hole = outside_after p.start (end_of p) end xs1 xs2 xs3 g.spans hole2 reach u w
 
   -- a byte that the fragment doesn't hold, in a block that is covered now
-  other_byte : (i : ℕ) → i < length xs1 → (in_gap : Bool) → in_hole g.spans i ≡ in_gap → is_covered (p ∷ ps) (i / 8) ≡ true → slice_index xs2 i ≡ byte_at ps i
+  other_byte : (i : ℕ) → i < length xs1 → (in_gap : Bool) → in_hole g.spans i ≡ in_gap
+      → is_covered (p ∷ ps) (i / 8) ≡ true → slice_index xs2 i ≡ byte_at ps i
   other_byte i h in_gap is cov = grind (arith, grown_holes, covered, or_first, byte_at-uncovered, beyond)
 
-  byte_now : (i : ℕ) → i < length xs1 → (here : Bool) → holds p i ≡ here → is_covered (p ∷ ps) (i / 8) ≡ true → slice_index xs3 i ≡ byte_at (p ∷ ps) i
+  byte_now : (i : ℕ) → i < length xs1 → (here : Bool) → holds p i ≡ here → is_covered (p ∷ ps) (i / 8) ≡ true
+      → slice_index xs3 i ≡ byte_at (p ∷ ps) i
   byte_now i h true is cov = grind (arith, within-below)
   byte_now i h false is cov = grind (arith, unchanged, other_byte)
 

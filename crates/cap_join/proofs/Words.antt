@@ -1,5 +1,6 @@
 -- A number that is written at a place of a buffer.
-use Rattle.std.proofs.Common.{◌≡◌, ◌∙◌, ◌+◌, ◌≤◌, ◌<◌, ◌^◌, ℕ, List, ◌++◌, length, take, drop, ap, arith, append_assoc, length-drop, length-take-le, length-append}
+use Rattle.std.proofs.Common.{◌≡◌, ◌∙◌, ◌+◌, ◌≤◌, ◌<◌, ◌^◌, ℕ, List, ◌++◌, length, take, drop, ap, arith, append_assoc}
+use Rattle.std.proofs.Common.{length-drop, length-take-le, length-append}
 use Rattle.std.proofs.lemmas.List.{drop_at, get_or-append_right, get_or-drop, get_or-take, get_or_append_left}
 use Rattle.cap_bytes.specs.Number.{bytes_of, number, with_number}
 use Rattle.cap_bytes.specs.declared.numbers.Order.TheVariants.{Little}

@@ -4,6 +4,8 @@ use Rattle.std.specs.Ordering.{is_lt, is_gt}
 use Rattle.cap_time.specs.declared.stamps.Stamp.{Stamp}
 use Rattle.cap_time.specs.Stamp.{stamp_cmp, stamp_plus}
 use Rattle.cap_join.specs.Frames.{wait, is_before, is_too_old}
+use Rattle.cap_ip.specs.declared.headers.Key.{Key}
+use Rattle.cap_join.specs.Groups.{GroupState}
 use Rattle.cap_join.specs.Joiners.{Entry}
 
 -- the last time at which a group isn't too old, if its first fragment has a clock
@@ -62,3 +64,15 @@ IsUpTo (Some deadline) (Some latest) = is_gt (stamp_cmp deadline latest) ≡ fal
 abbrev pub AreUpTo : Option Stamp → List Entry → Type 0
 AreUpTo latest [] = Unit {0}
 AreUpTo latest (e ∷ es) = IsUpTo (deadline_of e.1.clock) latest × AreUpTo latest es
+
+-- No group has a clock.
+abbrev pub AreTimeless : List Entry → Type 0
+AreTimeless [] = Unit {0}
+AreTimeless (e ∷ es) = (e.1.clock ≡ None) × AreTimeless es
+
+-- The first group is that of a key, and has no clock.
+pub record IsFirstTimeless (key : Key) (es : List Entry) : Type 0 where
+  pub group : GroupState
+  pub others : List Entry
+  pub first : es ≡ (key, group) ∷ others
+  pub timeless : group.clock ≡ None

@@ -20,7 +20,8 @@ event_of (Some fragment) header captured clock stamped = arrives clock (piece_of
 
 -- the events after a packet of which that was read: one that is bad or cut is none
 abbrev pub events_with : Reading → Option Stamp → Stamped → List Event → List Event
-events_with (found header captured) clock stamped events = event_of header.fragment header captured clock stamped ∷ events
+events_with (found header captured) clock stamped events =
+    event_of header.fragment header captured clock stamped ∷ events
 events_with bad clock stamped events = events
 events_with cut clock stamped events = events
 

@@ -4,8 +4,8 @@ use Rattle.cap_join.specs.Holes.{Span, is_within, in_hole, IsChain}
 use Rattle.cap_join.specs.Fragments.{Piece, AreShaped}
 use Rattle.cap_join.specs.ByteMap.{is_covered, byte_at, greatest_end, rounded}
 
--- A buffer holds some fragments, the latest first: its holes are the blocks that none covers, and each other byte is that of the
--- byte map.
+-- A buffer holds some fragments, the latest first: its holes are the blocks that none covers, and each other byte is
+-- that of the byte map.
 pub record Maps (bytes : List ℕ) (hole : ℕ) (ps : List Piece) : Type 0 where
   pub spans : List Span
   pub chain : IsChain bytes 0 (length bytes) hole spans

@@ -1,4 +1,5 @@
--- Clocks count by the order of times alone: two clocks of one time may differ in form, as 5/10 and 512/1024 of a second do.
+-- Clocks count by the order of times alone: two clocks of one time may differ in form, as 5/10 and 512/1024 of a second
+-- do.
 use Rattle.std.specs.Prelude.{◌≡◌, ℕ, List, Option}
 use Rattle.std.specs.List.{AllZip}
 use Rattle.std.specs.Option.{option_cmp}

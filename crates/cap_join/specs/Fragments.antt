@@ -27,8 +27,8 @@ piece_of header bytes stamped =
 abbrev pub end_of : Piece → ℕ
 end_of p = p.start + length p.bytes
 
--- some data that begins at a whole block of 8 bytes, ends at one if more follow, and lies in the 65,515 bytes that a datagram's
--- data can have
+-- some data that begins at a whole block of 8 bytes, ends at one if more follow, and lies in the 65,515 bytes that a
+-- datagram's data can have
 pub record IsShaped (p : Piece) : Type 0 where
   pub some : 0 < length p.bytes
   pub begins : p.start % 8 ≡ 0

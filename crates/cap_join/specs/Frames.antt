@@ -1,4 +1,5 @@
--- What is told of the frames of a group of fragments, which are listed with the latest first; and when a group is too old.
+-- What is told of the frames of a group of fragments, which are listed with the latest first; and when a group is too
+-- old.
 use Rattle.std.specs.Prelude.{ℕ, List, [], ◌∷◌, Bool, false, Option, None, Some, ◌+◌, if◌then◌else◌}
 use Rattle.std.specs.Option.{option_cmp}
 use Rattle.std.specs.Ordering.{is_lt}
@@ -21,8 +22,8 @@ abbrev pub timed : Stamped → Option Stamp → Option Stamped
 timed frame None = None
 timed frame (Some time) = Some frame
 
--- Of the frame of the least time so far, which has one, and one more after it, the one of the lesser time: of equal times the
--- one that was there, whose place is lower.
+-- Of the frame of the least time so far, which has one, and one more after it, the one of the lesser time: of equal
+-- times the one that was there, whose place is lower.
 abbrev pub earlier : Option Stamped → Option Stamped → Option Stamped
 earlier first None = first
 earlier None (Some frame) = Some frame

@@ -1,5 +1,5 @@
 -- What a group's fields say.
-use Rattle.std.specs.Prelude.{length}
+use Rattle.std.specs.Prelude.{◌≤◌, length, take}
 use Rattle.cap_join.specs.declared.groups.Group.TheInside.{Inside}
 use Rattle.cap_join.specs.Groups.{GroupState, IsSound}
 use Rattle.cap_join.specs.Holes.{HasCursor}
@@ -7,8 +7,9 @@ use Rattle.cap_join.specs.Holes.{HasCursor}
 abbrev pub group_view : Inside → GroupState
 group_view g =
     record {
-      buffer = g.buffer.items;
-      hole = g.holes.first;
+      buffer = take g.part.held g.buffer.items;
+      room = length g.buffer.items;
+      hole = g.part.holes.first;
       total = g.total;
       header = g.header;
       frames = g.frames;
@@ -19,7 +20,9 @@ group_view g =
       place = g.place;
     }
 
--- It is a group of some fragments, and the cursor is one of its holes.
+-- It is a group of some fragments, the part of the buffer that it holds is one, and the cursor is one of its holes.
 pub record IsSoundGroup (g : Inside) : Type 0 where
   pub sound : IsSound (group_view g)
-  pub cursor : HasCursor g.buffer.items (length g.buffer.items) g.holes.first g.holes.cursor
+  pub held : g.part.held ≤ length g.buffer.items
+  pub short : length g.buffer.items ≤ 65520
+  pub cursor : HasCursor (take g.part.held g.buffer.items) g.part.held g.part.holes.first g.part.holes.cursor

@@ -10,10 +10,12 @@ use Rattle.cap_join.specs.ByteMap.{total_of, header_of, data_of}
 use Rattle.cap_join.specs.Buffers.{Maps}
 use Rattle.cap_join.specs.Frames.{original_bytes, first_frame, last_frame}
 
--- The buffer with its holes, where the first of them begins, the datagram's length if it is known, its header, the number of
--- fragments and of their frames' bytes, the first and the last frame, and the clock and the place of the first fragment.
+-- The part of the buffer that is held, with its holes; the whole buffer's length, where the first hole begins, the
+-- datagram's length if it is known, its header, the number of fragments and of their frames' bytes, the first and the
+-- last frame, and the clock and the place of the first fragment.
 pub record GroupState : Type 0 where
   pub buffer : List ℕ
+  pub room : ℕ
   pub hole : ℕ
   pub total : Option ℕ
   pub header : HeaderFields

@@ -1,6 +1,7 @@
--- What a joiner was given, and the groups that are open after it (RFC 791, 3.2). Each list has the latest first, but the open
--- groups, which are listed in the order in which they were opened.
-use Rattle.std.specs.Prelude.{ℕ, List, [], ◌∷◌, ◌++◌, Bool, false, Option, None, Some, ◌+◌, ◌==◌, ◌&&◌, not, length, filter, map, nat_le, nat_lt, if◌then◌else◌}
+-- What a joiner was given, and the groups that are open after it (RFC 791, 3.2). Each list has the latest first, but
+-- the open groups, which are listed in the order in which they were opened.
+use Rattle.std.specs.Prelude.{ℕ, List, [], ◌∷◌, ◌++◌, Bool, false, Option, None, Some, ◌+◌, ◌==◌, ◌&&◌, not, length}
+use Rattle.std.specs.Prelude.{filter, map, nat_le, nat_lt, if◌then◌else◌}
 use Rattle.std.specs.List.{find, list_all}
 use Rattle.cap_time.specs.declared.stamps.Stamp.{Stamp}
 use Rattle.cap_ip.specs.declared.headers.Key.{Key}
@@ -16,7 +17,8 @@ pub data Event : Type 0 where
 -- two keys name the same datagram
 abbrev pub same_key : Key → Key → Bool
 same_key a b =
-    (a.source == b.source) && ((a.destination == b.destination) && ((a.protocol == b.protocol) && (a.identification == b.identification)))
+    (a.source == b.source) && ((a.destination == b.destination)
+    && ((a.protocol == b.protocol) && (a.identification == b.identification)))
 
 -- the key of a fragment
 abbrev pub key_of : Piece → Key
@@ -66,7 +68,8 @@ abbrev pub pieces_with : Piece → Option OpenGroup → List Piece
 pieces_with p None = p ∷ []
 pieces_with p (Some o) = p ∷ o.pieces
 
--- the groups after a fragment, if the one that it joins is found among those that aren't too old: a group that completes is none
+-- the groups after a fragment, if the one that it joins is found among those that aren't too old: a group that
+-- completes is none
 abbrev pub opens_with : ℕ → Option Stamp → Piece → Option OpenGroup → List OpenGroup → List OpenGroup
 opens_with limit clock p None os = if completes (p ∷ []) then os else trimmed limit os ++ opened clock p ∷ []
 opens_with limit clock p (Some o) os = if completes (p ∷ o.pieces) then without (key_of p) os else extended p os
@@ -90,7 +93,8 @@ unfoldable pub step : ℕ → Event → State → State
 step limit (arrives clock p) s =
     record {
       opens = opens_with limit clock p (group_at (key_of p) (live_at clock s.opens)) (live_at clock s.opens);
-      given_up = s.given_up + (if gives_up_with limit p (group_at (key_of p) (live_at clock s.opens)) (live_at clock s.opens) then 1 else 0);
+      given_up = s.given_up + (if gives_up_with limit p (group_at (key_of p) (live_at clock s.opens))
+          (live_at clock s.opens) then 1 else 0);
     }
 step limit (flushes key) s = record { opens = without key s.opens; given_up = s.given_up }
 

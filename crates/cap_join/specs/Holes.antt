@@ -1,6 +1,8 @@
--- The holes of a group's buffer: the parts that no fragment has filled (RFC 815, 4). A hole is described in its own first 8
--- bytes, by two little-endian numbers of 32 bits: the place after its last byte, and where the next hole begins.
-use Rattle.std.specs.Prelude.{◌≡◌, ℕ, List, [], ◌∷◌, Bool, true, false, ◌+◌, ◌%◌, ◌<◌, ◌≤◌, ◌&&◌, ◌||◌, ◌⊎◌, not, length, drop, nat_le, nat_lt, slice_index, if◌then◌else◌}
+-- The holes of a group's buffer: the parts that no fragment has filled (RFC 815, 4). A hole is described in its own
+-- first 8 bytes, by two little-endian numbers of 32 bits: the place after its last byte, and where the next hole
+-- begins.
+use Rattle.std.specs.Prelude.{◌≡◌, ℕ, List, [], ◌∷◌, Bool, true, false, ◌+◌, ◌%◌, ◌<◌, ◌≤◌, ◌&&◌, ◌||◌, ◌⊎◌, not}
+use Rattle.std.specs.Prelude.{length, drop, nat_le, nat_lt, slice_index, if◌then◌else◌}
 use Rattle.cap_bytes.specs.Number.{number}
 use Rattle.cap_bytes.specs.declared.numbers.Order.TheVariants.{Little}
 
@@ -38,7 +40,8 @@ pub record IsHole (bytes : List ℕ) (low high at : ℕ) (s : Span) : Type 0 whe
 -- The holes from a place on, in rising order and apart, between `low` and `high`.
 abbrev pub IsChain : List ℕ → ℕ → ℕ → ℕ → List Span → Type 0
 IsChain bytes low high at [] = at ≡ no_hole
-IsChain bytes low high at (s ∷ ss) = IsHole bytes low high at s × IsChain bytes s.to high (word_at bytes (s.from + 4)) ss
+IsChain bytes low high at (s ∷ ss) = IsHole bytes low high at s
+    × IsChain bytes s.to high (word_at bytes (s.from + 4)) ss
 
 -- One of some holes begins at a place and lies below another whole.
 abbrev pub Begins : ℕ → ℕ → List Span → Type 0
@@ -52,7 +55,8 @@ pub record HasHoles (bytes : List ℕ) (high at : ℕ) : Type 0 where
 
 -- A cursor is one of the holes, or names none.
 abbrev pub HasCursor : List ℕ → ℕ → ℕ → ℕ → Type 0
-HasCursor bytes high first cursor = (ss : List Span) → IsChain bytes 0 high first ss → cursor < no_hole → Begins high cursor ss
+HasCursor bytes high first cursor = (ss : List Span) → IsChain bytes 0 high first ss → cursor < no_hole
+    → Begins high cursor ss
 
 -- One of the holes begins at a place and lies below another whole.
 pub record IsBefore (bytes : List ℕ) (first below at : ℕ) : Type 0 where
@@ -82,7 +86,8 @@ pub record Punched (a b : ℕ) (old : List ℕ) (ss : List Span) (low high at : 
 -- Some bytes of a range were filled: what is left once the rest is filled is what is left once all is.
 abbrev pub Continues : ℕ → ℕ → List ℕ → ℕ → List ℕ → ℕ → Type 0
 Continues a b old at mid first =
-    (result : ℕ) (new : List ℕ) → ((low : ℕ) (ss : List Span) → IsChain mid low (length mid) first ss → Punched a b mid ss low (length mid) result new)
+    (result : ℕ) (new : List ℕ) → ((low : ℕ) (ss : List Span) → IsChain mid low (length mid) first ss
+    → Punched a b mid ss low (length mid) result new)
     → (low : ℕ) (ss : List Span) → IsChain old low (length old) at ss → Punched a b old ss low (length old) result new
 
 -- Some holes with one more after them, which reaches from `high` up to the end.

@@ -4,7 +4,7 @@ use Rattle.cap_join.specs.Joiners.{JoinerState, IsSoundJoiner}
 use Rattle.cap_join.specs.Tables.{entries_of}
 
 abbrev pub joiner_view : Inside → JoinerState
-joiner_view j = record { groups = entries_of j.table; next = j.next; given_up = j.given_up }
+joiner_view j = record { groups = entries_of j.table; spares = j.spares.lengths; next = j.next; given_up = j.given_up }
 
 abbrev pub IsSoundInside : Inside → Type 0
 IsSoundInside j = IsSoundJoiner (joiner_view j)

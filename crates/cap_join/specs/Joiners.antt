@@ -1,5 +1,5 @@
 -- What a joiner keeps, and what it stands for.
-use Rattle.std.specs.Prelude.{◌≡◌, ℕ, List, [], ◌∷◌, true, false, ◌+◌, ◌<◌, ◌≤◌, ◌^◌, length, max}
+use Rattle.std.specs.Prelude.{◌≡◌, ℕ, List, [], ◌∷◌, true, false, ◌+◌, ◌-◌, ◌<◌, ◌≤◌, ◌^◌, length, max}
 use Rattle.std.specs.List.{IsDistinct}
 use Rattle.std.specs.Map.{keys_of}
 use Rattle.cap_ip.specs.declared.headers.Key.{Key}
@@ -14,10 +14,11 @@ use Rattle.cap_join.specs.History.{Event, OpenGroup, same_key, state_of}
 abbrev pub Entry : Type 0
 Entry = Key × GroupState
 
--- The groups in the order in which they were opened, the lowest place that a fragment may have now, and how many groups were given
--- up.
+-- The groups in the order in which they were opened, the lengths of the spare buffers, the lowest place that a fragment
+-- may have now, and how many groups were given up.
 pub record JoinerState : Type 0 where
   pub groups : List (Key × GroupState)
+  pub spares : List ℕ
   pub next : ℕ
   pub given_up : ℕ
 
@@ -54,7 +55,12 @@ abbrev pub most_bytes : List Entry → ℕ
 most_bytes [] = 0
 most_bytes (e ∷ es) = max (length e.1.buffer) (most_bytes es)
 
--- the same of open groups: the greatest end of a group's fragments, rounded up to whole blocks
+-- the bytes of the groups' buffers after the parts that they hold
+abbrev pub spare_in : List Entry → ℕ
+spare_in [] = 0
+spare_in (e ∷ es) = (e.1.room - length e.1.buffer) + spare_in es
+
+-- the greatest length again, of open groups: the greatest end of a group's fragments, rounded up to whole blocks
 abbrev pub held_of : List OpenGroup → ℕ
 held_of [] = 0
 held_of (o ∷ os) = max (rounded (greatest_end o.pieces)) (held_of os)

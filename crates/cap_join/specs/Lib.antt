@@ -9,6 +9,7 @@ pub mod GroupView
 pub mod History
 pub mod Joiners
 pub mod Ages
+pub mod QueueView
 pub mod TableView
 pub mod Tables
 pub mod JoinerView
@@ -18,3 +19,5 @@ pub mod Arrivals
 pub mod Fitting
 pub mod Completed
 pub mod EqualClocks
+pub mod Spares
+pub mod SparesView

@@ -1,16 +1,18 @@
--- The groups of fragments by places: which fragment goes on from which, and what was given up. It is the definition that one reads
--- aloud; `History.antt` has the form that goes step by step. Lists have the latest first (RFC 791, 3.2).
-use Rattle.std.specs.Prelude.{◌≡◌, ℕ, List, [], ◌∷◌, ◌++◌, false, ◌<◌, Option, None, Some, ◌+◌, ◌≤◌, ◌==◌, ◌&&◌, not, length, nat_le, nat_lt, if◌then◌else◌}
+-- The groups of fragments by places: which fragment goes on from which, and what was given up. It is the definition
+-- that one reads aloud; `History.antt` has the form that goes step by step. Lists have the latest first (RFC 791, 3.2).
+use Rattle.std.specs.Prelude.{◌≡◌, ℕ, List, [], ◌∷◌, ◌++◌, false, ◌<◌, Option, None, Some, ◌+◌, ◌≤◌, ◌==◌, ◌&&◌, not}
+use Rattle.std.specs.Prelude.{length, nat_le, nat_lt, if◌then◌else◌}
 use Rattle.std.specs.List.{find, list_all}
 use Rattle.cap_time.specs.declared.stamps.Stamp.{Stamp}
 use Rattle.cap_ip.specs.declared.headers.Key.{Key}
 use Rattle.cap_join.specs.Fragments.{Piece}
 use Rattle.cap_join.specs.ByteMap.{completes}
 use Rattle.cap_join.specs.Frames.{is_before, is_too_old}
-use Rattle.cap_join.specs.History.{Event, arrives, flushes, OpenGroup, same_key, key_of, opened, with_piece, live_at, state_of, joined_pieces}
+use Rattle.cap_join.specs.History.{Event, arrives, flushes, OpenGroup, same_key, key_of, opened, with_piece, live_at}
+use Rattle.cap_join.specs.History.{state_of, joined_pieces}
 
--- What is known at an event. Of a fragment: its place; its group, which is all fragments up to it with the same first one, that one's
--- clock and place; and the place that names the group which was given up there, if one was.
+-- What is known at an event. Of a fragment: its place; its group, which is all fragments up to it with the same first
+-- one, that one's clock and place; and the place that names the group which was given up there, if one was.
 pub data Mark : Type 0 where
   fragment : ℕ → OpenGroup → Option ℕ → Mark
   whole : Key → Mark
@@ -21,16 +23,17 @@ unless_given None group = group
 unless_given (Some place) None = None
 unless_given (Some place) (Some group) = if group.place == place then None else Some group
 
--- The group that goes on for a key: that of the fragment before with the key, unless it completes there, or a whole datagram of the
--- key came since, or the group was given up since.
+-- The group that goes on for a key: that of the fragment before with the key, unless it completes there, or a whole
+-- datagram of the key came since, or the group was given up since.
 abbrev pub goes_on : Key → List Mark → Option OpenGroup
 goes_on key [] = None
 goes_on key (whole k ∷ ms) = if same_key key k then None else goes_on key ms
 goes_on key (fragment own group gave ∷ ms) =
-    if same_key key group.key then (if completes group.pieces then None else Some group) else unless_given gave (goes_on key ms)
+    if same_key key group.key then (if completes group.pieces then None else Some group) else unless_given gave
+    (goes_on key ms)
 
--- A fragment's group: the one that goes on, unless the clock of its first fragment and 30 seconds are before the fragment's; else the
--- fragment is its own first.
+-- A fragment's group: the one that goes on, unless the clock of its first fragment and 30 seconds are before the
+-- fragment's; else the fragment is its own first.
 abbrev pub group_by : Option Stamp → Piece → Option OpenGroup → OpenGroup
 group_by clock p None = opened clock p
 group_by clock p (Some group) = if is_too_old group.clock clock then opened clock p else with_piece p group
@@ -44,7 +47,8 @@ first_at own (Some group) = if group.place == own then group ∷ [] else []
 abbrev pub going_on : List Mark → List Mark → List OpenGroup
 going_on all [] = []
 going_on all (whole k ∷ ms) = going_on all ms
-going_on all (fragment own group gave ∷ ms) = going_on all ms ++ (if group.place == own then first_at own (goes_on group.key all) else [])
+going_on all (fragment own group gave ∷ ms) = going_on all ms
+    ++ (if group.place == own then first_at own (goes_on group.key all) else [])
 
 -- the groups that are open before a fragment at a clock: those that go on and aren't too old
 abbrev pub open_before : Option Stamp → List Mark → List OpenGroup
@@ -58,14 +62,16 @@ place_in (Some group) = Some group.place
 abbrev pub lowest : List OpenGroup → Option ℕ
 lowest os = place_in (find (λ o. list_all (λ q. nat_le o.place q.place) os) os)
 
--- the place of the group that is given up at a fragment: at one that is its own first, if as many groups are open as may be
+-- the place of the group that is given up at a fragment: at one that is its own first, if as many groups are open as
+-- may be
 abbrev pub given_up_at : ℕ → ℕ → OpenGroup → List OpenGroup → Option ℕ
 given_up_at limit own group os = if (group.place == own) && not (nat_lt (length os) limit) then lowest os else None
 
 -- what is known at a fragment, from what is known before it
 abbrev pub mark_of : ℕ → Option Stamp → Piece → List Mark → Mark
 mark_of limit clock p ms =
-    fragment p.stamped.place (group_by clock p (goes_on (key_of p) ms)) (given_up_at limit p.stamped.place (group_by clock p (goes_on (key_of p) ms)) (open_before clock ms))
+    fragment p.stamped.place (group_by clock p (goes_on (key_of p) ms))
+    (given_up_at limit p.stamped.place (group_by clock p (goes_on (key_of p) ms)) (open_before clock ms))
 
 -- what is known at each of some events
 abbrev pub marks : ℕ → List Event → List Mark
@@ -99,7 +105,8 @@ next_place (flushes key ∷ es) = next_place es
 abbrev pub AreInOrder : List Event → Type 0
 AreInOrder [] = Unit {0}
 AreInOrder (arrives clock p ∷ es) =
-    (is_before clock (latest_clock es) ≡ false) × (next_place es ≤ p.stamped.place) × (completes (p ∷ []) ≡ false) × AreInOrder es
+    (is_before clock (latest_clock es) ≡ false) × (next_place es ≤ p.stamped.place) × (completes (p ∷ []) ≡ false)
+    × AreInOrder es
 AreInOrder (flushes key ∷ es) = AreInOrder es
 
 -- After events in order the step form gives each fragment the group that it has by places, and gives up as many groups.
@@ -107,7 +114,8 @@ pub record Agree (limit : ℕ) (es : List Event) : Type 0 where
   pub groups : (clock : Option Stamp) (p : Piece) → is_before clock (latest_clock es) ≡ false
       → joined_pieces clock p (state_of limit es) ≡ (group_by clock p (goes_on (key_of p) (marks limit es))).pieces
   pub given_up : (state_of limit es).given_up ≡ times_given_up (marks limit es)
-  pub opens : (now : Option Stamp) → is_before now (latest_clock es) ≡ false → live_at now (state_of limit es).opens ≡ open_before now (marks limit es)
+  pub opens : (now : Option Stamp) → is_before now (latest_clock es) ≡ false
+      → live_at now (state_of limit es).opens ≡ open_before now (marks limit es)
 
 abbrev pub PlacesLaw : Type 0
 PlacesLaw = (limit : ℕ) (es : List Event) → 0 < limit → AreInOrder es → Agree limit es

@@ -10,13 +10,25 @@ use Rattle.cap_join.specs.History.{Event, arrives, flushes, state_of, group_of}
 
 -- the key of a datagram from 10.0.0.1 to 10.0.0.2
 abbrev pub key_numbered : ℕ → Key
-key_numbered identification = record { source = 167772161; destination = 167772162; protocol = 17; identification = identification }
+key_numbered identification = record {
+  source = 167772161;
+  destination = 167772162;
+  protocol = 17;
+  identification =
+      identification;
+}
 
 -- a fragment of that key: its identification, place, start, whether more follow, and its data
 abbrev pub piece_at : ℕ → ℕ → ℕ → Bool → List ℕ → Piece
 piece_at identification place start more bytes =
     record {
-      header = record { key = key_numbered identification; service = 0; time_to_live = 64; data_length = length bytes; fragment = Some (record { start = start; length = length bytes; more = more }) };
+      header = record {
+        key = key_numbered identification;
+        service = 0;
+        time_to_live = 64;
+        data_length = length bytes;
+        fragment = Some (record { start = start; length = length bytes; more = more });
+      };
       start = start;
       more = more;
       bytes = bytes;
@@ -36,7 +48,8 @@ overlapped =
 pub record OverlapMap : Type 0 where
   pub whole : completes overlapped ≡ true
   pub bytes : data_of overlapped
-      ≡ 3 ∷ 232 ∷ 7 ∷ 208 ∷ 0 ∷ 32 ∷ 0 ∷ 0 ∷ 160 ∷ 161 ∷ 162 ∷ 163 ∷ 164 ∷ 165 ∷ 166 ∷ 167 ∷ 192 ∷ 193 ∷ 194 ∷ 0 ∷ 0 ∷ 0 ∷ 0 ∷ 0 ∷ 208 ∷ 209 ∷ 210 ∷ 211 ∷ 212 ∷ 213 ∷ 214 ∷ 215 ∷ []
+      ≡ 3 ∷ 232 ∷ 7 ∷ 208 ∷ 0 ∷ 32 ∷ 0 ∷ 0 ∷ 160 ∷ 161 ∷ 162 ∷ 163 ∷ 164 ∷ 165 ∷ 166 ∷ 167 ∷ 192 ∷ 193 ∷ 194 ∷ 0 ∷ 0 ∷ 0
+      ∷ 0 ∷ 0 ∷ 208 ∷ 209 ∷ 210 ∷ 211 ∷ 212 ∷ 213 ∷ 214 ∷ 215 ∷ []
 
 -- a fragment that opens a group, without a clock
 abbrev pub opening : ℕ → Event

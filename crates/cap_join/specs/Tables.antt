@@ -9,7 +9,8 @@ use Rattle.cap_join.specs.Fragments.{Piece}
 use Rattle.cap_join.specs.ByteMap.{completes}
 use Rattle.cap_join.specs.Frames.{is_too_old}
 use Rattle.cap_join.specs.Groups.{GroupState, IsGroupOf}
-use Rattle.cap_join.specs.History.{OpenGroup, same_key, key_of, live_at, group_at, pieces_with, opens_with, gives_up_with}
+use Rattle.cap_join.specs.History.{OpenGroup, same_key, key_of, live_at, group_at, pieces_with, opens_with}
+use Rattle.cap_join.specs.History.{gives_up_with}
 use Rattle.cap_join.specs.Joiners.{Entry, AreEntriesOf, IsAnswer, open_limit}
 
 -- the groups of a table; if none was opened there is none
@@ -41,9 +42,11 @@ pub record PutsAt (key : Key) (p : Piece) (old : List Entry) (complete : Bool) (
   pub frames : after.frames ≡ before.frames + 1
   pub done : (ps : List Piece) → IsGroupOf after ps → complete ≡ completes ps
 
--- What a fragment at a clock makes of the entries that some open groups have: those of the groups after it, the answer, and whether
--- a group was given up.
-pub record Puts (clock : Option Stamp) (p : Piece) (os : List OpenGroup) (answer : Put) (gave_up : Bool) (new : List Entry) : Type 0 where
-  pub groups : AreEntriesOf new (opens_with open_limit clock p (group_at (key_of p) (live_at clock os)) (live_at clock os))
+-- What a fragment at a clock makes of the entries that some open groups have: those of the groups after it, the answer,
+-- and whether a group was given up.
+pub record Puts (clock : Option Stamp) (p : Piece) (os : List OpenGroup) (answer : Put) (gave_up : Bool)
+    (new : List Entry) : Type 0 where
+  pub groups : AreEntriesOf new (opens_with open_limit clock p (group_at (key_of p) (live_at clock os))
+      (live_at clock os))
   pub gives_up : gave_up ≡ gives_up_with open_limit p (group_at (key_of p) (live_at clock os)) (live_at clock os)
   pub answers : IsAnswer answer (pieces_with p (group_at (key_of p) (live_at clock os)))

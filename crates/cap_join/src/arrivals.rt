@@ -28,9 +28,9 @@ pub enum Arrived<'a> {
 }
 
 impl Joiner {
-    /// Takes an IPv4 packet at a clock: its bytes, from the header on, whether it was captured whole, and what is told of
-    /// its frame. Its place is above those of all packets that were taken before. A whole datagram drops the open group of
-    /// its key, whatever its data is; a fragment is put; a bad or a cut packet changes nothing.
+    /// Takes an IPv4 packet at a clock: its bytes, from the header on, whether it was captured whole, and what is told
+    /// of its frame. Its place is above those of all packets that were taken before. A whole datagram drops the open
+    /// group of its key, whatever its data is; a fragment is put; a bad or a cut packet changes nothing.
     ///
     /// `Memory` comes if a growth was refused, and leaves the joiner as it was; no other fault is answered.
     pub fn take<'a>(

@@ -1,5 +1,6 @@
 //! A group of fragments that aren't a whole datagram yet.
-ghost use Rattle.std.specs.Prelude.{◌≡◌, List, [], ◌∷◌, ◌+◌, ◌==◌, ◌≤◌, ◌<◌, ◌<ℤ◌, ◌^◌, pos, true, length, Some, IsSome, IsTrue, IfSome, OnOk, OnErr, if◌then◌else◌};
+ghost use Rattle.std.specs.Prelude.{◌≡◌, List, [], ◌∷◌, ◌+◌, ◌-◌, ◌==◌, ◌≤◌, ◌<◌, ◌<ℤ◌, ◌^◌, pos, true, false, length};
+ghost use Rattle.std.specs.Prelude.{take, Some, None, IsSome, IsTrue, IfSome, OnOk, OnErr, if◌then◌else◌};
 ghost use Rattle.cap_time.specs.Stamp.{seconds_of};
 ghost use Rattle.cap_join.specs.Fitting.{FitsDatagram};
 ghost use Rattle.cap_join.specs.Fragments.{Piece};
@@ -9,7 +10,7 @@ ghost use Rattle.cap_join.specs.Frames.{timed, earlier, later, is_too_old};
 ghost use Rattle.cap_join.specs.Ages.{deadline_of};
 ghost use Rattle.cap_join.specs.Groups.{IsGroupOf, IsDatagramOf};
 
-use crate::buffers::put_data;
+use crate::buffers::{Part, put_data};
 use crate::datagrams::{Datagram, Incoming, Stamped};
 use crate::holes::{HoleList, NO_HOLE};
 use cap_ip::{Fragment, Header};
@@ -20,12 +21,12 @@ use std::marker::Model;
 // How many seconds a group waits for its fragments.
 const WAIT: u32 = 30;
 
-/// The fragments of one datagram, as one buffer. What no fragment has filled is a hole, and is described
-/// in the hole itself.
+/// The fragments of one datagram, in the front of one buffer. What no fragment has filled of that is a hole, and is
+/// described in the hole itself.
 #[derive(Drop)]
 pub(crate) struct Group {
     buffer: Vec<u8>,
-    holes: HoleList,
+    part: Part,
     total: Option<u32>,
     header: Header,
     frames: u64,
@@ -115,19 +116,42 @@ fn header_after(header: Header, start: u32, new: &Header) -> Header
     if start == 0 { *new } else { header }
 }
 
+// A copy of a buffer's front, and the buffer. If there is no memory for the copy, the buffer itself is cut to the
+// front, and an empty one is returned beside it.
+fn payload_of(alloc: Global, buffer: Vec<u8>, total: u32) -> (Vec<u8>, Vec<u8>)
+    requires { total ≤ length buffer.items }
+    ensures payload { result.0.items ≡ take total buffer.items }
+    ensures short { length result.1.items ≤ length buffer.items }
+{
+    let (front, _) = buffer.as_slice().split_at(total as usize);
+    match Vec::from_slice(alloc, front) {
+        Ok(payload) => (payload, buffer),
+        Err(_) => {
+            let mut payload = buffer;
+            payload.truncate(total as usize);
+            (payload, Vec::new(alloc))
+        }
+    }
+}
+
 impl Group {
-    /// A group without a fragment, whose first one comes at a clock and a place, under a header.
-    pub(crate) fn new(alloc: Global, header: &Header, clock: Option<Stamp>, place: u64) -> Group
-        requires { IfSome clock (λ c. seconds_of c <ℤ pos (2 ^ 65)) }
+    /// A group without a fragment, in a buffer of any bytes. Its first fragment has a clock, a place and a header.
+    pub(crate) fn new(buffer: Vec<u8>, header: &Header, clock: Option<Stamp>, place: u64) -> Group
+        requires clock { IfSome clock (λ c. seconds_of c <ℤ pos (2 ^ 65)) }
+        requires short { length buffer.items ≤ 65520 }
         ensures group { IsGroupOf result [] }
+        ensures room { result.room ≡ length buffer.items }
         ensures clock { result.clock ≡ clock }
         ensures place { result.place ≡ place }
     {
         Group {
-            buffer: Vec::new(alloc),
-            holes: HoleList {
-                first: NO_HOLE,
-                cursor: NO_HOLE,
+            buffer,
+            part: Part {
+                held: 0,
+                holes: HoleList {
+                    first: NO_HOLE,
+                    cursor: NO_HOLE,
+                },
             },
             total: None,
             header: *header,
@@ -148,11 +172,12 @@ impl Group {
         ensures frames { OnOk result (self.new.frames ≡ self.old.frames + 1) }
         ensures clock { self.new.clock ≡ self.old.clock }
         ensures place { self.new.place ≡ self.old.place }
+        ensures room { self.old.room ≤ self.new.room }
         ensures err { OnErr result (self.new ≡ self.old) }
     {
         let fragment = incoming.fragment;
         let stamped = incoming.stamped;
-        self.holes = put_data(&mut self.buffer, self.holes, fragment.start, incoming.data)?;
+        self.part = put_data(&mut self.buffer, self.part, fragment.start, incoming.data)?;
         self.total = total_after(self.total, fragment);
         self.header = header_after(self.header, fragment.start, incoming.header);
         self.frames += 1;
@@ -168,7 +193,7 @@ impl Group {
     {
         match self.total {
             None => false,
-            Some(total) => self.holes.first >= total,
+            Some(total) => self.part.holes.first >= total,
         }
     }
 
@@ -194,27 +219,62 @@ impl Group {
 
     /// Whether the first fragment had a clock.
     pub(crate) fn has_clock(&self) -> bool
-        ensures { IsTrue result → IsSome self.now.clock }
+        ensures some { IsTrue result → IsSome self.now.clock }
+        ensures none { result ≡ false → self.now.clock ≡ None }
     {
         self.clock.is_some()
     }
 
-    /// The length of the buffer.
+    /// The length of the part of the buffer that it holds.
     pub(crate) fn held_bytes(&self) -> usize
         ensures value { result ≡ length self.now.buffer }
         ensures bound { result ≤ 65520 }
     {
-        self.buffer.len()
+        self.part.held as usize
     }
 
-    /// The datagram that the fragments are.
-    pub(crate) fn into_datagram(self) -> Datagram
-        ensures datagram { (ps : List Piece) → IsGroupOf self ps → completes ps ≡ true → IsDatagramOf result ps }
-        ensures fits { FitsDatagram result }
+    /// The length of the rest of the buffer.
+    pub(crate) fn spare_bytes(&self) -> usize
+        ensures value { result ≡ self.now.room - length self.now.buffer }
+        ensures bound { result ≤ 65520 }
+    {
+        self.buffer.len() - self.part.held as usize
+    }
+
+    /// An empty group with the same header: a placeholder.
+    pub(crate) fn blank(&self, alloc: Global) -> Group {
+        Group::new(Vec::new(alloc), &self.header, None, 0)
+    }
+
+    /// Its buffer, for a later group.
+    pub(crate) fn into_buffer(self) -> Vec<u8>
+        ensures room { length result.items ≡ self.room }
+        ensures short { length result.items ≤ 65520 }
     {
         let Group {
-            mut buffer,
-            holes: _holes,
+            buffer,
+            part: _part,
+            total: _total,
+            header: _header,
+            frames: _frames,
+            bytes: _bytes,
+            first: _first,
+            last: _last,
+            clock: _clock,
+            place: _place,
+        } = self;
+        buffer
+    }
+
+    /// The datagram, and the buffer for a later group. That is empty if the payload took it.
+    pub(crate) fn into_datagram(self, alloc: Global) -> (Datagram, Vec<u8>)
+        ensures datagram { (ps : List Piece) → IsGroupOf self ps → completes ps ≡ true → IsDatagramOf result.0 ps }
+        ensures fits { FitsDatagram result.0 }
+        ensures short { length result.1.items ≤ 65520 }
+    {
+        let Group {
+            buffer,
+            part,
             total,
             header,
             frames,
@@ -224,16 +284,15 @@ impl Group {
             clock: _clock,
             place: _place,
         } = self;
-        if let Some(total) = total {
-            buffer.truncate(total as usize);
-        }
-        Datagram {
+        let (payload, buffer) = payload_of(alloc, buffer, total.unwrap_or(part.held));
+        let datagram = Datagram {
             header,
-            payload: buffer,
+            payload,
             frames,
             bytes,
             first,
             last,
-        }
+        };
+        (datagram, buffer)
     }
 }

@@ -12,7 +12,8 @@
 //!    side is described anew;
 //! 4. its data is copied, also over bytes of earlier fragments.
 ghost use Rattle.std.specs.Prelude.{◌≡◌, ℕ, List, ◌+◌, ◌-◌, ◌<◌, ◌≤◌, ◌%◌, ◌^◌, length, slice_index, IsTrue, IfSome};
-ghost use Rattle.cap_join.specs.Holes.{Span, word_at, IsChain, HasHoles, Begins, HasCursor, IsBefore, ChangesWithin, kept, Punched, Continues, Appended};
+ghost use Rattle.cap_join.specs.Holes.{Span, word_at, IsChain, HasHoles, Begins, HasCursor, IsBefore, ChangesWithin};
+ghost use Rattle.cap_join.specs.Holes.{kept, Punched, Continues, Appended};
 
 use cap_bytes::{Order, put_u32, u32_at};
 
@@ -82,7 +83,8 @@ fn clear(bytes: &mut [u8], from: usize, to: usize)
 pub(crate) fn copy(bytes: &mut [u8], at: usize, piece: &[u8])
     requires { at + length piece.now ≤ length bytes.old }
     ensures within { ChangesWithin at (at + length piece.now) bytes.old bytes.new }
-    ensures copied { (i : ℕ) → at ≤ i → i < at + length piece.now → slice_index bytes.new i ≡ slice_index piece.now (i - at) }
+    ensures copied { (i : ℕ) → at ≤ i → i < at + length piece.now
+        → slice_index bytes.new i ≡ slice_index piece.now (i - at) }
 {
     for i in 0..piece.len() {
         bytes[at + i] = piece[i];
@@ -104,7 +106,8 @@ fn lies_below(bytes: &[u8], at: u32, below: u32) -> bool
 fn next_below(bytes: &[u8], at: u32, below: u32) -> Option<u32>
     requires within { at + 8 ≤ length bytes.now }
     requires next { word_at bytes.now (at + 4) < below → word_at bytes.now (at + 4) + 8 ≤ length bytes.now }
-    ensures { IfSome result (λ next. (next ≡ word_at bytes.now (at + 4)) × (next < below) × (word_at bytes.now next ≤ below)) }
+    ensures { IfSome result (λ next. (next ≡ word_at bytes.now (at + 4)) × (next < below)
+        × (word_at bytes.now next ≤ below)) }
 {
     let next = word_at(bytes, at as usize + 4);
     if !lies_below(bytes, next, below) {

@@ -1,13 +1,15 @@
 //! The joiner of fragments.
-ghost use Rattle.std.specs.Prelude.{◌≡◌, List, [], ◌∷◌, ◌+◌, ◌≤◌, ◌<◌, ◌<ℤ◌, ◌^◌, pos, length, IsSome, IfSome, IfOk, IfErr, OnOk, OnErr};
+ghost use Rattle.std.specs.Prelude.{◌≡◌, List, [], ◌∷◌, ◌+◌, ◌≤◌, ◌<◌, ◌<ℤ◌, ◌*◌, ◌^◌, pos, length, sum, IsSome};
+ghost use Rattle.std.specs.Prelude.{IfSome, IfOk, IfErr, OnOk, OnErr};
 ghost use Rattle.cap_time.specs.Stamp.{seconds_of};
 ghost use Rattle.cap_join.specs.Fitting.{FitsPut};
 ghost use Rattle.cap_join.specs.Fragments.{piece_of};
 ghost use Rattle.cap_join.specs.History.{Event, arrives, flushes, state_of, joined_pieces};
-ghost use Rattle.cap_join.specs.Joiners.{StandsFor, IsAnswer, most_bytes, held_of, open_limit};
+ghost use Rattle.cap_join.specs.Joiners.{StandsFor, IsAnswer, most_bytes, spare_in, held_of, open_limit};
 ghost use Rattle.cap_join.specs.declared.datagrams.JoinFault.TheVariants.{Memory};
 
 use crate::datagrams::{Incoming, JoinFault, Put, Stamped};
+use crate::spares::Spares;
 use crate::tables::{Table, drop_group, put_fragment};
 use cap_ip::{Header, Key};
 use cap_time::Stamp;
@@ -29,6 +31,7 @@ use std::marker::Model;
 pub struct Joiner {
     // `None` until the first fragment is put.
     table: Option<Table>,
+    spares: Spares,
     next: u64,
     given_up: u64,
     alloc: Global,
@@ -54,6 +57,7 @@ impl Joiner {
     {
         Joiner {
             table: None,
+            spares: Spares::new(alloc),
             next: 0,
             given_up: 0,
             alloc,
@@ -95,7 +99,13 @@ impl Joiner {
             data: bytes,
             stamped,
         };
-        match put_fragment(&mut self.table, self.alloc, clock, &incoming) {
+        match put_fragment(
+            &mut self.table,
+            &mut self.spares,
+            self.alloc,
+            clock,
+            &incoming,
+        ) {
             Err(_) => Err(JoinFault::Memory),
             Ok((put, gave_up)) => {
                 self.next = stamped.place + 1;
@@ -111,14 +121,15 @@ impl Joiner {
         ensures stands { (events : List Event) → StandsFor self.old events → StandsFor self.new (flushes key ∷ events) }
         ensures next { self.new.next ≡ self.old.next }
     {
-        drop_group(&mut self.table, key);
+        drop_group(&mut self.table, &mut self.spares, key);
     }
 
     /// How many groups are open: at most 1,024. A group that is too old counts until the next fragment is
     /// put.
     pub fn open_count(&self) -> usize
         ensures value { result ≡ length self.now.groups }
-        ensures stands { (events : List Event) → StandsFor self.now events → result ≡ length (state_of open_limit events).opens }
+        ensures stands { (events : List Event) → StandsFor self.now events
+            → result ≡ length (state_of open_limit events).opens }
         ensures bound { result ≤ 1024 }
     {
         match &self.table {
@@ -127,11 +138,12 @@ impl Joiner {
         }
     }
 
-    /// The greatest length of an open group's buffer, in bytes: the greatest end of the group's fragments,
+    /// The most bytes that an open group holds of its buffer: the greatest end of the group's fragments,
     /// rounded up to whole blocks of 8. At most 65,520; 0 if none is open.
     pub fn held_bytes(&self) -> usize
         ensures value { result ≡ most_bytes self.now.groups }
-        ensures stands { (events : List Event) → StandsFor self.now events → result ≡ held_of (state_of open_limit events).opens }
+        ensures stands { (events : List Event) → StandsFor self.now events
+            → result ≡ held_of (state_of open_limit events).opens }
         ensures bound { result ≤ 65520 }
     {
         match &self.table {
@@ -140,10 +152,24 @@ impl Joiner {
         }
     }
 
+    /// How many bytes are kept for later groups: those of at most 1,024 closed groups' buffers, and of each open
+    /// group's buffer those that the group doesn't hold. A buffer has 65,520 bytes at most.
+    pub fn held_spare(&self) -> usize
+        ensures value { result ≡ sum self.now.spares + spare_in self.now.groups }
+        ensures bound { result ≤ 2048 * 65520 }
+    {
+        let spares = self.spares.bytes();
+        match &self.table {
+            None => spares,
+            Some(table) => spares + table.spare_bytes(),
+        }
+    }
+
     /// How many groups were given up.
     pub fn given_up(&self) -> u64
         ensures value { result ≡ self.now.given_up }
-        ensures stands { (events : List Event) → StandsFor self.now events → result ≡ (state_of open_limit events).given_up }
+        ensures stands { (events : List Event) → StandsFor self.now events
+            → result ≡ (state_of open_limit events).given_up }
     {
         self.given_up
     }

@@ -9,6 +9,8 @@ mod groups;
 mod holes;
 mod joiners;
 mod laws;
+mod queues;
+mod spares;
 mod tables;
 
 pub use crate::arrivals::Arrived;

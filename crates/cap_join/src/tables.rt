@@ -1,34 +1,39 @@
 //! The table of open groups, in the order in which they were opened.
-ghost use Rattle.std.specs.Prelude.{◌≡◌, List, [], ◌∷◌, ◌++◌, ◌+◌, ◌<◌, ◌≤◌, ◌<ℤ◌, ◌^◌, pos, true, false, not, length, Some, None, IsSome, IfSome, IfNone, IsSomeAnd, IfOk, OnOk, OnErr, remove, nat_lt, if◌then◌else◌};
+ghost use Rattle.std.specs.Prelude.{◌≡◌, List, [], ◌∷◌, ◌++◌, ◌+◌, ◌*◌, ◌<◌, ◌≤◌, ◌<ℤ◌, ◌^◌, pos, true, false, not};
+ghost use Rattle.std.specs.Prelude.{length, Some, None, IsSome, IfSome, IfNone, IsSomeAnd, IfOk, IfErr, OnOk, OnErr};
+ghost use Rattle.std.specs.Prelude.{remove, nat_lt, if◌then◌else◌};
 ghost use Rattle.cap_time.specs.Stamp.{seconds_of};
-ghost use Rattle.cap_join.specs.Fitting.{FitsPut};
+ghost use Rattle.cap_join.specs.Fitting.{FitsDatagram, FitsPut};
 ghost use Rattle.cap_join.specs.Incoming.{key_in, piece_in, place_in};
 ghost use Rattle.cap_join.specs.Frames.{is_too_old};
 ghost use Rattle.std.specs.List.{IsDistinct};
 ghost use Rattle.std.specs.Map.{keys_of, remove_entry};
 ghost use Rattle.cap_join.specs.History.{OpenGroup, same_key};
-ghost use Rattle.cap_join.specs.Joiners.{AreEntriesOf, IsTable, open_limit, most_bytes};
+ghost use Rattle.cap_join.specs.Joiners.{AreEntriesOf, IsTable, open_limit, most_bytes, spare_in};
+ghost use Rattle.cap_join.specs.Spares.{with_spare};
+ghost use Rattle.cap_join.specs.Fragments.{Piece};
+ghost use Rattle.cap_join.specs.ByteMap.{completes};
+ghost use Rattle.cap_join.specs.Groups.{IsGroupOf, IsDatagramOf};
 ghost use Rattle.cap_join.specs.Ages.{NoneOld, IsDeadline, AreInTurn};
 ghost use Rattle.cap_join.specs.Tables.{entries_of, entry_at, live_entries, has_live, PutsAt, Puts};
 
 use crate::ages::{is_past, latest_of, sooner, stays_in_order};
-use crate::datagrams::{Incoming, Put};
+use crate::datagrams::{Datagram, Incoming, Put};
 use crate::groups::Group;
+use crate::queues::Queue;
+use crate::spares::{Spares, keep_buffer};
 use cap_ip::Key;
 use cap_time::Stamp;
-use lru::LruCache;
 use std::alloc::{AllocError, Global};
 use std::marker::Model;
 
 // How many groups may be open.
 const OPEN_LIMIT: usize = 1024;
 
-/// The open groups by their keys. `LruCache` links its entries, so that the first, the last and the one of a key are
-/// taken out, and one is added, at a cost that doesn't depend on how many there are. They stand in the order of their
-/// opening: a new group goes last, and no other call moves one.
+/// The open groups, and a bound of their ages.
 #[derive(Drop)]
 pub(crate) struct Table {
-    groups: LruCache<Key, Group>,
+    groups: Queue,
     // No group is too old until this is past.
     deadline: Option<Stamp>,
     // The deadline of the group with a clock that was opened last.
@@ -52,47 +57,13 @@ impl Model for Table {
     ghost invariant = { IsSoundTable };
 }
 
-// The key of the first group that is too old at a clock. If the groups are in order, those after one with a clock that
-// isn't too old aren't looked at.
-fn first_old(groups: &LruCache<Key, Group>, in_order: bool, now: Option<Stamp>) -> Option<Key>
-    requires unique { IsDistinct same_key (keys_of groups.now.entries) }
-    requires in_turn { in_order ≡ true → AreInTurn groups.now.entries }
-    ensures old { IfSome result (λ key. IsSomeAnd (entry_at key groups.now.entries) (λ s. is_too_old s.clock now ≡ true)) }
-    ensures none { IfNone result (NoneOld now groups.now.entries) }
-{
-    for (key, group) in groups.iter() {
-        if group.is_too_old(now) {
-            return Some(*key);
-        }
-        if in_order && group.has_clock() {
-            return None;
-        }
-    }
-    None
-}
-
-// The soonest deadline of the groups. If they are in order, it is that of the first with a clock.
-fn soonest(groups: &LruCache<Key, Group>, in_order: bool) -> Option<Stamp>
-    requires { in_order ≡ true → AreInTurn groups.now.entries }
-    ensures { IsDeadline result groups.now.entries }
-{
-    let mut deadline = None;
-    for (_key, group) in groups.iter() {
-        deadline = sooner(deadline, group.deadline());
-        if in_order && group.has_clock() {
-            return deadline;
-        }
-    }
-    deadline
-}
-
 impl Table {
     /// A table without a group.
     pub(crate) fn new(alloc: Global) -> Result<Table, AllocError>
         ensures { IfOk result (λ table. table ≡ []) }
     {
         Ok(Table {
-            groups: LruCache::unbounded(alloc)?,
+            groups: Queue::new(alloc)?,
             deadline: None,
             latest: None,
             in_order: true,
@@ -110,10 +81,7 @@ impl Table {
     fn has_live(&self, key: &Key, now: Option<Stamp>) -> bool
         ensures { result ≡ has_live key.now now self.now }
     {
-        match self.groups.peek(key) {
-            None => false,
-            Some(group) => !group.is_too_old(now),
-        }
+        self.groups.has_live(key, now)
     }
 
     // Puts a fragment into the group of its key, and answers whether that is complete. An `Err` leaves the
@@ -123,7 +91,7 @@ impl Table {
         ensures ok { IfOk result (λ complete. PutsAt key.now (piece_in incoming.now) self.old complete self.new) }
         ensures err { OnErr result (self.new ≡ self.old) }
     {
-        put_in(&mut self.groups, key, incoming)
+        self.groups.put_at(key, incoming)
     }
 
     /// Takes the group of a key out.
@@ -135,35 +103,40 @@ impl Table {
         self.groups.pop(key)
     }
 
-    // Drops the groups that are too old at a clock, and looks at none while the deadline isn't past.
-    fn drop_old(&mut self, now: Option<Stamp>)
+    // Drops the groups that are too old at a clock, and looks at none while the deadline isn't past. Their buffers
+    // are kept.
+    fn drop_old(&mut self, spares: &mut Spares, alloc: Global, now: Option<Stamp>)
         ensures entries { self.new ≡ live_entries now self.old }
         ensures unique { IsDistinct same_key (keys_of self.new) }
     {
         if !is_past(self.deadline, now) {
             return;
         }
-        expire(&mut self.groups, self.in_order, now);
-        self.deadline = soonest(&self.groups, self.in_order);
+        self.groups.expire(spares, alloc, self.in_order, now);
+        self.deadline = self.groups.soonest(self.in_order);
     }
 
-    // Adds a group after the others, in the place of one of its key. An `Err` leaves the groups as they were.
-    fn add(&mut self, key: &Key, group: Group) -> Result<(), AllocError>
+    // Adds a group after the others, in the place of one of its key, and returns that. An `Err` has the group, and
+    // changes nothing.
+    fn add(&mut self, key: &Key, group: Group) -> Result<Option<Group>, Group>
         requires few { length self.old ≤ open_limit }
+        requires aged { IfSome (entry_at key.now self.old) (λ s. IsSome s.clock) }
         ensures ok { OnOk result (self.new ≡ remove_entry (same_key key.now) self.old ++ (key.now, group) ∷ []) }
         ensures unique { IsDistinct same_key (keys_of self.new) }
         ensures err { OnErr result (self.new ≡ self.old) }
+        ensures given { IfErr result (λ g. g ≡ group) }
     {
         let deadline = group.deadline();
-        append(&mut self.groups, key, group)?;
+        let replaced = self.groups.append(key, group)?;
         self.in_order = stays_in_order(self.in_order, self.latest, deadline);
         self.latest = latest_of(self.latest, deadline);
         self.deadline = sooner(self.deadline, deadline);
-        Ok(())
+        Ok(replaced)
     }
 
-    // Gives up the group that was opened first if more are open than may be, and answers whether it did.
-    fn make_place(&mut self) -> bool
+    // Gives up the group that was opened first if more are open than may be, and answers whether it did. Its buffer
+    // is kept.
+    fn make_place(&mut self, spares: &mut Spares) -> bool
         ensures value { result ≡ nat_lt open_limit (length self.old) }
         ensures entries { self.new ≡ (if result then remove self.old 0 else self.old) }
         ensures unique { IsDistinct same_key (keys_of self.new) }
@@ -171,7 +144,7 @@ impl Table {
         if self.groups.len() <= OPEN_LIMIT {
             return false;
         }
-        self.groups.pop_mru();
+        keep_buffer(spares, self.groups.pop_first());
         true
     }
 
@@ -180,67 +153,33 @@ impl Table {
         ensures value { result ≡ most_bytes self.now }
         ensures bound { result ≤ 65520 }
     {
-        let mut most = 0;
-        for (_key, group) in self.groups.iter() {
-            most = group.held_bytes().max(most);
-        }
-        most
+        self.groups.most_bytes()
+    }
+
+    /// The bytes of the buffers after the parts that the groups hold.
+    pub(crate) fn spare_bytes(&self) -> usize
+        ensures value { result ≡ spare_in self.now }
+        ensures bound { result ≤ length self.now * 65520 }
+    {
+        self.groups.spare_bytes()
     }
 }
 
-// Puts a fragment into the group of its key, and answers whether that is complete.
-fn put_in(
-    groups: &mut LruCache<Key, Group>,
-    key: &Key,
-    incoming: &Incoming<'_>,
-) -> Result<bool, AllocError>
-    requires there { IsSomeAnd (entry_at key.now groups.old.entries) (λ s. s.frames < 2 ^ 63) }
-    ensures ok { IfOk result (λ complete.
-        PutsAt key.now (piece_in incoming.now) groups.old.entries complete groups.new.entries) }
-    ensures err { OnErr result (groups.new.entries ≡ groups.old.entries) }
-    ensures cap { groups.new.cap ≡ groups.old.cap }
+// The datagram of a complete group. Its buffer is kept.
+fn finish(spares: &mut Spares, alloc: Global, group: Group) -> Datagram
+    ensures datagram { (ps : List Piece) → IsGroupOf group ps → completes ps ≡ true → IsDatagramOf result ps }
+    ensures fits { FitsDatagram result }
 {
-    match groups.peek_mut(key) {
-        None => unreachable!(),
-        Some(group) => {
-            group.put(incoming)?;
-            Ok(group.is_complete())
-        }
-    }
-}
-
-// Takes the groups out that are too old at a clock.
-fn expire(groups: &mut LruCache<Key, Group>, in_order: bool, now: Option<Stamp>)
-    requires unique { IsDistinct same_key (keys_of groups.old.entries) }
-    requires in_turn { in_order ≡ true → AreInTurn groups.old.entries }
-    ensures entries { groups.new.entries ≡ live_entries now groups.old.entries }
-    ensures unique { IsDistinct same_key (keys_of groups.new.entries) }
-    ensures cap { groups.new.cap ≡ groups.old.cap }
-{
-    while let Some(key) = first_old(groups, in_order, now) {
-        groups.pop(&key);
-    }
-}
-
-// Puts a group after the others, in the place of one of its key.
-fn append(groups: &mut LruCache<Key, Group>, key: &Key, group: Group) -> Result<(), AllocError>
-    requires few { length groups.old.entries < groups.old.cap }
-    ensures ok { OnOk result (groups.new.entries ≡ remove_entry (same_key key.now) groups.old.entries ++ (key.now, group) ∷ []) }
-    ensures err { OnErr result (groups.new.entries ≡ groups.old.entries) }
-    ensures cap { groups.new.cap ≡ groups.old.cap }
-{
-    match groups.put(*key, group) {
-        Err(_) => Err(AllocError),
-        Ok(_) => {
-            groups.demote(key);
-            Ok(())
-        }
-    }
+    let (datagram, buffer) = group.into_datagram(alloc);
+    spares.give_back(buffer);
+    datagram
 }
 
 // Puts a fragment into the group of its key, which isn't too old, and drops the groups that are.
 fn extend(
     groups: &mut Table,
+    spares: &mut Spares,
+    alloc: Global,
     clock: Option<Stamp>,
     incoming: &Incoming<'_>,
 ) -> Result<Put, AllocError>
@@ -252,16 +191,76 @@ fn extend(
     ensures fits { IfOk result FitsPut }
     ensures table { OnOk result (IsTable (place_in incoming.now + 1) groups.new) }
     ensures err { OnErr result (groups.new ≡ groups.old) }
+    ensures spares { OnErr result (spares.new ≡ spares.old) }
 {
     let key = incoming.header.key();
     let complete = groups.put_at(&key, incoming)?;
-    groups.drop_old(clock);
+    groups.drop_old(spares, alloc, clock);
     if !complete {
         return Ok(Put::Kept);
     }
     match groups.remove(&key) {
         None => unreachable!(),
-        Some(group) => Ok(Put::Joined(group.into_datagram())),
+        Some(group) => Ok(Put::Joined(finish(spares, alloc, group))),
+    }
+}
+
+// A group of its first fragment, in a spare buffer if there is one, and how long that buffer was. An `Err` leaves the
+// spare buffers as they were.
+fn begin(
+    spares: &mut Spares,
+    alloc: Global,
+    clock: Option<Stamp>,
+    incoming: &Incoming<'_>,
+) -> Result<(Group, usize), AllocError>
+    requires { IfSome clock (λ c. seconds_of c <ℤ pos (2 ^ 65)) }
+    ensures group { IfOk result (λ begun. IsGroupOf begun.0 (piece_in incoming.now ∷ [])) }
+    ensures clock { IfOk result (λ begun. begun.0.clock ≡ clock) }
+    ensures place { IfOk result (λ begun. begun.0.place ≡ place_in incoming.now) }
+    ensures room { IfOk result (λ begun. begun.1 ≤ begun.0.room) }
+    ensures taken { IfOk result (λ begun. with_spare begun.1 spares.new ≡ spares.old) }
+    ensures err { OnErr result (spares.new ≡ spares.old) }
+{
+    let buffer = spares.take(alloc);
+    let taken = buffer.len();
+    let mut group = Group::new(buffer, incoming.header, clock, incoming.stamped.place);
+    match group.put(incoming) {
+        Err(error) => {
+            spares.give_back(group.into_buffer());
+            Err(error)
+        }
+        Ok(()) => Ok((group, taken)),
+    }
+}
+
+// Adds a group to the others, in the place of one of its key, whose buffer is kept. An `Err` leaves the groups as
+// they were, and gives the new group's buffer back, as long as it was when it was taken.
+fn settle(
+    groups: &mut Table,
+    spares: &mut Spares,
+    key: &Key,
+    group: Group,
+    taken: usize,
+) -> Result<(), AllocError>
+    requires few { length groups.old ≤ open_limit }
+    requires aged { IfSome (entry_at key.now groups.old) (λ s. IsSome s.clock) }
+    requires room { taken ≤ group.room }
+    ensures ok { OnOk result (groups.new ≡ remove_entry (same_key key.now) groups.old ++ (key.now, group) ∷ []) }
+    ensures unique { IsDistinct same_key (keys_of groups.new) }
+    ensures err { OnErr result (groups.new ≡ groups.old) }
+    ensures spares { OnErr result (spares.new ≡ with_spare taken spares.old) }
+{
+    match groups.add(key, group) {
+        Err(group) => {
+            let mut buffer = group.into_buffer();
+            buffer.truncate(taken);
+            spares.give_back(buffer);
+            Err(AllocError)
+        }
+        Ok(replaced) => {
+            keep_buffer(spares, replaced);
+            Ok(())
+        }
     }
 }
 
@@ -270,6 +269,7 @@ fn extend(
 // added before any is dropped, so that no memory is asked for after.
 fn open(
     groups: &mut Table,
+    spares: &mut Spares,
     alloc: Global,
     clock: Option<Stamp>,
     incoming: &Incoming<'_>,
@@ -282,17 +282,17 @@ fn open(
     ensures fits { IfOk result (λ put. FitsPut put.0) }
     ensures table { OnOk result (IsTable (place_in incoming.now + 1) groups.new) }
     ensures err { OnErr result (groups.new ≡ groups.old) }
+    ensures spares { OnErr result (spares.new ≡ spares.old) }
 {
     let key = incoming.header.key();
-    let mut group = Group::new(alloc, incoming.header, clock, incoming.stamped.place);
-    group.put(incoming)?;
+    let (group, taken) = begin(spares, alloc, clock, incoming)?;
     if group.is_complete() {
-        groups.drop_old(clock);
-        return Ok((Put::Joined(group.into_datagram()), false));
+        groups.drop_old(spares, alloc, clock);
+        return Ok((Put::Joined(finish(spares, alloc, group)), false));
     }
-    groups.add(&key, group)?;
-    groups.drop_old(clock);
-    let gave_up = groups.make_place();
+    settle(groups, spares, &key, group, taken)?;
+    groups.drop_old(spares, alloc, clock);
+    let gave_up = groups.make_place(spares);
     Ok((Put::Kept, gave_up))
 }
 
@@ -301,6 +301,7 @@ fn open(
 // answers whether it was. An `Err` leaves the groups as they were.
 fn put_into(
     groups: &mut Table,
+    spares: &mut Spares,
     alloc: Global,
     clock: Option<Stamp>,
     incoming: &Incoming<'_>,
@@ -313,21 +314,28 @@ fn put_into(
     ensures fits { IfOk result (λ put. FitsPut put.0) }
     ensures table { OnOk result (IsTable (place_in incoming.now + 1) groups.new) }
     ensures err { OnErr result (groups.new ≡ groups.old) }
+    ensures spares { OnErr result (spares.new ≡ spares.old) }
 {
     if groups.has_live(&incoming.header.key(), clock) {
-        let put = extend(groups, clock, incoming)?;
+        let put = extend(groups, spares, alloc, clock, incoming)?;
         Ok((put, false))
     } else {
-        open(groups, alloc, clock, incoming)
+        open(groups, spares, alloc, clock, incoming)
     }
 }
 
-// Makes a table if there is none. An `Err` changes nothing.
-fn make_table(table: &mut Option<Table>, alloc: Global) -> Result<(), AllocError>
+// Makes a table and places for spare buffers, if there is no table. An `Err` changes nothing.
+fn make_table(
+    table: &mut Option<Table>,
+    spares: &mut Spares,
+    alloc: Global,
+) -> Result<(), AllocError>
     ensures there { OnOk result (IsSome table.new) }
     ensures same { entries_of table.new ≡ entries_of table.old }
+    ensures spares { spares.new.lengths ≡ spares.old.lengths }
 {
     if table.is_none() {
+        spares.reserve()?;
         *table = Some(Table::new(alloc)?);
     }
     Ok(())
@@ -338,6 +346,7 @@ fn make_table(table: &mut Option<Table>, alloc: Global) -> Result<(), AllocError
 /// answers whether it was. An `Err` leaves the groups as they were.
 pub(crate) fn put_fragment(
     table: &mut Option<Table>,
+    spares: &mut Spares,
     alloc: Global,
     clock: Option<Stamp>,
     incoming: &Incoming<'_>,
@@ -350,22 +359,25 @@ pub(crate) fn put_fragment(
     ensures fits { IfOk result (λ put. FitsPut put.0) }
     ensures table { OnOk result (IsTable (place_in incoming.now + 1) (entries_of table.new)) }
     ensures err { OnErr result (entries_of table.new ≡ entries_of table.old) }
+    ensures spares { OnErr result (spares.new.lengths ≡ spares.old.lengths) }
 {
-    make_table(table, alloc)?;
+    make_table(table, spares, alloc)?;
     match table {
         None => unreachable!(),
-        Some(groups) => put_into(groups, alloc, clock, incoming),
+        Some(groups) => put_into(groups, spares, alloc, clock, incoming),
     }
 }
 
-/// Drops the group of a key. The key is copied where it is looked for, so that before the first fragment it need not be in memory.
+/// Drops the group of a key, whose buffer is kept. The key is copied where it is looked for, so that before the first
+/// fragment it need not be in memory.
 #[inline(always)]
-pub(crate) fn drop_group(table: &mut Option<Table>, key: Key)
+pub(crate) fn drop_group(table: &mut Option<Table>, spares: &mut Spares, key: Key)
     ensures entries { entries_of table.new ≡ remove_entry (same_key key) (entries_of table.old) }
-    ensures unique { IsDistinct same_key (keys_of (entries_of table.old)) → IsDistinct same_key (keys_of (entries_of table.new)) }
+    ensures unique { IsDistinct same_key (keys_of (entries_of table.old))
+        → IsDistinct same_key (keys_of (entries_of table.new)) }
 {
     if let Some(groups) = table {
         let sought = key;
-        groups.remove(&sought);
+        keep_buffer(spares, groups.remove(&sought));
     }
 }

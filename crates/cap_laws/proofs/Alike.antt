@@ -1,5 +1,5 @@
--- Runs whose packets have clocks of the same times, and the same interfaces, units, lengths and bytes, have the same report, but for the
--- lines of the files: what is told of files and of places in them may differ.
+-- Runs whose packets have clocks of the same times, and the same interfaces, units, lengths and bytes, have the same
+-- report, but for the lines of the files: what is told of files and of places in them may differ.
 use Rattle.std.proofs.Common.{arith, ◌≡◌, ℕ, ◌+◌, List, ◌∷◌, ◌++◌, length, refl, ◌∙◌, ap, Option}
 use Rattle.std.proofs.lemmas.List.Elements.{length_all_zip}
 use Rattle.std.specs.List.{AllZip}
@@ -37,7 +37,8 @@ AreAlike = AllZip IsAlike
 
 -- two items of runs, which have those clocks, are packets that are alike
 abbrev pub AlikeItems : Option Stamp → Option Stamp → Item → Item → Type 0
-AlikeItems c d (packet m f) (packet n g) = IsAlike (record { clock = c; meta = m; frame = f }) (record { clock = d; meta = n; frame = g })
+AlikeItems c d (packet m f) (packet n g) = IsAlike (record { clock = c; meta = m; frame = f })
+    (record { clock = d; meta = n; frame = g })
 AlikeItems c d (packet m f) (refused r) = ⊥
 AlikeItems c d (refused q) (packet n g) = ⊥
 AlikeItems c d (refused q) (refused r) = ⊥
@@ -56,7 +57,8 @@ alike-look n m x y e h = grind arith
 
 -- ---- the groups of fragments
 
-events-with : (l : Look) (c d : Option Stamp) (es fs : List Event) → IsSameTime c d → AllZip IsSameEvent es fs → AllZip IsSameEvent (events_with l c es) (events_with l d fs)
+events-with : (l : Look) (c d : Option Stamp) (es fs : List Event) → IsSameTime c d → AllZip IsSameEvent es fs
+    → AllZip IsSameEvent (events_with l c es) (events_with l d fs)
 events-with l c d es fs e h = grind arith
 
 alike-events : (xs ys : List Taken) → AreAlike xs ys → AllZip IsSameEvent (events_of xs) (events_of ys)
@@ -69,18 +71,22 @@ alike-groups xs ys h = (same-groups open_limit (events_of xs) (events_of ys) (al
 
 -- ---- classes and units
 
-alike-classes_in : (groups : List (List Piece)) (xs ys : List Taken) → AreAlike xs ys → classes_in groups xs ≡ classes_in groups ys
+alike-classes_in : (groups : List (List Piece)) (xs ys : List Taken) → AreAlike xs ys
+    → classes_in groups xs ≡ classes_in groups ys
 alike-classes_in groups (x ∷ xs) (y ∷ ys) h = grind (arith, alike-classes_in groups xs ys h.1, alike-look, alike-length)
 alike-classes_in groups xs ys h = grind arith
 
 alike-classes : (xs ys : List Taken) → AreAlike xs ys → classes xs ≡ classes ys
 unfolding classes
-alike-classes xs ys h = ap (λ groups. classes_in groups xs) (alike-groups xs ys h) ∙ alike-classes_in (groups_of ys) xs ys h
+alike-classes xs ys h = ap (λ groups. classes_in groups xs) (alike-groups xs ys h)
+    ∙ alike-classes_in (groups_of ys) xs ys h
 
-unit-by : (l : Look) (s : Stamped) (c d : Option Stamp) (es fs : List Event) → IsSameTime c d → AllZip IsSameEvent es fs → unit_by l s c es ≡ unit_by l s d fs
+unit-by : (l : Look) (s : Stamped) (c d : Option Stamp) (es fs : List Event) → IsSameTime c d → AllZip IsSameEvent es fs
+    → unit_by l s c es ≡ unit_by l s d fs
 unit-by (plain k) s c d es fs e h = refl
 unit-by (datagram header captured) s c d es fs e h = refl
-unit-by (fragment p) s c d es fs e h = ap (λ (ps : List Piece). first_unit (if_complete ps)) ((same-groups open_limit es fs h).joined c d p e)
+unit-by (fragment p) s c d es fs e h = ap (λ (ps : List Piece). first_unit (if_complete ps))
+    ((same-groups open_limit es fs h).joined c d p e)
 
 alike-unit : (xs ys : List Taken) (x y : Taken) → AreAlike xs ys → IsAlike x y → unit_at xs x ≡ unit_at ys y
 unfolding unit_at
@@ -98,7 +104,8 @@ alike-bytes (x ∷ xs) (y ∷ ys) h = λ i. alike-bytes xs ys h.1 i + h.0.origin
 alike-bytes xs ys h = grind arith
 
 alike-truncated : (xs ys : List Taken) → AreAlike xs ys → truncated_of xs ≡ truncated_of ys
-alike-truncated (x ∷ xs) (y ∷ ys) h = λ i. alike-truncated xs ys h.1 i + (if nat_lt (length (h.0.frame i)) (h.0.original i) then 1 else 0)
+alike-truncated (x ∷ xs) (y ∷ ys) h = λ i. alike-truncated xs ys h.1 i +
+    (if nat_lt (length (h.0.frame i)) (h.0.original i) then 1 else 0)
 alike-truncated xs ys h = grind arith
 
 alike-body : (xs ys : List Taken) → AreAlike xs ys → body_text xs ≡ body_text ys
@@ -115,12 +122,18 @@ alike-body xs ys h =
 
 -- ---- runs
 
-with_alike : (c d : Option Stamp) (a b : Item) (xs ys : List Taken) → AlikeItems c d a b → AreAlike xs ys → AreAlike (with_item c a xs) (with_item d b ys)
+with_alike : (c d : Option Stamp) (a b : Item) (xs ys : List Taken) → AlikeItems c d a b → AreAlike xs ys
+    → AreAlike (with_item c a xs) (with_item d b ys)
 with_alike c d a b xs ys h k = grind arith
 
-taken-alike : (as_ bs : List (Clocked Item)) (xs ys : List Taken) → RunsAlike as_ bs → AreAlike xs ys → AreAlike (taken_after xs as_) (taken_after ys bs)
+taken-alike : (as_ bs : List (Clocked Item)) (xs ys : List Taken) → RunsAlike as_ bs → AreAlike xs ys
+    → AreAlike (taken_after xs as_) (taken_after ys bs)
 unfolding taken_after
-taken-alike (a ∷ as_) (b ∷ bs) xs ys h k = grind (arith, taken-alike as_ bs (with_item a.clock a.item xs) (with_item b.clock b.item ys) h.1 (with_alike a.clock b.clock a.item b.item xs ys h.0 k))
+taken-alike (a ∷ as_) (b ∷ bs) xs ys h k = grind (
+  arith,
+  taken-alike as_ bs (with_item a.clock a.item xs) (with_item b.clock b.item ys) h.1
+      (with_alike a.clock b.clock a.item b.item xs ys h.0 k),
+)
 taken-alike as_ bs xs ys h k = grind arith
 
 -- such packets are like each other also if times may take other forms, on which refusals do not depend

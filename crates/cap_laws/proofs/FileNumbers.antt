@@ -1,5 +1,6 @@
 -- The items of a file under another number are the same but for that number.
-use Rattle.std.proofs.Common.{arith, ◌≡◌, ℕ, zero, suc, Bool, cond, List, ◌∷◌, drop, refl, ap, ◌∙◌, Option, Some, None, Result}
+use Rattle.std.proofs.Common.{arith, ◌≡◌, ℕ, zero, suc, Bool, cond, List, ◌∷◌, drop, refl, ap, ◌∙◌, Option, Some, None}
+use Rattle.std.proofs.Common.{Result}
 use Rattle.std.specs.Prelude.{map, option_map}
 use Rattle.cap_bytes.specs.Items as pieces
 use Rattle.cap_bytes.specs.declared.faults.Rule.{Rule}
@@ -14,7 +15,8 @@ use Rattle.cap_blocks.specs.declared.blocks.Block.{Block}
 use Rattle.cap_pcap.specs.declared.records.Record.{Record}
 use Rattle.cap_source.specs.Contents.{content_in}
 use Rattle.cap_source.specs.Feed.{Item}
-use Rattle.cap_source.specs.Items.{Progress, fresh, behind, items_at, items_of_stop, items_in, pcap_items, interface_of, is_pcapng, items_from, file_items}
+use Rattle.cap_source.specs.Items.{Progress, fresh, behind, items_at, items_of_stop, items_in, pcap_items, interface_of}
+use Rattle.cap_source.specs.Items.{is_pcapng, items_from, file_items}
 use Rattle.cap_source.specs.declared.contents.Content.{Content}
 use Rattle.cap_laws.specs.again.Rounds.{in_file}
 
@@ -40,7 +42,8 @@ unfolding stop_in
 chosen_stop b n o p e = grind arith
 
 stop_where-in : (inside : Bool) (tail : Tail) (n m offset : ℕ) (bytes : List ℕ) (fault : Option Rule)
-    → pieces.stop_where inside tail n offset bytes fault ≡ option_map (stop_in n) (pieces.stop_where inside tail m offset bytes fault)
+    → pieces.stop_where inside tail n offset bytes fault
+    ≡ option_map (stop_in n) (pieces.stop_where inside tail m offset bytes fault)
 unfolding pieces.stop_where
 stop_where-in inside tail n m offset bytes fault = grind (arith, chosen_stop, stop_by-in)
 
@@ -54,10 +57,12 @@ items_by-in : {K P : Type 0} (format : pieces.Format K P)
     → ((known : K) (tail : Tail) (n m offset : ℕ) (bytes : List ℕ)
     → format.stop known tail n offset bytes ≡ option_map (stop_in n) (format.stop known tail m offset bytes))
     → (fuel : ℕ) (known : K) (tail : Tail) (n m offset : ℕ) (bytes : List ℕ)
-    → pieces.items_by format fuel known tail n offset bytes ≡ map (item_in n) (pieces.items_by format fuel known tail m offset bytes)
+    → pieces.items_by format fuel known tail n offset bytes
+    ≡ map (item_in n) (pieces.items_by format fuel known tail m offset bytes)
 unfolding pieces.items_by
 items_by-in format stopped zero known tail n m offset bytes = refl
-items_by-in format stopped (suc fuel) known tail n m offset bytes = search (items_by-in format stopped fuel, item_or-in, drop)
+items_by-in format stopped (suc fuel) known tail n m offset bytes =
+    search (items_by-in format stopped fuel, item_or-in, drop)
 
 stop_items : (n : ℕ) (s : Stop) → items_of_stop (stop_in n s) ≡ map (in_file n) (items_of_stop s)
 unfolding stop_in
@@ -88,28 +93,41 @@ block_items : (section : Option Order) (tail : Tail) (n m offset : ℕ) (bytes :
 unfolding pieces.items_in
 block_items section tail n m offset bytes = search (items_by-in, stop_where-in)
 
-content_items : (n m : ℕ) (progress : Progress) (block : Block) (body : List ℕ) (content : Result Content Rule) (xs ys : List Item)
-    → xs ≡ map (in_file n) ys → items_at n progress block body content xs ≡ map (in_file n) (items_at m progress block body content ys)
+content_items : (n m : ℕ) (progress : Progress) (block : Block) (body : List ℕ) (content : Result Content Rule)
+    (xs ys : List Item)
+    → xs ≡ map (in_file n) ys → items_at n progress block body content xs
+    ≡ map (in_file n) (items_at m progress block body content ys)
 content_items n m progress block body content xs ys e = grind arith
 
 pcapng_numbered : (n m : ℕ) (progress : Progress) (xs : List (pieces.Item Block))
     → items_in n progress (map (item_in n) xs) ≡ map (in_file n) (items_in m progress xs)
 unfolding items_in item_in
-pcapng_numbered n m progress (pieces.given block body ∷ xs) = grind (arith, content_items, item_in, pcapng_numbered n m (behind progress (content_in progress.interfaces block.kind block.order body)) xs)
+pcapng_numbered n m progress (pieces.given block body ∷ xs) =
+    grind (
+      arith,
+      content_items,
+      item_in,
+      pcapng_numbered n m
+          (behind progress (content_in progress.interfaces block.kind block.order body)) xs,
+    )
 pcapng_numbered n m progress xs = grind (arith, stop_items)
 
 -- ---- files
 
-chosen : (b : Bool) (n : ℕ) (xs ys us vs : List Item) → xs ≡ map (in_file n) ys → us ≡ map (in_file n) vs → cond b xs us ≡ map (in_file n) (cond b ys vs)
+chosen : (b : Bool) (n : ℕ) (xs ys us vs : List Item) → xs ≡ map (in_file n) ys → us ≡ map (in_file n) vs
+    → cond b xs us ≡ map (in_file n) (cond b ys vs)
 chosen b n xs ys us vs e h = grind arith
 
 -- The items of a file are the same under every number, but for the number.
-pub file-numbered : (tail : Tail) (n m : ℕ) (bytes : List ℕ) → file_items tail n bytes ≡ map (in_file n) (file_items tail m bytes)
+pub file-numbered : (tail : Tail) (n m : ℕ) (bytes : List ℕ)
+    → file_items tail n bytes ≡ map (in_file n) (file_items tail m bytes)
 unfolding items_from
 file-numbered tail n m bytes =
-    chosen (is_pcapng bytes) n (items_in n fresh (blocks.items_from None tail n 0 bytes)) (items_in m fresh (blocks.items_from None tail m 0 bytes))
+    chosen (is_pcapng bytes) n (items_in n fresh (blocks.items_from None tail n 0 bytes))
+    (items_in m fresh (blocks.items_from None tail m 0 bytes))
     (pcap_items n (interface_of (records.header_at bytes)) (records.file_items tail n 0 bytes))
     (pcap_items m (interface_of (records.header_at bytes)) (records.file_items tail m 0 bytes))
-    (ap (items_in n fresh) (block_items None tail n m 0 bytes) ∙ pcapng_numbered n m fresh (blocks.items_from None tail m 0 bytes))
+    (ap (items_in n fresh) (block_items None tail n m 0 bytes)
+    ∙ pcapng_numbered n m fresh (blocks.items_from None tail m 0 bytes))
     (ap (pcap_items n (interface_of (records.header_at bytes))) (record_items tail n m 0 bytes)
     ∙ pcap_numbered n m (interface_of (records.header_at bytes)) (records.file_items tail m 0 bytes))

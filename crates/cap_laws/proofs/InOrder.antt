@@ -1,5 +1,7 @@
--- In a run clocks never fall, places rise, and no fragment is a whole datagram by itself; so its report is that by places.
-use Rattle.std.proofs.Common.{◌≡◌, ℕ, zero, suc, ◌+◌, ◌≤◌, false, List, [], ◌∷◌, ◌++◌, length, take, refl, ap, arith, Option, Some, None, Ordering}
+-- In a run clocks never fall, places rise, and no fragment is a whole datagram by itself; so its report is that by
+-- places.
+use Rattle.std.proofs.Common.{◌≡◌, ℕ, zero, suc, ◌+◌, ◌≤◌, false, List, [], ◌∷◌, ◌++◌, length, take, refl, ap, arith}
+use Rattle.std.proofs.Common.{Option, Some, None, Ordering}
 use Rattle.std.specs.Prelude.{map, if◌then◌else◌}
 use Rattle.std.specs.Ordering.{is_lt, is_gt, ordering_reverse}
 use Rattle.cap_join.specs.Frames.{is_before}
@@ -17,14 +19,17 @@ use Rattle.cap_join.proofs.ByPlaces.{agree}
 use Rattle.cap_join.proofs.Once.{completed}
 use Rattle.cap_join.specs.Completed.{if_complete}
 use Rattle.cap_join.specs.declared.datagrams.Stamped.{Stamped}
-use Rattle.cap_talks.specs.table.CountedUnits.{counted_in, first_unit, is_limit_by, refusal_at, unit_at, unit_by, units_of}
+use Rattle.cap_talks.specs.table.CountedUnits.{counted_in, first_unit, is_limit_by, refusal_at, unit_at, unit_by}
+use Rattle.cap_talks.specs.table.CountedUnits.{units_of}
 use Rattle.cap_talks.proofs.LoneFragments.{no-lone}
 use Rattle.cap_talks.proofs.Recount.{place_of}
 use Rattle.cap_talks.specs.table.Classes.{classes, classes_in}
-use Rattle.cap_laws.specs.InOrder.{ByPlaces, IsByPlaces, ReportByPlaces, refusal_by_places, refusal_with, text_by_places, unit_after, unit_by_places, units_at}
+use Rattle.cap_laws.specs.InOrder.{ByPlaces, IsByPlaces, ReportByPlaces, refusal_by_places, refusal_with}
+use Rattle.cap_laws.specs.InOrder.{text_by_places, unit_after, unit_by_places, units_at}
 use Rattle.cap_talks.specs.talks.InfoText.{or_else}
 use Rattle.cap_talks.specs.talks.ReportText.{refusal_after, refusal_here, with_item, taken_after}
-use Rattle.cap_talks.specs.table.Taken.{Taken, events_with, events_of, Look, plain, datagram, fragment, look, stamped_of}
+use Rattle.cap_talks.specs.table.Taken.{Taken, events_with, events_of, Look, plain, datagram, fragment, look}
+use Rattle.cap_talks.specs.table.Taken.{stamped_of}
 use Rattle.cap_talks.specs.table.TakenText.{body_by, body_text, files_part}
 
 turned_by : (r s : Ordering) → r ≡ ordering_reverse s → is_gt s ≡ false → is_lt r ≡ false
@@ -33,12 +38,15 @@ turned_by r s e h = grind arith
 pub not_before : (a b : Option Stamp) → AtMost b a → is_before a b ≡ false
 not_before a b h = turned_by (clock_cmp a b) (clock_cmp b a) (clock_total.antisymm a b) h
 
-module _ (x : Taken) (place : ℕ) (es : List Event) (clock : Option Stamp) (rises : AtMost clock x.clock) (ordered : AreInOrder es) (late : AtMost (latest_clock es) clock)
+module _ (x : Taken) (place : ℕ) (es : List Event) (clock : Option Stamp) (rises : AtMost clock x.clock)
+    (ordered : AreInOrder es) (late : AtMost (latest_clock es) clock)
     (below : next_place es ≤ place) where
   pub one_more : (l : Look) → look place x ≡ l
-      → AreInOrder (events_with l x.clock es) × AtMost (latest_clock (events_with l x.clock es)) x.clock × (next_place (events_with l x.clock es) ≤ place + 1)
+      → AreInOrder (events_with l x.clock es) × AtMost (latest_clock (events_with l x.clock es)) x.clock
+      × (next_place (events_with l x.clock es) ≤ place + 1)
   one_more (plain c) is = (ordered, at_most-trans (latest_clock es) clock x.clock late rises, omega (arith, below))
-  one_more (datagram header captured) is = (ordered, at_most-trans (latest_clock es) clock x.clock late rises, omega (arith, below))
+  one_more (datagram header captured) is =
+      (ordered, at_most-trans (latest_clock es) clock x.clock late rises, omega (arith, below))
   one_more (fragment p) is =
       let own : p.stamped.place ≡ place = rw is at (place_of place x) in (
         (
@@ -56,62 +64,88 @@ record Ordered (xs : List Taken) (clock : Option Stamp) : Type 0 where
   late : AtMost (latest_clock (events_of xs)) clock
   below : next_place (events_of xs) ≤ length xs
 
-ordered-more : (x : Taken) (xs : List Taken) (clock : Option Stamp) → AtMost clock x.clock → Ordered xs clock → Ordered (x ∷ xs) x.clock
+ordered-more : (x : Taken) (xs : List Taken) (clock : Option Stamp) → AtMost clock x.clock → Ordered xs clock
+    → Ordered (x ∷ xs) x.clock
 unfolding events_of
 ordered-more x xs clock rises o =
     let more = one_more x (length xs) (events_of xs) clock rises o.order o.late o.below (look (length xs) x) refl in
     record { order = more.0; late = more.1; below = omega (arith, more.2) }
 
-ordered-item : (c clock : Option Stamp) (i : Item) (xs : List Taken) → AtMost clock c → Ordered xs clock → Ordered (with_item c i xs) c
-ordered-item c clock (packet meta frame) xs rises o = ordered-more (record { clock = c; meta = meta; frame = frame }) xs clock rises o
-ordered-item c clock (refused r) xs rises o = record { order = o.order; late = at_most-trans (latest_clock (events_of xs)) clock c o.late rises; below = o.below }
+ordered-item : (c clock : Option Stamp) (i : Item) (xs : List Taken) → AtMost clock c → Ordered xs clock
+    → Ordered (with_item c i xs) c
+ordered-item c clock (packet meta frame) xs rises o =
+    ordered-more (record { clock = c; meta = meta; frame = frame }) xs clock rises o
+ordered-item c clock (refused r) xs rises o = record {
+  order = o.order;
+  late =
+      at_most-trans (latest_clock (events_of xs)) clock c o.late rises;
+  below = o.below;
+}
 
-ordered-run : (run : List (Clocked Item)) (clock : Option Stamp) (xs : List Taken) → NeverFalls clock run → Ordered xs clock → AreInOrder (events_of (taken_after xs run))
+ordered-run : (run : List (Clocked Item)) (clock : Option Stamp) (xs : List Taken) → NeverFalls clock run
+    → Ordered xs clock → AreInOrder (events_of (taken_after xs run))
 unfolding taken_after
 ordered-run [] clock xs h o = o.order
-ordered-run (a ∷ run) clock xs h o = ordered-run run a.clock (with_item a.clock a.item xs) h.1 (ordered-item a.clock clock a.item xs h.0 o)
+ordered-run (a ∷ run) clock xs h o = ordered-run run a.clock (with_item a.clock a.item xs) h.1
+    (ordered-item a.clock clock a.item xs h.0 o)
 
 ordered-none : Ordered [] None
 unfolding events_of
 ordered-none = record { order = tt; late = refl; below = omega arith }
 
 -- the unit of one packet more
-module _ (xs : List Taken) (clock : Option Stamp) (stamped : Stamped) (ordered : AreInOrder (events_of xs)) (late : AtMost (latest_clock (events_of xs)) clock) where
+module _ (xs : List Taken) (clock : Option Stamp) (stamped : Stamped) (ordered : AreInOrder (events_of xs))
+    (late : AtMost (latest_clock (events_of xs)) clock) where
   unit-same : (l : Look) → unit_by l stamped clock (events_of xs) ≡ unit_by_places l stamped clock (events_of xs)
   unit-same (plain c) = refl
   unit-same (datagram header captured) = refl
   unit-same (fragment p) =
       ap (λ pieces. first_unit (if_complete pieces))
-      ((agree open_limit (events_of xs) (omega arith) ordered).groups clock p (not_before clock (latest_clock (events_of xs)) late))
+      ((agree open_limit (events_of xs) (omega arith) ordered).groups clock p
+      (not_before clock (latest_clock (events_of xs)) late))
 
 record Places (xs : List Taken) (clock : Option Stamp) : Type 0 where
   ordered : Ordered xs clock
   units : units_of xs ≡ units_at xs
 
-places-more : (x : Taken) (xs : List Taken) (clock : Option Stamp) → AtMost clock x.clock → Places xs clock → Places (x ∷ xs) x.clock
+places-more : (x : Taken) (xs : List Taken) (clock : Option Stamp) → AtMost clock x.clock → Places xs clock
+    → Places (x ∷ xs) x.clock
 unfolding units_of units_at unit_at
 places-more x xs clock rises p =
     let late = at_most-trans (latest_clock (events_of xs)) clock x.clock p.ordered.late rises in
     record {
       ordered = ordered-more x xs clock rises p.ordered;
-      units = rw (p.units, unit-same xs x.clock (stamped_of (length xs) x.meta) p.ordered.order late (look (length xs) x)) refl;
+      units = rw (
+        p.units,
+        unit-same xs x.clock (stamped_of (length xs) x.meta) p.ordered.order late
+            (look (length xs) x),
+      ) refl;
     }
 
-places-item : (c clock : Option Stamp) (i : Item) (xs : List Taken) → AtMost clock c → Places xs clock → Places (with_item c i xs) c
-places-item c clock (packet meta frame) xs rises p = places-more (record { clock = c; meta = meta; frame = frame }) xs clock rises p
-places-item c clock (refused r) xs rises p = record { ordered = ordered-item c clock (refused r) xs rises p.ordered; units = p.units }
+places-item : (c clock : Option Stamp) (i : Item) (xs : List Taken) → AtMost clock c → Places xs clock
+    → Places (with_item c i xs) c
+places-item c clock (packet meta frame) xs rises p =
+    places-more (record { clock = c; meta = meta; frame = frame }) xs clock rises p
+places-item c clock (refused r) xs rises p = record {
+  ordered =
+      ordered-item c clock (refused r) xs rises p.ordered;
+  units = p.units;
+}
 
-places-taken : (run : List (Clocked Item)) (clock : Option Stamp) (xs : List Taken) → NeverFalls clock run → Places xs clock
+places-taken : (run : List (Clocked Item)) (clock : Option Stamp) (xs : List Taken) → NeverFalls clock run
+    → Places xs clock
     → (late : Option Stamp) × Places (taken_after xs run) late
 unfolding taken_after
 places-taken [] clock xs h p = (clock, p)
-places-taken (a ∷ run) clock xs h p = places-taken run a.clock (with_item a.clock a.item xs) h.1 (places-item a.clock clock a.item xs h.0 p)
+places-taken (a ∷ run) clock xs h p = places-taken run a.clock (with_item a.clock a.item xs) h.1
+    (places-item a.clock clock a.item xs h.0 p)
 
 places-none : Places [] None
 unfolding units_of units_at
 places-none = record { ordered = ordered-none; units = refl }
 
-falls-take : (n : ℕ) (clock : Option Stamp) (run : List (Clocked Item)) → NeverFalls clock run → NeverFalls clock (take n run)
+falls-take : (n : ℕ) (clock : Option Stamp) (run : List (Clocked Item)) → NeverFalls clock run
+    → NeverFalls clock (take n run)
 falls-take zero clock run h = tt
 falls-take (suc n) clock [] h = tt
 falls-take (suc n) clock (x ∷ xs) h = (h.0, falls-take n x.clock xs h.1)
@@ -132,7 +166,8 @@ is-by-places xs clock p =
 pub by-places : ByPlaces
 by-places files n =
     let r = run item_time is_refusal (map opened files) in
-    let after = places-taken (take n r) None [] (falls-take n None r (run-rises item_time is_refusal files)) places-none in
+    let after = places-taken (take n r) None [] (falls-take n None r (run-rises item_time is_refusal files))
+    places-none in
     is-by-places (taken_after [] (take n r)) after.0 after.1
 
 -- the refusal of a run
@@ -144,12 +179,15 @@ limit-same x clock xs rises p =
     let unit = unit-same xs x.clock (stamped_of (length xs) x.meta) p.ordered.order late (look (length xs) x) in
     λ i. is_limit_by (p.units i) (unit i)
 
-refusal-item : (c clock : Option Stamp) (i : Item) (xs : List Taken) → AtMost clock c → Places xs clock → refusal_here xs c i ≡ refusal_with xs c i
+refusal-item : (c clock : Option Stamp) (i : Item) (xs : List Taken) → AtMost clock c → Places xs clock
+    → refusal_here xs c i ≡ refusal_with xs c i
 refusal-item c clock (packet meta frame) xs rises p =
-    ap (λ b. if b then Some (refusal_at meta) else None) (limit-same (record { clock = c; meta = meta; frame = frame }) clock xs rises p)
+    ap (λ b. if b then Some (refusal_at meta) else None)
+    (limit-same (record { clock = c; meta = meta; frame = frame }) clock xs rises p)
 refusal-item c clock (refused r) xs rises p = refl
 
-refusal-run : (run : List (Clocked Item)) (clock : Option Stamp) (xs : List Taken) → NeverFalls clock run → Places xs clock
+refusal-run : (run : List (Clocked Item)) (clock : Option Stamp) (xs : List Taken) → NeverFalls clock run
+    → Places xs clock
     → refusal_after xs run ≡ refusal_by_places xs run
 unfolding refusal_after refusal_by_places
 refusal-run [] clock xs h p = refl
@@ -167,6 +205,7 @@ report-by-places count endings files =
     let xs = taken_after [] r in
     let is = is-by-places xs after.0 after.1 in
     record {
-      text = λ i. files_part count (Some endings) xs ++ body_by xs (is.classes_are i) (is.units_are i) (is.joined i) (is.given_up i);
+      text = λ i. files_part count (Some endings) xs
+          ++ body_by xs (is.classes_are i) (is.units_are i) (is.joined i) (is.given_up i);
       refusal = refusal-run r None [] rises places-none;
     }

@@ -1,5 +1,6 @@
 -- What is made of fragments whose frames have the same times, maybe in other forms.
-use Rattle.std.proofs.Common.{arith, ◌≡◌, ℕ, zero, suc, ◌+◌, ◌*◌, Bool, false, List, [], ◌∷◌, length, refl, Option, Some, None, ◌||◌, ◌&&◌}
+use Rattle.std.proofs.Common.{arith, ◌≡◌, ℕ, zero, suc, ◌+◌, ◌*◌, Bool, false, List, [], ◌∷◌, length, refl, Option}
+use Rattle.std.proofs.Common.{Some, None, ◌||◌, ◌&&◌}
 use Rattle.std.specs.List.{AllZip, range_with_len}
 use Rattle.std.specs.Option.{option_map_or}
 use Rattle.std.specs.Prelude.{◌==◌, map, if◌then◌else◌}
@@ -27,7 +28,8 @@ LikeFrames None (Some t) = ⊥
 LikeFrames (Some s) None = ⊥
 LikeFrames (Some s) (Some t) = IsLikeFrame s t
 
-one-of : (s t x y : Stamped) → IsLikeFrame s t → IsLikeFrame x y → (b c : Bool) → b ≡ c → LikeFrames (if b then Some s else Some x) (if c then Some t else Some y)
+one-of : (s t x y : Stamped) → IsLikeFrame s t → IsLikeFrame x y → (b c : Bool) → b ≡ c
+    → LikeFrames (if b then Some s else Some x) (if c then Some t else Some y)
 one-of s t x y h k b c e = grind arith
 
 earlier-like : (a b c d : Option Stamped) → LikeFrames a b → LikeFrames c d → LikeFrames (earlier a c) (earlier b d)
@@ -58,7 +60,8 @@ last-like (p ∷ ps) (q ∷ qs) h = grind (arith, last-like ps qs h.1, later-lik
 last-like ps qs h = grind arith
 
 covered-like : (ps qs : List Piece) → Like ps qs → (k : ℕ) → is_covered ps k ≡ is_covered qs k
-covered-like (p ∷ ps) (q ∷ qs) h k = λ i. is_within (h.0.start i) (h.0.start i + length (h.0.bytes i)) (8 * k) || covered-like ps qs h.1 k i
+covered-like (p ∷ ps) (q ∷ qs) h k = λ i. is_within (h.0.start i) (h.0.start i + length (h.0.bytes i)) (8 * k)
+    || covered-like ps qs h.1 k i
 covered-like ps qs h k = grind arith
 
 covers-like : (ps qs : List Piece) → Like ps qs → (n : ℕ) → covers_below ps n ≡ covers_below qs n
@@ -66,7 +69,8 @@ covers-like ps qs h zero = refl
 covers-like ps qs h (suc n) = λ i. covered-like ps qs h n i && covers-like ps qs h n i
 
 total-like : (ps qs : List Piece) → Like ps qs → total_of ps ≡ total_of qs
-total-like (p ∷ ps) (q ∷ qs) h = λ i. if h.0.more i then total-like ps qs h.1 i else Some (h.0.start i + length (h.0.bytes i))
+total-like (p ∷ ps) (q ∷ qs) h = λ i. if h.0.more i then total-like ps qs h.1 i else Some
+    (h.0.start i + length (h.0.bytes i))
 total-like ps qs h = grind arith
 
 pub header-like : (ps qs : List Piece) → Like ps qs → header_of ps ≡ header_of qs
@@ -83,7 +87,8 @@ completes-like ps qs h = λ i. option_map_or (λ n. covers-like ps qs h (blocks 
 
 pub data-like : (ps qs : List Piece) → Like ps qs → data_of ps ≡ data_of qs
 unfolding data_of
-data-like ps qs h = λ i. option_map_or (λ n. map (λ k. byte-like ps qs h k i) (range_with_len 0 n)) (total-like ps qs h i) []
+data-like ps qs h = λ i. option_map_or (λ n. map (λ k. byte-like ps qs h k i) (range_with_len 0 n))
+    (total-like ps qs h i) []
 
 pub original-like : (ps qs : List Piece) → Like ps qs → original_bytes ps ≡ original_bytes qs
 original-like (p ∷ ps) (q ∷ qs) h = λ i. original-like ps qs h.1 i + h.0.stamped.original i
@@ -93,7 +98,8 @@ pub place-like : (n m : ℕ) (ps qs : List Piece) → n ≡ m → Like ps qs →
 place-like n m (p ∷ ps) (q ∷ qs) e h = λ i. (h.0.stamped.place i == e i) || place-like n m ps qs e h.1 i
 place-like n m ps qs e h = grind arith
 
-pub frames-like : (ps qs : List Piece) → Like ps qs → LikeFrames (first_frame ps) (first_frame qs) × LikeFrames (last_frame ps) (last_frame qs)
+pub frames-like : (ps qs : List Piece) → Like ps qs → LikeFrames (first_frame ps) (first_frame qs)
+    × LikeFrames (last_frame ps) (last_frame qs)
 frames-like ps qs h = (first-like ps qs h, last-like ps qs h)
 
 -- ---- groups

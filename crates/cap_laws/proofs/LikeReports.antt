@@ -1,4 +1,5 @@
--- Runs whose packets have the same links, lengths, bytes and times, maybe in other forms, have the same report, but for the forms of times.
+-- Runs whose packets have the same links, lengths, bytes and times, maybe in other forms, have the same report, but for
+-- the forms of times.
 use Rattle.std.proofs.lemmas.Bool.Decides.{nat_tests}
 use Rattle.std.proofs.lemmas.Grind.{common_steps}
 use Rattle.std.proofs.Common.{arith, ◌≡◌, ℕ, ◌+◌, Bool, false, List, [], ◌∷◌, length, refl, sym, Option}
@@ -18,7 +19,8 @@ use Rattle.cap_link.specs.Seen.{Carried, ipv4, other_link, not_ipv4, short, cut 
 use Rattle.cap_source.specs.Times.{meta_time}
 use Rattle.cap_merge.specs.Run.{Clocked}
 use Rattle.cap_source.specs.Feed.{Item, packet, refused}
-use Rattle.cap_talks.specs.table.Classes.{class_by, class_in, class_of, classes, classes_in, counts_of, group_class, groups_of, has_place}
+use Rattle.cap_talks.specs.table.Classes.{class_by, class_in, class_of, classes, classes_in, counts_of, group_class}
+use Rattle.cap_talks.specs.table.Classes.{groups_of, has_place}
 use Rattle.cap_talks.specs.table.CountedUnits.{unit_by, unit_at, listed, units_of, is_limit_at, counted_in}
 use Rattle.cap_talks.specs.talks.ReportText.{with_item, taken_after, refusal_here}
 use Rattle.cap_talks.specs.table.TakenText.{body_text, bytes_of, truncated_of}
@@ -28,7 +30,8 @@ use Rattle.cap_talks.specs.table.Talks.{key_of, rows_of}
 use Rattle.cap_talks.specs.declared.table.classes.Class.TheVariants as class
 use Rattle.cap_talks.specs.declared.table.units.CountedUnit.{CountedUnit}
 use Rattle.cap_time.specs.declared.stamps.Stamp.{Stamp}
-use Rattle.cap_laws.proofs.LikePieces.{IsLike, IsLikeFrame, Like, LikeEvent, data-like, events-groups, header-like, pieces-alike, place-like}
+use Rattle.cap_laws.proofs.LikePieces.{IsLike, IsLikeFrame, Like, LikeEvent, data-like, events-groups, header-like}
+use Rattle.cap_laws.proofs.LikePieces.{pieces-alike, place-like}
 use Rattle.cap_laws.proofs.LikeUnits.{LikeUnit, LikeUnits, first_unit-like, key-like, refused-like, rows-like}
 use Rattle.cap_laws.specs.Forms.{BodyParts, IsSameTalk, SameButForms, counts_text}
 use Rattle.cap_laws.specs.Reports.{Place, place_or, refused_after}
@@ -46,7 +49,8 @@ LikeTaken = AllZip IsLikeTaken
 
 -- two items of runs, which have those clocks, are such packets
 abbrev pub LikeItems : Option Stamp → Option Stamp → Item → Item → Type 0
-LikeItems c d (packet m f) (packet n g) = IsLikeTaken (record { clock = c; meta = m; frame = f }) (record { clock = d; meta = n; frame = g })
+LikeItems c d (packet m f) (packet n g) = IsLikeTaken (record { clock = c; meta = m; frame = f })
+    (record { clock = d; meta = n; frame = g })
 LikeItems c d (packet m f) (refused r) = ⊥
 LikeItems c d (refused q) (packet n g) = ⊥
 LikeItems c d (refused q) (refused r) = ⊥
@@ -67,11 +71,13 @@ LikeLook (datagram h c) (fragment q) = ⊥
 LikeLook (fragment p) (plain l) = ⊥
 LikeLook (fragment p) (datagram i d) = ⊥
 
-piece-like : (header : HeaderFields) (captured : List ℕ) (s t : Stamped) → IsLikeFrame s t → IsLike (piece_of header captured s) (piece_of header captured t)
+piece-like : (header : HeaderFields) (captured : List ℕ) (s t : Stamped) → IsLikeFrame s t
+    → IsLike (piece_of header captured s) (piece_of header captured t)
 unfolding piece_of
 piece-like header captured s t h = record { header = refl; start = refl; more = refl; bytes = refl; stamped = h }
 
-at-like : (c : Carried) (whole : Bool) (s t : Stamped) → IsLikeFrame s t → LikeLook (look_at c whole s) (look_at c whole t)
+at-like : (c : Carried) (whole : Bool) (s t : Stamped) → IsLikeFrame s t
+    → LikeLook (look_at c whole s) (look_at c whole t)
 at-like (ipv4 bytes) whole s t h = grind (arith, piece-like, common_steps, nat_tests)
 at-like other_link whole s t h = refl
 at-like not_ipv4 whole s t h = refl
@@ -87,7 +93,8 @@ taken-length = length_all_zip IsLikeTaken
 
 -- ---- the groups of fragments
 
-events-with : (l k : Look) (c d : Option Stamp) (es fs : List Event) → LikeLook l k → IsSameTime c d → AllZip LikeEvent es fs
+events-with : (l k : Look) (c d : Option Stamp) (es fs : List Event) → LikeLook l k → IsSameTime c d
+    → AllZip LikeEvent es fs
     → AllZip LikeEvent (events_with l c es) (events_with k d fs)
 events-with l k c d es fs e t h = grind arith
 
@@ -112,7 +119,8 @@ class-in gs ks n m h e = grind arith
 class-by : (gs ks : List (List Piece)) (l k : Look) → AllZip Like gs ks → LikeLook l k → class_by gs l ≡ class_by ks k
 class-by gs ks l k h e = grind (arith, class-in)
 
-classes-in : (gs ks : List (List Piece)) (xs ys : List Taken) → AllZip Like gs ks → LikeTaken xs ys → classes_in gs xs ≡ classes_in ks ys
+classes-in : (gs ks : List (List Piece)) (xs ys : List Taken) → AllZip Like gs ks → LikeTaken xs ys
+    → classes_in gs xs ≡ classes_in ks ys
 classes-in gs ks (x ∷ xs) (y ∷ ys) g h = search (classes-in gs ks xs ys g h.1, class-by, look-like, taken-length)
 classes-in gs ks xs ys g h = grind arith
 
@@ -121,20 +129,25 @@ unfolding classes
 classes-like xs ys h = classes-in (groups_of xs) (groups_of ys) xs ys (groups-like xs ys h) h
 
 counted-like : (gs ks : List (List Piece)) → AllZip Like gs ks → counted_in gs ≡ counted_in ks
-counted-like (g ∷ gs) (k ∷ ks) h = λ i. (if Rattle.cap_talks.specs.table.Classes.is_class class.Counted (group-class g k h.0 i) then 1 else 0) + counted-like gs ks h.1 i
+counted-like (g ∷ gs) (k ∷ ks) h =
+    λ i. (if Rattle.cap_talks.specs.table.Classes.is_class class.Counted (group-class g k h.0 i) then 1 else 0) +
+    counted-like gs ks h.1 i
 counted-like gs ks h = grind arith
 
 -- ---- units
 
-unit-by : (l k : Look) (s t : Stamped) (c d : Option Stamp) (es fs : List Event) → LikeLook l k → IsLikeFrame s t → IsSameTime c d → AllZip LikeEvent es fs
+unit-by : (l k : Look) (s t : Stamped) (c d : Option Stamp) (es fs : List Event) → LikeLook l k → IsLikeFrame s t
+    → IsSameTime c d → AllZip LikeEvent es fs
     → LikeUnit (unit_by l s c es) (unit_by k t d fs)
 unit-by (fragment p) (fragment q) s t c d es fs e f u h =
     let ps = joined_pieces c p (state_of open_limit es) in
     let qs = joined_pieces d q (state_of open_limit fs) in
-    first_unit-like (if_complete ps) (if_complete qs) (if_complete-alike IsLike pieces-alike ps qs ((events-groups open_limit es fs h).joined c d p q u e))
+    first_unit-like (if_complete ps) (if_complete qs)
+    (if_complete-alike IsLike pieces-alike ps qs ((events-groups open_limit es fs h).joined c d p q u e))
 unit-by l k s t c d es fs e f u h = grind arith
 
-unit-at : (xs ys : List Taken) (x y : Taken) → LikeTaken xs ys → IsLikeTaken x y → LikeUnit (unit_at xs x) (unit_at ys y)
+unit-at : (xs ys : List Taken) (x y : Taken) → LikeTaken xs ys → IsLikeTaken x y
+    → LikeUnit (unit_at xs x) (unit_at ys y)
 unfolding unit_at
 unit-at xs ys x y h k = grind (arith, taken-length, unit-by, look-like, events-like)
 
@@ -156,11 +169,24 @@ bytes-like (x ∷ xs) (y ∷ ys) h = λ i. bytes-like xs ys h.1 i + h.0.original
 bytes-like xs ys h = grind arith
 
 truncated-like : (xs ys : List Taken) → LikeTaken xs ys → truncated_of xs ≡ truncated_of ys
-truncated-like (x ∷ xs) (y ∷ ys) h = λ i. truncated-like xs ys h.1 i + (if nat_lt (length (h.0.frame i)) (h.0.original i) then 1 else 0)
+truncated-like (x ∷ xs) (y ∷ ys) h = λ i. truncated-like xs ys h.1 i +
+    (if nat_lt (length (h.0.frame i)) (h.0.original i) then 1 else 0)
 truncated-like xs ys h = grind arith
 
 lines-like : (xs ys : List Taken) → LikeTaken xs ys → counts_text xs ≡ counts_text ys
-lines-like xs ys h = grind (arith, taken-length, bytes-like, truncated-like, classes-like, counted-like, groups-like, events-groups, events-like, length_all_zip, talks-like)
+lines-like xs ys h = grind (
+  arith,
+  taken-length,
+  bytes-like,
+  truncated-like,
+  classes-like,
+  counted-like,
+  groups-like,
+  events-groups,
+  events-like,
+  length_all_zip,
+  talks-like,
+)
 
 pub body-parts : BodyParts
 unfolding body_text
@@ -173,27 +199,41 @@ limit-by : (xs ys : List Taken) (u v : Option CountedUnit) → LikeTaken xs ys �
     ≡ option_map_or (λ unit. is_refused talk_limit (rows_of (units_of ys)) (key_of unit)) v false
 limit-by xs ys u v h k = grind (arith, refused-like, key-like, talks-like)
 
-limit-like : (xs ys : List Taken) (x y : Taken) → LikeTaken xs ys → IsLikeTaken x y → is_limit_at xs x ≡ is_limit_at ys y
+limit-like : (xs ys : List Taken) (x y : Taken) → LikeTaken xs ys → IsLikeTaken x y
+    → is_limit_at xs x ≡ is_limit_at ys y
 limit-like xs ys x y h k = limit-by xs ys (unit_at xs x) (unit_at ys y) h (unit-at xs ys x y h k)
 
-refused-here : (c d : Option Stamp) (a b : Item) (xs ys : List Taken) (p q : Option Place) → LikeItems c d a b → LikeTaken xs ys → p ≡ q
+refused-here : (c d : Option Stamp) (a b : Item) (xs ys : List Taken) (p q : Option Place) → LikeItems c d a b
+    → LikeTaken xs ys → p ≡ q
     → place_or (length xs) (refusal_here xs c a) p ≡ place_or (length ys) (refusal_here ys d b) q
 refused-here c d (packet m f) (packet n g) xs ys p q h k e = grind (arith, limit-like, taken-length)
 refused-here c d a b xs ys p q h k e = grind arith
 
 -- ---- runs
 
-with-like : (c d : Option Stamp) (a b : Item) (xs ys : List Taken) → LikeItems c d a b → LikeTaken xs ys → LikeTaken (with_item c a xs) (with_item d b ys)
+with-like : (c d : Option Stamp) (a b : Item) (xs ys : List Taken) → LikeItems c d a b → LikeTaken xs ys
+    → LikeTaken (with_item c a xs) (with_item d b ys)
 with-like c d a b xs ys h k = grind arith
 
-taken-like : (as_ bs : List (Clocked Item)) (xs ys : List Taken) → RunsLike as_ bs → LikeTaken xs ys → LikeTaken (taken_after xs as_) (taken_after ys bs)
+taken-like : (as_ bs : List (Clocked Item)) (xs ys : List Taken) → RunsLike as_ bs → LikeTaken xs ys
+    → LikeTaken (taken_after xs as_) (taken_after ys bs)
 unfolding taken_after
-taken-like (a ∷ as_) (b ∷ bs) xs ys h k = grind (arith, taken-like as_ bs (with_item a.clock a.item xs) (with_item b.clock b.item ys) h.1 (with-like a.clock b.clock a.item b.item xs ys h.0 k))
+taken-like (a ∷ as_) (b ∷ bs) xs ys h k = grind (
+  arith,
+  taken-like as_ bs (with_item a.clock a.item xs) (with_item b.clock b.item ys) h.1
+      (with-like a.clock b.clock a.item b.item xs ys h.0 k),
+)
 taken-like as_ bs xs ys h k = grind arith
 
-pub refusals-like : (as_ bs : List (Clocked Item)) (xs ys : List Taken) → RunsLike as_ bs → LikeTaken xs ys → refused_after xs as_ ≡ refused_after ys bs
+pub refusals-like : (as_ bs : List (Clocked Item)) (xs ys : List Taken) → RunsLike as_ bs → LikeTaken xs ys
+    → refused_after xs as_ ≡ refused_after ys bs
 unfolding refused_after
-refusals-like (a ∷ as_) (b ∷ bs) xs ys h k = search (refusals-like as_ bs (with_item a.clock a.item xs) (with_item b.clock b.item ys) h.1 (with-like a.clock b.clock a.item b.item xs ys h.0 k), refused-here, with-like)
+refusals-like (a ∷ as_) (b ∷ bs) xs ys h k = search (
+  refusals-like as_ bs (with_item a.clock a.item xs) (with_item b.clock b.item ys) h.1
+      (with-like a.clock b.clock a.item b.item xs ys h.0 k),
+  refused-here,
+  with-like,
+)
 refusals-like as_ bs xs ys h k = grind arith
 
 pub same-but-forms : (run again : List (Clocked Item)) → RunsLike run again → SameButForms run again

@@ -16,7 +16,9 @@ use Rattle.cap_join.specs.declared.datagrams.Stamped.{Stamped}
 use Rattle.cap_time.specs.Clock.{clock_cmp}
 use Rattle.cap_talks.specs.table.CountedUnits.{first_unit, group_unit, timed_frame, unit_of}
 use Rattle.cap_talks.specs.table.Rows.{is_refused}
-use Rattle.cap_talks.specs.table.Talks.{Talk, bytes_of, by_time, by_time_down, earlier_frame, frames_of, greatest_frame, key_of, keys_of, later_frame, least_frame, place_or, row_of, rows_of, same_talk, units_of}
+use Rattle.cap_talks.specs.table.Talks.{Talk, bytes_of, by_time, by_time_down, earlier_frame, frames_of, greatest_frame}
+use Rattle.cap_talks.specs.table.Talks.{key_of, keys_of, later_frame, least_frame, place_or, row_of, rows_of, same_talk}
+use Rattle.cap_talks.specs.table.Talks.{units_of}
 use Rattle.cap_talks.specs.table.Units.{ends_of}
 use Rattle.cap_talks.specs.declared.table.rows.TalkKey.{TalkKey}
 use Rattle.cap_talks.specs.declared.table.units.CountedUnit.{CountedUnit}
@@ -54,18 +56,22 @@ LikeUnit None (Some v) = ⊥
 LikeUnit (Some u) None = ⊥
 LikeUnit (Some u) (Some v) = IsLikeUnit u v
 
-between : (ends : Option (End × End)) (protocol frames frames_again bytes bytes_again : ℕ) (first first_again last last_again : Option TimedFrame)
+between : (ends : Option (End × End)) (protocol frames frames_again bytes bytes_again : ℕ)
+    (first first_again last last_again : Option TimedFrame)
     → frames ≡ frames_again → bytes ≡ bytes_again → LikeTimed first first_again → LikeTimed last last_again
-    → LikeUnit (option_map (unit_of protocol frames bytes first last) ends) (option_map (unit_of protocol frames_again bytes_again first_again last_again) ends)
+    → LikeUnit (option_map (unit_of protocol frames bytes first last) ends)
+    (option_map (unit_of protocol frames_again bytes_again first_again last_again) ends)
 between ends protocol frames frames_again bytes bytes_again first first_again last last_again e f g h = grind arith
 
 -- the unit of a group of fragments, of which the data and the header are known
 abbrev unit_with : List Piece → List ℕ → Option HeaderFields → Option CountedUnit
 unit_with pieces bytes header =
-    option_and_then (λ h. option_map (unit_of h.key.protocol (length pieces) (original_bytes pieces) (timed_frame (first_frame pieces)) (timed_frame (last_frame pieces)))
+    option_and_then (λ h. option_map (unit_of h.key.protocol (length pieces) (original_bytes pieces)
+    (timed_frame (first_frame pieces)) (timed_frame (last_frame pieces)))
     (ends_of h.key.source h.key.destination (transport_of h.key.protocol bytes (length bytes)))) header
 
-with-like : (ps qs : List Piece) (bytes : List ℕ) (header : Option HeaderFields) → Like ps qs → LikeUnit (unit_with ps bytes header) (unit_with qs bytes header)
+with-like : (ps qs : List Piece) (bytes : List ℕ) (header : Option HeaderFields) → Like ps qs
+    → LikeUnit (unit_with ps bytes header) (unit_with qs bytes header)
 with-like ps qs bytes header h = grind (arith, between, length_all_zip, original-like, timed_frame-like, frames-like)
 
 pub group-like : (ps qs : List Piece) → Like ps qs → LikeUnit (group_unit ps) (group_unit qs)
@@ -83,12 +89,14 @@ LikeUnits = AllZip IsLikeUnit
 pub key-like : (u v : CountedUnit) → IsLikeUnit u v → key_of u ≡ key_of v
 key-like u v h = cc
 
-filtered : (s : CountedUnit → Bool) → ((u v : CountedUnit) → IsLikeUnit u v → s u ≡ s v) → (us vs : List CountedUnit) → LikeUnits us vs → LikeUnits (filter s us) (filter s vs)
+filtered : (s : CountedUnit → Bool) → ((u v : CountedUnit) → IsLikeUnit u v → s u ≡ s v) → (us vs : List CountedUnit)
+    → LikeUnits us vs → LikeUnits (filter s us) (filter s vs)
 filtered s same (u ∷ us) (v ∷ vs) h = grind (arith, filtered s same us vs h.1)
 filtered s same us vs h = grind arith
 
 keys-like : (us vs : List CountedUnit) → LikeUnits us vs → keys_of us ≡ keys_of vs
-keys-like (u ∷ us) (v ∷ vs) h = λ i. key-like u v h.0 i ∷ filter (λ key. not (same_talk (key-like u v h.0 i) key)) (keys-like us vs h.1 i)
+keys-like (u ∷ us) (v ∷ vs) h = λ i. key-like u v h.0 i
+    ∷ filter (λ key. not (same_talk (key-like u v h.0 i) key)) (keys-like us vs h.1 i)
 keys-like us vs h = grind arith
 
 bytes-like : (us vs : List CountedUnit) → LikeUnits us vs → bytes_of us ≡ bytes_of vs
@@ -103,24 +111,30 @@ one-of : (s t x y : TimedFrame) → LikeTimed (Some s) (Some t) → LikeTimed (S
     → LikeTimed (if b then Some s else Some x) (if c then Some t else Some y)
 one-of s t x y h k b c e = grind arith
 
-earlier-like : (a b c d : Option TimedFrame) → LikeTimed a b → LikeTimed c d → LikeTimed (earlier_frame a c) (earlier_frame b d)
+earlier-like : (a b c d : Option TimedFrame) → LikeTimed a b → LikeTimed c d
+    → LikeTimed (earlier_frame a c) (earlier_frame b d)
 earlier-like (Some x) (Some y) (Some s) (Some t) h k =
     one-of s t x y k h (is_lt (by_time s x)) (is_lt (by_time t y))
-    (λ i. is_lt (ordering_then (cmp_same (Some s.time) (Some t.time) (Some x.time) (Some y.time) k.0 h.0 i) (nat_cmp (k.1 i) (h.1 i))))
+    (λ i. is_lt (ordering_then (cmp_same (Some s.time) (Some t.time) (Some x.time) (Some y.time) k.0 h.0 i)
+    (nat_cmp (k.1 i) (h.1 i))))
 earlier-like a b c d h k = grind arith
 
-later-like : (a b c d : Option TimedFrame) → LikeTimed a b → LikeTimed c d → LikeTimed (later_frame a c) (later_frame b d)
+later-like : (a b c d : Option TimedFrame) → LikeTimed a b → LikeTimed c d
+    → LikeTimed (later_frame a c) (later_frame b d)
 later-like (Some x) (Some y) (Some s) (Some t) h k =
     one-of s t x y k h (is_lt (by_time_down s x)) (is_lt (by_time_down t y))
-    (λ i. is_lt (ordering_then (cmp_same (Some x.time) (Some y.time) (Some s.time) (Some t.time) h.0 k.0 i) (nat_cmp (k.1 i) (h.1 i))))
+    (λ i. is_lt (ordering_then (cmp_same (Some x.time) (Some y.time) (Some s.time) (Some t.time) h.0 k.0 i)
+    (nat_cmp (k.1 i) (h.1 i))))
 later-like a b c d h k = grind arith
 
 least-like : (us vs : List CountedUnit) → LikeUnits us vs → LikeTimed (least_frame us) (least_frame vs)
-least-like (u ∷ us) (v ∷ vs) h = earlier-like u.first v.first (least_frame us) (least_frame vs) h.0.first (least-like us vs h.1)
+least-like (u ∷ us) (v ∷ vs) h = earlier-like u.first v.first (least_frame us) (least_frame vs) h.0.first
+    (least-like us vs h.1)
 least-like us vs h = grind arith
 
 greatest-like : (us vs : List CountedUnit) → LikeUnits us vs → LikeTimed (greatest_frame us) (greatest_frame vs)
-greatest-like (u ∷ us) (v ∷ vs) h = later-like u.last v.last (greatest_frame us) (greatest_frame vs) h.0.last (greatest-like us vs h.1)
+greatest-like (u ∷ us) (v ∷ vs) h = later-like u.last v.last (greatest_frame us) (greatest_frame vs) h.0.last
+    (greatest-like us vs h.1)
 greatest-like us vs h = grind arith
 
 place-like : (a b : Option TimedFrame) → LikeTimed a b → place_or a 0 ≡ place_or b 0
@@ -130,11 +144,13 @@ row-like : (key : TalkKey) (us vs : List CountedUnit) → LikeUnits us vs → Is
 row-like key us vs h = grind (arith, filtered, not, least-like, greatest-like, counts-like, bytes-like, place-like)
 
 rows-at : (keys : List TalkKey) (us vs : List CountedUnit) → LikeUnits us vs
-    → AllZip IsSameTalk (map (λ key. (key, row_of (units_of key us))) keys) (map (λ key. (key, row_of (units_of key vs))) keys)
+    → AllZip IsSameTalk (map (λ key. (key, row_of (units_of key us))) keys)
+    (map (λ key. (key, row_of (units_of key vs))) keys)
 rows-at [] us vs h = tt
 rows-at (key ∷ keys) us vs h = (
   row-like key (units_of key us) (units_of key vs)
-      (filtered (λ u. same_talk key (key_of u)) (λ u v k. ap (λ (x : TalkKey). same_talk key x) (key-like u v k)) us vs h),
+      (filtered (λ u. same_talk key (key_of u)) (λ u v k. ap (λ (x : TalkKey). same_talk key x)
+      (key-like u v k)) us vs h),
   rows-at keys us vs h,
 )
 
@@ -142,9 +158,11 @@ pub rows-like : (us vs : List CountedUnit) → LikeUnits us vs → AllZip IsSame
 unfolding rows_of
 rows-like us vs h = grind (arith, keys-like, rows-at)
 
-found-like : (key : TalkKey) (xs ys : List Talk) → AllZip IsSameTalk xs ys → is_some (lookup (same_talk key) xs) ≡ is_some (lookup (same_talk key) ys)
+found-like : (key : TalkKey) (xs ys : List Talk) → AllZip IsSameTalk xs ys
+    → is_some (lookup (same_talk key) xs) ≡ is_some (lookup (same_talk key) ys)
 found-like key (x ∷ xs) (y ∷ ys) h = grind (arith, found-like key xs ys h.1)
 found-like key xs ys h = grind arith
 
-pub refused-like : (limit : ℕ) (key other : TalkKey) (xs ys : List Talk) → key ≡ other → AllZip IsSameTalk xs ys → is_refused limit xs key ≡ is_refused limit ys other
+pub refused-like : (limit : ℕ) (key other : TalkKey) (xs ys : List Talk) → key ≡ other → AllZip IsSameTalk xs ys
+    → is_refused limit xs key ≡ is_refused limit ys other
 refused-like limit key other xs ys e h = grind (arith, found-like, length_all_zip)

@@ -14,7 +14,8 @@ use Rattle.cap_time.specs.declared.stamps.Stamp.{Stamp}
 -- the items of a file, after which it has reached a clock, each with its own
 abbrev clocked_from : {A : Type 0} → (A → Option Stamp) → Option Stamp → List A → List (Clocked A)
 clocked_from time clock [] = []
-clocked_from time clock (x ∷ xs) = record { clock = later clock (time x); item = x } ∷ clocked_from time (later clock (time x)) xs
+clocked_from time clock (x ∷ xs) = record { clock = later clock (time x); item = x }
+    ∷ clocked_from time (later clock (time x)) xs
 
 merged-one : {A : Type 0} (time : A → Option Stamp) (clock : Option Stamp) (items : List A)
     → merged time (record { clock = clock; items = items } ∷ []) ≡ clocked_from time clock items
@@ -27,9 +28,11 @@ some-none : (r : Refusal) → Some r ≡ None → ⊥
 some-none r e = cc
 
 -- without a refusal, all of them
-all-items : (clock : Option Stamp) (xs : List Item) → refusal_of xs ≡ None → map (λ x. x.item) (through_first (λ x. is_refusal x.item) (clocked_from item_time clock xs)) ≡ xs
+all-items : (clock : Option Stamp) (xs : List Item) → refusal_of xs ≡ None
+    → map (λ x. x.item) (through_first (λ x. is_refusal x.item) (clocked_from item_time clock xs)) ≡ xs
 unfolding refusal_of
-all-items clock (packet meta frame ∷ xs) none = ap (λ l. packet meta frame ∷ l) (all-items (later clock (meta_time meta)) xs none)
+all-items clock (packet meta frame ∷ xs) none =
+    ap (λ l. packet meta frame ∷ l) (all-items (later clock (meta_time meta)) xs none)
 all-items clock xs none = grind (arith, some-none)
 
 -- The run of one file without a refusal has the file's items.

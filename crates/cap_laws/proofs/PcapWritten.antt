@@ -36,8 +36,10 @@ later_by : (t u x y : Option Stamp) (b c : Bool) → b ≡ c → clock_cmp t u �
     → clock_cmp (if b then x else t) (if c then y else u) ≡ Equal
 later_by t u x y b c e h k = grind arith
 
-later-same : (t u x y : Option Stamp) → clock_cmp t u ≡ Equal → clock_cmp x y ≡ Equal → clock_cmp (later t x) (later u y) ≡ Equal
-later-same t u x y h k = later_by t u x y (is_lt (clock_cmp t x)) (is_lt (clock_cmp u y)) (ap is_lt (cmp_same t u x y h k)) h k
+later-same : (t u x y : Option Stamp) → clock_cmp t u ≡ Equal → clock_cmp x y ≡ Equal
+    → clock_cmp (later t x) (later u y) ≡ Equal
+later-same t u x y h k = later_by t u x y (is_lt (clock_cmp t x)) (is_lt (clock_cmp u y))
+    (ap is_lt (cmp_same t u x y h k)) h k
 
 times : (a b : Item) → SamePackets a b → clock_cmp (item_time a) (item_time b) ≡ Equal
 times a b h = grind arith
@@ -45,9 +47,16 @@ times a b h = grind arith
 items-like : (c d : Option Stamp) (a b : Item) → clock_cmp c d ≡ Equal → SamePackets a b → LikeItems c d a b
 items-like c d a b e h = grind arith
 
-runs-like : (t u : Option Stamp) (as_ bs : List (Clocked Item)) → clock_cmp t u ≡ Equal → ClocksAreTold item_time t as_ → ClocksAreTold item_time u bs
+runs-like : (t u : Option Stamp) (as_ bs : List (Clocked Item)) → clock_cmp t u ≡ Equal → ClocksAreTold item_time t as_
+    → ClocksAreTold item_time u bs
     → AllZip SamePackets (map (λ x. x.item) as_) (map (λ x. x.item) bs) → RunsLike as_ bs
-runs-like t u (a ∷ as_) (b ∷ bs) e h k w = search (runs-like (later t (item_time a.item)) (later u (item_time b.item)) as_ bs, later-same, times, told_twice, items-like)
+runs-like t u (a ∷ as_) (b ∷ bs) e h k w = search (
+  runs-like (later t (item_time a.item)) (later u (item_time b.item)) as_ bs,
+  later-same,
+  times,
+  told_twice,
+  items-like,
+)
 runs-like t u as_ bs e h k w = grind arith
 
 pub pcap-report : PcapAgain → PcapReport
@@ -58,7 +67,9 @@ pcap-report again-law order tail tail_again bytes are none short =
     let one : run_of_lists (items ∷ []) ≡ items = run-one items (never-first items again same) in
     let other : run_of_lists (again ∷ []) ≡ again = run-one again (never-again items again same) in
     let both : AllZip SamePackets (run_of_lists (items ∷ [])) (run_of_lists (again ∷ [])) =
-    subst (λ (xs : List Item). AllZip SamePackets xs (run_of_lists (again ∷ []))) (sym one) (subst (λ (ys : List Item). AllZip SamePackets items ys) (sym other) same) in
+    subst (λ (xs : List Item). AllZip SamePackets xs (run_of_lists (again ∷ []))) (sym one)
+    (subst (λ (ys : List Item). AllZip SamePackets items ys) (sym other) same) in
     same-but-forms (clocked_run tail (bytes ∷ [])) (run item_time is_refusal (map opened (again ∷ [])))
-    (runs-like None None (run item_time is_refusal (map opened (items ∷ []))) (run item_time is_refusal (map opened (again ∷ []))) refl
+    (runs-like None None (run item_time is_refusal (map opened (items ∷ [])))
+    (run item_time is_refusal (map opened (again ∷ []))) refl
     (run-clocks item_time is_refusal (items ∷ [])) (run-clocks item_time is_refusal (again ∷ [])) both)

@@ -21,7 +21,8 @@ use Rattle.cap_laws.specs.Rounds.{Group, IsMerged, group_bytes, refused_by, Roun
 abbrev items_each : Tail → List (List ℕ) → List (List Item)
 items_each tail files = map (file_items tail 1) files
 
-numbered-each : (tail : Tail) (file : ℕ) (files : List (List ℕ)) → numbered_files file (items_each tail files) ≡ items_of_files tail file files
+numbered-each : (tail : Tail) (file : ℕ) (files : List (List ℕ))
+    → numbered_files file (items_each tail files) ≡ items_of_files tail file files
 numbered-each tail file [] = refl
 numbered-each tail file (bytes ∷ files) = grind (arith, numbered-each tail (file + 1) files, file-numbered)
 
@@ -38,21 +39,26 @@ some-none : (r : Refusal) → Some r ≡ None → ⊥
 some-none r e = cc
 
 -- if each packet is written, and its instance is its number, the items are those of what is written
-items-are : (origins : List Origin) (items : List Item) → refusal_in origins items ≡ None → instances items ≡ numbers (numbered origins items)
+items-are : (origins : List Origin) (items : List Item) → refusal_in origins items ≡ None
+    → instances items ≡ numbers (numbered origins items)
     → AllZip IsItemOf (numbered origins items) items
 unfolding numbered instances
-items-are origins (packet meta frame ∷ items) none same = grind (arith, items-are (with_origin origins meta) items, goes, instances, numbers)
+items-are origins (packet meta frame ∷ items) none same =
+    grind (arith, items-are (with_origin origins meta) items, goes, instances, numbers)
 items-are origins items none same = grind (arith, some-none, refuses)
 
 -- ---- groups
 
 merges-of : MergeLaw → (tail tail_again : Tail) (groups : List Group) → AllByRecursion (IsMerged tail) groups
-    → AllZip IsMergeOf (map (λ group. items_each tail group.files) groups) (items_each tail_again (map (group_bytes tail) groups))
+    → AllZip IsMergeOf (map (λ group. items_each tail group.files) groups)
+    (items_each tail_again (map (group_bytes tail) groups))
 merges-of law tail tail_again [] are = tt
-merges-of law tail tail_again (group ∷ groups) are = grind (arith, merges-of law tail tail_again groups are.1, run-each, items-are)
+merges-of law tail tail_again (group ∷ groups) are =
+    grind (arith, merges-of law tail tail_again groups are.1, run-each, items-are)
 
 all-files : (tail : Tail) (groups : List Group)
-    → flat_map (λ files. files) (map (λ group. items_each tail group.files) groups) ≡ items_each tail (flat_map (λ group. group.files) groups)
+    → flat_map (λ files. files) (map (λ group. items_each tail group.files) groups)
+    ≡ items_each tail (flat_map (λ group. group.files) groups)
 all-files tail [] = refl
 all-files tail (group ∷ groups) = search (all-files tail groups, map-append)
 
@@ -64,7 +70,8 @@ rounds-in-bytes merge-law rounds-law order tail tail_again groups are =
     let files = flat_map (λ group. group.files) groups in
     let texts = map (group_bytes tail) groups in
     let law = rounds-law parts (items_each tail_again texts) (merges-of merge-law tail tail_again groups are) in
-    let whole : run_of (flat_map (λ lists. lists) parts) ≡ run_of_files tail files = ap run_of (all-files tail groups) ∙ run-each tail files in
+    let whole : run_of (flat_map (λ lists. lists) parts) ≡ run_of_files tail files = ap run_of (all-files tail groups)
+    ∙ run-each tail files in
     let rounds = run-each tail_again texts in
     let packets : numbered [] (run_of_files tail_again texts) ≡ numbered [] (run_of_files tail files) =
     sym (ap (numbered []) rounds) ∙ (law.0 ∙ ap (numbered []) whole) in (

@@ -31,17 +31,20 @@ some-none a e = cc
 -- a packet that isn't refused: it has a time, and is the next of those that are written
 pub record Goes (origins : List Origin) (meta : Meta) (frame : List ℕ) (items : List Item) : Type 0 where
   pub timed : is_none meta.units ≡ false
-  pub packets : numbered origins (packet meta frame ∷ items) ≡ numbered_of origins meta frame ∷ numbered (with_origin origins meta) items
+  pub packets : numbered origins (packet meta frame ∷ items) ≡ numbered_of origins meta frame
+      ∷ numbered (with_origin origins meta) items
   pub rest : refusal_in (with_origin origins meta) items ≡ None
 
-timed_by : (b full : Bool) → (if b then Some NoTime else (if full then Some InterfaceLimit else None)) ≡ None → b ≡ false
+timed_by : (b full : Bool) → (if b then Some NoTime else (if full then Some InterfaceLimit else None))
+    ≡ None → b ≡ false
 timed_by b full e = grind arith
 
 time_of : (origins : List Origin) (meta : Meta) → write_fault origins meta ≡ None → is_none meta.units ≡ false
 unfolding write_fault
 time_of origins meta e = timed_by (is_none meta.units) (is_full origins meta) e
 
-pub goes : (origins : List Origin) (meta : Meta) (frame : List ℕ) (items : List Item) → refusal_in origins (packet meta frame ∷ items) ≡ None → Goes origins meta frame items
+pub goes : (origins : List Origin) (meta : Meta) (frame : List ℕ) (items : List Item)
+    → refusal_in origins (packet meta frame ∷ items) ≡ None → Goes origins meta frame items
 unfolding numbered refusal_in
 goes origins meta frame items none = grind (arith, some-none, time_of)
 
@@ -55,11 +58,14 @@ nothing : (origins : List Origin) → numbered origins [] ≡ []
 unfolding numbered
 nothing origins = refl
 
-pub refuses : (origins : List Origin) (r : Refusal) (items : List Item) → refusal_in origins (refused r ∷ items) ≡ Some r
+pub refuses : (origins : List Origin) (r : Refusal) (items : List Item)
+    → refusal_in origins (refused r ∷ items) ≡ Some r
 unfolding refusal_in
 refuses origins r items = refl
 
 -- Lists of which the same packets are written, and none is refused, are such packets one by one.
-pub twins : (origins others : List Origin) (xs ys : List Item) → refusal_in origins xs ≡ None → refusal_in others ys ≡ None → numbered origins xs ≡ numbered others ys → AllZip TwinItems xs ys
-twins origins others (packet m f ∷ xs) (packet n g ∷ ys) h k e = grind (arith, twins (with_origin origins m) (with_origin others n) xs ys, goes, heads, same_units)
+pub twins : (origins others : List Origin) (xs ys : List Item) → refusal_in origins xs ≡ None
+    → refusal_in others ys ≡ None → numbered origins xs ≡ numbered others ys → AllZip TwinItems xs ys
+twins origins others (packet m f ∷ xs) (packet n g ∷ ys) h k e =
+    grind (arith, twins (with_origin origins m) (with_origin others n) xs ys, goes, heads, same_units)
 twins origins others xs ys h k e = grind (arith, goes, nothing, none-some, refuses)

@@ -2,8 +2,10 @@
 use Rattle.std.proofs.Common.{refl}
 use Rattle.std.specs.Fmt.{digits}
 use Rattle.cap_bytes.specs.Number.{number}
-use Rattle.cap_ip.specs.Fields.{version, header_length, service, total_length, identification, more_fragments, offset, time_to_live, protocol, source, destination, data_length, is_fragment}
-use Rattle.cap_ip.specs.Read.{key_of, fragment_of, fields_of, data_of as header_data, ended, is_malformed, lacks_data, is_overstated, is_misfit, is_partial, read_of}
+use Rattle.cap_ip.specs.Fields.{version, header_length, service, total_length, identification, more_fragments, offset}
+use Rattle.cap_ip.specs.Fields.{time_to_live, protocol, source, destination, data_length, is_fragment}
+use Rattle.cap_ip.specs.Read.{key_of, fragment_of, fields_of, data_of as header_data, ended, is_malformed, lacks_data}
+use Rattle.cap_ip.specs.Read.{is_overstated, is_misfit, is_partial, read_of}
 use Rattle.cap_ip.specs.Transport.{ports_of, udp_length, udp_of, tcp_header_length, tcp_of, transport_of}
 use Rattle.cap_join.specs.ByteMap.{completes, data_of}
 use Rattle.cap_join.specs.Fragments.{piece_of}
@@ -23,9 +25,19 @@ use Rattle.cap_talks.specs.table.CountedUnits.{group_unit, unit_at, units_of}
 use Rattle.cap_laws.specs.WorkedReport.{Overlapped, Tagged}
 
 pub overlapped : Overlapped
-unfolding digits number version header_length service total_length identification more_fragments offset time_to_live protocol source destination data_length is_fragment key_of fragment_of fields_of header_data ended is_malformed lacks_data is_overstated is_misfit is_partial read_of ports_of udp_length udp_of tcp_header_length tcp_of transport_of completes data_of piece_of joined_pieces step state_of typed raw network_of counted rows_of units_of_code stamp_cmp stamp_in stamp_plus time_cmp time_at floor_of remainder_of classes group_class completed_of body_text files_part look events_of group_unit unit_at units_of
+unfolding digits number version header_length service total_length identification more_fragments offset time_to_live
+    protocol source destination data_length is_fragment key_of fragment_of fields_of header_data ended is_malformed
+    lacks_data is_overstated is_misfit is_partial read_of ports_of udp_length udp_of tcp_header_length tcp_of
+    transport_of completes data_of piece_of joined_pieces step state_of typed raw network_of counted rows_of
+    units_of_code stamp_cmp stamp_in stamp_plus time_cmp time_at floor_of remainder_of classes group_class completed_of
+    body_text files_part look events_of group_unit unit_at units_of
 overlapped = record { before = refl; after = refl; so_far = refl; done = refl }
 
 pub tagged : Tagged
-unfolding digits number version header_length service total_length identification more_fragments offset time_to_live protocol source destination data_length is_fragment key_of fragment_of fields_of header_data ended is_malformed lacks_data is_overstated is_misfit is_partial read_of ports_of udp_length udp_of tcp_header_length tcp_of transport_of completes data_of piece_of joined_pieces step state_of typed raw network_of counted rows_of units_of_code stamp_cmp stamp_in stamp_plus time_cmp time_at floor_of remainder_of classes group_class completed_of body_text files_part look events_of group_unit unit_at units_of is_tag tag_ended payload carried
+unfolding digits number version header_length service total_length identification more_fragments offset time_to_live
+    protocol source destination data_length is_fragment key_of fragment_of fields_of header_data ended is_malformed
+    lacks_data is_overstated is_misfit is_partial read_of ports_of udp_length udp_of tcp_header_length tcp_of
+    transport_of completes data_of piece_of joined_pieces step state_of typed raw network_of counted rows_of
+    units_of_code stamp_cmp stamp_in stamp_plus time_cmp time_at floor_of remainder_of classes group_class completed_of
+    body_text files_part look events_of group_unit unit_at units_of is_tag tag_ended payload carried
 tagged = record { classes_are = refl; done = refl }

@@ -25,7 +25,8 @@ use Rattle.cap_laws.specs.Runs.{MergedRun, PcapngRun, SameRun}
 merged_items : (order : Order) (tail tail_again : Tail) (files : List (List ℕ)) → List Item
 merged_items order tail tail_again files = file_items tail_again 1 (merged_bytes order (run_of_files tail files))
 
-merged-rewritten : MergeLaw → (order : Order) (tail tail_again : Tail) (files : List (List ℕ)) → AllByRecursion AreBytes files
+merged-rewritten : MergeLaw → (order : Order) (tail tail_again : Tail) (files : List (List ℕ))
+    → AllByRecursion AreBytes files
     → merged_refusal (run_of_files tail files) ≡ None → length (merged_bytes order (run_of_files tail files)) ≤ 2 ^ 40
     → IsRewritten [] [] (items_of_files tail 1 files) (merged_items order tail tail_again files ∷ [])
 unfolding run_of_files merged_items
@@ -33,7 +34,13 @@ merged-rewritten merge-law order tail tail_again files bytes none short = grind 
 
 pub merged-report : MergeLaw → MergedReport
 unfolding merged_items
-merged-report merge-law order tail tail_again files bytes none short = search (same-run, merged_items, merged-rewritten, merged-rewritten merge-law order tail tail_again files bytes none short)
+merged-report merge-law order tail tail_again files bytes none short =
+    search (
+      same-run,
+      merged_items,
+      merged-rewritten,
+      merged-rewritten merge-law order tail tail_again files bytes none short,
+    )
 
 -- ---- a file as pcapng
 
@@ -47,19 +54,27 @@ unrefused origins (packet meta frame ∷ items) none = grind (arith, unrefused (
 unrefused origins items none = cc
 
 pcapng_items : (order : Order) (tail tail_again : Tail) (bytes : List ℕ) → List Item
-pcapng_items order tail tail_again bytes = file_items tail_again 1 (pcapng_bytes order 1 (file_first tail 1 bytes) (file_items tail 1 bytes))
+pcapng_items order tail tail_again bytes = file_items tail_again 1
+    (pcapng_bytes order 1 (file_first tail 1 bytes) (file_items tail 1 bytes))
 
 pcapng-rewritten : PcapngAgain → (order : Order) (tail tail_again : Tail) (bytes : List ℕ) → AreBytes bytes
     → pcapng_refusal 1 (file_first tail 1 bytes) (file_items tail 1 bytes) ≡ None
     → length (pcapng_bytes order 1 (file_first tail 1 bytes) (file_items tail 1 bytes)) ≤ 2 ^ 40
-    → IsRewritten (first_origins 1 (file_first tail 1 bytes)) (first_origins 1 (file_first tail 1 bytes)) (file_items tail 1 bytes ∷ [])
+    → IsRewritten (first_origins 1 (file_first tail 1 bytes)) (first_origins 1 (file_first tail 1 bytes))
+    (file_items tail 1 bytes ∷ [])
     (pcapng_items order tail tail_again bytes ∷ [])
 unfolding pcapng_items
 pcapng-rewritten again-law order tail tail_again bytes are none short = grind (arith, run-one, unrefused)
 
 pub pcapng-report : PcapngAgain → PcapngReport
 unfolding pcapng_items
-pcapng-report again-law order tail tail_again bytes are none short = search (same-run, pcapng_items, pcapng-rewritten, pcapng-rewritten again-law order tail tail_again bytes are none short)
+pcapng-report again-law order tail tail_again bytes are none short =
+    search (
+      same-run,
+      pcapng_items,
+      pcapng-rewritten,
+      pcapng-rewritten again-law order tail tail_again bytes are none short,
+    )
 
 -- ---- runs
 
@@ -75,8 +90,10 @@ run-again tail tail_again origins others files text is = search (same-runs, rewr
 
 pub merged-run : MergeLaw → MergedRun
 unfolding merged_items
-merged-run merge-law order tail tail_again files bytes none short = grind (arith, run-again, merged-rewritten, merged-rewritten merge-law order tail tail_again files bytes none short)
+merged-run merge-law order tail tail_again files bytes none short =
+    grind (arith, run-again, merged-rewritten, merged-rewritten merge-law order tail tail_again files bytes none short)
 
 pub pcapng-run : PcapngAgain → PcapngRun
 unfolding pcapng_items
-pcapng-run again-law order tail tail_again bytes are none short = search (run-again, pcapng-rewritten, pcapng-rewritten again-law order tail tail_again bytes are none short)
+pcapng-run again-law order tail tail_again bytes are none short =
+    search (run-again, pcapng-rewritten, pcapng-rewritten again-law order tail tail_again bytes are none short)

@@ -9,6 +9,7 @@ mod Instances
 mod Measured
 mod MergedAgain
 mod MergedFiles
+mod MergedPcap
 mod Out
 mod Packed
 mod PcapAgain

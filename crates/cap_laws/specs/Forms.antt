@@ -20,7 +20,8 @@ use Rattle.cap_talks.specs.table.Talks.{Talk, rows_of}
 use Rattle.cap_write.specs.Pcap.{pcap_bytes, pcap_refusal}
 use Rattle.cap_laws.specs.Reports.{refused_at}
 
--- Two rows of conversations have the same protocol and ends, the same counts and places, and the same times, maybe in another form.
+-- Two rows of conversations have the same protocol and ends, the same counts and places, and the same times, maybe in
+-- another form.
 pub record IsSameTalk (talk again : Talk) : Type 0 where
   pub key : talk.0 ≡ again.0
   pub forward_frames : talk.1.forward_frames ≡ again.1.forward_frames
@@ -35,22 +36,23 @@ pub record IsSameTalk (talk again : Talk) : Type 0 where
 -- the lines `total`, `frames`, `joined` and `talks` of a report
 abbrev pub counts_text : List Taken → List ℕ
 counts_text xs =
-    total_text (length xs) (bytes_of xs) (truncated_of xs) ++ frames_text (counts_of (classes xs)) ++ joined_text (joined_in xs) (given_up_in xs)
+    total_text (length xs) (bytes_of xs) (truncated_of xs) ++ frames_text (counts_of (classes xs))
+    ++ joined_text (joined_in xs) (given_up_in xs)
     ++ talks_text (length (rows_of (units_of xs)))
 
 -- All lines but those of the files are these, and then those of the conversations.
 abbrev pub BodyParts : Type 0
 BodyParts = (xs : List Taken) → body_text xs ≡ counts_text xs ++ talk_texts (rows_of (units_of xs))
 
--- The reports of two runs have the same such lines, and `talk` lines of the same conversations, one by one, or are refused at the same
--- place by the same rule.
+-- The reports of two runs have the same such lines, and `talk` lines of the same conversations, one by one, or are
+-- refused at the same place by the same rule.
 pub record SameButForms (run again : List (Clocked Item)) : Type 0 where
   pub lines : counts_text (taken_after [] again) ≡ counts_text (taken_after [] run)
   pub talks : AllZip IsSameTalk (rows_of (units_of (taken_after [] run))) (rows_of (units_of (taken_after [] again)))
   pub refused : refused_at again ≡ refused_at run
 
--- The pcap file that is written of one file, if nothing is refused and it is at most 2^40 bytes long, has the file's report, but for
--- the forms of times.
+-- The pcap file that is written of one file, if nothing is refused and it is at most 2^40 bytes long, has the file's
+-- report, but for the forms of times.
 abbrev pub PcapReport : Type 0
 PcapReport =
     (order : Order) (tail tail_again : Tail) (bytes : List ℕ) → AreBytes bytes

@@ -1,19 +1,20 @@
 -- The report of a run by places: its classes and units, and what is printed of them.
-use Rattle.std.specs.Prelude.{◌≡◌, ℕ, List, [], ◌∷◌, ◌++◌, map, length, take, Bool, false, Option, Some, None, if◌then◌else◌}
+use Rattle.std.specs.Prelude.{◌≡◌, ℕ, List, [], ◌∷◌, ◌++◌, map, length, take, false, Option, Some, None, if◌then◌else◌}
 use Rattle.cap_bytes.specs.declared.faults.Refusal.{Refusal}
 use Rattle.cap_time.specs.declared.stamps.Stamp.{Stamp}
 use Rattle.cap_join.specs.declared.datagrams.Stamped.{Stamped}
 use Rattle.cap_join.specs.Fragments.{Piece}
 use Rattle.cap_join.specs.Frames.{is_before}
 use Rattle.cap_join.specs.History.{Event, key_of, live_at, state_of}
-use Rattle.cap_talks.specs.table.CountedUnits.{counted_in, first_unit, given_up_in, is_limit_by, joined_in, listed, refusal_at, units_of, whole_unit}
+use Rattle.cap_talks.specs.table.CountedUnits.{counted_in, first_unit, given_up_in, is_limit_by, joined_in, listed}
+use Rattle.cap_talks.specs.table.CountedUnits.{refusal_at, units_of, whole_unit}
 use Rattle.cap_talks.specs.declared.table.units.CountedUnit.{CountedUnit}
 use Rattle.cap_join.specs.Joiners.{open_limit}
 use Rattle.cap_join.specs.Places.{Mark, goes_on, group_by, latest_clock, marks, open_before, times_given_up}
 use Rattle.cap_merge.specs.Parts.{item_time, is_refusal}
 use Rattle.cap_merge.specs.Run.{Clocked, opened, run}
 use Rattle.cap_source.specs.Feed.{Item, packet, refused}
-use Rattle.cap_source.specs.declared.feeds.Ending.{Ending}
+use Rattle.cap_source.specs.declared.feeds.FileEnd.{FileEnd}
 use Rattle.cap_talks.specs.declared.table.classes.Class.{Class}
 use Rattle.cap_talks.specs.table.Classes.{classes, classes_in}
 use Rattle.cap_join.specs.Completed.{completed_at, if_complete}
@@ -48,7 +49,8 @@ unfoldable pub units_at : List Taken → List CountedUnit
 units_at [] = []
 units_at (x ∷ xs) = units_at xs ++ listed (unit_after xs x)
 
--- The classes, the units, how many datagrams were joined that count, how many groups were given up and which are open, of some packets.
+-- The classes, the units, how many datagrams were joined that count, how many groups were given up and which are open,
+-- of some packets.
 pub record IsByPlaces (xs : List Taken) : Type 0 where
   pub classes_are : classes xs ≡ classes_at xs
   pub units_are : units_of xs ≡ units_at xs
@@ -59,30 +61,35 @@ pub record IsByPlaces (xs : List Taken) : Type 0 where
 
 -- In every run all of these are those by places, after each of its items.
 abbrev pub ByPlaces : Type 0
-ByPlaces = (files : List (List Item)) (n : ℕ) → IsByPlaces (taken_after [] (take n (run item_time is_refusal (map opened files))))
+ByPlaces = (files : List (List Item)) (n : ℕ) → IsByPlaces
+    (taken_after [] (take n (run item_time is_refusal (map opened files))))
 
 -- the report of a run of `count` files with those endings, by places
-unfoldable pub text_by_places : ℕ → (ℕ → Ending) → List (Clocked Item) → List ℕ
+unfoldable pub text_by_places : ℕ → (ℕ → FileEnd) → List (Clocked Item) → List ℕ
 text_by_places count endings run =
     let xs = taken_after [] run in
-    files_part count (Some endings) xs ++ body_by xs (classes_at xs) (units_at xs) (counted_in (groups_at xs)) (times_given_up (marks_of xs))
+    files_part count (Some endings) xs ++ body_by xs (classes_at xs) (units_at xs) (counted_in (groups_at xs))
+    (times_given_up (marks_of xs))
 
 -- the refusal of a packet that would open a conversation too many, and the one that ends a run
 abbrev pub refusal_with : List Taken → Option Stamp → Item → Option Refusal
 refusal_with xs clock (packet meta frame) =
-    if is_limit_by (units_at xs) (unit_after xs (record { clock = clock; meta = meta; frame = frame })) then Some (refusal_at meta) else None
+    if is_limit_by (units_at xs) (unit_after xs (record { clock = clock; meta = meta; frame = frame })) then Some
+    (refusal_at meta) else None
 refusal_with xs clock (refused refusal) = Some refusal
 
 -- the first refusal of a run after those packets, by places
 unfoldable pub refusal_by_places : List Taken → List (Clocked Item) → Option Refusal
 refusal_by_places xs [] = None
-refusal_by_places xs (x ∷ run) = or_else (refusal_with xs x.clock x.item) (refusal_by_places (with_item x.clock x.item xs) run)
+refusal_by_places xs (x ∷ run) = or_else (refusal_with xs x.clock x.item)
+    (refusal_by_places (with_item x.clock x.item xs) run)
 
 -- The report of a run of files, and the refusal that is answered instead, are those by places.
-pub record ReportsByPlaces (count : ℕ) (endings : ℕ → Ending) (run : List (Clocked Item)) : Type 0 where
+pub record ReportsByPlaces (count : ℕ) (endings : ℕ → FileEnd) (run : List (Clocked Item)) : Type 0 where
   pub text : report_text count endings run ≡ text_by_places count endings run
   pub refusal : report_refusal run ≡ refusal_by_places [] run
 
 abbrev pub ReportByPlaces : Type 0
 ReportByPlaces =
-    (count : ℕ) (endings : ℕ → Ending) (files : List (List Item)) → ReportsByPlaces count endings (run item_time is_refusal (map opened files))
+    (count : ℕ) (endings : ℕ → FileEnd) (files : List (List Item))
+    → ReportsByPlaces count endings (run item_time is_refusal (map opened files))

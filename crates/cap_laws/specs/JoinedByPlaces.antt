@@ -12,7 +12,9 @@ use Rattle.cap_merge.specs.Run.{Clocked, opened, run}
 use Rattle.cap_source.specs.Feed.{Item, packet, refused}
 use Rattle.cap_source.specs.declared.packets.Meta.{Meta}
 use Rattle.cap_time.specs.declared.stamps.Stamp.{Stamp}
-use Rattle.cap_write.specs.Joined.{Complete, events_here, items_with, joined_bytes, joined_refusal, stamped_of, datagram_at}
+use Rattle.cap_write.specs.Joined.{Complete, events_here, items_with, joined_bytes, joined_refusal, stamped_of}
+use Rattle.cap_write.specs.Joined.{datagram_at}
+use Rattle.cap_write.specs.PcapRun.{joined_pcap_bytes, joined_pcap_refusal, run_bytes, run_refusal}
 use Rattle.cap_write.specs.Texts.{merged_bytes, merged_refusal}
 
 -- the fragments of a fragment's group, that one the latest, by what is known of those before it
@@ -22,18 +24,21 @@ group_by_places clock events p = (group_by clock p (goes_on (key_of p) (marks op
 -- the datagram that a packet completes, which has that place in the run and that clock
 unfoldable pub completed_by_places : ℕ → List Event → Option Stamp → Meta → List ℕ → Option Complete
 completed_by_places place events clock meta frame =
-    datagram_at (network_of meta.interface.link frame meta.original) (is_whole frame meta.original) (stamped_of place meta) (group_by_places clock events)
+    datagram_at (network_of meta.interface.link frame meta.original) (is_whole frame meta.original)
+    (stamped_of place meta) (group_by_places clock events)
 
 -- what is to be written of an item of that clock
 abbrev pub items_by_places : ℕ → List Event → Option Stamp → Item → List Item
-items_by_places place events clock (packet meta frame) = items_with meta frame (completed_by_places place events clock meta frame)
+items_by_places place events clock (packet meta frame) =
+    items_with meta frame (completed_by_places place events clock meta frame)
 items_by_places place events clock (refused refusal) = refused refusal ∷ []
 
 -- what is to be written of a run, whose first packet has that place in it and comes after those events
 unfoldable pub joined_by_places : ℕ → List Event → List (Clocked Item) → List Item
 joined_by_places place events [] = []
 joined_by_places place events (x ∷ xs) =
-    items_by_places place events x.clock x.item ++ joined_by_places (place + 1) (events_here place events x.clock x.item) xs
+    items_by_places place events x.clock x.item ++ joined_by_places (place + 1)
+    (events_here place events x.clock x.item) xs
 
 -- what is written for a run, and the refusal that is answered after it
 abbrev pub bytes_by_places : Order → List (Clocked Item) → List ℕ
@@ -42,10 +47,20 @@ bytes_by_places order run = merged_bytes order (joined_by_places 0 [] run)
 abbrev pub refusal_by_places : List (Clocked Item) → Option Refusal
 refusal_by_places run = merged_refusal (joined_by_places 0 [] run)
 
--- What is written for a run of files, and the refusal that is answered, are those by places.
+-- the same as pcap
+abbrev pub pcap_by_places : Order → List (Clocked Item) → List ℕ
+pcap_by_places order run = run_bytes order (joined_by_places 0 [] run)
+
+abbrev pub pcap_refusal_by_places : List (Clocked Item) → Option Refusal
+pcap_refusal_by_places run = run_refusal (joined_by_places 0 [] run)
+
+-- What is written for a run of files, in either format, and the refusal that is answered, are those by places.
 pub record WritesByPlaces (order : Order) (run : List (Clocked Item)) : Type 0 where
   pub bytes : joined_bytes order run ≡ bytes_by_places order run
   pub refusal : joined_refusal run ≡ refusal_by_places run
+  pub pcap_bytes : joined_pcap_bytes order run ≡ pcap_by_places order run
+  pub pcap_refusal : joined_pcap_refusal run ≡ pcap_refusal_by_places run
 
 abbrev pub JoinedByPlaces : Type 0
-JoinedByPlaces = (order : Order) (files : List (List Item)) → WritesByPlaces order (run item_time is_refusal (map opened files))
+JoinedByPlaces = (order : Order) (files : List (List Item))
+    → WritesByPlaces order (run item_time is_refusal (map opened files))

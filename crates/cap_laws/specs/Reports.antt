@@ -28,21 +28,25 @@ place_or taken (Some refusal) later = Some (record { taken = taken; rule = refus
 -- where a run is refused first, after the packets that were taken
 unfoldable pub refused_after : List Taken → List (Clocked Item) → Option Place
 refused_after xs [] = None
-refused_after xs (x ∷ run) = place_or (length xs) (refusal_here xs x.clock x.item) (refused_after (with_item x.clock x.item xs) run)
+refused_after xs (x ∷ run) = place_or (length xs) (refusal_here xs x.clock x.item)
+    (refused_after (with_item x.clock x.item xs) run)
 
 abbrev pub refused_at : List (Clocked Item) → Option Place
 refused_at run = refused_after [] run
 
 -- The rule of that place is the rule of the refusal that is answered instead of a report.
 abbrev pub RuleLaw : Type 0
-RuleLaw = (run : List (Clocked Item)) → option_map (λ place. place.rule) (refused_at run) ≡ option_map (λ refusal. refusal.rule) (report_refusal run)
+RuleLaw = (run : List (Clocked Item)) → option_map (λ place. place.rule) (refused_at run)
+    ≡ option_map (λ refusal. refusal.rule) (report_refusal run)
 
--- The reports of two runs have the same lines, but for those of the files, or are refused at the same place by the same rule.
+-- The reports of two runs have the same lines, but for those of the files, or are refused at the same place by the same
+-- rule.
 pub record SameReport (run again : List (Clocked Item)) : Type 0 where
   pub lines : body_text (taken_after [] again) ≡ body_text (taken_after [] run)
   pub refused : refused_at again ≡ refused_at run
 
--- The file that a merge of some files writes, if nothing is refused and it is at most 2^40 bytes long, has the report of the files.
+-- The file that a merge of some files writes, if nothing is refused and it is at most 2^40 bytes long, has the report
+-- of the files.
 abbrev pub MergedReport : Type 0
 MergedReport =
     (order : Order) (tail tail_again : Tail) (files : List (List ℕ)) → AllByRecursion AreBytes files

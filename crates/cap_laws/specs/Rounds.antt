@@ -31,8 +31,9 @@ pub record IsMerged (tail : Tail) (group : Group) : Type 0 where
 abbrev pub refused_by : List Item → Option Rule
 refused_by items = option_map (λ refusal. refusal.rule) (merged_refusal items)
 
--- Files are split, in their order, into neighbouring groups, and each group is merged, in its own byte order. Then the merge of the
--- written files writes, byte for byte, what the merge of all files writes, and is refused if that is, by the same rule.
+-- Files are split, in their order, into neighbouring groups, and each group is merged, in its own byte order. Then the
+-- merge of the written files writes, byte for byte, what the merge of all files writes, and is refused if that is, by
+-- the same rule.
 abbrev pub RoundsInBytes : Type 0
 RoundsInBytes =
     (order : Order) (tail tail_again : Tail) (groups : List Group) → AllByRecursion (IsMerged tail) groups

@@ -15,7 +15,8 @@ use Rattle.cap_time.specs.declared.stamps.Stamp.{Stamp}
 use Rattle.cap_write.specs.Texts.{merged_bytes, merged_refusal, pcapng_bytes, pcapng_refusal}
 
 -- Two packets, with their clocks, have equal clocks by the order, and the same interface, units, lengths and bytes.
-pub record IsSameAtClock (clock clock_again : Option Stamp) (meta again : Meta) (bytes bytes_again : List ℕ) : Type 0 where
+pub record IsSameAtClock (clock clock_again : Option Stamp) (meta again : Meta)
+    (bytes bytes_again : List ℕ) : Type 0 where
   pub clocks : clock_cmp clock clock_again ≡ Equal
   pub interface : meta.interface ≡ again.interface
   pub units : meta.units ≡ again.units
@@ -25,7 +26,8 @@ pub record IsSameAtClock (clock clock_again : Option Stamp) (meta again : Meta) 
 
 -- two items of runs are such packets: neither is a refusal
 abbrev pub SameItems : Option Stamp → Option Stamp → Item → Item → Type 0
-SameItems clock clock_again (packet meta frame) (packet again frame_again) = IsSameAtClock clock clock_again meta again frame frame_again
+SameItems clock clock_again (packet meta frame) (packet again frame_again) =
+    IsSameAtClock clock clock_again meta again frame frame_again
 SameItems clock clock_again (packet meta frame) (refused refusal) = ⊥
 SameItems clock clock_again (refused refusal) again = ⊥
 
@@ -33,7 +35,8 @@ SameItems clock clock_again (refused refusal) again = ⊥
 abbrev pub SameRun : List (Clocked Item) → List (Clocked Item) → Type 0
 SameRun = AllZip (λ x y. SameItems x.clock y.clock x.item y.item)
 
--- The file that a merge of some files writes, if nothing is refused and it is at most 2^40 bytes long, has the run of the files.
+-- The file that a merge of some files writes, if nothing is refused and it is at most 2^40 bytes long, has the run of
+-- the files.
 abbrev pub MergedRun : Type 0
 MergedRun =
     (order : Order) (tail tail_again : Tail) (files : List (List ℕ)) → AllByRecursion AreBytes files

@@ -1,7 +1,7 @@
 -- The report on a few frames, by computation.
 use Rattle.std.specs.Prelude.{◌≡◌, ℕ, ◌*◌, List, [], ◌∷◌, ◌++◌, codes, Some, None, pos, length, false}
 use Rattle.cap_source.specs.TimeBases.{microseconds}
-use Rattle.cap_source.specs.declared.feeds.Ending.{Ending}
+use Rattle.cap_source.specs.declared.feeds.FileEnd.{FileEnd}
 use Rattle.cap_source.specs.declared.packets.Format.TheVariants.{Pcap}
 use Rattle.cap_source.specs.declared.packets.Meta.{Meta}
 use Rattle.cap_time.specs.Stamp.{stamp_in}
@@ -55,8 +55,8 @@ all_four =
     ∷ taken_at 101 3 (fragment_at 32 0 (3 ∷ 233 ∷ 7 ∷ 209 ∷ 0 ∷ 24 ∷ 0 ∷ 0 ∷ []))
     ∷ first_two
 
-abbrev pub pcap_end : ℕ → Ending
-pcap_end file = record { format = Pcap; skipped = 0; was_cut = false }
+abbrev pub pcap_end : ℕ → FileEnd
+pcap_end file = record { ending = record { format = Pcap; skipped = 0; was_cut = false }; named = 0 }
 
 -- Overlapped fragments, two of four taken, and all of them.
 pub record Overlapped : Type 0 where
@@ -72,11 +72,12 @@ pub record Overlapped : Type 0 where
       ++ codes "frames other-link 0 not-ipv4 0 short 0 cut 0 bad 0 unjoined 0 counted 4\njoined 1 given-up 0\ntalks 1\n"
       ++ codes "talk udp 10.0.0.1:1001 10.0.0.2:2001 forward 4 112 backward 0 0 first 1+0/1000000 last 4+0/1000000\n"
 
--- an Ethernet frame with two tags (IEEE 802.1Q, 9.3) and 8 bytes of padding, between 10.0.0.1 and 10.0.0.2: of UDP, by the last bytes of
--- its addresses, its identification, its ports and its UDP length
+-- an Ethernet frame with two tags (IEEE 802.1Q, 9.3) and 8 bytes of padding, between 10.0.0.1 and 10.0.0.2: of UDP, by
+-- the last bytes of its addresses, its identification, its ports and its UDP length
 abbrev pub tagged_at : ℕ → ℕ → ℕ → List ℕ → ℕ → List ℕ
 tagged_at from to identification ports length =
-    2 ∷ 0 ∷ 0 ∷ 0 ∷ 0 ∷ to ∷ 2 ∷ 0 ∷ 0 ∷ 0 ∷ 0 ∷ from ∷ 136 ∷ 168 ∷ 0 ∷ 100 ∷ 129 ∷ 0 ∷ 0 ∷ 10 ∷ 8 ∷ 0 ∷ 69 ∷ 0 ∷ 0 ∷ 30 ∷ 0 ∷ identification
+    2 ∷ 0 ∷ 0 ∷ 0 ∷ 0 ∷ to ∷ 2 ∷ 0 ∷ 0 ∷ 0 ∷ 0 ∷ from ∷ 136 ∷ 168 ∷ 0 ∷ 100 ∷ 129 ∷ 0 ∷ 0 ∷ 10 ∷ 8 ∷ 0 ∷ 69 ∷ 0 ∷ 0 ∷ 30
+    ∷ 0 ∷ identification
     ∷ 0 ∷ 0 ∷ 64 ∷ 17 ∷ 0 ∷ 0 ∷ 10 ∷ 0 ∷ 0 ∷ from ∷ 10 ∷ 0 ∷ 0 ∷ to
     ∷ (ports ++ (0 ∷ length ∷ 0 ∷ 0 ∷ 104 ∷ 105 ∷ 0 ∷ 0 ∷ 0 ∷ 0 ∷ 0 ∷ 0 ∷ 0 ∷ 0 ∷ []))
 

@@ -1,6 +1,6 @@
 //! Laws of written files and of merged ones, each the contract of a function that does nothing.
 ghost use Rattle.cap_laws.specs.again.Laws.{MergedAgain, OneInterface, PcapAgain, PcapngAgain, RoundTrip, SameBytes};
-ghost use Rattle.cap_laws.specs.again.Rounds.{ClockLaw, FileRoundsLaw, MergeLaw, RoundsLaw};
+ghost use Rattle.cap_laws.specs.again.Rounds.{ClockLaw, FileRoundsLaw, MergeLaw, MergedPcap, RoundsLaw};
 
 /// An accepted pcap file whose pcapng text is at most 2^40 bytes long, written as pcapng and then as pcap again,
 /// comes back: the pcapng file has its interface, also if there is no packet, and its packets, in order, with
@@ -29,18 +29,22 @@ pub fn pcap_again()
     ensures { PcapAgain }
 {}
 
-/// What `write_merged` writes of the run of any files, whatever bytes they hold, if it is at most 2^40
-/// bytes long, has the packets of the run, those before a refusal, in order: with the same numbers of
-/// interfaces, which are the instances there, and the same interfaces, times, lengths and bytes. The same
-/// holds of every list whose fields fit in their widths and in which the packets of one instance have one
-/// interface, but that the captured length which is read again is the number of a packet's bytes.
+/// What `write_merged` writes of the run of any files, whatever bytes they hold, if it is at most 2^40 bytes long, has
+/// the packets of the run, those before a refusal, in order: with the same numbers of interfaces, which are the
+/// instances there, and the same interfaces, times, lengths and bytes. The same holds of every list whose fields fit in
+/// their widths and in which the packets of one instance have one interface, but that the captured length which is read
+/// again is the number of a packet's bytes.
 ///
-/// In every file, of either format, the packets of one instance have one interface (`interfaces`). In the run of
-/// some files, the greatest time among the packets up to and with one equals that packet's clock by the order of
-/// times, also if files run back in time (`clocks`).
+/// If `write_merged` refuses nothing of such a run, and writes at most 2^40 bytes, then `write_merged_pcap` writes of
+/// the run, byte for byte, what `to_pcap` writes of that file, and is refused if that is, by the same rule (`pcap`).
+///
+/// In every file, of either format, the packets of one instance have one interface (`interfaces`). In the run of some
+/// files, the greatest time among the packets up to and with one equals that packet's clock by the order of times, also
+/// if files run back in time (`clocks`).
 pub fn merged_again()
     ensures files { MergeLaw }
     ensures packets { MergedAgain }
+    ensures pcap { MergedPcap }
     ensures interfaces { OneInterface }
     ensures clocks { ClockLaw }
 {}

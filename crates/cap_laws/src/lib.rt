@@ -1,5 +1,5 @@
-//! Laws over several crates: what of one capture is read again when it is written in either format, and of several when they
-//! are merged, at once or in rounds; and what stays of the report and of the run then.
+//! Laws over several crates: what of one capture is read again when it is written in either format, and of several when
+//! they are merged, at once or in rounds; and what stays of the report and of the run then.
 #![tactic(auto)]
 
 mod again;

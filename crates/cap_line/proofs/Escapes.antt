@@ -1,5 +1,7 @@
 -- What a terminal shows of a text, character by character.
-use Rattle.std.proofs.Common.{◌≡◌, ◌&&◌, ℕ, suc, ◌≤◌, Bool, true, false, not, List, [], ◌∷◌, ◌++◌, length, chars, encode_utf8, encode_utf8_all, flat_map, cond, if◌then◌else◌, All, IsUtf8, IsFalse, refl, sym, ap, subst, ◌∙◌, arith}
+use Rattle.std.proofs.Common.{◌≡◌, ◌&&◌, ℕ, suc, ◌≤◌, Bool, true, false, not, List, [], ◌∷◌, ◌++◌, length, chars}
+use Rattle.std.proofs.Common.{encode_utf8, encode_utf8_all, flat_map, cond, if◌then◌else◌, All, IsUtf8, IsFalse, refl}
+use Rattle.std.proofs.Common.{sym, ap, subst, ◌∙◌, arith}
 use Rattle.std.proofs.Math.Utf8.{scalar, scalars}
 use Rattle.std.proofs.lemmas.Str.{chars-encodes, chars-nil, chars_past_char, encodes-append, encodes-chars}
 use Rattle.std.proofs.lemmas.List.{nil_from_length}
@@ -20,7 +22,8 @@ abbrev passes : (ℕ → Bool) → List ℕ → Bool
 passes test [] = true
 passes test (c ∷ cs) = test c && passes test cs
 
-passes-append : (test : ℕ → Bool) (xs ys : List ℕ) → passes test xs ≡ true → passes test ys ≡ true → passes test (xs ++ ys) ≡ true
+passes-append : (test : ℕ → Bool) (xs ys : List ℕ) → passes test xs ≡ true → passes test ys ≡ true
+    → passes test (xs ++ ys) ≡ true
 passes-append test [] ys front back = back
 passes-append test (x ∷ xs) ys front back = grind (arith, passes-append test xs ys)
 
@@ -75,10 +78,12 @@ shown-good keeps c is = by (is_escaped keeps c) refl where
   by true e = escape-good keeps c
   by false e = rw (e, is) refl
 
-all-good : (keeps : Bool) (cs : List ℕ) → scalars cs ≡ true → passes (is_good keeps) (flat_map (shown_char keeps) cs) ≡ true
+all-good : (keeps : Bool) (cs : List ℕ) → scalars cs ≡ true
+    → passes (is_good keeps) (flat_map (shown_char keeps) cs) ≡ true
 all-good keeps [] are = refl
 all-good keeps (c ∷ cs) are =
-    passes-append (is_good keeps) (shown_char keeps c) _ (shown-good keeps c (grind arith)) (all-good keeps cs (grind arith))
+    passes-append (is_good keeps) (shown_char keeps c) _ (shown-good keeps c (grind arith))
+    (all-good keeps cs (grind arith))
 
 and-front : (a b : Bool) → (a && b) ≡ true → a ≡ true
 and-front a b both = grind arith
@@ -94,19 +99,23 @@ good-scalars keeps (c ∷ cs) are =
 
 good-seen : (keeps : Bool) (cs : List ℕ) → passes (is_good keeps) cs ≡ true → All (λ c. IsFalse (is_escaped keeps c)) cs
 good-seen keeps [] are = λ k d less. absurd (omega arith)
-good-seen keeps (c ∷ cs) are = All-cons (λ c. IsFalse (is_escaped keeps c)) c cs (grind arith) (good-seen keeps cs (grind arith))
+good-seen keeps (c ∷ cs) are = All-cons (λ c. IsFalse (is_escaped keeps c)) c cs (grind arith)
+    (good-seen keeps cs (grind arith))
 
 scalars-chars : (text : List ℕ) → IsUtf8 text → scalars (chars text) ≡ true
 scalars-chars text utf8 = subst (λ t. scalars (chars t) ≡ true) utf8.1.1 (rw (chars-encodes utf8.0 utf8.1.0) utf8.1.0)
 
 -- what is shown has no character that isn't
-pub shown_seen : (keeps : Bool) (text : List ℕ) → IsUtf8 text → All (λ c. IsFalse (is_escaped keeps c)) (chars (shown_text keeps text))
+pub shown_seen : (keeps : Bool) (text : List ℕ) → IsUtf8 text
+    → All (λ c. IsFalse (is_escaped keeps c)) (chars (shown_text keeps text))
 shown_seen keeps text utf8 =
     let good = all-good keeps (chars text) (scalars-chars text utf8) in
     let cs = flat_map (shown_char keeps) (chars text) in
-    subst (All (λ c. IsFalse (is_escaped keeps c))) (sym (chars-encodes cs (good-scalars keeps cs good))) (good-seen keeps cs good)
+    subst (All (λ c. IsFalse (is_escaped keeps c))) (sym (chars-encodes cs (good-scalars keeps cs good)))
+    (good-seen keeps cs good)
 
-same-chars : (keeps : Bool) (cs : List ℕ) → All (λ c. IsFalse (is_escaped keeps c)) cs → flat_map (shown_char keeps) cs ≡ cs
+same-chars : (keeps : Bool) (cs : List ℕ) → All (λ c. IsFalse (is_escaped keeps c)) cs
+    → flat_map (shown_char keeps) cs ≡ cs
 same-chars keeps [] are = refl
 same-chars keeps (c ∷ cs) are =
     let first : is_escaped keeps c ≡ false = are 0 c (omega arith) in

@@ -1,6 +1,8 @@
 -- From clap's answer to capt's.
-use Rattle.std.proofs.Common.{◌≡◌, ◌⊎◌, List, [], Option, Some, None, Result, Ok, Err, IfOk, IfSome, IsSome, true, false, refl, sym, ap, ◌∙◌, subst, inl, inr, arith}
-use Rattle.clap.specs.Words.{AddsArg, App, Rule, Text, Row, IsAmong, app_of, fault_of, is_simple, is_simple_and_free, subcommand_of, with_rule, with_subcommand}
+use Rattle.std.proofs.Common.{◌≡◌, ◌⊎◌, List, [], Option, Some, None, Result, Ok, Err, IfOk, IfSome, IsSome, true}
+use Rattle.std.proofs.Common.{false, refl, sym, ap, ◌∙◌, subst, inl, inr, arith}
+use Rattle.clap.specs.Words.{AddsArg, App, Rule, Text, Row, IsAmong, app_of, fault_of, is_simple, is_simple_and_free}
+use Rattle.clap.specs.Words.{subcommand_of, with_rule, with_subcommand}
 use Rattle.clap.proofs.OnLiterals.{clap_on_literals}
 use Rattle.clap.specs.declared.error.kind.ErrorKind.{ErrorKind}
 use Rattle.clap.specs.declared.error.kind.ErrorKind.TheVariants as kind
@@ -29,16 +31,22 @@ IsCapt-simple app is = grind arith
 -- an answer of the subcommand is the parse's
 pub Parses-answered : (words : List Text) (app : App) (r : Result Job LineFault) → IsCapt app → fault_of app words ≡ []
     → IsJobOf (subcommand_of app words) r → (r ≡ Err Help → ⊥) → Parses words r
-Parses-answered words app (Ok job) is taken job_is not_help = (app, record { is_capt = is; taken = taken; job = job_is })
+Parses-answered words app (Ok job) is taken job_is not_help =
+    (app, record { is_capt = is; taken = taken; job = job_is })
 Parses-answered words app (Err Help) is taken job_is not_help = absurd (not_help refl)
-Parses-answered words app (Err Line) is taken job_is not_help = inr (app, record { is_capt = is; taken = taken; job = job_is })
-Parses-answered words app (Err Files) is taken job_is not_help = (app, record { is_capt = is; taken = taken; job = job_is })
-Parses-answered words app (Err Input) is taken job_is not_help = (app, record { is_capt = is; taken = taken; job = job_is })
-Parses-answered words app (Err Output) is taken job_is not_help = (app, record { is_capt = is; taken = taken; job = job_is })
+Parses-answered words app (Err Line) is taken job_is not_help =
+    inr (app, record { is_capt = is; taken = taken; job = job_is })
+Parses-answered words app (Err Files) is taken job_is not_help =
+    (app, record { is_capt = is; taken = taken; job = job_is })
+Parses-answered words app (Err Input) is taken job_is not_help =
+    (app, record { is_capt = is; taken = taken; job = job_is })
+Parses-answered words app (Err Output) is taken job_is not_help =
+    (app, record { is_capt = is; taken = taken; job = job_is })
 Parses-answered words app (Err Memory) is taken job_is not_help = tt
 
 -- a subcommand's answer is never help
-pub IsJobOf-no_help : (entered : Option (Text × List Row)) (r : Result Job LineFault) → IsJobOf entered r → r ≡ Err Help → ⊥
+pub IsJobOf-no_help : (entered : Option (Text × List Row)) (r : Result Job LineFault) → IsJobOf entered r
+    → r ≡ Err Help → ⊥
 IsJobOf-no_help entered r job is = grind arith
 
 -- a job of a subcommand is whole
@@ -49,29 +57,45 @@ whole-of entered r is = grind arith
 abbrev Errs : List Text → App → ErrorKind → Type 0
 Errs words app k = (k ≡ kind.OutOfMemory) ⊎ IsAmong k (fault_of app words)
 
-refused_line : (words : List Text) (app : App) (k : ErrorKind) → IsCapt app → fault_by k ≡ Line → (k ≡ kind.OutOfMemory → ⊥)
+refused_line : (words : List Text) (app : App) (k : ErrorKind) → IsCapt app → fault_by k ≡ Line
+    → (k ≡ kind.OutOfMemory → ⊥)
     → Errs words app k → (r : Result Job LineFault) → r ≡ Err Line → Parses words r
 refused_line words app k h line other w r at = grind arith
 
 -- clap's refusal is the parse's
-pub Parses-refused : (words : List Text) (app : App) (k : ErrorKind) → IsCapt app → Errs words app k → Parses words (Err (fault_by k))
+pub Parses-refused : (words : List Text) (app : App) (k : ErrorKind) → IsCapt app → Errs words app k
+    → Parses words (Err (fault_by k))
 Parses-refused words app kind.DisplayHelp is (inl e) = absurd (let no : kind.DisplayHelp ≡ kind.OutOfMemory = e in cc)
-Parses-refused words app kind.DisplayHelp is (inr among) = (app, kind.DisplayHelp, refl, record { is_capt = is; refused = among })
-Parses-refused words app kind.DisplayVersion is (inl e) = absurd (let no : kind.DisplayVersion ≡ kind.OutOfMemory = e in cc)
-Parses-refused words app kind.DisplayVersion is (inr among) = (app, kind.DisplayVersion, refl, record { is_capt = is; refused = among })
+Parses-refused words app kind.DisplayHelp is (inr among) =
+    (app, kind.DisplayHelp, refl, record { is_capt = is; refused = among })
+Parses-refused words app kind.DisplayVersion is (inl e) =
+    absurd (let no : kind.DisplayVersion ≡ kind.OutOfMemory = e in cc)
+Parses-refused words app kind.DisplayVersion is (inr among) =
+    (app, kind.DisplayVersion, refl, record { is_capt = is; refused = among })
 Parses-refused words app kind.OutOfMemory is errs = tt
-Parses-refused words app kind.InvalidValue is errs = refused_line words app kind.InvalidValue is refl (λ e. (cc)) errs _ refl
-Parses-refused words app kind.UnknownArgument is errs = refused_line words app kind.UnknownArgument is refl (λ e. (cc)) errs _ refl
-Parses-refused words app kind.InvalidSubcommand is errs = refused_line words app kind.InvalidSubcommand is refl (λ e. (cc)) errs _ refl
+Parses-refused words app kind.InvalidValue is errs =
+    refused_line words app kind.InvalidValue is refl (λ e. (cc)) errs _ refl
+Parses-refused words app kind.UnknownArgument is errs =
+    refused_line words app kind.UnknownArgument is refl (λ e. (cc)) errs _ refl
+Parses-refused words app kind.InvalidSubcommand is errs =
+    refused_line words app kind.InvalidSubcommand is refl (λ e. (cc)) errs _ refl
 Parses-refused words app kind.NoEquals is errs = refused_line words app kind.NoEquals is refl (λ e. (cc)) errs _ refl
-Parses-refused words app kind.ValueValidation is errs = refused_line words app kind.ValueValidation is refl (λ e. (cc)) errs _ refl
-Parses-refused words app kind.TooManyValues is errs = refused_line words app kind.TooManyValues is refl (λ e. (cc)) errs _ refl
-Parses-refused words app kind.TooFewValues is errs = refused_line words app kind.TooFewValues is refl (λ e. (cc)) errs _ refl
-Parses-refused words app kind.WrongNumberOfValues is errs = refused_line words app kind.WrongNumberOfValues is refl (λ e. (cc)) errs _ refl
-Parses-refused words app kind.ArgumentConflict is errs = refused_line words app kind.ArgumentConflict is refl (λ e. (cc)) errs _ refl
-Parses-refused words app kind.MissingRequiredArgument is errs = refused_line words app kind.MissingRequiredArgument is refl (λ e. (cc)) errs _ refl
-Parses-refused words app kind.MissingSubcommand is errs = refused_line words app kind.MissingSubcommand is refl (λ e. (cc)) errs _ refl
-Parses-refused words app kind.DisplayHelpOnMissingArgumentOrSubcommand is errs = refused_line words app kind.DisplayHelpOnMissingArgumentOrSubcommand is refl (λ e. (cc)) errs _ refl
+Parses-refused words app kind.ValueValidation is errs =
+    refused_line words app kind.ValueValidation is refl (λ e. (cc)) errs _ refl
+Parses-refused words app kind.TooManyValues is errs =
+    refused_line words app kind.TooManyValues is refl (λ e. (cc)) errs _ refl
+Parses-refused words app kind.TooFewValues is errs =
+    refused_line words app kind.TooFewValues is refl (λ e. (cc)) errs _ refl
+Parses-refused words app kind.WrongNumberOfValues is errs =
+    refused_line words app kind.WrongNumberOfValues is refl (λ e. (cc)) errs _ refl
+Parses-refused words app kind.ArgumentConflict is errs =
+    refused_line words app kind.ArgumentConflict is refl (λ e. (cc)) errs _ refl
+Parses-refused words app kind.MissingRequiredArgument is errs =
+    refused_line words app kind.MissingRequiredArgument is refl (λ e. (cc)) errs _ refl
+Parses-refused words app kind.MissingSubcommand is errs =
+    refused_line words app kind.MissingSubcommand is refl (λ e. (cc)) errs _ refl
+Parses-refused words app kind.DisplayHelpOnMissingArgumentOrSubcommand is errs =
+    refused_line words app kind.DisplayHelpOnMissingArgumentOrSubcommand is refl (λ e. (cc)) errs _ refl
 Parses-refused words app kind.Io is errs = refused_line words app kind.Io is refl (λ e. (cc)) errs _ refl
 Parses-refused words app kind.Format is errs = refused_line words app kind.Format is refl (λ e. (cc)) errs _ refl
 
@@ -80,21 +104,27 @@ pub IfOk-none : {A E : Type 0} (P : A → Type 0) (r : Result A E) (error : E) �
 IfOk-none P r error is = subst (λ s. IfOk s P) (sym is) tt
 
 -- an argument that isn't global adds none that is
-pub AddsArg-local : (old : Command) (arg : Arg) (new : Command) → AddsArg old arg new → (out-Command old).has_globals ≡ false
+pub AddsArg-local : (old : Command) (arg : Arg) (new : Command) → AddsArg old arg new
+    → (out-Command old).has_globals ≡ false
     → arg.global ≡ false → (out-Command new).has_globals ≡ false
 AddsArg-local old arg new added old_local local = rw (added.globals, old_local, local)
 
 -- what a command with one more argument is
-pub AddsRule-weaker : (P Q : App → Type 0) (made all : Result Command AllocError) (rule : Rule) → IfOk made (λ c. P (app_of c))
-    → ((app : App) → P app → Q (with_rule app rule)) → IfOk all (λ c. AddsRule made rule (app_of c)) → IfOk all (λ c. Q (app_of c))
-AddsRule-weaker P Q (Ok old) all rule is step = IfOk-weaker all _ _ (λ c added. subst Q (sym added) (step (app_of old) is))
+pub AddsRule-weaker : (P Q : App → Type 0) (made all : Result Command AllocError) (rule : Rule)
+    → IfOk made (λ c. P (app_of c))
+    → ((app : App) → P app → Q (with_rule app rule)) → IfOk all (λ c. AddsRule made rule (app_of c))
+    → IfOk all (λ c. Q (app_of c))
+AddsRule-weaker P Q (Ok old) all rule is step =
+    IfOk-weaker all _ _ (λ c added. subst Q (sym added) (step (app_of old) is))
 AddsRule-weaker P Q (Err e) all rule is step = IfOk-weaker all _ _ (λ c added. absurd added)
 
 -- a command with one more argument, both known
-pub AddsRule-is : (made all : Result Command AllocError) (rule known : Rule) (before : App) → IfOk made (λ c. app_of c ≡ before)
+pub AddsRule-is : (made all : Result Command AllocError) (rule known : Rule) (before : App)
+    → IfOk made (λ c. app_of c ≡ before)
     → rule ≡ known → IfOk all (λ c. AddsRule made rule (app_of c)) → IfOk all (λ c. app_of c ≡ with_rule before known)
 AddsRule-is made all rule known before is rule_is =
-    AddsRule-weaker (λ app. app ≡ before) (λ app. app ≡ with_rule before known) made all rule is (λ app e. rw (e, rule_is) refl)
+    AddsRule-weaker (λ app. app ≡ before) (λ app. app ≡ with_rule before known) made all rule is
+    (λ app e. rw (e, rule_is) refl)
 
 -- what a command with one more subcommand is
 pub AddsMade-weaker : (P S Q : App → Type 0) (made sub all : Result Command AllocError) → IfOk made (λ c. P (app_of c))
@@ -110,7 +140,8 @@ pub AddsMade-is : (made sub all : Result Command AllocError) (before known : App
     → IfOk sub (λ c. app_of c ≡ known) → IfOk all (λ c. AddsMade made sub (app_of c))
     → IfOk all (λ c. app_of c ≡ with_subcommand before known.top)
 AddsMade-is made sub all before known is sub_is =
-    AddsMade-weaker (λ app. app ≡ before) (λ s. s ≡ known) (λ app. app ≡ with_subcommand before known.top) made sub all is sub_is
+    AddsMade-weaker (λ app. app ≡ before) (λ s. s ≡ known)
+    (λ app. app ≡ with_subcommand before known.top) made sub all is sub_is
     (λ app s e f. rw (e, f) refl)
 
 -- what prints with `convert` added, and with `merge` too
@@ -129,7 +160,8 @@ pub IsCapt-added : (printing convert merge join mid most all : Result Command Al
 IsCapt-added printing convert merge join mid most all is is_convert is_merge is_join mid_is most_is all_is =
     let first = AddsMade-weaker (λ app. app ≡ printing_app) IsConvert HasConvert printing convert mid is is_convert
     (λ app s e s_is. (s, s_is, rw e refl)) mid_is in
-    let second = AddsMade-weaker HasConvert IsMerge HasMerge mid merge most first is_merge (λ app s e s_is. (app, s, e, s_is, refl)) most_is in
+    let second = AddsMade-weaker HasConvert IsMerge HasMerge mid merge most first is_merge
+    (λ app s e s_is. (app, s, e, s_is, refl)) most_is in
     AddsMade-weaker HasMerge IsJoin IsCapt most join all second is_join
     (λ app s e s_is. record {
       convert = e.2.0;
@@ -143,7 +175,8 @@ IsCapt-added printing convert merge join mid most all is is_convert is_merge is_
     all_is
 
 -- clap has said why it gives no matches
-pub IsRefused-said : {A : Type 0} (words : List Text) (app : App) (k : ErrorKind) (said : Option A) → IsCapt app → Errs words app k
+pub IsRefused-said : {A : Type 0} (words : List Text) (app : App) (k : ErrorKind) (said : Option A) → IsCapt app
+    → Errs words app k
     → (IsSome said → k ≡ kind.OutOfMemory → ⊥) → IfSome said (λ text. IsRefused words)
 IsRefused-said words app k None is errs other = tt
 IsRefused-said words app k (Some text) is (inl e) other = absurd (other refl e)
@@ -160,8 +193,10 @@ err-of (Ok job) fault is = grind arith
 err-of (Err found) fault is = grind arith
 
 -- clap takes the words, they give no job, and that was said
-pub IsNoJob-said : {A : Type 0} (words : List Text) (app : App) (r : Result Job LineFault) (fault : LineFault) (said : Option A) → IsCapt app
-    → fault_of app words ≡ [] → IsJobOf (subcommand_of app words) r → Some fault ≡ result_err r → (IsSome said → fault ≡ Line)
+pub IsNoJob-said : {A : Type 0} (words : List Text) (app : App) (r : Result Job LineFault) (fault : LineFault)
+    (said : Option A) → IsCapt app
+    → fault_of app words ≡ [] → IsJobOf (subcommand_of app words) r → Some fault ≡ result_err r
+    → (IsSome said → fault ≡ Line)
     → IfSome said (λ text. IsRefused words ⊎ IsNoJob words)
 IsNoJob-said words app r fault None is taken job at line = tt
 IsNoJob-said words app r fault (Some text) is taken job at line =

@@ -14,6 +14,7 @@ pub values_are : (f : Found) (id : Text) → option_map raw_values (matched_of f
 values_are f id = raw_values-rows f id
 
 -- the values that a getter gives are those of the rows
-pub values_given : (given : Option (List Text)) (f : Found) (id : Text) → given ≡ option_map raw_values (matched_of f id)
+pub values_given : (given : Option (List Text)) (f : Found) (id : Text)
+    → given ≡ option_map raw_values (matched_of f id)
     → unwrap_or given [] ≡ unwrap_or (all_of id (rows_of f)) []
 values_given given f id is = ap (λ o. unwrap_or o []) (is ∙ values_are f id)

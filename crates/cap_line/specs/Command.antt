@@ -22,7 +22,12 @@ flag_rule name = record (new_rule name) { long = Some name; action = Some SetTru
 
 -- the option of that name, which takes one of those names
 abbrev pub choice_rule : Text → Names → Rule
-choice_rule option names = record (new_rule option) { long = Some option; value_names = 1; parser = Some (parser.Names names) }
+choice_rule option names = record (new_rule option) {
+  long = Some option;
+  value_names = 1;
+  parser =
+      Some (parser.Names names);
+}
 
 -- the option `--order`
 abbrev pub order_rule : Names → Rule
@@ -31,16 +36,30 @@ order_rule names = choice_rule (codes "order") names
 abbrev pub IsOrderRule : Rule → Type 0
 IsOrderRule rule = (names : Names) × AreNames names (codes "big" ∷ codes "little" ∷ []) × (rule ≡ order_rule names)
 
--- the option `--to`, which is required
+-- the option `--to`
 abbrev pub to_rule : Names → Rule
-to_rule names = record (choice_rule (codes "to") names) { required = true }
+to_rule names = choice_rule (codes "to") names
 
 abbrev pub IsToRule : Rule → Type 0
 IsToRule rule = (names : Names) × AreNames names (codes "pcap" ∷ codes "pcapng" ∷ []) × (rule ≡ to_rule names)
 
+-- the same, which is required
+abbrev pub required_to_rule : Names → Rule
+required_to_rule names = record (to_rule names) { required = true }
+
+abbrev pub IsRequiredToRule : Rule → Type 0
+IsRequiredToRule rule = (names : Names) × AreNames names (codes "pcap" ∷ codes "pcapng" ∷ [])
+    × (rule ≡ required_to_rule names)
+
 -- the option `-o` or `--output`, the letter's code being 111, which is required
 abbrev pub out_rule : Rule
-out_rule = record (new_rule (codes "out")) { short = Some 111; long = Some (codes "output"); value_names = 1; required = true }
+out_rule = record (new_rule (codes "out")) {
+  short = Some 111;
+  long = Some (codes "output");
+  value_names =
+      1;
+  required = true;
+}
 
 -- the argument FILE, which is required
 abbrev pub file_rule : Rule
@@ -54,7 +73,8 @@ files_rule =
       range = Some (record { start_inclusive = 1; end_inclusive = usize_max });
     }
 
--- the subcommand of that name with `[--allow-cut]`, and with `[--explain]` too, which each has before its other arguments
+-- the subcommand of that name with `[--allow-cut]`, and with `[--explain]` too, which each has before its other
+-- arguments
 abbrev pub cutting_app : Text → App
 cutting_app name = with_rule (new_app name) (flag_rule (codes "allow-cut"))
 
@@ -79,7 +99,8 @@ report_app = with_rule (reading_app (codes "report")) files_rule
 
 -- the subcommand of that name with `[--order ORDER] -o OUT [--whole]`, before its files
 abbrev pub writing_app : Text → Names → App
-writing_app name orders = with_rule (with_rule (with_rule (reading_app name) (order_rule orders)) out_rule) (flag_rule (codes "whole"))
+writing_app name orders = with_rule (with_rule (with_rule (reading_app name) (order_rule orders)) out_rule)
+    (flag_rule (codes "whole"))
 
 pub record IsWriting (name : Text) (app : App) : Type 0 where
   pub orders : Names
@@ -88,7 +109,8 @@ pub record IsWriting (name : Text) (app : App) : Type 0 where
 
 -- `convert .. --to FORMAT FILE`
 abbrev pub convert_app : Names → Names → App
-convert_app orders formats = with_rule (with_rule (writing_app (codes "convert") orders) (to_rule formats)) file_rule
+convert_app orders formats =
+    with_rule (with_rule (writing_app (codes "convert") orders) (required_to_rule formats)) file_rule
 
 pub record IsConvert (app : App) : Type 0 where
   pub orders : Names
@@ -97,23 +119,24 @@ pub record IsConvert (app : App) : Type 0 where
   pub formats_are : AreNames formats (codes "pcap" ∷ codes "pcapng" ∷ [])
   pub app_is : app ≡ convert_app orders formats
 
--- `merge .. FILE..`
-abbrev pub merge_app : Names → App
-merge_app orders = with_rule (writing_app (codes "merge") orders) files_rule
+-- the subcommand of that name with `.. [--to FORMAT] FILE..`
+abbrev pub gathering_app : Text → Names → Names → App
+gathering_app name orders formats = with_rule (with_rule (writing_app name orders) (to_rule formats)) files_rule
 
-pub record IsMerge (app : App) : Type 0 where
+pub record IsGathering (name : Text) (app : App) : Type 0 where
   pub orders : Names
   pub orders_are : AreNames orders (codes "big" ∷ codes "little" ∷ [])
-  pub app_is : app ≡ merge_app orders
+  pub formats : Names
+  pub formats_are : AreNames formats (codes "pcap" ∷ codes "pcapng" ∷ [])
+  pub app_is : app ≡ gathering_app name orders formats
+
+-- `merge .. FILE..`
+abbrev pub IsMerge : App → Type 0
+IsMerge = IsGathering (codes "merge")
 
 -- `join .. FILE..`
-abbrev pub join_app : Names → App
-join_app orders = with_rule (writing_app (codes "join") orders) files_rule
-
-pub record IsJoin (app : App) : Type 0 where
-  pub orders : Names
-  pub orders_are : AreNames orders (codes "big" ∷ codes "little" ∷ [])
-  pub app_is : app ≡ join_app orders
+abbrev pub IsJoin : App → Type 0
+IsJoin = IsGathering (codes "join")
 
 -- `new` is the command, which was made, with that argument
 abbrev pub AddsRule : Result Command AllocError → Rule → App → Type 0
@@ -135,7 +158,8 @@ abbrev pub printing_app : App
 printing_app = with_subcommand (with_subcommand listing_app info_app.top) report_app.top
 
 abbrev pub capt_app : App → App → App → App
-capt_app convert merge join = with_subcommand (with_subcommand (with_subcommand printing_app convert.top) merge.top) join.top
+capt_app convert merge join =
+    with_subcommand (with_subcommand (with_subcommand printing_app convert.top) merge.top) join.top
 
 -- The application is capt's: `capt` and its subcommands.
 pub record IsCapt (app : App) : Type 0 where

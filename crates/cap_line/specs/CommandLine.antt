@@ -1,5 +1,6 @@
 -- What a command line asks for, by clap's matches of its words.
-use Rattle.std.specs.Prelude.{◌≡◌, ◌⊎◌, List, [], length, codes, Bool, Option, Some, None, Result, Ok, Err, unwrap_or, map, option_map, IsTrue, IsFalse, ◌↔◌}
+use Rattle.std.specs.Prelude.{◌≡◌, ◌⊎◌, List, [], length, codes, Bool, Option, Some, None, Result, Ok, Err, unwrap_or}
+use Rattle.std.specs.Prelude.{map, option_map, IsTrue, IsFalse, ◌↔◌}
 use Rattle.clap.specs.Words.{App, Row, Text, all_of, first_of, fault_of, subcommand_of, IsAmong}
 use Rattle.clap.specs.declared.error.kind.ErrorKind.{ErrorKind}
 use Rattle.clap.specs.declared.error.kind.ErrorKind.TheVariants as kind
@@ -35,7 +36,8 @@ Flags given name rows = IsTrue given ↔ (first_of name rows ≡ Some (codes "tr
 -- A task lacks what it takes.
 abbrev pub Lacks : Text → List Row → Type 0
 Lacks name rows =
-    (task : Task) × (task_by name ≡ Some task) × IsFalse (is_whole task (length (files_in rows)) (to_in rows) (out_in rows))
+    (task : Task) × (task_by name ≡ Some task) × IsFalse
+    (is_whole task (length (files_in rows)) (to_in rows) (out_in rows))
 
 -- The output is to take its name once all is done, and can't.
 abbrev pub CannotReplace : List Row → Type 0
@@ -56,10 +58,12 @@ pub record HasRows (task : Task) (rows : List Row) (job : Job) : Type 0 where
 -- task that lacks what it takes, and standard output that is to take a name, are refused as the line.
 abbrev pub IsJobBy : Text → List Row → Result Job LineFault → Type 0
 IsJobBy name rows (Ok job) =
-    (task : Task) × (task_by name ≡ Some task) × (files_fault (files_in rows) (out_in rows) ≡ Ok tt) × HasRows task rows job × IsWhole job
+    (task : Task) × (task_by name ≡ Some task) × (files_fault (files_in rows) (out_in rows) ≡ Ok tt)
+    × HasRows task rows job × IsWhole job
 IsJobBy name rows (Err Help) = ⊥
 IsJobBy name rows (Err Line) =
-    (task_by name ≡ None) ⊎ Lacks name rows ⊎ CannotReplace rows ⊎ (files_fault (files_in rows) (out_in rows) ≡ Err Line)
+    (task_by name ≡ None) ⊎ Lacks name rows ⊎ CannotReplace rows
+    ⊎ (files_fault (files_in rows) (out_in rows) ≡ Err Line)
 IsJobBy name rows (Err Files) = files_fault (files_in rows) (out_in rows) ≡ Err Files
 IsJobBy name rows (Err Input) = files_fault (files_in rows) (out_in rows) ≡ Err Input
 IsJobBy name rows (Err Output) = files_fault (files_in rows) (out_in rows) ≡ Err Output

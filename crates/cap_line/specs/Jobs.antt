@@ -1,5 +1,6 @@
 -- What a job has, and what a command line's words name in one.
-use Rattle.std.specs.Prelude.{◌&&◌, ◌==◌, ◌≤◌, ℕ, not, Bool, true, false, List, length, codes, count_by, Option, Some, None, is_some, Result, Ok, Err, if◌then◌else◌, nat_lt, option_map, vec_len, IsTrue}
+use Rattle.std.specs.Prelude.{◌&&◌, ◌==◌, ◌≤◌, ℕ, not, Bool, true, false, List, length, codes, count_by, Option, Some}
+use Rattle.std.specs.Prelude.{None, is_some, Result, Ok, Err, if◌then◌else◌, nat_lt, option_map, vec_len, IsTrue}
 use Rattle.std.specs.Str.{bytes_eq}
 use Rattle.std.specs.List.{list_any}
 use Rattle.cap_bytes.specs.declared.numbers.Order.{Order}

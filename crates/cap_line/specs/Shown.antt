@@ -1,5 +1,6 @@
 -- What a terminal shows of a text that someone else chose.
-use Rattle.std.specs.Prelude.{◌&&◌, ◌||◌, ◌==◌, ℕ, Bool, true, false, not, nat_le, if◌then◌else◌, List, [], ◌∷◌, chars, encode_utf8_all, flat_map, IsFalse}
+use Rattle.std.specs.Prelude.{◌&&◌, ◌||◌, ◌==◌, ℕ, Bool, true, false, not, nat_le, if◌then◌else◌, List, [], ◌∷◌, chars}
+use Rattle.std.specs.Prelude.{encode_utf8_all, flat_map, IsFalse}
 use Rattle.std.specs.Char.Escape.{escape_unicode}
 
 -- whether a code is one of those from `low` to `high`

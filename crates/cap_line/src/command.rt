@@ -2,7 +2,10 @@
 ghost use Rattle.std.specs.Prelude.{◌≡◌, codes, false, IfOk, IsOkAnd};
 ghost use Rattle.clap.specs.Words.{app_of, rule_of};
 ghost use Rattle.clap.specs.declared.builder.command.Command.TheViews.{out-Command as fields_of};
-ghost use Rattle.cap_line.specs.Command.{AddsMade, AddsRule, IsCapt, IsConvert, IsJoin, IsMerge, IsOrderRule, IsToRule, IsWriting, blocks_app, capt_alone, choice_rule, cutting_app, file_rule, files_rule, flag_rule, info_app, list_app, listing_app, out_rule, printing_app, reading_app, report_app};
+ghost use Rattle.cap_line.specs.Command.{AddsMade, AddsRule, IsCapt, IsConvert, IsGathering, IsJoin, IsMerge};
+ghost use Rattle.cap_line.specs.Command.{IsOrderRule, IsRequiredToRule, IsToRule, IsWriting, blocks_app, capt_alone};
+ghost use Rattle.cap_line.specs.Command.{choice_rule, cutting_app, file_rule, files_rule, flag_rule, info_app};
+ghost use Rattle.cap_line.specs.Command.{list_app, listing_app, out_rule, printing_app, reading_app, report_app};
 
 use crate::texts;
 use crate::usage::USAGE;
@@ -100,11 +103,19 @@ fn order<'a>(alloc: Global) -> Arg<'a>
 }
 
 // `--to`
-fn to<'a>(alloc: Global) -> Arg<'a>
+fn to<'a>(alloc: Global, help: &'a str) -> Arg<'a>
     ensures rule { IsToRule (rule_of result) }
     ensures local { result.global ≡ false }
 {
-    choice(alloc, "to", FORMATS.as_slice(), "FORMAT", texts::TO_HELP).required(true)
+    choice(alloc, "to", FORMATS.as_slice(), "FORMAT", help)
+}
+
+// `--to`, which is required
+fn required_to<'a>(alloc: Global) -> Arg<'a>
+    ensures rule { IsRequiredToRule (rule_of result) }
+    ensures local { result.global ≡ false }
+{
+    to(alloc, texts::TO_HELP).required(true)
 }
 
 // `-o`, `--output`
@@ -251,7 +262,22 @@ fn convert<'a>(alloc: Global) -> Result<Command<'a>, AllocError>
     ensures local { IfOk result (λ c. (fields_of c).has_globals ≡ false) }
 {
     let before = writing(alloc, "convert", texts::CONVERT_ABOUT, texts::CONVERT_HELP);
-    with_argument(with_argument(before, to(alloc)), file(alloc))
+    with_argument(with_argument(before, required_to(alloc)), file(alloc))
+}
+
+// A subcommand with `[--allow-cut] [--explain] [--order ORDER] -o OUT [--whole] [--to FORMAT] FILE..`
+fn gathering<'a>(
+    alloc: Global,
+    name: &'a str,
+    about: &'a str,
+    help: &'a str,
+) -> Result<Command<'a>, AllocError>
+    ensures app { IfOk result (λ c. IsGathering name.entry.now (app_of c)) }
+    ensures local { IfOk result (λ c. (fields_of c).has_globals ≡ false) }
+{
+    let before = writing(alloc, name, about, help);
+    let named = with_argument(before, to(alloc, texts::TO_DEFAULT_HELP));
+    with_argument(named, files(alloc))
 }
 
 // `merge`
@@ -259,10 +285,7 @@ fn merge<'a>(alloc: Global) -> Result<Command<'a>, AllocError>
     ensures app { IfOk result (λ c. IsMerge (app_of c)) }
     ensures local { IfOk result (λ c. (fields_of c).has_globals ≡ false) }
 {
-    with_argument(
-        writing(alloc, "merge", texts::MERGE_ABOUT, texts::MERGE_HELP),
-        files(alloc),
-    )
+    gathering(alloc, "merge", texts::MERGE_ABOUT, texts::MERGE_HELP)
 }
 
 // `join`
@@ -270,10 +293,7 @@ fn join<'a>(alloc: Global) -> Result<Command<'a>, AllocError>
     ensures app { IfOk result (λ c. IsJoin (app_of c)) }
     ensures local { IfOk result (λ c. (fields_of c).has_globals ≡ false) }
 {
-    with_argument(
-        writing(alloc, "join", texts::JOIN_ABOUT, texts::JOIN_HELP),
-        files(alloc),
-    )
+    gathering(alloc, "join", texts::JOIN_ABOUT, texts::JOIN_HELP)
 }
 
 // `capt` without its subcommands

@@ -24,9 +24,10 @@ pub enum Task {
     Report,
     /// Write the packets of a file in one of the formats.
     Convert,
-    /// Write the packets of files as one pcapng file, in the order of time.
+    /// Write the packets of files as one file, in the order of time: a pcapng file, if no format is asked for.
     Merge,
-    /// Write the whole IPv4 datagrams of files as one pcapng file, in the order of time.
+    /// Write the whole IPv4 datagrams of files as one file, in the order of time: a pcapng file, if no format is asked
+    /// for.
     Join,
 }
 

@@ -1,5 +1,5 @@
-//! The command line of `capt`: what is asked for, a job with the files that it reads, or why the words give none, and what clap
-//! says of them.
+//! The command line of `capt`: what is asked for, a job with the files that it reads, or why the words give none, and
+//! what clap says of them.
 #![tactic(auto)]
 
 mod command;

@@ -12,8 +12,8 @@ fn is_between(low: u32, high: u32, code: u32) -> bool
     low <= code && code <= high
 }
 
-// Whether a character does something to a terminal in place of being shown: it controls it, separates lines, or turns the
-// direction of what follows.
+// Whether a character does something to a terminal in place of being shown: it controls it, separates lines, or turns
+// the direction of what follows.
 fn is_hidden(c: char) -> bool
     ensures { result ≡ is_hidden c }
 {
@@ -39,7 +39,8 @@ fn put_escape(text: &mut String, c: char) -> Result<(), AllocError>
 
 // Adds a character, or its code if it is a hidden one. The end of a line is added as it is if lines are kept.
 fn put_char(text: &mut String, keeps_lines: bool, c: char) -> Result<(), AllocError>
-    ensures { OnOk result (string_bytes text.new ≡ string_bytes text.old ++ encode_utf8_all (shown_char keeps_lines c)) }
+    ensures { OnOk result (string_bytes text.new ≡ string_bytes text.old
+        ++ encode_utf8_all (shown_char keeps_lines c)) }
 {
     if is_hidden(c) && !(keeps_lines && c == '\n') {
         put_escape(text, c)

@@ -1,7 +1,7 @@
 //! What the program says of itself. clap makes the rest of its help and its messages.
 
-/// The version of the program.
-pub const VERSION: &str = "0.1.0";
+/// The version of the program, and the kits that prove it.
+pub const VERSION: &str = "1.0.0 (rattle-kit-13b or 13f, logic dac8208d650f15bf)";
 
 pub(crate) const REPORT_ABOUT: &str =
     "Prints the totals of captures, and a line for each conversation";
@@ -74,8 +74,7 @@ secrets, name records, statistics. At a terminal, or with --explain, a line
 tells how many blocks aren't.
 
 Examples: capt convert --to pcapng -o trace.pcapng trace.pcap
-          set -o pipefail  # else the status of a refused merge is lost
-          capt merge -o - a.pcap b.pcap | capt convert --to pcap -o ab.pcap -";
+          set -o pipefail; zcat trace.pcapng.gz | capt convert --to pcap -o - -";
 
 pub(crate) const MERGE_ABOUT: &str = "Writes the packets of captures as one, in the order of time";
 
@@ -83,18 +82,19 @@ pub(crate) const MERGE_HELP: &str =
     "A packet stands by the greatest time so far in its own file; of equal times the
 file that is named first comes first. So each file keeps its order, and no time
 is changed: where the times of a file run back, those of OUT do too.
-OUT is a pcapng file. It has each packet's bytes, lengths and time, and the link
-type, snaplen, time resolution and time offset of its interface. Not carried
-on: names, descriptions and filters of interfaces, comments and other options,
-secrets, name records, statistics. At a terminal, or with --explain, a line
-tells how many blocks aren't, and one how many packets ran back: had a time
-below the greatest so far in their file.
+OUT has each packet's bytes, lengths and time; as pcapng, also the link type,
+snaplen, time resolution and time offset of its interface. A pcap file has the
+link type and the snaplen of the first packet's interface, and times in whole
+micro- or nanoseconds: the first packet that it can't hold is refused. Not
+carried on: names, descriptions and filters of interfaces, comments and other
+options, secrets, name records, statistics. At a terminal, or with --explain, a
+line tells how many blocks aren't, and one how many packets ran back: had a
+time below the greatest so far in their file.
 More than 32 captures are merged in rounds: 32 at a time, in order, and then
 the results.
 
 Examples: capt merge -o day.pcapng morning.pcap evening.pcapng
-          set -o pipefail  # else the status of a refused merge is lost
-          capt merge -o - a.pcap b.pcap | capt convert --to pcap -o ab.pcap -";
+          capt merge --to pcap -o day.pcap morning.pcap evening.pcap";
 
 pub(crate) const JOIN_ABOUT: &str = "Writes the whole IPv4 datagrams of captures, fragments joined";
 
@@ -102,11 +102,13 @@ pub(crate) const JOIN_HELP: &str =
     "Each datagram is one packet, from its IPv4 header on, with the time of the
 frame that completed it, which also gives its place in the order of merge. What
 isn't IPv4, and what lacks a fragment, is left out.
-OUT is a pcapng file. It has each datagram's bytes and time, and the time
-resolution and time offset of its interface. Not carried on: link headers,
-names, descriptions and filters of interfaces, comments and other options,
-secrets, name records, statistics. At a terminal, or with --explain, a line
-tells how many blocks aren't, and one how many packets ran back, as of merge.
+OUT has each datagram's bytes and time; as pcapng, also the time resolution and
+time offset of its interface. A pcap file has times in whole micro- or
+nanoseconds, by the first datagram's interface: the first datagram that it can't
+hold is refused. Not carried on: link headers, names, descriptions and filters
+of interfaces, comments and other options, secrets, name records, statistics. At
+a terminal, or with --explain, a line tells how many blocks aren't, and one how
+many packets ran back, as of merge.
 
 Example: capt join -o whole.pcapng morning.pcap evening.pcapng";
 
@@ -121,6 +123,8 @@ capt is killed, a file OUT.capt-1 may be left";
 pub(crate) const ORDER_HELP: &str = "Byte order, default little";
 
 pub(crate) const TO_HELP: &str = "The format of OUT";
+
+pub(crate) const TO_DEFAULT_HELP: &str = "Format, default pcapng";
 
 pub(crate) const OUT_HELP: &str = "The file to be written, or - for standard output.
 It is emptied once every FILE is open, and never if

@@ -10,8 +10,8 @@ Usage: capt report [--allow-cut] FILE...
        capt list [--allow-cut] FILE
        capt blocks [--allow-cut] FILE
        capt convert [--allow-cut] [--order ORDER] --to FORMAT -o OUT FILE
-       capt merge [--allow-cut] [--order ORDER] -o OUT FILE...
-       capt join [--allow-cut] [--order ORDER] -o OUT FILE...
+       capt merge [--allow-cut] [--order ORDER] [--to FORMAT] -o OUT FILE...
+       capt join [--allow-cut] [--order ORDER] [--to FORMAT] -o OUT FILE...
 
 Commands:
   report   Prints the totals of captures, and a line for each conversation
@@ -30,12 +30,12 @@ Options:
       --whole    Of convert, merge and join: leave OUT as it was until all is
                  done
 
-A refused capture is told by its file, the offset and the rule that it breaks.
-Status 0: done; 1: a capture is refused, or a read, a write, an open, a
-creation or memory failed; 2: the command line is faulty.
+A refusal names the file, the offset and the broken rule.
+Status 0: success; 1: a capture is refused, a file can't be opened, read,
+created or written, or memory ran out; 2: the command line is invalid.
 ";
 
-/// What is told of words that aren't all UTF-8.
+/// What is printed for words that aren't all UTF-8.
 pub const NOT_UTF_8: &str = "error: a word of the command line isn't UTF-8
 
   tip: to read a file of such a name, use 'capt list - < FILE'
@@ -45,7 +45,7 @@ Usage: capt <COMMAND>
 For more information, try '--help'.
 ";
 
-// What is told of `--whole` with standard output.
+// What is printed for `--whole` with standard output.
 pub(crate) const WHOLE_DASH: &str = "error: the argument '--whole' cannot be used with '--output -'
 
 For more information, try '--help'.

@@ -1,5 +1,6 @@
 //! What the words of the command line ask for.
-ghost use Rattle.std.specs.Prelude.{◌≡◌, ◌≢◌, ◌⊎◌, All, chars, string_bytes, IfSome, IsSome, ◌↔◌, map, codes, option_map, IsTrue, IfOk, Some};
+ghost use Rattle.std.specs.Prelude.{◌≡◌, ◌≢◌, ◌⊎◌, All, chars, string_bytes, IfSome, IsSome, ◌↔◌, map, codes};
+ghost use Rattle.std.specs.Prelude.{option_map, IsTrue, IfOk, Some};
 ghost use Rattle.clap.specs.Values.{kind_of};
 ghost use Rattle.clap.specs.Words.{first_of, rows_of, found_of, subcommand_rows_of};
 ghost use Rattle.cap_line.specs.Jobs.{IsWhole};
@@ -150,10 +151,11 @@ pub fn parse<'a, S: AsStr>(alloc: Global, words: &'a [S]) -> Result<Job<'a>, Lin
 }
 
 /// What is said of words that give no job: help, the version, or a message that names the wrong word, in which what a
-/// terminal wouldn't show is told by its code. Nothing is said of words that give a job or name the wrong files, nor if a
-/// growth was refused.
+/// terminal wouldn't show is told by its code. Nothing is said of words that give a job or name the wrong files, nor if
+/// a growth was refused.
 pub fn message<'a, S: AsStr>(alloc: Global, words: &'a [S]) -> Option<String>
-    ensures refused { IfSome result (λ text. IsRefused (map S.text words.entry.now) ⊎ IsNoJob (map S.text words.entry.now)) }
+    ensures refused { IfSome result (λ text. IsRefused (map S.text words.entry.now)
+        ⊎ IsNoJob (map S.text words.entry.now)) }
     ensures seen { IfSome result (λ text. All IsSeenOrLine (chars (string_bytes text))) }
 {
     let Ok(command) = capt(alloc) else {

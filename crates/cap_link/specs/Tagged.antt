@@ -18,4 +18,6 @@ tagged (tag ∷ tags) kind bytes =
 -- carries what the type says of these bytes
 abbrev pub TagsLaw : Type 0
 TagsLaw =
-    (addresses : List ℕ) (tags : List Tag) (kind : ℕ) (bytes : List ℕ) (original : ℕ) → length addresses ≡ 12 → All (λ tag. is_tag tag.protocol ≡ true) tags → is_tag kind ≡ false → network_of 1 (addresses ++ tagged tags kind bytes) original ≡ payload kind bytes
+    (addresses : List ℕ) (tags : List Tag) (kind : ℕ) (bytes : List ℕ) (original : ℕ) → length addresses ≡ 12
+    → All (λ tag. is_tag tag.protocol ≡ true) tags → is_tag kind ≡ false
+    → network_of 1 (addresses ++ tagged tags kind bytes) original ≡ payload kind bytes

@@ -1,5 +1,6 @@
 -- Feeds that are asked in turn.
-use Rattle.std.proofs.Common.{◌≡◌, ℕ, zero, suc, ◌<◌, ◌≤◌, List, [], ◌∷◌, length, get_or, take, drop, ◌++◌, refl, sym, ap, ◌∙◌, subst, arith}
+use Rattle.std.proofs.Common.{◌≡◌, ℕ, zero, suc, ◌<◌, ◌≤◌, List, [], ◌∷◌, length, get_or, take, drop, ◌++◌, refl, sym}
+use Rattle.std.proofs.Common.{ap, ◌∙◌, subst, arith}
 use Rattle.std.specs.Prelude.{map, ⊤}
 use Rattle.std.proofs.Common.{inl, inr}
 use Rattle.std.proofs.Math.ListN.{set}
@@ -31,7 +32,8 @@ asked-init ps = none_asked ps ps refl
 
 pub asked-more : (i : ℕ) (ps qs : List Part) (d x : Part) → AskedUpTo i ps qs → i < length qs
     → (LearnsBy (get_or qs i d).lane.head (get_or qs i d) x) → AskedUpTo (suc i) ps (set qs i x)
-asked-more zero (p ∷ ps) (q ∷ qs) d x a l h = (subst (λ (w : Part). LearnsBy w.lane.head w x) a.0 h, none_asked ps qs a.1)
+asked-more zero (p ∷ ps) (q ∷ qs) d x a l h =
+    (subst (λ (w : Part). LearnsBy w.lane.head w x) a.0 h, none_asked ps qs a.1)
 asked-more (suc i) (p ∷ ps) (q ∷ qs) d x a l h = (a.0, asked-more i ps qs d x a.1 (omega arith) h)
 asked-more i ps qs d x a l h = grind arith
 
@@ -48,7 +50,8 @@ asked-all i (p ∷ ps) [] a l = absurd a
 asked-all zero (p ∷ ps) (q ∷ qs) a l = absurd (omega arith)
 asked-all (suc i) (p ∷ ps) (q ∷ qs) a l = (a.0, asked-all i ps qs a.1 (omega arith))
 
-pub length-parts : {F : Type 0} (f : F → Feed) (ls : List Lane) (fs : List F) → length fs ≡ length ls → length (parts ls (map f fs)) ≡ length ls
+pub length-parts : {F : Type 0} (f : F → Feed) (ls : List Lane) (fs : List F) → length fs ≡ length ls
+    → length (parts ls (map f fs)) ≡ length ls
 length-parts f (l ∷ ls) (x ∷ xs) e = ap suc (length-parts f ls xs (omega arith))
 length-parts f ls fs e = grind arith
 
@@ -57,36 +60,45 @@ pub parts-set : {F : Type 0} (f : F → Feed) (ls : List Lane) (fs : List F) (i 
 parts-set f (y ∷ ls) (z ∷ zs) (suc i) l x = ap (λ r. part y (f z) ∷ r) (parts-set f ls zs i l x)
 parts-set f ls fs i l x = grind arith
 
-pub parts-get : {F : Type 0} (f : F → Feed) (ls : List Lane) (fs : List F) (i : ℕ) (l : Lane) (x : F) → i < length ls → length fs ≡ length ls
+pub parts-get : {F : Type 0} (f : F → Feed) (ls : List Lane) (fs : List F) (i : ℕ) (l : Lane) (x : F) → i < length ls
+    → length fs ≡ length ls
     → get_or (parts ls (map f fs)) i (part l (f x)) ≡ part (get_or ls i l) (f (get_or fs i x))
 parts-get f (y ∷ ls) (z ∷ zs) (suc i) l x h e = parts-get f ls zs i l x (omega arith) (omega arith)
 parts-get f ls fs i l x h e = grind arith
 
-pub lanes-more : {F : Type 0} (f : F → Feed) (ps : List Part) (ls : List Lane) (fs : List F) (i : ℕ) (l m : Lane) (x y : F)
+pub lanes-more : {F : Type 0} (f : F → Feed) (ps : List Part) (ls : List Lane) (fs : List F) (i : ℕ)
+    (l m : Lane) (x y : F)
     → AskedUpTo i ps (parts ls (map f fs)) → i < length ls → length fs ≡ length ls
-    → LearnsBy (part (get_or ls i l) (f (get_or fs i x))).lane.head (part (get_or ls i l) (f (get_or fs i x))) (part m (f y))
+    → LearnsBy (part (get_or ls i l) (f (get_or fs i x))).lane.head (part (get_or ls i l) (f (get_or fs i x)))
+    (part m (f y))
     → AskedUpTo (suc i) ps (parts (set ls i m) (map f (set fs i y)))
 lanes-more f ps ls fs i l m x y a h e learns =
     subst (λ (ws : List Part). AskedUpTo (suc i) ps ws) (sym (parts-set f ls fs i m y))
     (asked-more i ps (parts ls (map f fs)) (part l (f x)) (part m (f y)) a (omega (arith, length-parts f ls fs e))
     (subst (λ (w : Part). LearnsBy w.lane.head w (part m (f y))) (sym (parts-get f ls fs i l x h e)) learns))
 
-pub lanes-stop : {F : Type 0} (f : F → Feed) (ps : List Part) (ls : List Lane) (fs : List F) (i : ℕ) (l m : Lane) (x y : F) (fault : Fault)
+pub lanes-stop : {F : Type 0} (f : F → Feed) (ps : List Part) (ls : List Lane) (fs : List F) (i : ℕ) (l m : Lane)
+    (x y : F) (fault : Fault)
     → AskedUpTo i ps (parts ls (map f fs)) → i < length ls → length fs ≡ length ls
-    → Stops (part (get_or ls i l) (f (get_or fs i x))) fault (part m (f y)) → StopsAt fault ps (parts (set ls i m) (map f (set fs i y)))
+    → Stops (part (get_or ls i l) (f (get_or fs i x))) fault (part m (f y))
+    → StopsAt fault ps (parts (set ls i m) (map f (set fs i y)))
 lanes-stop f ps ls fs i l m x y fault a h e stops =
     subst (λ (ws : List Part). StopsAt fault ps ws) (sym (parts-set f ls fs i m y))
-    (asked-stops i ps (parts ls (map f fs)) (part l (f x)) (part m (f y)) fault a (omega (arith, length-parts f ls fs e))
+    (asked-stops i ps (parts ls (map f fs)) (part l (f x)) (part m (f y)) fault a
+    (omega (arith, length-parts f ls fs e))
     (subst (λ (w : Part). Stops w fault (part m (f y))) (sym (parts-get f ls fs i l x h e)) stops))
 
 -- what a lane says is what its feed knows, at each place
-pub matches-there : {F : Type 0} (f : F → Feed) (ls : List Lane) (fs : List F) (i : ℕ) (l : Lane) (x : F) → i < length ls → length fs ≡ length ls
+pub matches-there : {F : Type 0} (f : F → Feed) (ls : List Lane) (fs : List F) (i : ℕ) (l : Lane) (x : F)
+    → i < length ls → length fs ≡ length ls
     → Agrees ls (map f fs) → Matches (get_or ls i l) (f (get_or fs i x))
-matches-there f (k ∷ ls) (z ∷ zs) (suc i) l x h e a = grind (arith, matches-there f ls zs i l x (omega arith) (omega arith))
+matches-there f (k ∷ ls) (z ∷ zs) (suc i) l x h e a =
+    grind (arith, matches-there f ls zs i l x (omega arith) (omega arith))
 matches-there f ls fs i l x h e a = grind arith
 
 -- and so it is if it is at a place that is written
-pub agrees-set : {F : Type 0} (f : F → Feed) (ls : List Lane) (fs : List F) (i : ℕ) (m : Lane) (y : F) → Agrees ls (map f fs) → Matches m (f y)
+pub agrees-set : {F : Type 0} (f : F → Feed) (ls : List Lane) (fs : List F) (i : ℕ) (m : Lane) (y : F)
+    → Agrees ls (map f fs) → Matches m (f y)
     → Agrees (set ls i m) (map f (set fs i y))
 agrees-set f (k ∷ ls) (z ∷ zs) (suc i) m y a h = grind (arith, agrees-set f ls zs i m y)
 agrees-set f ls fs i m y a h = grind arith
@@ -94,25 +106,31 @@ agrees-set f ls fs i m y a h = grind arith
 refilled : {A : Type 0} (xs ws : List A) (n : ℕ) → length ws ≡ n → take n (ws ++ drop (length ws) xs) ≡ ws
 refilled xs ws n e = take_at ws (drop (length ws) xs) n e
 
-pub length-written : {A : Type 0} (xs ws : List A) (n : ℕ) → length ws ≡ n → length (take n (ws ++ drop (length ws) xs)) ≡ n
+pub length-written : {A : Type 0} (xs ws : List A) (n : ℕ) → length ws ≡ n
+    → length (take n (ws ++ drop (length ws) xs)) ≡ n
 length-written xs ws n e = ap length (refilled xs ws n e) ∙ e
 
-pub packet-there : {F : Type 0} (f : F → Feed) (ls : List Lane) (fs : List F) (i : ℕ) (x : F) → IsPacketAt (parts ls (map f fs)) i → IsPacket (f (get_or fs i x)).known
+pub packet-there : {F : Type 0} (f : F → Feed) (ls : List Lane) (fs : List F) (i : ℕ) (x : F)
+    → IsPacketAt (parts ls (map f fs)) i → IsPacket (f (get_or fs i x)).known
 packet-there f (l ∷ ls) (y ∷ ys) (suc i) x h = packet-there f ls ys i x h
 packet-there f ls fs i x h = grind arith
 
-pub passes-there : {F : Type 0} (f : F → Feed) (ls : List Lane) (fs : List F) (i : ℕ) (l m : Lane) (x y : F) → i < length ls → length ls ≡ length fs
+pub passes-there : {F : Type 0} (f : F → Feed) (ls : List Lane) (fs : List F) (i : ℕ) (l m : Lane) (x y : F)
+    → i < length ls → length ls ≡ length fs
     → PassesPart (part (get_or ls i l) (f (get_or fs i x))) (part m (f y))
     → PassesAt (parts ls (map f fs)) i (parts (set ls i m) (map f (set fs i y)))
-passes-there f (k ∷ ls) (z ∷ zs) (suc i) l m x y h e p = (refl, passes-there f ls zs i l m x y (omega arith) (omega arith) p)
+passes-there f (k ∷ ls) (z ∷ zs) (suc i) l m x y h e p =
+    (refl, passes-there f ls zs i l m x y (omega arith) (omega arith) p)
 passes-there f ls fs i l m x y h e p = grind arith
 
 -- What is true of what slices show, before and after, is true of the lists that they are of.
-pub kept-written : {F : Type 0} (Holds : List Lane → List F → List Lane → List F → Type 0) (ls ks ms : List Lane) (fs gs ys : List F) (n : ℕ)
+pub kept-written : {F : Type 0} (Holds : List Lane → List F → List Lane → List F → Type 0) (ls ks ms : List Lane)
+    (fs gs ys : List F) (n : ℕ)
     → ks ≡ ls → gs ≡ fs → length ms ≡ length ks → length ys ≡ length gs → n ≡ length fs
     → Holds ks gs ms ys → Holds ls fs (refill (length ls) ls ms) (take n (ys ++ drop (length ys) fs))
 kept-written {F} Holds ls ks ms fs gs ys n a b d e m h =
     let lanes = refilled ls ms (length ls) (d ∙ ap length a) in
     let feeds = refilled fs ys n (e ∙ ap length b ∙ sym m) in
-    subst (λ (w : List Lane × List F). Holds w.0 w.1 (refill (length ls) ls ms) (take n (ys ++ drop (length ys) fs))) (λ i. (a i, b i))
+    subst (λ (w : List Lane × List F). Holds w.0 w.1 (refill (length ls) ls ms) (take n (ys ++ drop (length ys) fs)))
+    (λ i. (a i, b i))
     (subst (λ (w : List Lane × List F). Holds ks gs w.0 w.1) (λ i. (sym lanes i, sym feeds i)) h)

@@ -6,7 +6,8 @@ use Rattle.cap_time.specs.Stamp.{seconds_of}
 use Rattle.cap_source.specs.Feed.{Feed, IsFeed}
 use Rattle.cap_merge.specs.Clocks.{AtMost}
 use Rattle.cap_merge.specs.First.{has_next, lane_at, first_place}
-use Rattle.cap_merge.specs.Parts.{Part, parts, turns, feed_of, clock_of, run_of, ClocksFrom, BeginsAt, HasReached, AreBounded}
+use Rattle.cap_merge.specs.Parts.{Part, parts, turns, feed_of, clock_of, run_of, ClocksFrom, BeginsAt, HasReached}
+use Rattle.cap_merge.specs.Parts.{AreBounded}
 use Rattle.cap_merge.specs.declared.lanes.Lane.{Lane}
 use Rattle.cap_merge.proofs.Bounds.{first-bounded}
 use Rattle.cap_merge.proofs.Firsts.{clock-of-first, clocks-of, begins-of, not-below-first}
@@ -19,14 +20,16 @@ pub record IsFirstClock (ps : List Part) (clock : Option Stamp) : Type 0 where
   pub run : IsTrue (feed_of ps).told → BeginsAt clock (run_of ps)
 
 -- It is the clock of the lane at the place of that item.
-pub first-clock : {F : Type 0} (f : F → Feed) → ((x : F) → IsFeed (f x)) → (ls : List Lane) (fs : List F) (place : ℕ) → 1 ≤ length fs → length ls ≡ length fs
+pub first-clock : {F : Type 0} (f : F → Feed) → ((x : F) → IsFeed (f x)) → (ls : List Lane) (fs : List F) (place : ℕ)
+    → 1 ≤ length fs → length ls ≡ length fs
     → first_place (turns (parts ls (map f fs))) ≡ Some place → has_next (feed_of (parts ls (map f fs))).known ≡ true
     → AreBounded (parts ls (map f fs)) → HasReached (parts ls (map f fs))
     → (clock : Option Stamp) → (lane_at ls place).clock ≡ clock → IsFirstClock (parts ls (map f fs)) clock
-first-clock f law ls fs place some alike at next bounded reached clock is = subst (IsFirstClock (parts ls (map f fs))) is (record {
-  value = clock-of-first f ls fs place some alike at;
-  bounded = first-bounded f ls fs place alike at bounded;
-  from = clocks-of f ls fs place some alike at next;
-  not_below = not-below-first f ls fs place some alike at;
-  run = begins-of f law ls fs place some alike at next reached;
-})
+first-clock f law ls fs place some alike at next bounded reached clock is =
+    subst (IsFirstClock (parts ls (map f fs))) is (record {
+      value = clock-of-first f ls fs place some alike at;
+      bounded = first-bounded f ls fs place alike at bounded;
+      from = clocks-of f ls fs place some alike at next;
+      not_below = not-below-first f ls fs place some alike at;
+      run = begins-of f law ls fs place some alike at next reached;
+    })

@@ -24,16 +24,21 @@ test_of h above h' = grind arith
 of_test : (h : Option Head) (above : Bool) → (is_end h || not above) ≡ true → (h ≡ Some heads.End) ⊎ (above ≡ false)
 of_test h above e = grind arith
 
-tests_of : (clock : Option Stamp) (ps : List Part) → EachFrom clock ps → AllByRecursion (λ p. (is_end p.lane.head || not (is_gt (clock_cmp clock p.lane.clock))) ≡ true) ps
+tests_of : (clock : Option Stamp) (ps : List Part) → EachFrom clock ps
+    → AllByRecursion (λ p. (is_end p.lane.head || not (is_gt (clock_cmp clock p.lane.clock))) ≡ true) ps
 tests_of clock [] f = tt
 tests_of clock (p ∷ ps) f = (test_of p.lane.head (is_gt (clock_cmp clock p.lane.clock)) f.0, tests_of clock ps f.1)
 
-of_tests : (clock : Option Stamp) (ps : List Part) → AllByRecursion (λ p. (is_end p.lane.head || not (is_gt (clock_cmp clock p.lane.clock))) ≡ true) ps → EachFrom clock ps
+of_tests : (clock : Option Stamp) (ps : List Part)
+    → AllByRecursion (λ p. (is_end p.lane.head || not (is_gt (clock_cmp clock p.lane.clock))) ≡ true) ps
+    → EachFrom clock ps
 of_tests clock [] f = tt
 of_tests clock (p ∷ ps) f = (of_test p.lane.head (is_gt (clock_cmp clock p.lane.clock)) f.0, of_tests clock ps f.1)
 
 pub each-from : (clock : Option Stamp) (ps : List Part) → EachFrom clock ps → ClocksFrom clock ps
-each-from clock ps f = each-all (λ p. is_end p.lane.head || not (is_gt (clock_cmp clock p.lane.clock))) ps (tests_of clock ps f)
+each-from clock ps f = each-all (λ p. is_end p.lane.head || not (is_gt (clock_cmp clock p.lane.clock))) ps
+    (tests_of clock ps f)
 
 pub from-each : (clock : Option Stamp) (ps : List Part) → ClocksFrom clock ps → EachFrom clock ps
-from-each clock ps f = of_tests clock ps (all-each (λ p. is_end p.lane.head || not (is_gt (clock_cmp clock p.lane.clock))) ps f)
+from-each clock ps f =
+    of_tests clock ps (all-each (λ p. is_end p.lane.head || not (is_gt (clock_cmp clock p.lane.clock))) ps f)

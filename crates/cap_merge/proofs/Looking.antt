@@ -40,7 +40,8 @@ unfolding feed_of
 known_is ps head e = e
 
 -- all feeds have told what comes next
-pub heads-known : (ps qs : List Part) (head : Head) → LearnsAll ps qs → (feed_of qs).known ≡ Some head → AllByRecursion (λ q. IsFeed q.feed) qs → Heads ps (Ok head) qs
+pub heads-known : (ps qs : List Part) (head : Head) → LearnsAll ps qs → (feed_of qs).known ≡ Some head
+    → AllByRecursion (λ q. IsFeed q.feed) qs → Heads ps (Ok head) qs
 heads-known ps qs head l e f = record {
   answer = knows-asked ps qs head l (known_is qs head e) f;
   keeps = asked-keeps-all ps qs (Ok head) l f;
@@ -51,7 +52,8 @@ heads-known ps qs head l e f = record {
 }
 
 -- one can't tell
-pub heads-stopped : (ps qs : List Part) (fault : Fault) → AreFrom 1 ps → StopsAt fault ps qs → AllByRecursion (λ q. IsFeed q.feed) qs → Heads ps (Err fault) qs
+pub heads-stopped : (ps qs : List Part) (fault : Fault) → AreFrom 1 ps → StopsAt fault ps qs
+    → AllByRecursion (λ q. IsFeed q.feed) qs → Heads ps (Err fault) qs
 heads-stopped ps qs fault a s f =
     let r : Result Head Fault = Err fault in
     record {
@@ -79,7 +81,8 @@ answers_by old new (Err fault) h = grind arith
 items_by : (old new : Feed) (r : Result Head Fault) → KeepsItems old r new → FindsItem old (found_of r) new
 items_by old new r h = grind arith
 
-asks_by : (ps qs : List Part) (r : Result Head Fault) → GivesHead (feed_of ps) r (feed_of qs) → AsksAll ps r qs → LooksAll ps (found_of r) qs
+asks_by : (ps qs : List Part) (r : Result Head Fault) → GivesHead (feed_of ps) r (feed_of qs) → AsksAll ps r qs
+    → LooksAll ps (found_of r) qs
 asks_by ps qs r h a = grind arith
 
 run_by : (ps qs : List Part) (r : Result Head Fault) → KeepsRun ps r qs → ShowsRun ps (found_of r) qs
@@ -96,7 +99,8 @@ finds-by ps qs r h = record {
 }
 
 -- what comes next, by what a lane says
-pub packet-comes : (h : Option Head) → coming_of h ≡ Some comings.Packet → (meta : Meta) × (h ≡ Some (heads.Packet meta))
+pub packet-comes : (h : Option Head) → coming_of h ≡ Some comings.Packet → (meta : Meta)
+    × (h ≡ Some (heads.Packet meta))
 packet-comes None e = absurd (cc)
 packet-comes (Some (heads.Packet meta)) e = (meta, refl)
 packet-comes (Some (heads.Refused refusal)) e = absurd (cc)
@@ -105,7 +109,8 @@ packet-comes (Some heads.End) e = absurd (cc)
 pub is-packet : (h : Option Head) → coming_of h ≡ Some comings.Packet → IsPacket h
 is-packet h e = grind arith
 
-pub refusal-comes : (h : Option Head) (refusal : Refusal) → coming_of h ≡ Some (comings.Refused refusal) → h ≡ Some (heads.Refused refusal)
+pub refusal-comes : (h : Option Head) (refusal : Refusal) → coming_of h ≡ Some (comings.Refused refusal)
+    → h ≡ Some (heads.Refused refusal)
 refusal-comes h refusal e = grind arith
 
 pub end-comes : (h : Option Head) → coming_of h ≡ Some comings.End → h ≡ Some heads.End

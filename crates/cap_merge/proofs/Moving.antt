@@ -1,5 +1,6 @@
 -- Parts that move on one by one, and the feeds as one.
-use Rattle.std.proofs.Common.{◌≡◌, ℕ, suc, ◌≤◌, true, List, [], ◌∷◌, ◌++◌, refl, sym, ap, ◌∙◌, subst, arith, inl, inr, Option}
+use Rattle.std.proofs.Common.{◌≡◌, ℕ, suc, ◌≤◌, true, List, [], ◌∷◌, ◌++◌, refl, sym, ap, ◌∙◌, subst, arith, inl, inr}
+use Rattle.std.proofs.Common.{Option}
 use Rattle.std.specs.Prelude.{map, ⊤, IsTrue}
 use Rattle.std.specs.List.{AllByRecursion, list_all, flat_map}
 use Rattle.cap_bytes.specs.declared.faults.Fault.{Fault}
@@ -31,7 +32,8 @@ pub learns-each : (R : Part → Part → Type 0) → ((p q : Part) → IsFeed q.
 learns-each R f (p ∷ ps) (q ∷ qs) l h = (f p q l.0 h.0, learns-each R f ps qs l.1 h.1)
 learns-each R f ps qs l k = grind arith
 
-pub stops-each : (R : Part → Part → Type 0) (fault : Fault) → ((p : Part) → R p p) → ((p q : Part) → IsFeed q.feed → LearnsBy p.lane.head p q → R p q)
+pub stops-each : (R : Part → Part → Type 0) (fault : Fault) → ((p : Part) → R p p)
+    → ((p q : Part) → IsFeed q.feed → LearnsBy p.lane.head p q → R p q)
     → ((p q : Part) → Stops p fault q → R p q)
     → (ps qs : List Part) → AllByRecursion (λ q. IsFeed q.feed) qs → StopsAt fault ps qs → Each R ps qs
 stops-each R fault i f g (p ∷ ps) (q ∷ qs) l (inl h) = (g p q h.0, same_each R i ps qs h.1)
@@ -42,7 +44,14 @@ abbrev pub Kept : Part → Part → Type 0
 Kept p q = Keeps p.feed q.feed
 
 pub kept-itself : (p : Part) → Kept p p
-kept-itself p = record { files = refl; told = λ t. t; can_fail = λ file t. t; places = λ file. omega arith; left = omega arith }
+kept-itself p = record {
+  files = refl;
+  told = λ t. t;
+  can_fail = λ file t. t;
+  places = λ file. omega arith;
+  left =
+      omega arith;
+}
 
 pub kept-learns_by : (p q : Part) (h : Option Head) → LearnsBy h p q → Kept p q
 kept-learns_by p q h l = grind arith
@@ -51,11 +60,13 @@ files_kept : (ps qs : List Part) → Each Kept ps qs → flat_map (λ p. p.feed.
 files_kept (p ∷ ps) (q ∷ qs) k = λ i. k.0.files i ++ files_kept ps qs k.1 i
 files_kept ps qs k = grind arith
 
-told_kept : (ps qs : List Part) → Each Kept ps qs → list_all (λ p. p.feed.told) ps ≡ true → list_all (λ p. p.feed.told) qs ≡ true
+told_kept : (ps qs : List Part) → Each Kept ps qs → list_all (λ p. p.feed.told) ps ≡ true
+    → list_all (λ p. p.feed.told) qs ≡ true
 told_kept (p ∷ ps) (q ∷ qs) k t = grind (arith, told_kept ps qs k.1)
 told_kept ps qs k t = grind arith
 
-can_fail_kept : (ps qs : List Part) (file : ℕ) → Each Kept ps qs → can_fail_of qs file ≡ true → can_fail_of ps file ≡ true
+can_fail_kept : (ps qs : List Part) (file : ℕ) → Each Kept ps qs → can_fail_of qs file ≡ true
+    → can_fail_of ps file ≡ true
 unfolding can_fail_of
 can_fail_kept (p ∷ ps) (q ∷ qs) file k t = grind (arith, can_fail_kept ps qs file k.1)
 can_fail_kept ps qs file k t = grind arith
@@ -81,7 +92,9 @@ from-each n ps qs k a = grind arith
 -- If the devices tell, what is to come of the part has the same clocks, and its files end alike.
 pub record ComesAlike (p q : Part) : Type 0 where
   pub files : q.feed.files ≡ p.feed.files
-  pub placed : IsTrue p.feed.told → (file place : ℕ) → placed_from item_time file place q.lane.clock q.feed.items ≡ placed_from item_time file place p.lane.clock p.feed.items
+  pub placed : IsTrue p.feed.told → (file place : ℕ)
+      → placed_from item_time file place q.lane.clock q.feed.items
+      ≡ placed_from item_time file place p.lane.clock p.feed.items
   pub endings : IsTrue p.feed.told → (file : ℕ) → q.feed.endings file ≡ p.feed.endings file
 
 pub alike-itself : (p : Part) → ComesAlike p p
@@ -99,18 +112,25 @@ placed_alike (p ∷ ps) (q ∷ qs) file a t = grind (arith, placed_alike ps qs (
 placed_alike ps qs file a t = grind arith
 
 -- The run is the same.
-pub run-alike : (ps qs : List Part) → Each ComesAlike ps qs → list_all (λ p. p.feed.told) ps ≡ true → run_of qs ≡ run_of ps
+pub run-alike : (ps qs : List Part) → Each ComesAlike ps qs → list_all (λ p. p.feed.told) ps ≡ true
+    → run_of qs ≡ run_of ps
 unfolding run_of
 run-alike ps qs a t = grind (arith, in_order, placed_alike)
 
-endings_alike : (ps qs : List Part) (file : ℕ) → Each ComesAlike ps qs → list_all (λ p. p.feed.told) ps ≡ true → endings_of qs file ≡ endings_of ps file
+endings_alike : (ps qs : List Part) (file : ℕ) → Each ComesAlike ps qs → list_all (λ p. p.feed.told) ps ≡ true
+    → endings_of qs file ≡ endings_of ps file
 unfolding endings_of
 endings_alike (p ∷ ps) (q ∷ qs) file a t = grind (arith, endings_alike ps qs file a.1)
 endings_alike ps qs file a t = grind arith
 
-pub items-alike : (ps qs : List Part) → Each ComesAlike ps qs → list_all (λ p. p.feed.told) ps ≡ true → SameItems (feed_of ps) (feed_of qs)
+pub items-alike : (ps qs : List Part) → Each ComesAlike ps qs → list_all (λ p. p.feed.told) ps ≡ true
+    → SameItems (feed_of ps) (feed_of qs)
 unfolding feed_of
-items-alike ps qs a t = record { items = ap (map (λ x. x.item)) (run-alike ps qs a t); endings = λ file. endings_alike ps qs file a t }
+items-alike ps qs a t = record {
+  items = ap (map (λ x. x.item)) (run-alike ps qs a t);
+  endings =
+      λ file. endings_alike ps qs file a t;
+}
 
 sound_learns : (p : Part) (head : Head) (q : Part) → Learns p head q → IsSound q
 sound_learns p head q l = grind (arith, clock_total)
@@ -121,6 +141,7 @@ sound-learns_by p q h s l = grind (arith, sound_learns)
 pub sound-stops : (p q : Part) (fault : Fault) → Stops p fault q → IsSound q
 sound-stops p q fault s = grind arith
 
-pub sound-all : (ps qs : List Part) → Each (λ p q. IsSound p → IsSound q) ps qs → AllByRecursion IsSound ps → AllByRecursion IsSound qs
+pub sound-all : (ps qs : List Part) → Each (λ p q. IsSound p → IsSound q) ps qs → AllByRecursion IsSound ps
+    → AllByRecursion IsSound qs
 sound-all (p ∷ ps) (q ∷ qs) e s = (e.0 s.0, sound-all ps qs e.1 s.1)
 sound-all ps qs e s = grind arith

@@ -11,7 +11,8 @@ use Rattle.cap_merge.specs.Parts.{Part, part, parts, is_known, known_but, Others
 use Rattle.cap_merge.specs.Merge.{LearnsAll, Asks, AsksAll, PassesAt}
 use Rattle.cap_merge.proofs.Firsts.{known-holds}
 
-known_behind : (p : Part) (ps : List Part) → is_known (p ∷ ps) ≡ true → (is_some p.lane.head ≡ true) × (is_known ps ≡ true)
+known_behind : (p : Part) (ps : List Part) → is_known (p ∷ ps) ≡ true → (is_some p.lane.head ≡ true)
+    × (is_known ps ≡ true)
 known_behind p ps k = and-both (is_some p.lane.head) (is_known ps) k
 
 passed_known : (ps qs : List Part) (place : ℕ) → PassesAt ps place qs → is_known ps ≡ true → known_but qs place ≡ true
@@ -19,24 +20,28 @@ passed_known (p ∷ ps) (q ∷ qs) (suc place) h k = grind (arith, passed_known 
 passed_known ps qs place h k = grind (arith, known_behind)
 
 -- after a pass what comes next of the other feeds is known
-pub others-passed : (ps qs : List Part) (place : ℕ) → PassesAt ps place qs → IsPacket (feed_of ps).known → OthersKnown qs (Some place)
+pub others-passed : (ps qs : List Part) (place : ℕ) → PassesAt ps place qs → IsPacket (feed_of ps).known
+    → OthersKnown qs (Some place)
 others-passed ps qs place h p = passed_known ps qs place h (known-holds ps IsPacket (λ never. never) p).0
 
 learns_all : (ps : List Part) → is_known ps ≡ true → LearnsAll ps ps
 learns_all [] k = tt
 learns_all (p ∷ ps) k = grind (arith, learns_all ps)
 
-asks_front : {T : Type 0} (p q : Part) (ps : List Part) (r : Result T Fault) → is_known ps ≡ true → Asks p r q → AsksAll (p ∷ ps) r (q ∷ ps)
+asks_front : {T : Type 0} (p q : Part) (ps : List Part) (r : Result T Fault) → is_known ps ≡ true → Asks p r q
+    → AsksAll (p ∷ ps) r (q ∷ ps)
 asks_front p q ps r k h = grind (arith, learns_all)
 
 -- If the others are known, one feed is asked as all are.
-pub asks-there : {F : Type 0} (f : F → Feed) (ls : List Lane) (fs : List F) (i : ℕ) (l m : Lane) (x y : F) {T : Type 0} (r : Result T Fault) → length ls ≡ length fs
+pub asks-there : {F : Type 0} (f : F → Feed) (ls : List Lane) (fs : List F) (i : ℕ) (l m : Lane) (x y : F) {T : Type 0}
+    (r : Result T Fault) → length ls ≡ length fs
     → known_but (parts ls (map f fs)) i ≡ true → Asks (part (get_or ls i l) (f (get_or fs i x))) r (part m (f y))
     → AsksAll (parts ls (map f fs)) r (parts (set ls i m) (map f (set fs i y)))
 asks-there f (a ∷ ls) (b ∷ fs) (suc i) l m x y r e k h = grind (arith, asks-there f ls fs i l m x y r (omega arith))
 asks-there f ls fs i l m x y r e g k = grind (arith, true≢false, asks_front, part)
 
 -- the one that isn't known is one of them
-pub but-within : {F : Type 0} (f : F → Feed) (ls : List Lane) (fs : List F) (i : ℕ) → length ls ≡ length fs → known_but (parts ls (map f fs)) i ≡ true → i < length ls
+pub but-within : {F : Type 0} (f : F → Feed) (ls : List Lane) (fs : List F) (i : ℕ) → length ls ≡ length fs
+    → known_but (parts ls (map f fs)) i ≡ true → i < length ls
 but-within f (a ∷ ls) (b ∷ fs) (suc i) e k = grind (arith, but-within f ls fs i (omega arith))
 but-within f ls fs i e k = grind (arith, true≢false)

@@ -1,5 +1,6 @@
 -- Asking the feed that was passed whether it has a packet at hand.
-use Rattle.std.proofs.Common.{◌≡◌, ℕ, zero, suc, ◌<◌, Bool, true, false, List, ◌∷◌, length, get_or, refl, sym, ◌∙◌, subst, arith, inl, inr, Some, Result, Ok, Err}
+use Rattle.std.proofs.Common.{◌≡◌, ℕ, zero, suc, ◌<◌, Bool, true, false, List, ◌∷◌, length, get_or, refl, sym, ◌∙◌}
+use Rattle.std.proofs.Common.{subst, arith, inl, inr, Some, Result, Ok, Err}
 use Rattle.std.specs.Prelude.{map, is_some, not, ◌&&◌}
 use Rattle.std.specs.List.{AllByRecursion, list_all}
 use Rattle.std.specs.Ordering.{is_lt}
@@ -14,21 +15,28 @@ use Rattle.cap_merge.specs.declared.lanes.Lane.{Lane}
 use Rattle.cap_time.specs.Clock.{clock_cmp}
 use Rattle.cap_merge.specs.First.{coming_of}
 use Rattle.cap_merge.specs.Lists.{and-both}
-use Rattle.cap_merge.specs.Parts.{Part, LaneState, part, parts, known_but, known_time, is_bounded, known_of, HasReached, AreBounded, feed_of}
-use Rattle.cap_merge.specs.Merge.{LearnsBy, Stops, LearnsAll, StopsAt, LooksAll, Shows, PeeksAt, ShowsAt, TellsNext, ShowsFirst}
+use Rattle.cap_merge.specs.Parts.{Part, LaneState, part, parts, known_but, known_time, is_bounded, known_of, HasReached}
+use Rattle.cap_merge.specs.Parts.{AreBounded, feed_of}
+use Rattle.cap_merge.specs.Merge.{LearnsBy, Stops, LearnsAll, StopsAt, LooksAll, Shows, PeeksAt, ShowsAt, TellsNext}
+use Rattle.cap_merge.specs.Merge.{ShowsFirst}
 use Rattle.cap_merge.specs.Sound.{AreFrom}
 use Rattle.cap_merge.proofs.Heads.{known_all, same_all, unknown_stops, never}
-use Rattle.cap_merge.proofs.Looking.{Finds, finds-by, heads-known, heads-stopped, packet-comes, refusal-comes, end-comes}
+use Rattle.cap_merge.proofs.Looking.{Finds, finds-by, heads-known, heads-stopped, packet-comes, refusal-comes}
+use Rattle.cap_merge.proofs.Looking.{end-comes}
 use Rattle.cap_merge.proofs.Moving.{Each, each-itself, Kept, kept-itself}
 use Rattle.cap_merge.proofs.Others.{asks-there}
 
-peeks_there : {F : Type 0} (f : F → Feed) (ls : List Lane) (fs : List F) (i : ℕ) (l m : Lane) (x y : F) → i < length ls → length ls ≡ length fs
-    → Shows (part (get_or ls i l) (f (get_or fs i x))) false (part m (f y)) → PeeksAt (parts ls (map f fs)) i (parts (set ls i m) (map f (set fs i y)))
-peeks_there f (k ∷ ls) (z ∷ zs) (suc i) l m x y h e p = (refl, peeks_there f ls zs i l m x y (omega arith) (omega arith) p)
+peeks_there : {F : Type 0} (f : F → Feed) (ls : List Lane) (fs : List F) (i : ℕ) (l m : Lane) (x y : F) → i < length ls
+    → length ls ≡ length fs
+    → Shows (part (get_or ls i l) (f (get_or fs i x))) false (part m (f y))
+    → PeeksAt (parts ls (map f fs)) i (parts (set ls i m) (map f (set fs i y)))
+peeks_there f (k ∷ ls) (z ∷ zs) (suc i) l m x y h e p =
+    (refl, peeks_there f ls zs i l m x y (omega arith) (omega arith) p)
 peeks_there f ls fs i l m x y h e p = grind arith
 
 -- one feed is asked, and the others are known
-pub shows-there : {F : Type 0} (f : F → Feed) (ls : List Lane) (fs : List F) (i : ℕ) (l m : Lane) (x y : F) (b : Bool) → i < length ls → length ls ≡ length fs
+pub shows-there : {F : Type 0} (f : F → Feed) (ls : List Lane) (fs : List F) (i : ℕ) (l m : Lane) (x y : F) (b : Bool)
+    → i < length ls → length ls ≡ length fs
     → known_but (parts ls (map f fs)) i ≡ true → Shows (part (get_or ls i l) (f (get_or fs i x))) b (part m (f y))
     → ShowsAt (parts ls (map f fs)) i b (parts (set ls i m) (map f (set fs i y)))
 shows-there f ls fs i l m x y true h e k p =
@@ -42,8 +50,10 @@ peeked_kept p q (inr h) = h.keeps
 
 -- what every call keeps of each feed
 pub peeked-kept : (place : ℕ) (ps qs : List Part) → PeeksAt ps place qs → Each Kept ps qs
-peeked-kept zero (p ∷ ps) (q ∷ qs) h = (peeked_kept p q h.0, subst (λ (xs : List Part). Each Kept ps xs) (sym h.1) (each-itself Kept kept-itself ps))
-peeked-kept (suc place) (p ∷ ps) (q ∷ qs) h = (subst (λ (w : Part). Kept p w) (sym h.0) (kept-itself p), peeked-kept place ps qs h.1)
+peeked-kept zero (p ∷ ps) (q ∷ qs) h =
+    (peeked_kept p q h.0, subst (λ (xs : List Part). Each Kept ps xs) (sym h.1) (each-itself Kept kept-itself ps))
+peeked-kept (suc place) (p ∷ ps) (q ∷ qs) h =
+    (subst (λ (w : Part). Kept p w) (sym h.0) (kept-itself p), peeked-kept place ps qs h.1)
 peeked-kept place ps qs h = grind arith
 
 peeked_lane : (p q : Part) → Shows p false q → q.lane ≡ p.lane
@@ -51,13 +61,15 @@ peeked_lane p q (inl e) = λ i. (e i).lane
 peeked_lane p q (inr h) = h.lane
 
 -- nothing is noted: what is true of all lanes stays so
-lanes_kept : (test : LaneState → Bool) (place : ℕ) (ps qs : List Part) → PeeksAt ps place qs → list_all (λ q. test q.lane) qs ≡ list_all (λ p. test p.lane) ps
+lanes_kept : (test : LaneState → Bool) (place : ℕ) (ps qs : List Part) → PeeksAt ps place qs
+    → list_all (λ q. test q.lane) qs ≡ list_all (λ p. test p.lane) ps
 lanes_kept test zero (p ∷ ps) (q ∷ qs) h = λ i. test (peeked_lane p q h.0 i) && list_all (λ w. test w.lane) (h.1 i)
 lanes_kept test (suc place) (p ∷ ps) (q ∷ qs) h = λ i. test ((h.0 i).lane) && lanes_kept test place ps qs h.1 i
 lanes_kept test place ps qs h = grind arith
 
 pub peeked-reached : (place : ℕ) (ps qs : List Part) → PeeksAt ps place qs → HasReached ps → HasReached qs
-peeked-reached place ps qs h r = lanes_kept (λ lane. not (is_lt (clock_cmp lane.clock (known_time lane.head)))) place ps qs h ∙ r
+peeked-reached place ps qs h r =
+    lanes_kept (λ lane. not (is_lt (clock_cmp lane.clock (known_time lane.head)))) place ps qs h ∙ r
 
 pub peeked-bounded : (place : ℕ) (ps qs : List Part) → PeeksAt ps place qs → AreBounded ps → AreBounded qs
 peeked-bounded place ps qs h b = lanes_kept (λ lane. is_bounded lane.clock) place ps qs h ∙ b
@@ -72,24 +84,33 @@ stopped_again p q x fault (inl e) s = subst (λ (w : Part). Stops w fault x) e s
 stopped_again p q x fault (inr h) s = grind arith
 
 peeked_learns : (place : ℕ) (ps qs rs : List Part) → PeeksAt ps place qs → LearnsAll qs rs → LearnsAll ps rs
-peeked_learns zero (p ∷ ps) (q ∷ qs) (x ∷ rs) h l = (learned_again p q x h.0 l.0, subst (λ (xs : List Part). LearnsAll xs rs) h.1 l.1)
-peeked_learns (suc place) (p ∷ ps) (q ∷ qs) (x ∷ rs) h l = (subst (λ (w : Part). LearnsBy w.lane.head w x) h.0 l.0, peeked_learns place ps qs rs h.1 l.1)
+peeked_learns zero (p ∷ ps) (q ∷ qs) (x ∷ rs) h l =
+    (learned_again p q x h.0 l.0, subst (λ (xs : List Part). LearnsAll xs rs) h.1 l.1)
+peeked_learns (suc place) (p ∷ ps) (q ∷ qs) (x ∷ rs) h l =
+    (subst (λ (w : Part). LearnsBy w.lane.head w x) h.0 l.0, peeked_learns place ps qs rs h.1 l.1)
 peeked_learns place ps qs rs h l = grind arith
 
 never_stops : (p q : Part) (fault : Fault) → is_some p.lane.head ≡ true → Stops p fault q → ⊥
 never_stops p q fault k s = grind arith
 
-peeked_stops : (place : ℕ) (ps qs rs : List Part) (fault : Fault) → known_but ps place ≡ true → PeeksAt ps place qs → StopsAt fault qs rs → StopsAt fault ps rs
+peeked_stops : (place : ℕ) (ps qs rs : List Part) (fault : Fault) → known_but ps place ≡ true → PeeksAt ps place qs
+    → StopsAt fault qs rs → StopsAt fault ps rs
 peeked_stops zero (p ∷ ps) (q ∷ qs) (x ∷ rs) fault k h (inl s) = inl (stopped_again p q x fault h.0 s.0, s.1 ∙ h.1)
-peeked_stops zero (p ∷ ps) (q ∷ qs) (x ∷ rs) fault k h (inr s) = inr (learned_again p q x h.0 s.0, subst (λ (xs : List Part). StopsAt fault xs rs) h.1 s.1)
+peeked_stops zero (p ∷ ps) (q ∷ qs) (x ∷ rs) fault k h (inr s) =
+    inr (learned_again p q x h.0 s.0, subst (λ (xs : List Part). StopsAt fault xs rs) h.1 s.1)
 peeked_stops (suc place) (p ∷ ps) (q ∷ qs) (x ∷ rs) fault k h (inl s) =
-    absurd (never_stops p x fault (and-both (is_some p.lane.head) (known_but ps place) k).0 (subst (λ (w : Part). Stops w fault x) h.0 s.0))
+    absurd (never_stops p x fault (and-both (is_some p.lane.head) (known_but ps place) k).0
+    (subst (λ (w : Part). Stops w fault x) h.0 s.0))
 peeked_stops (suc place) (p ∷ ps) (q ∷ qs) (x ∷ rs) fault k h (inr s) =
-    inr (subst (λ (w : Part). LearnsBy w.lane.head w x) h.0 s.0, peeked_stops place ps qs rs fault (and-both (is_some p.lane.head) (known_but ps place) k).1 h.1 s.1)
+    inr (
+      subst (λ (w : Part). LearnsBy w.lane.head w x) h.0 s.0,
+      peeked_stops place ps qs rs fault (and-both (is_some p.lane.head) (known_but ps place) k).1 h.1 s.1,
+    )
 peeked_stops place ps qs rs fault k h s = grind arith
 
 -- So it is with all feeds.
-pub peeked-looks : (place : ℕ) (ps qs rs : List Part) (r : Result Bool Fault) → known_but ps place ≡ true → PeeksAt ps place qs → LooksAll qs r rs → LooksAll ps r rs
+pub peeked-looks : (place : ℕ) (ps qs rs : List Part) (r : Result Bool Fault) → known_but ps place ≡ true
+    → PeeksAt ps place qs → LooksAll qs r rs → LooksAll ps r rs
 peeked-looks place ps qs rs (Ok b) k h l = peeked_learns place ps qs rs h l
 peeked-looks place ps qs rs (Err (Refused refusal)) k h l = peeked_learns place ps qs rs h l
 peeked-looks place ps qs rs (Err (Read file offset)) k h l = peeked_stops place ps qs rs (Read file offset) k h l
@@ -108,7 +129,8 @@ learned_looks ps qs rs (Err Write) l h = h
 learned_looks ps qs rs (Err Memory) l h = absurd (learned_stops ps qs rs Memory l h)
 
 -- whether what comes first of all is a packet that is at hand
-pub shows-first : (ps qs : List Part) (b : Bool) → LearnsAll ps qs → (b ≡ true → coming_of (known_of qs) ≡ Some comings.Packet) → ShowsFirst ps b qs
+pub shows-first : (ps qs : List Part) (b : Bool) → LearnsAll ps qs
+    → (b ≡ true → coming_of (known_of qs) ≡ Some comings.Packet) → ShowsFirst ps b qs
 unfolding feed_of
 shows-first ps qs true l f = (l, f refl)
 shows-first ps qs false l f = λ r rs h. learned_looks ps qs rs r l h
@@ -117,21 +139,26 @@ shows-first ps qs false l f = λ r rs h. learned_looks ps qs rs r l h
 abbrev faulted : Fault → Result Bool Fault
 faulted fault = Err fault
 
-pub stopped-looks : (ps qs : List Part) (fault : Fault) → StopsAt fault ps qs → LooksAll ps (faulted fault) qs × TellsNext (feed_of qs).known (faulted fault)
+pub stopped-looks : (ps qs : List Part) (fault : Fault) → StopsAt fault ps qs → LooksAll ps (faulted fault) qs
+    × TellsNext (feed_of qs).known (faulted fault)
 stopped-looks ps qs (Refused refusal) s = absurd (never ps qs (Refused refusal) (λ p q h. h.gives) s)
 stopped-looks ps qs (Read file offset) s = (s, tt)
 stopped-looks ps qs Write s = absurd (never ps qs Write (λ p q h. h.gives) s)
 stopped-looks ps qs Memory s = (s, tt)
 
 -- what `has_packet` answers, by what was asked and what comes next
-pub finds-all : (ps qs : List Part) (r : Result Bool Fault) → AreFrom 1 ps → LooksAll ps r qs → TellsNext (feed_of qs).known r → AllByRecursion (λ q. IsFeed q.feed) qs
+pub finds-all : (ps qs : List Part) (r : Result Bool Fault) → AreFrom 1 ps → LooksAll ps r qs
+    → TellsNext (feed_of qs).known r → AllByRecursion (λ q. IsFeed q.feed) qs
     → Finds ps r qs
 finds-all ps qs (Ok true) a l e f =
     let known = packet-comes (feed_of qs).known e in
     finds-by ps qs (Ok (heads.Packet known.0)) (heads-known ps qs (heads.Packet known.0) l known.1 f)
-finds-all ps qs (Ok false) a l e f = finds-by ps qs (Ok heads.End) (heads-known ps qs heads.End l (end-comes (feed_of qs).known e) f)
+finds-all ps qs (Ok false) a l e f = finds-by ps qs (Ok heads.End)
+    (heads-known ps qs heads.End l (end-comes (feed_of qs).known e) f)
 finds-all ps qs (Err (Refused refusal)) a l e f =
-    finds-by ps qs (Ok (heads.Refused refusal)) (heads-known ps qs (heads.Refused refusal) l (refusal-comes (feed_of qs).known refusal e) f)
-finds-all ps qs (Err (Read file offset)) a l e f = finds-by ps qs (Err (Read file offset)) (heads-stopped ps qs (Read file offset) a l f)
+    finds-by ps qs (Ok (heads.Refused refusal)) (heads-known ps qs (heads.Refused refusal) l
+    (refusal-comes (feed_of qs).known refusal e) f)
+finds-all ps qs (Err (Read file offset)) a l e f =
+    finds-by ps qs (Err (Read file offset)) (heads-stopped ps qs (Read file offset) a l f)
 finds-all ps qs (Err Write) a l e f = absurd l
 finds-all ps qs (Err Memory) a l e f = finds-by ps qs (Err Memory) (heads-stopped ps qs Memory a l f)

@@ -11,6 +11,7 @@ unfolding feed_of
 items-of-run ps = refl
 
 -- the run begins with the first of its items, at the clock at which it begins
-pub first-of-run : (xs : List (Clocked Item)) (clock : Option Stamp) (i : Item) (rest : List Item) → BeginsAt clock xs → map (λ x. x.item) xs ≡ i ∷ rest
+pub first-of-run : (xs : List (Clocked Item)) (clock : Option Stamp) (i : Item) (rest : List Item) → BeginsAt clock xs
+    → map (λ x. x.item) xs ≡ i ∷ rest
     → xs ≡ record { clock = clock; item = i } ∷ drop 1 xs
 first-of-run xs clock i rest b e = grind arith

@@ -1,5 +1,6 @@
 -- The feeds of a merge before anything is read.
-use Rattle.std.proofs.Common.{◌≡◌, ℕ, zero, suc, ◌+◌, ◌-◌, ◌≤◌, ◌<◌, get_or, true, false, if◌then◌else◌, List, [], ◌∷◌, ◌++◌, length, map, Bool, ◌&&◌, IsTrue, None, Result, refl, sym, ap, ◌∙◌, subst, arith}
+use Rattle.std.proofs.Common.{◌≡◌, ℕ, zero, suc, ◌+◌, ◌-◌, ◌≤◌, ◌<◌, get_or, true, false, if◌then◌else◌, List, [], ◌∷◌}
+use Rattle.std.proofs.Common.{◌++◌, length, map, Bool, ◌&&◌, IsTrue, None, Result, refl, sym, ap, ◌∙◌, subst, arith}
 use Rattle.std.specs.List.{flat_map, list_all, range_with_len}
 use Rattle.std.proofs.lemmas.Bool.Decides.{nat_tests}
 use Rattle.std.proofs.lemmas.List.{length-map}
@@ -7,7 +8,8 @@ use Rattle.cap_bytes.specs.declared.faults.Fault.{Fault}
 use Rattle.cap_bytes.specs.declared.faults.Tail.{Tail}
 use Rattle.cap_merge.proofs.Numbers.{numbers-within}
 use Rattle.cap_merge.specs.Files.{items_of_files, run_of_files, clocked_run, endings_from, endings_of_files}
-use Rattle.cap_merge.specs.Parts.{Part, new_parts, item_time, is_refusal, feed_of, run_of, known_of, broken_of, endings_of, can_fail_of, has_file, IsNumbered}
+use Rattle.cap_merge.specs.Parts.{Part, new_parts, item_time, is_refusal, feed_of, run_of, known_of, broken_of}
+use Rattle.cap_merge.specs.Parts.{endings_of, can_fail_of, has_file, IsNumbered}
 use Rattle.cap_merge.specs.Readers.{Reader, IsUnread, AreUnread, IsUnreadRun}
 use Rattle.cap_merge.specs.Run.{opened, run}
 use Rattle.cap_source.specs.Feed.{Feed}
@@ -15,13 +17,16 @@ use Rattle.cap_source.specs.ReadFaults.{FailsOf}
 use Rattle.cap_source.specs.Walk.{Walks}
 
 -- one more feed after some
-pub AreUnread-more : (tail : Tail) (file : ℕ) (readers : List Reader) (feeds : List Feed) (reader : Reader) (feed : Feed)
+pub AreUnread-more : (tail : Tail) (file : ℕ) (readers : List Reader) (feeds : List Feed) (reader : Reader)
+    (feed : Feed)
     → AreUnread tail file readers feeds → IsUnread tail (file + length readers) reader feed
     → AreUnread tail file (readers ++ reader ∷ []) (feeds ++ feed ∷ [])
-AreUnread-more tail file (r ∷ rs) (f ∷ fs) reader feed a is = grind (arith, AreUnread-more tail (file + 1) rs fs reader feed a.1)
+AreUnread-more tail file (r ∷ rs) (f ∷ fs) reader feed a is =
+    grind (arith, AreUnread-more tail (file + 1) rs fs reader feed a.1)
 AreUnread-more tail file readers feeds reader feed a is = grind arith
 
-pub AreUnread-length : (tail : Tail) (file : ℕ) (readers : List Reader) (feeds : List Feed) → AreUnread tail file readers feeds
+pub AreUnread-length : (tail : Tail) (file : ℕ) (readers : List Reader) (feeds : List Feed)
+    → AreUnread tail file readers feeds
     → length feeds ≡ length readers
 AreUnread-length tail file (r ∷ rs) (f ∷ fs) a = omega (arith, AreUnread-length tail (file + 1) rs fs a.1)
 AreUnread-length tail file readers feeds a = grind arith
@@ -31,7 +36,8 @@ numbered_from : (tail : Tail) (file : ℕ) (readers : List Reader) (feeds : List
 numbered_from tail file (r ∷ rs) (f ∷ fs) a = cc (numbered_from tail (file + 1) rs fs a.1)
 numbered_from tail file readers feeds a = grind arith
 
-pub AreUnread-numbered : (tail : Tail) (readers : List Reader) (feeds : List Feed) → AreUnread tail 1 readers feeds → IsNumbered feeds
+pub AreUnread-numbered : (tail : Tail) (readers : List Reader) (feeds : List Feed) → AreUnread tail 1 readers feeds
+    → IsNumbered feeds
 AreUnread-numbered tail readers feeds a = numbered_from tail 1 readers feeds a
 
 tracks_are : (tail : Tail) (file : ℕ) (readers : List Reader) (feeds : List Feed) → AreUnread tail file readers feeds
@@ -50,18 +56,21 @@ own files file is = rw is (grind (arith, nat_tests))
 other : (files : List ℕ) (file n : ℕ) → files ≡ file ∷ [] → file < n → has_file files n ≡ false
 other files file n is less = rw is (grind (arith, nat_tests))
 
-can_fail_same : (tail : Tail) (first place : ℕ) (readers : List Reader) (feeds : List Feed) → AreUnread tail first readers feeds
+can_fail_same : (tail : Tail) (first place : ℕ) (readers : List Reader) (feeds : List Feed)
+    → AreUnread tail first readers feeds
     → can_fail_of (new_parts feeds) (first + place) ≡ get_or (map (λ r. r.can_fail) readers) place false
 unfolding can_fail_of
 can_fail_same tail first zero (r ∷ rs) (f ∷ fs) a = here
   where
-    here : (if has_file f.files (first + 0) then f.can_fail (first + 0) else can_fail_of (new_parts fs) (first + 0)) ≡ r.can_fail
+    here : (if has_file f.files (first + 0) then f.can_fail (first + 0) else can_fail_of (new_parts fs) (first + 0))
+        ≡ r.can_fail
     here =
         let same : first + 0 ≡ first = omega arith in
         rw (same, own f.files first a.0.files) a.0.can_fail
 can_fail_same tail first (suc place) (r ∷ rs) (f ∷ fs) a =
     let next : first + 1 + place ≡ first + suc place = omega arith in
-    rw (other f.files first (first + suc place) a.0.files (omega arith)) (ap (can_fail_of (new_parts fs)) (sym next) ∙ can_fail_same tail (first + 1) place rs fs a.1)
+    rw (other f.files first (first + suc place) a.0.files (omega arith)) (ap (can_fail_of (new_parts fs)) (sym next)
+    ∙ can_fail_same tail (first + 1) place rs fs a.1)
 can_fail_same tail first place readers feeds a = grind arith
 
 files_same : (tail : Tail) (file : ℕ) (readers : List Reader) (feeds : List Feed) → AreUnread tail file readers feeds
@@ -70,13 +79,15 @@ files_same tail file (r ∷ rs) (f ∷ fs) a = cc (files_same tail (file + 1) rs
 files_same tail file readers feeds a = grind arith
 
 -- how a file ends: as its own feed says
-endings_same : (tail : Tail) (first : ℕ) (readers : List Reader) (feeds : List Feed) (file : ℕ) → AreUnread tail first readers feeds
+endings_same : (tail : Tail) (first : ℕ) (readers : List Reader) (feeds : List Feed) (file : ℕ)
+    → AreUnread tail first readers feeds
     → endings_of (new_parts feeds) file ≡ endings_from tail first (map (λ r. r.bytes) readers) file
 unfolding endings_of
 endings_same tail first (r ∷ rs) (f ∷ fs) file a = grind (arith, endings_same tail (first + 1) rs fs file a.1)
 endings_same tail first readers feeds file a = grind arith
 
-unknown : (tail : Tail) (readers : List Reader) (feeds : List Feed) → 1 ≤ length readers → AreUnread tail 1 readers feeds
+unknown : (tail : Tail) (readers : List Reader) (feeds : List Feed) → 1 ≤ length readers
+    → AreUnread tail 1 readers feeds
     → known_of (new_parts feeds) ≡ None
 unfolding known_of
 unknown tail [] feeds some a = absurd (omega arith)
@@ -92,8 +103,10 @@ whole tail file (r ∷ rs) [] a = absurd a
 whole tail file (r ∷ rs) (f ∷ fs) a = a.0.broken
 
 -- The files of readers as one feed, of which nothing was asked.
-pub IsUnreadRun-feeds : (tail : Tail) (readers : List Reader) (feeds : List Feed) (ps : List Part) → 1 ≤ length readers → AreUnread tail 1 readers feeds
-    → ps ≡ new_parts feeds → run_of ps ≡ run item_time is_refusal (map (λ f. opened f.items) feeds) → IsUnreadRun tail readers ps
+pub IsUnreadRun-feeds : (tail : Tail) (readers : List Reader) (feeds : List Feed) (ps : List Part) → 1 ≤ length readers
+    → AreUnread tail 1 readers feeds
+    → ps ≡ new_parts feeds → run_of ps ≡ run item_time is_refusal (map (λ f. opened f.items) feeds)
+    → IsUnreadRun tail readers ps
 unfolding feed_of endings_of_files
 IsUnreadRun-feeds tail readers feeds ps some a is ran = record {
   files = ap (λ p. (feed_of p).files) is ∙ files_same tail 1 readers feeds a;
@@ -107,36 +120,46 @@ IsUnreadRun-feeds tail readers feeds ps some a is ran = record {
 
 -- ---- the same over any readers, as a caller has them
 
-list_all-map : {A B : Type 0} (f : A → B) (p : B → Bool) (xs : List A) → list_all p (map f xs) ≡ list_all (λ x. p (f x)) xs
+list_all-map : {A B : Type 0} (f : A → B) (p : B → Bool) (xs : List A)
+    → list_all p (map f xs) ≡ list_all (λ x. p (f x)) xs
 list_all-map f p [] = refl
 list_all-map f p (x ∷ xs) = ap (λ b. p (f x) && b) (list_all-map f p xs)
 
-pub bytes-readers : {A : Type 0} (reader : A → Reader) (sources : List A) → map (λ r. r.bytes) (map reader sources) ≡ map (λ s. (reader s).bytes) sources
+pub bytes-readers : {A : Type 0} (reader : A → Reader) (sources : List A)
+    → map (λ r. r.bytes) (map reader sources) ≡ map (λ s. (reader s).bytes) sources
 bytes-readers reader [] = refl
 bytes-readers reader (s ∷ ss) = ap (λ l. (reader s).bytes ∷ l) (bytes-readers reader ss)
 
-pub told-readers : {A : Type 0} (reader : A → Reader) (tail : Tail) (sources : List A) (ps : List Part) → IsUnreadRun tail (map reader sources) ps
+pub told-readers : {A : Type 0} (reader : A → Reader) (tail : Tail) (sources : List A) (ps : List Part)
+    → IsUnreadRun tail (map reader sources) ps
     → IsTrue (list_all (λ s. (reader s).told) sources) → IsTrue (feed_of ps).told
 told-readers reader tail sources ps u t = subst IsTrue (sym (u.told ∙ list_all-map reader (λ r. r.told) sources)) t
 
-can_fail-sources : {A : Type 0} (reader : A → Reader) (sources : List A) → map (λ r. r.can_fail) (map reader sources) ≡ map (λ s. (reader s).can_fail) sources
+can_fail-sources : {A : Type 0} (reader : A → Reader) (sources : List A)
+    → map (λ r. r.can_fail) (map reader sources) ≡ map (λ s. (reader s).can_fail) sources
 can_fail-sources reader [] = refl
 can_fail-sources reader (s ∷ ss) = ap (λ l. (reader s).can_fail ∷ l) (can_fail-sources reader ss)
 
-pub can_fail-readers : {A : Type 0} (reader : A → Reader) (tail : Tail) (sources : List A) (ps : List Part) (file : ℕ) → IsUnreadRun tail (map reader sources) ps
-    → 1 ≤ file → IsTrue ((feed_of ps).can_fail file) → IsTrue (get_or (map (λ s. (reader s).can_fail) sources) (file - 1) false)
+pub can_fail-readers : {A : Type 0} (reader : A → Reader) (tail : Tail) (sources : List A) (ps : List Part) (file : ℕ)
+    → IsUnreadRun tail (map reader sources) ps
+    → 1 ≤ file → IsTrue ((feed_of ps).can_fail file)
+    → IsTrue (get_or (map (λ s. (reader s).can_fail) sources) (file - 1) false)
 can_fail-readers reader tail sources ps file u some can =
     let behind : 1 + (file - 1) ≡ file = omega arith in
-    subst IsTrue (ap (feed_of ps).can_fail (sym behind) ∙ u.can_fail (file - 1) ∙ ap (λ l. get_or l (file - 1) false) (can_fail-sources reader sources)) can
+    subst IsTrue (ap (feed_of ps).can_fail (sym behind) ∙ u.can_fail (file - 1)
+    ∙ ap (λ l. get_or l (file - 1) false) (can_fail-sources reader sources)) can
 
 -- the items to come of the feed
-pub run-items : {A : Type 0} (reader : A → Reader) (tail : Tail) (sources : List A) (ps : List Part) → IsUnreadRun tail (map reader sources) ps
+pub run-items : {A : Type 0} (reader : A → Reader) (tail : Tail) (sources : List A) (ps : List Part)
+    → IsUnreadRun tail (map reader sources) ps
     → (feed_of ps).items ≡ run_of_files tail (map (λ s. (reader s).bytes) sources)
 unfolding feed_of run_of_files
-run-items reader tail sources ps u = ap (map (λ x. x.item)) (u.run ∙ ap (clocked_run tail) (bytes-readers reader sources))
+run-items reader tail sources ps u = ap (map (λ x. x.item)) (u.run
+    ∙ ap (clocked_run tail) (bytes-readers reader sources))
 
 -- A read that fails as files are gone through as one is told of one of them.
-pub Fails-merged : {A B : Type 0} (reader : A → Reader) (tail : Tail) (sources : List A) (ps : List Part) (new : Feed) (result : Result B Fault)
+pub Fails-merged : {A B : Type 0} (reader : A → Reader) (tail : Tail) (sources : List A) (ps : List Part) (new : Feed)
+    (result : Result B Fault)
     → IsUnreadRun tail (map reader sources) ps → Walks (feed_of ps) result new
     → FailsOf (map (λ s. (reader s).can_fail) sources) result
 Fails-merged reader tail sources ps new result u w = grind (arith, numbers-within, length-map, can_fail-readers)

@@ -1,5 +1,6 @@
 -- Clocks are in a total order, up to equal times.
-use Rattle.std.proofs.Common.{◌≡◌, Bool, true, false, cond, refl, sym, ap, ◌∙◌, Ordering, Less, Equal, Greater, Option, arith}
+use Rattle.std.proofs.Common.{◌≡◌, Bool, true, false, cond, refl, sym, ap, ◌∙◌, Ordering, Less, Equal, Greater, Option}
+use Rattle.std.proofs.Common.{arith}
 use Rattle.std.specs.Ordering.{is_lt, is_gt, ordering_reverse}
 use Rattle.std.specs.Cmp.{IsTotalOrder, tied_itself, tied_back, alike_right, upto}
 use Rattle.std.specs.Cmp.Lexicographic.{options_total}
@@ -21,7 +22,8 @@ at_most-itself a = ap is_gt (tied_itself clock_total a)
 pub at_most-trans : (a b c : Option Stamp) → AtMost a b → AtMost b c → AtMost a c
 at_most-trans = upto clock_total
 
-below_by : (a b c : Option Stamp) (r : Ordering) → clock_cmp b c ≡ r → clock_cmp a b ≡ Less → is_gt r ≡ false → clock_cmp a c ≡ Less
+below_by : (a b c : Option Stamp) (r : Ordering) → clock_cmp b c ≡ r → clock_cmp a b ≡ Less → is_gt r ≡ false
+    → clock_cmp a c ≡ Less
 below_by a b c Less e h k = clock_total.trans a b c h e
 below_by a b c Equal e h k = sym (alike_right clock_total b c a e) ∙ h
 below_by a b c Greater e h k = absurd (true≢false k)

@@ -5,7 +5,7 @@ use Rattle.cap_merge.specs.Parts.{item_time, is_refusal}
 use Rattle.cap_merge.specs.Run.{Clocked, opened, run}
 use Rattle.cap_source.specs.Feed.{Item}
 use Rattle.cap_source.specs.Items.{file_items, file_ending}
-use Rattle.cap_source.specs.declared.feeds.Ending.{Ending}
+use Rattle.cap_source.specs.declared.feeds.FileEnd.{FileEnd}
 use Rattle.cap_source.specs.declared.packets.Format.TheVariants.{Pcap}
 
 -- the items of some files in the order of exact time, up to the first refusal
@@ -26,11 +26,11 @@ abbrev pub clocked_run : Tail → List (List ℕ) → List (Clocked Item)
 clocked_run tail files = run item_time is_refusal (map opened (items_of_files tail 1 files))
 
 -- how the file of a number ends, of files of those bytes, the first of which has the number `first`
-abbrev pub endings_from : Tail → ℕ → List (List ℕ) → ℕ → Ending
-endings_from tail first [] file = record { format = Pcap; skipped = 0; was_cut = false }
+abbrev pub endings_from : Tail → ℕ → List (List ℕ) → ℕ → FileEnd
+endings_from tail first [] file = record { ending = record { format = Pcap; skipped = 0; was_cut = false }; named = 0 }
 endings_from tail first (bytes ∷ files) file =
     if first == file then file_ending tail first bytes else endings_from tail (first + 1) files file
 
 -- how each file ends, of files that are numbered from 1 by their places
-unfoldable pub endings_of_files : Tail → List (List ℕ) → ℕ → Ending
+unfoldable pub endings_of_files : Tail → List (List ℕ) → ℕ → FileEnd
 endings_of_files tail files file = endings_from tail 1 files file

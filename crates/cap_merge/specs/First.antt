@@ -1,5 +1,6 @@
 -- Which lane's item comes first: that of the least clock, of equal ones the first.
-use Rattle.std.specs.Prelude.{◌≡◌, ℕ, zero, suc, Bool, true, false, List, length, map, get_or, Option, Some, None, ◌&&◌, is_some, if◌then◌else◌}
+use Rattle.std.specs.Prelude.{◌≡◌, ℕ, zero, suc, Bool, true, false, List, length, map, get_or, Option, Some, None, ◌&&◌}
+use Rattle.std.specs.Prelude.{is_some, if◌then◌else◌}
 use Rattle.std.specs.Coded.{Coded-set, coded_ℕ, coded_option}
 use Rattle.std.specs.Ordering.{is_lt}
 use Rattle.cap_time.specs.declared.stamps.Stamp.{Stamp}
@@ -66,7 +67,8 @@ comes_before turn first = turn.has_item && is_lt (clock_cmp turn.clock first.clo
 -- of the first so far and one more after it, the place of the first
 abbrev pub sooner_place : List Turn → Option ℕ → ℕ → Option ℕ
 sooner_place turns None place = if (turn_at turns place).has_item then Some place else None
-sooner_place turns (Some first) place = if comes_before (turn_at turns place) (turn_at turns first) then Some place else Some first
+sooner_place turns (Some first) place = if comes_before (turn_at turns place)
+    (turn_at turns first) then Some place else Some first
 
 -- the place of the first of that many
 unfoldable pub first_among : List Turn → ℕ → Option ℕ

@@ -4,11 +4,13 @@ use Rattle.std.specs.Prelude.{◌&&◌, ◌||◌, map}
 use Rattle.std.specs.List.{AllByRecursion, list_all, list_any}
 use Rattle.std.proofs.lemmas.Bool.{true≢false}
 
-pub All-both : {A : Type 0} (P : A → Type 0) (xs ys : List A) → AllByRecursion P xs → AllByRecursion P ys → AllByRecursion P (xs ++ ys)
+pub All-both : {A : Type 0} (P : A → Type 0) (xs ys : List A) → AllByRecursion P xs → AllByRecursion P ys
+    → AllByRecursion P (xs ++ ys)
 All-both P [] ys f g = g
 All-both P (x ∷ xs) ys f g = (f.0, All-both P xs ys f.1 g)
 
-pub All-implied : {A : Type 0} (P Q : A → Type 0) (xs : List A) → ((x : A) → P x → Q x) → AllByRecursion P xs → AllByRecursion Q xs
+pub All-implied : {A : Type 0} (P Q : A → Type 0) (xs : List A) → ((x : A) → P x → Q x) → AllByRecursion P xs
+    → AllByRecursion Q xs
 All-implied P Q [] f g = tt
 All-implied P Q (x ∷ xs) f g = (f x g.0, All-implied P Q xs f g.1)
 

@@ -1,5 +1,6 @@
 -- What asking the feeds of a merge does to them.
-use Rattle.std.specs.Prelude.{◌≡◌, Bool, true, false, ⊤, ℕ, zero, suc, IsTrue, List, [], ◌∷◌, Option, Some, None, ◌⊎◌, Result, Ok, Err, is_ok}
+use Rattle.std.specs.Prelude.{◌≡◌, Bool, true, false, ⊤, ℕ, zero, suc, IsTrue, List, [], ◌∷◌, Option, Some, None, ◌⊎◌}
+use Rattle.std.specs.Prelude.{Result, Ok, Err, is_ok}
 use Rattle.cap_bytes.specs.declared.faults.Fault.{Fault}
 use Rattle.cap_bytes.specs.declared.faults.Fault.TheVariants.{Refused, Read, Write, Memory}
 use Rattle.cap_source.specs.declared.feeds.Head.{Head}
@@ -12,7 +13,8 @@ use Rattle.cap_merge.specs.Parts.{Part, LaneState, head_time, is_bounded, passed
 
 -- What a lane does with a fault of its feed: a refusal is what comes next, another fault is answered.
 abbrev pub Answers : {T : Type 0} → Lane → Fault → Result T Fault → Lane → Type 0
-Answers old (Refused refusal) result new = (is_ok result ≡ true) × (new ≡ record { clock = old.clock; next = Some (comings.Refused refusal) })
+Answers old (Refused refusal) result new = (is_ok result ≡ true)
+    × (new ≡ record { clock = old.clock; next = Some (comings.Refused refusal) })
 Answers old (Read file offset) result new = (result ≡ Err (Read file offset)) × (new ≡ old)
 Answers old Write result new = (result ≡ Err Write) × (new ≡ old)
 Answers old Memory result new = (result ≡ Err Memory) × (new ≡ old)
@@ -81,7 +83,8 @@ pub record Peeked (p q : Part) : Type 0 where
   pub keeps : Keeps p.feed q.feed
   pub items : IsTrue p.feed.told → SameItems p.feed q.feed
 
--- What asking one feed does whether it has a packet at hand: if so the packet is known, and if not nothing more is noted.
+-- What asking one feed does whether it has a packet at hand: if so the packet is known, and if not nothing more is
+-- noted.
 abbrev pub Shows : Part → Bool → Part → Type 0
 Shows p true q = LearnsBy p.lane.head p q
 Shows p false q = (q ≡ p) ⊎ Peeked p q
@@ -107,7 +110,8 @@ TellsNext head (Err (Read file offset)) = ⊤
 TellsNext head (Err Write) = ⊤
 TellsNext head (Err Memory) = ⊤
 
--- Whether the packet that comes first is at hand: if so all feeds were asked, and if not, asking all of them does what it would have done before.
+-- Whether the packet that comes first is at hand: if so all feeds were asked, and if not, asking all of them does what
+-- it would have done before.
 abbrev pub ShowsFirst : List Part → Bool → List Part → Type 0
 ShowsFirst ps true qs = LearnsAll ps qs × TellsNext (feed_of qs).known (Ok true)
 ShowsFirst ps false qs = (result : Result Bool Fault) (rs : List Part) → LooksAll qs result rs → LooksAll ps result rs

@@ -7,7 +7,8 @@ use Rattle.cap_merge.specs.Lawful.{merged-lawful}
 use Rattle.cap_merge.specs.View.{parts_of}
 
 -- a merge is a lawful feed if each of its feeds is
-pub merged-is-feed : {F : Type 0} {g : _} (m : Merged F g) → ((x : F) → IsFeed (g.feed x)) → IsFeed (feed_of (parts_of m))
+pub merged-is-feed : {F : Type 0} {g : _} (m : Merged F g) → ((x : F) → IsFeed (g.feed x))
+    → IsFeed (feed_of (parts_of m))
 merged-is-feed {F} {g} m law =
     merged-lawful (parts_of m) (numbered-from g.feed m.lanes.items m.feeds.items m.alike m.numbered)
     (sound-parts g.feed m.lanes.items m.feeds.items m.reached) (lawful-each g.feed law m.lanes.items m.feeds.items)

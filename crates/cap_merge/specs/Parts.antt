@@ -1,5 +1,6 @@
 -- The feeds of a merge at one moment, each with what is known of it.
-use Rattle.std.specs.Prelude.{◌≡◌, ⊤, ◌+◌, ◌^◌, pos, int_lt, ℕ, zero, suc, Bool, true, false, ◌&&◌, ◌||◌, List, [], ◌∷◌, length, map, max, not, Option, Some, None, is_some, Result, Ok, Err, if◌then◌else◌, ◌==◌}
+use Rattle.std.specs.Prelude.{◌≡◌, ⊤, ◌+◌, ◌^◌, pos, int_lt, ℕ, zero, suc, Bool, true, false, ◌&&◌, ◌||◌, List, [], ◌∷◌}
+use Rattle.std.specs.Prelude.{length, map, max, not, Option, Some, None, is_some, Result, Ok, Err, if◌then◌else◌, ◌==◌}
 use Rattle.std.specs.List.{list_all, list_any, flat_map, range_with_len, slice_get}
 use Rattle.std.specs.Option.{option_and_then}
 use Rattle.std.specs.Ordering.{is_lt, is_gt}
@@ -9,7 +10,7 @@ use Rattle.cap_time.specs.declared.stamps.Stamp.{Stamp}
 use Rattle.cap_time.specs.Stamp.{seconds_of}
 use Rattle.cap_source.specs.declared.feeds.Head.{Head}
 use Rattle.cap_source.specs.declared.feeds.Head.TheVariants as heads
-use Rattle.cap_source.specs.declared.feeds.Ending.{Ending}
+use Rattle.cap_source.specs.declared.feeds.FileEnd.{FileEnd}
 use Rattle.cap_source.specs.declared.feeds.FeedHeld.{FeedHeld}
 use Rattle.cap_source.specs.declared.packets.Format.TheVariants.{Pcap}
 use Rattle.cap_source.specs.Feed.{Item, packet, refused, Feed}
@@ -32,8 +33,8 @@ abbrev pub is_refusal : Item → Bool
 is_refusal (packet meta frame) = false
 is_refusal (refused refusal) = true
 
--- What is known of a feed: the clock that it has reached, by the packets that were passed and by the packet that is known to come
--- next, and what comes next, once that was asked for.
+-- What is known of a feed: the clock that it has reached, by the packets that were passed and by the packet that is
+-- known to come next, and what comes next, once that was asked for.
 pub record LaneState : Type 0 where
   pub clock : Option Stamp
   pub head : Option Head
@@ -45,7 +46,10 @@ pub record Part : Type 0 where
 
 -- a feed with its lane: what comes next is what the feed knows, once the lane says that it does
 abbrev pub part : Lane → Feed → Part
-part lane feed = record { lane = record { clock = lane.clock; head = if is_some lane.next then feed.known else None }; feed = feed }
+part lane feed = record {
+  lane = record { clock = lane.clock; head = if is_some lane.next then feed.known else None };
+  feed = feed;
+}
 
 -- each feed with its lane
 abbrev pub parts : List Lane → List Feed → List Part
@@ -152,8 +156,8 @@ abbrev pub has_file : List ℕ → ℕ → Bool
 has_file files file = list_any (λ f. f == file) files
 
 -- how a file ends, as its feed says
-unfoldable pub endings_of : List Part → ℕ → Ending
-endings_of [] file = record { format = Pcap; skipped = 0; was_cut = false }
+unfoldable pub endings_of : List Part → ℕ → FileEnd
+endings_of [] file = record { ending = record { format = Pcap; skipped = 0; was_cut = false }; named = 0 }
 endings_of (p ∷ ps) file = if has_file p.feed.files file then p.feed.endings file else endings_of ps file
 
 -- the fault of a read that failed of the first feed of which it isn't known what comes next

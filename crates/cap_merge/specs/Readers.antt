@@ -14,7 +14,12 @@ pub record Reader : Type 0 where
   pub bytes : List ℕ
 
 abbrev pub reader_of : {R : Type 0} → (R → Bool) → (R → Bool) → (R → List ℕ) → R → Reader
-reader_of tells can_fail coming source = record { told = tells source; can_fail = can_fail source; bytes = coming source }
+reader_of tells can_fail coming source = record {
+  told = tells source;
+  can_fail = can_fail source;
+  bytes =
+      coming source;
+}
 
 -- Nothing was asked of a feed: it is of the file of that number with those bytes.
 pub record IsUnread (tail : Tail) (file : ℕ) (reader : Reader) (feed : Feed) : Type 0 where
@@ -30,7 +35,8 @@ abbrev pub AreUnread : Tail → ℕ → List Reader → List Feed → Type 0
 AreUnread tail file [] [] = ⊤
 AreUnread tail file [] (feed ∷ feeds) = ⊥
 AreUnread tail file (reader ∷ readers) [] = ⊥
-AreUnread tail file (reader ∷ readers) (feed ∷ feeds) = IsUnread tail file reader feed × AreUnread tail (file + 1) readers feeds
+AreUnread tail file (reader ∷ readers) (feed ∷ feeds) = IsUnread tail file reader feed
+    × AreUnread tail (file + 1) readers feeds
 
 -- The files of some readers as one feed, of which nothing was asked: its run and how its files end are those of
 -- the readers' bytes.

@@ -1,5 +1,6 @@
 -- The run of several files: their items by clock, then by file, then by place in the file, up to the first refusal.
-use Rattle.std.specs.Prelude.{◌≡◌, ⊤, ℕ, suc, Bool, false, List, [], ◌∷◌, ◌++◌, length, map, filter, count_by, ◌==◌, Option, None, if◌then◌else◌}
+use Rattle.std.specs.Prelude.{◌≡◌, ⊤, ℕ, suc, Bool, false, List, [], ◌∷◌, ◌++◌, length, map, filter, count_by, ◌==◌}
+use Rattle.std.specs.Prelude.{Option, None, if◌then◌else◌}
 use Rattle.std.specs.List.{flat_map, range_with_len, AllByRecursion}
 use Rattle.std.specs.Ordering.{nat_cmp, ordering_then, is_lt, is_gt}
 use Rattle.std.specs.declared.cmp.Ordering.{Ordering}
@@ -29,7 +30,8 @@ pub record Placed (A : Type 0) : Type 0 where
 
 -- items compare by clock, then by file, then by place in the file
 abbrev pub placed_cmp : {A : Type 0} → Placed A → Placed A → Ordering
-placed_cmp x y = ordering_then (clock_cmp x.clock y.clock) (ordering_then (nat_cmp x.file y.file) (nat_cmp x.place y.place))
+placed_cmp x y = ordering_then (clock_cmp x.clock y.clock)
+    (ordering_then (nat_cmp x.file y.file) (nat_cmp x.place y.place))
 
 abbrev pub clocked_of : {A : Type 0} → Placed A → Clocked A
 clocked_of x = record { clock = x.clock; item = x.item }
@@ -43,12 +45,13 @@ pub record Track (A : Type 0) : Type 0 where
 abbrev pub opened : {A : Type 0} → List A → Track A
 opened items = record { clock = None; items = items }
 
--- the items of a file from a place on, after which the file has reached a clock: each takes the clock on to its own time,
--- if it has one
+-- the items of a file from a place on, after which the file has reached a clock: each takes the clock on to its own
+-- time, if it has one
 abbrev pub placed_from : {A : Type 0} → (A → Option Stamp) → ℕ → ℕ → Option Stamp → List A → List (Placed A)
 placed_from time file place clock [] = []
 placed_from time file place clock (x ∷ xs) =
-    record { clock = later clock (time x); file = file; place = place; item = x } ∷ placed_from time file (suc place) (later clock (time x)) xs
+    record { clock = later clock (time x); file = file; place = place; item = x }
+    ∷ placed_from time file (suc place) (later clock (time x)) xs
 
 -- the items of the files from that number on
 abbrev pub placed_all : {A : Type 0} → (A → Option Stamp) → ℕ → List (Track A) → List (Placed A)
@@ -74,6 +77,7 @@ HeadClock time Holds clock [] = ⊤
 HeadClock time Holds clock (x ∷ xs) = Holds (later clock (time x))
 
 -- A clock is below those of the next items of the files before one, and not above those of the files after it.
-pub record IsFirst {A : Type 0} (time : A → Option Stamp) (before : List (Track A)) (clock : Option Stamp) (after : List (Track A)) : Type 0 where
+pub record IsFirst {A : Type 0} (time : A → Option Stamp) (before : List (Track A)) (clock : Option Stamp)
+    (after : List (Track A)) : Type 0 where
   pub below : AllByRecursion (λ t. HeadClock time (λ h. clock_cmp clock h ≡ Less) t.clock t.items) before
   pub not_above : AllByRecursion (λ t. HeadClock time (λ h. is_gt (clock_cmp clock h) ≡ false) t.clock t.items) after

@@ -1,5 +1,6 @@
 -- What a merge keeps of its parts, part by part.
-use Rattle.std.proofs.Common.{◌≡◌, ℕ, suc, ◌+◌, Bool, true, false, cond, List, [], ◌∷◌, length, ap, ◌∙◌, subst, arith, Option, Some, None}
+use Rattle.std.proofs.Common.{◌≡◌, ℕ, suc, ◌+◌, Bool, true, false, cond, List, [], ◌∷◌, length, ap, ◌∙◌, subst, arith}
+use Rattle.std.proofs.Common.{Option, Some, None}
 use Rattle.std.specs.Prelude.{not, map, ⊤, is_some, IfSome}
 use Rattle.std.specs.List.{AllByRecursion, range_with_len}
 use Rattle.std.specs.Ordering.{is_lt}
@@ -22,19 +23,28 @@ not-true b e = grind arith
 agreed : (b : Bool) (k : Option Head) → IfSome (cond b k None) (λ head. k ≡ Some head)
 agreed b k = grind arith
 
-sound_each : (ls : List Lane) (fs : List Feed) → AllByRecursion (λ p. not (is_lt (clock_cmp p.lane.clock (known_time p.lane.head))) ≡ true) (parts ls fs)
+sound_each : (ls : List Lane) (fs : List Feed)
+    → AllByRecursion (λ p. not (is_lt (clock_cmp p.lane.clock (known_time p.lane.head))) ≡ true) (parts ls fs)
     → AllByRecursion IsSound (parts ls fs)
 sound_each [] fs r = tt
 sound_each (l ∷ ls) [] r = tt
-sound_each (l ∷ ls) (f ∷ fs) r =
-    (record { agrees = agreed (is_some l.next) f.known; reached = not-true (is_lt (clock_cmp l.clock (known_time (part l f).lane.head))) r.0 }, sound_each ls fs r.1)
+sound_each (l ∷ ls) (f ∷ fs) r = (
+  record {
+    agrees = agreed (is_some l.next) f.known;
+    reached = not-true (is_lt (clock_cmp l.clock (known_time (part l f).lane.head))) r.0;
+  },
+  sound_each ls fs r.1,
+)
 
 -- lanes with their feeds are sound
-pub sound-parts : {F : Type 0} (f : F → Feed) (ls : List Lane) (fs : List F) → HasReached (parts ls (map f fs)) → AllByRecursion IsSound (parts ls (map f fs))
+pub sound-parts : {F : Type 0} (f : F → Feed) (ls : List Lane) (fs : List F) → HasReached (parts ls (map f fs))
+    → AllByRecursion IsSound (parts ls (map f fs))
 sound-parts f ls fs r =
-    sound_each ls (map f fs) (all-each (λ p. not (is_lt (clock_cmp p.lane.clock (known_time p.lane.head)))) (parts ls (map f fs)) r)
+    sound_each ls (map f fs) (all-each (λ p. not (is_lt (clock_cmp p.lane.clock (known_time p.lane.head))))
+    (parts ls (map f fs)) r)
 
-reached_each : (ps : List Part) → AllByRecursion IsSound ps → AllByRecursion (λ p. not (is_lt (clock_cmp p.lane.clock (known_time p.lane.head))) ≡ true) ps
+reached_each : (ps : List Part) → AllByRecursion IsSound ps
+    → AllByRecursion (λ p. not (is_lt (clock_cmp p.lane.clock (known_time p.lane.head))) ≡ true) ps
 reached_each [] f = tt
 reached_each (p ∷ ps) f = (ap not f.0.reached, reached_each ps f.1)
 
@@ -47,7 +57,8 @@ AreFrom file [] = ⊤
 AreFrom file (p ∷ ps) = (p.feed.files ≡ file ∷ []) × AreFrom (suc file) ps
 
 are_from : {F : Type 0} (f : F → Feed) (n : ℕ) (ls : List Lane) (fs : List F) → length ls ≡ length fs
-    → map (λ (x : Feed). x.files) (map f fs) ≡ map (λ k. k ∷ []) (range_with_len n (length fs)) → AreFrom n (parts ls (map f fs))
+    → map (λ (x : Feed). x.files) (map f fs) ≡ map (λ k. k ∷ []) (range_with_len n (length fs))
+    → AreFrom n (parts ls (map f fs))
 are_from f n [] fs l e = tt
 are_from f n (y ∷ ls) [] l e = tt
 are_from f n (y ∷ ls) (x ∷ xs) l e =
@@ -58,7 +69,8 @@ are_from f n (y ∷ ls) (x ∷ xs) l e =
 
 pub numbered-from : {F : Type 0} (f : F → Feed) (ls : List Lane) (fs : List F) → length ls ≡ length fs
     → IsNumbered (map f fs) → AreFrom 1 (parts ls (map f fs))
-numbered-from f ls fs l e = are_from f 1 ls fs l (e ∙ ap (λ n. map (λ k. k ∷ []) (range_with_len 1 n)) (length-map fs f))
+numbered-from f ls fs l e = are_from f 1 ls fs l (e
+    ∙ ap (λ n. map (λ k. k ∷ []) (range_with_len 1 n)) (length-map fs f))
 
 -- each feed is lawful
 pub lawful-each : {F : Type 0} (f : F → Feed) → ((x : F) → IsFeed (f x)) → (ls : List Lane) (fs : List F)

@@ -3,7 +3,8 @@ ghost use Rattle.std.specs.Prelude.{◌≡◌, ◌<◌, ◌≤◌, List, replica
 ghost use Rattle.std.specs.List.{list_all};
 ghost use Rattle.cap_source.specs.Feed.{Feed, IsPacket};
 ghost use Rattle.cap_merge.specs.Parts.{part, parts, known_of, both_held, known_but, OthersKnown, Matches, Agrees};
-ghost use Rattle.cap_merge.specs.First.{coming_of, fresh_lane, lane_at, has_item, lane_turn, lane_turns, comes_before, sooner_place, first_place, IsFound};
+ghost use Rattle.cap_merge.specs.First.{coming_of, fresh_lane, lane_at, has_item, lane_turn, lane_turns, comes_before};
+ghost use Rattle.cap_merge.specs.First.{sooner_place, first_place, IsFound};
 ghost use Rattle.cap_merge.specs.Merge.{Answers, Asks, AsksAll, Shows, ShowsAt, IsPacketAt, PassesAt, PassesPart};
 
 use arrayvec::ArrayVec;
@@ -107,8 +108,8 @@ fn stop(lane: &mut Lane, fault: Fault) -> Result<(), Fault>
     }
 }
 
-// Asks a feed what comes next, which isn't known. It isn't inlined: where packets are at hand it is never called, and its answer would take
-// room at each of them.
+// Asks a feed what comes next, which isn't known. It isn't inlined: where packets are at hand it is never called, and
+// its answer would take room at each of them.
 #[inline(never)]
 fn learn<F: PacketFeed>(lane: &mut Lane, feed: &mut F) -> Result<(), Fault>
     requires { lane.old.next ≡ None }
@@ -189,14 +190,16 @@ fn show<F: PacketFeed>(lane: &mut Lane, feed: &mut F) -> bool
     }
 }
 
-// Asks the feed at a place whether it has a packet at hand, unless it is known what comes next. That of each other feed is known.
+// Asks the feed at a place whether it has a packet at hand, unless it is known what comes next. That of each other feed
+// is known.
 #[inline(always)]
 fn show_at<F: PacketFeed>(lanes: &mut [Lane], feeds: &mut [F], place: usize) -> bool
     requires alike { length lanes.old ≡ length feeds.old }
     requires agrees { Agrees lanes.old (map F.feed feeds.old) }
     requires place { place < length lanes.old }
     requires others { known_but (parts lanes.old (map F.feed feeds.old)) place ≡ true }
-    ensures shows { ShowsAt (parts lanes.old (map F.feed feeds.old)) place result (parts lanes.new (map F.feed feeds.new)) }
+    ensures shows { ShowsAt (parts lanes.old (map F.feed feeds.old)) place result
+        (parts lanes.new (map F.feed feeds.new)) }
     ensures agrees { Agrees lanes.new (map F.feed feeds.new) }
     ensures packet { result ≡ true → (lane_at lanes.new place).next ≡ Some Coming.Packet }
 {
@@ -374,7 +377,8 @@ fn is_packet(next: &Option<Coming>) -> bool
     matches!(next, Some(Coming::Packet))
 }
 
-/// Whether a packet comes next of all, if what comes next of each is known and the lane at that place has the item that comes first.
+/// Whether a packet comes next of all, if what comes next of each is known and the lane at that place has the item that
+/// comes first.
 #[inline(always)]
 pub(crate) fn is_packet_at(lanes: &[Lane], first: Option<usize>) -> bool
     requires known { list_all (λ l. is_some l.next) lanes.now ≡ true }

@@ -7,5 +7,5 @@ mod merging;
 mod walks;
 
 pub use crate::files::merge_files;
-pub use crate::merging::{Merged, NextPacket};
+pub use crate::merging::{Merged, RunPacket};
 pub use crate::walks::next_of;

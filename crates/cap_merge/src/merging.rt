@@ -1,6 +1,8 @@
 //! Several feeds as one.
-ghost use Rattle.std.specs.Prelude.{◌≡◌, ◌<◌, ◌≤◌, ◌<ℤ◌, ◌^◌, pos, length, map, drop, vec_len, true, false, IsTrue, Some, Option, IfSome, IfOk};
+ghost use Rattle.std.specs.Prelude.{◌≡◌, ◌<◌, ◌≤◌, ◌<ℤ◌, ◌^◌, pos, length, map, drop, vec_len, true, false, IsTrue};
+ghost use Rattle.std.specs.Prelude.{Some, Option, IfSome, IfOk};
 ghost use Rattle.std.specs.List.{range_with_len};
+ghost use Rattle.std.proofs.Props.{props};
 ghost use Rattle.std.specs.Ordering.{is_gt};
 ghost use Rattle.cap_time.specs.declared.stamps.Stamp.{Stamp};
 ghost use Rattle.cap_time.specs.Stamp.{seconds_of};
@@ -8,10 +10,13 @@ ghost use Rattle.cap_time.specs.Clock.{clock_cmp};
 ghost use Rattle.cap_source.specs.declared.feeds.Head.{Head};
 ghost use Rattle.cap_source.specs.Feed.{GivesHead, Keeps, KeepsItems, FindsPacket, FindsItem, Passes, IsPacket};
 ghost use Rattle.cap_merge.specs.Run.{opened, run};
-ghost use Rattle.cap_merge.specs.Parts.{item_time, is_refusal, parts, IsNumbered, Agrees, HasReached, AreBounded, feed_of, new_parts, clock_of, run_of, OthersKnown, ClocksFrom, MovesClocks, KeepsRun, ShowsRun, BeginsAt, turns};
+ghost use Rattle.cap_merge.specs.Parts.{item_time, is_refusal, parts, IsNumbered, Agrees, HasReached, AreBounded};
+ghost use Rattle.cap_merge.specs.Parts.{feed_of, new_parts, clock_of, run_of, OthersKnown, ClocksFrom, MovesClocks};
+ghost use Rattle.cap_merge.specs.Parts.{KeepsRun, ShowsRun, BeginsAt, turns};
 ghost use Rattle.cap_merge.specs.First.{coming_of, has_next, first_place, found_of, passed_of, IsFound, IsFound-prop};
 ghost use Rattle.cap_merge.specs.Merge.{AsksAll, LooksAll, TellsNext, ShowsFirst};
-ghost use Rattle.cap_merge.specs.PartsProps.{IsNumbered-prop, Agrees-prop, HasReached-prop, AreBounded-prop, OthersKnown-prop};
+ghost use Rattle.cap_merge.specs.PartsProps.{IsNumbered-prop, Agrees-prop, HasReached-prop, AreBounded-prop};
+ghost use Rattle.cap_merge.specs.PartsProps.{OthersKnown-prop};
 
 use crate::lanes::{
     Coming, Front, Lane, ask_all, clock_at, coming_at, first_lane, found, greater, is_packet_at,
@@ -32,23 +37,25 @@ pub struct Merged<F: PacketFeed> {
     ghost alike: { length lanes.items ≡ length feeds.items },
     ghost some: { 1 ≤ length feeds.items },
     ghost most: { length feeds.items ≤ 32 },
-    ghost numbered: { IsNumbered (map F.feed feeds.items) } by { IsNumbered-prop (map F.feed feeds.items) },
-    ghost agrees: { Agrees lanes.items (map F.feed feeds.items) } by { Agrees-prop lanes.items (map F.feed feeds.items) },
+    ghost numbered: { IsNumbered (map F.feed feeds.items) } by { IsNumbered-prop _ },
+    ghost agrees: { Agrees lanes.items (map F.feed feeds.items) } by { Agrees-prop _ _ },
     ghost reached: { HasReached (parts lanes.items (map F.feed feeds.items)) } by { HasReached-prop (parts lanes.items (map F.feed feeds.items)) },
     ghost bounded: { AreBounded (parts lanes.items (map F.feed feeds.items)) } by { AreBounded-prop (parts lanes.items (map F.feed feeds.items)) },
-    ghost found: { IsFound lanes.items (found_of front) } by { IsFound-prop lanes.items (found_of front) },
+    ghost found: { IsFound lanes.items (found_of front) } by { IsFound-prop _ _ },
     ghost others: { OthersKnown (parts lanes.items (map F.feed feeds.items)) (passed_of front) } by { OthersKnown-prop (parts lanes.items (map F.feed feeds.items)) (passed_of front) },
 }
 
-/// The packet that comes next of a merge.
+/// A packet of a run, lent by the merge that it comes next of.
 #[derive(Clone, Copy)]
-pub struct NextPacket<'a> {
-    /// Its clock: the greatest time of the packets of its file up to it, and none if there is no such time.
+pub struct RunPacket<'a> {
+    /// Its clock: the greatest time of the packets of its file up to it, and none if there is no such time. Its seconds
+    /// are below 2^65.
     pub clock: &'a Option<Stamp>,
-    /// What is told of it.
+    /// Its file, offset, interface, time and lengths.
     pub meta: &'a Meta,
     /// Its captured bytes.
     pub frame: &'a [u8],
+    ghost bounded: { IfSome clock.now (λ c. seconds_of c <ℤ pos (2 ^ 65)) } by { Prim.hlevel props },
 }
 
 impl<F: PacketFeed> Merged<F> {
@@ -106,12 +113,12 @@ impl<F: PacketFeed> Merged<F> {
         }
     }
 
-    /// The packet that comes next: what `clock`, `packet` and `frame` answer, each of which looks anew for the file that it is of.
+    /// The packet that comes next: what `clock`, `packet` and `frame` answer, each of which looks anew for the file
+    /// that it is of.
     #[inline(always)]
-    pub fn next_packet(&self) -> NextPacket<'_>
+    pub fn next_packet(&self) -> RunPacket<'_>
         requires { IsPacket (feed_of (parts_of self.now)).known }
         ensures clock { result.clock.now ≡ clock_of (parts_of self.now) }
-        ensures bounded { IfSome result.clock.now (λ clock. seconds_of clock <ℤ pos (2 ^ 65)) }
         ensures from { ClocksFrom result.clock.now (parts_of self.now) }
         ensures not_below { (clock : Option Stamp) → ClocksFrom clock (parts_of self.now)
             → is_gt (clock_cmp clock result.clock.now) ≡ false }
@@ -121,7 +128,7 @@ impl<F: PacketFeed> Merged<F> {
         ensures frame { result.frame.now ≡ (feed_of (parts_of self.now)).frame }
     {
         match self.first_place() {
-            Some(place) => NextPacket {
+            Some(place) => RunPacket {
                 clock: clock_at(self.lanes.as_slice(), place),
                 meta: self.feeds[place].packet(),
                 frame: self.feeds[place].frame(),
@@ -175,8 +182,8 @@ impl<F: PacketFeed> Merged<F> {
         is_packet_at(self.lanes.as_slice(), first)
     }
 
-    // What `has_packet` answers of a packet that isn't at hand. It isn't inlined, so that what it answers takes no room where
-    // packets are at hand.
+    // What `has_packet` answers of a packet that isn't at hand. It isn't inlined, so that what it answers takes no room
+    // where packets are at hand.
     #[inline(never)]
     fn find(&mut self) -> Result<bool, Fault>
         ensures asks { LooksAll (parts_of self.old) result (parts_of self.new) }
@@ -279,6 +286,10 @@ impl<F: PacketFeed> PacketFeed for Merged<F> {
 
     fn ending(&self, file: u32) -> Ending {
         self.feeds[file as usize - 1].ending(file)
+    }
+
+    fn named_interfaces(&self, file: u32) -> u64 {
+        self.feeds[file as usize - 1].named_interfaces(file)
     }
 
     fn feed_held(&self) -> FeedHeld {

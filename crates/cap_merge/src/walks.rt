@@ -18,7 +18,8 @@ pub fn next_of<F: PacketFeed>(merged: &mut Merged<F>) -> Result<Option<Meta>, Fa
     ensures keeps { Keeps (feed_of (parts_of merged.old)) (feed_of (parts_of merged.new)) }
     ensures items { IsTrue (feed_of (parts_of merged.old)).told
         → ShowsItem (feed_of (parts_of merged.old)) result (feed_of (parts_of merged.new)) }
-    ensures run { IsTrue (feed_of (parts_of merged.old)).told → ShowsRun (parts_of merged.old) result (parts_of merged.new) }
+    ensures run { IsTrue (feed_of (parts_of merged.old)).told
+        → ShowsRun (parts_of merged.old) result (parts_of merged.new) }
 {
     if merged.has_packet()? {
         Ok(Some(*merged.packet()))

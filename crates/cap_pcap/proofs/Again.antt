@@ -1,5 +1,6 @@
 -- What is written is read again.
-use Rattle.std.proofs.Common.{◌≡◌, ℕ, ◌%◌, ◌^◌, ◌<◌, List, [], ◌++◌, length, drop, get_or, None, true, refl, sym, ◌∙◌, ap, subst, arith, append_assoc, append-nil, length-append, ◌||◌}
+use Rattle.std.proofs.Common.{◌≡◌, ℕ, ◌%◌, ◌^◌, ◌<◌, List, [], ◌++◌, length, drop, get_or, None, true, refl, sym, ◌∙◌}
+use Rattle.std.proofs.Common.{ap, subst, arith, append_assoc, append-nil, length-append, ◌||◌}
 use Rattle.std.proofs.Math.Nat.{mod-eq_of_lt}
 use Rattle.std.proofs.lemmas.List.{drop_at}
 use Rattle.cap_bytes.specs.Number.{number, bytes_of}
@@ -50,7 +51,8 @@ reads header bytes rest s flip =
     let whole = bytes ++ rest in
     let order = header.order in
     let magic = number-append order 4 bytes rest (omega arith) in
-    let t = tells order header.unit whole (magic ∙ s.magic) (λ little. number-append Big 4 bytes rest (omega arith) ∙ flip little) in
+    let t = tells order header.unit whole (magic ∙ s.magic) (λ little. number-append Big 4 bytes rest (omega arith)
+    ∙ flip little) in
     let major = number-drop_append order 2 4 bytes rest (omega arith) ∙ s.major in
     let minor = number-drop_append order 2 6 bytes rest (omega arith) ∙ s.minor in
     let snaplen = number-drop_append order 4 16 bytes rest (omega arith) ∙ sym s.snaplen in
@@ -65,10 +67,12 @@ reads header bytes rest s flip =
 
 pub header_read-law : HeaderRead
 header_read-law header bytes rest small s =
-    reads header bytes rest s (λ little. flips header.unit bytes small (subst (λ (o : Order). number o 4 bytes ≡ magic_of header.unit) little s.magic))
+    reads header bytes rest s (λ little. flips header.unit bytes small
+    (subst (λ (o : Order). number o 4 bytes ≡ magic_of header.unit) little s.magic))
 
 -- a number of a text, by the parts before and after it
-field : (order : Order) (k x i : ℕ) (front back whole : List ℕ) → x < 256 ^ k → length front ≡ i → whole ≡ front ++ (bytes_of order k x ++ back)
+field : (order : Order) (k x i : ℕ) (front back whole : List ℕ) → x < 256 ^ k → length front ≡ i
+    → whole ≡ front ++ (bytes_of order k x ++ back)
     → number order k (drop i whole) ≡ x
 field order k x i front back whole fits size is = grind (arith, drop_at, number-bytes_of)
 
@@ -80,16 +84,21 @@ record_again-law order unit seconds fraction original frame s f o limit =
     let b = λ (x : ℕ). bytes_of order 4 x in
     let n = length frame in
     let len = λ (x : ℕ). length-bytes_of order 4 x in
-    let head_size : length (head_bytes order seconds fraction n original) ≡ 16 = simp (length-append, length-bytes_of) in
+    let head_size : length (head_bytes order seconds fraction n original) ≡ 16 =
+    simp (length-append, length-bytes_of) in
     let text = record_bytes order seconds fraction original frame in
     let at_seconds : number order 4 text ≡ seconds =
-    field order 4 seconds 0 [] (b fraction ++ (b n ++ (b original ++ frame))) text (omega arith) refl (simp append_assoc) in
+    field order 4 seconds 0 [] (b fraction ++ (b n ++ (b original ++ frame))) text (omega arith) refl
+    (simp append_assoc) in
     let at_fraction : number order 4 (drop 4 text) ≡ fraction =
-    field order 4 fraction 4 (b seconds) (b n ++ (b original ++ frame)) text (omega arith) (len seconds) (simp append_assoc) in
+    field order 4 fraction 4 (b seconds) (b n ++ (b original ++ frame)) text (omega arith) (len seconds)
+    (simp append_assoc) in
     let at_captured : number order 4 (drop 8 text) ≡ n =
-    field order 4 n 8 (b seconds ++ b fraction) (b original ++ frame) text (omega arith) (simp (length-append, length-bytes_of)) (simp append_assoc) in
+    field order 4 n 8 (b seconds ++ b fraction) (b original ++ frame) text (omega arith)
+    (simp (length-append, length-bytes_of)) (simp append_assoc) in
     let at_original : number order 4 (drop 12 text) ≡ original =
-    field order 4 original 12 (b seconds ++ b fraction ++ b n) frame text (omega arith) (simp (length-append, length-bytes_of)) (simp append_assoc) in
+    field order 4 original 12 (b seconds ++ b fraction ++ b n) frame text (omega arith)
+    (simp (length-append, length-bytes_of)) (simp append_assoc) in
     record {
       size = omega (arith, head_size, length-append (head_bytes order seconds fraction n original) frame);
       units = rw (at_seconds, at_fraction) refl;
@@ -100,12 +109,14 @@ record_again-law order unit seconds fraction original frame s f o limit =
     }
 
 -- the magic of a written header, read big
-flipped_bytes : (unit : Fraction) (rest : List ℕ) → number Big 4 (bytes_of Little 4 (magic_of unit) ++ rest) ≡ flipped unit
+flipped_bytes : (unit : Fraction) (rest : List ℕ)
+    → number Big 4 (bytes_of Little 4 (magic_of unit) ++ rest) ≡ flipped unit
 unfolding number bytes_of
 flipped_bytes unit rest = grind arith
 
 -- what is written for a header spells it
-spelled : (header : PcapHeader) → header.snaplen < 2 ^ 32 → header.link < 2 ^ 16 → SpellsHeader header (header_bytes header)
+spelled : (header : PcapHeader) → header.snaplen < 2 ^ 32 → header.link < 2 ^ 16
+    → SpellsHeader header (header_bytes header)
 spelled header snaplen link =
     let order = header.order in
     let magic = bytes_of order 4 (magic_of header.unit) in
@@ -117,20 +128,26 @@ spelled header snaplen link =
     let text = header_bytes header in
     record {
       size = simp (length-append, length-bytes_of);
-      magic = field order 4 (magic_of header.unit) 0 [] (major ++ (minor ++ (none ++ (none ++ (most ++ word))))) text (magic_fits header.unit) refl (simp append_assoc);
-      major = field order 2 2 4 magic (minor ++ (none ++ (none ++ (most ++ word)))) text (omega arith) (length-bytes_of order 4 (magic_of header.unit)) (simp append_assoc);
-      minor = field order 2 4 6 (magic ++ major) (none ++ (none ++ (most ++ word))) text (omega arith) (simp (length-append, length-bytes_of)) (simp append_assoc);
+      magic = field order 4 (magic_of header.unit) 0 [] (major ++ (minor ++ (none ++ (none ++ (most ++ word))))) text
+          (magic_fits header.unit) refl (simp append_assoc);
+      major = field order 2 2 4 magic (minor ++ (none ++ (none ++ (most ++ word)))) text (omega arith)
+          (length-bytes_of order 4 (magic_of header.unit)) (simp append_assoc);
+      minor = field order 2 4 6 (magic ++ major) (none ++ (none ++ (most ++ word))) text (omega arith)
+          (simp (length-append, length-bytes_of)) (simp append_assoc);
       snaplen = sym (field order 4 header.snaplen 16 (magic ++ major ++ minor ++ none ++ none) word text (omega arith)
           (simp (length-append, length-bytes_of)) (simp append_assoc));
-      link = sym (ap (λ n. n % 65536) (field order 4 header.link 20 (magic ++ major ++ minor ++ none ++ none ++ most) [] text (omega arith)
+      link = sym (ap (λ n. n % 65536) (field order 4 header.link 20
+          (magic ++ major ++ minor ++ none ++ none ++ most) [] text (omega arith)
           (simp (length-append, length-bytes_of)) (simp (append_assoc, append-nil))) ∙ mod-eq_of_lt link);
     }
 
 -- the order and the unit of a written header
-pub flips_bytes : (header : PcapHeader) → header.order ≡ Little → number Big 4 (header_bytes header) ≡ flipped header.unit
+pub flips_bytes : (header : PcapHeader) → header.order ≡ Little
+    → number Big 4 (header_bytes header) ≡ flipped header.unit
 flips_bytes header little = grind (arith, append_assoc, flipped, flipped_bytes)
 
-written_items : (header : PcapHeader) → SpellsHeader header (header_bytes header) → (tail : Tail) (file : ℕ) (rest : List ℕ)
+written_items : (header : PcapHeader) → SpellsHeader header (header_bytes header)
+    → (tail : Tail) (file : ℕ) (rest : List ℕ)
     → file_items tail file 0 (header_bytes header ++ rest) ≡ items_from header tail file 24 rest
 unfolding file_items
 written_items header s tail file rest =
@@ -145,4 +162,5 @@ header_again-law header snaplen link =
 -- it is read again as that header, whatever follows
 pub header_at-text : (header : PcapHeader) (rest : List ℕ) → header.snaplen < 2 ^ 32 → header.link < 2 ^ 16
     → (header_fault 0 (header_bytes header ++ rest) ≡ None) × (header_at (header_bytes header ++ rest) ≡ header)
-header_at-text header rest snaplen link = reads header (header_bytes header) rest (spelled header snaplen link) (flips_bytes header)
+header_at-text header rest snaplen link = reads header (header_bytes header) rest (spelled header snaplen link)
+    (flips_bytes header)

@@ -1,5 +1,6 @@
 -- When the bytes at a place are refused.
-use Rattle.std.proofs.Common.{◌≡◌, ℕ, ◌+◌, ◌^◌, ◌≤◌, ◌<◌, List, ◌++◌, length, take, drop, Some, None, true, sym, ◌∙◌, ap, arith, length-append, ◌||◌}
+use Rattle.std.proofs.Common.{◌≡◌, ℕ, ◌+◌, ◌^◌, ◌≤◌, ◌<◌, List, ◌++◌, length, take, drop, Some, None, true, sym, ◌∙◌}
+use Rattle.std.proofs.Common.{ap, arith, length-append, ◌||◌}
 use Rattle.std.proofs.lemmas.List.{take-append-drop}
 use Rattle.std.proofs.lemmas.Bool.Decides.{nat_tests}
 use Rattle.cap_bytes.specs.Number.{number}
@@ -8,7 +9,8 @@ use Rattle.cap_bytes.specs.declared.faults.Rule.TheVariants.{Cut}
 use Rattle.cap_bytes.specs.declared.faults.Tail.{Tail}
 use Rattle.cap_bytes.specs.declared.numbers.Order.{Order}
 use Rattle.cap_bytes.specs.declared.numbers.Order.TheVariants.{Big, Little}
-use Rattle.cap_pcap.specs.Split.{is_magic, is_version, order_at, record_fault, captured_at, header_fault, header_at, stop_at}
+use Rattle.cap_pcap.specs.Split.{is_magic, is_version, order_at, record_fault, captured_at, header_fault, header_at}
+use Rattle.cap_pcap.specs.Split.{stop_at}
 use Rattle.cap_bytes.proofs.Spelling.{number-drop_append}
 use Rattle.cap_bytes.proofs.Items.{stop_where-whole, no_fault}
 use Rattle.cap_bytes.proofs.Spelling.{number-append}
@@ -20,16 +22,19 @@ pub record Fits (order : Order) (offset : ℕ) (bytes : List ℕ) : Type 0 where
   pub limit : offset + (16 + captured_at order bytes) ≤ 2 ^ 40
   pub whole : 16 + captured_at order bytes ≤ length bytes
 
-pub Fits-from_none : (order : Order) (offset : ℕ) (bytes : List ℕ) → record_fault order offset bytes ≡ None → Fits order offset bytes
+pub Fits-from_none : (order : Order) (offset : ℕ) (bytes : List ℕ) → record_fault order offset bytes ≡ None
+    → Fits order offset bytes
 unfolding record_fault
 Fits-from_none order offset bytes h = grind arith
 
-pub record_fault-fits : (order : Order) (offset : ℕ) (bytes : List ℕ) → Fits order offset bytes → record_fault order offset bytes ≡ None
+pub record_fault-fits : (order : Order) (offset : ℕ) (bytes : List ℕ) → Fits order offset bytes
+    → record_fault order offset bytes ≡ None
 unfolding record_fault
 record_fault-fits order offset bytes h = grind (arith, nat_tests)
 
 -- the captured length stands in the first 16 bytes
-pub captured_at-append : (order : Order) (xs ys : List ℕ) → 16 ≤ length xs → captured_at order (xs ++ ys) ≡ captured_at order xs
+pub captured_at-append : (order : Order) (xs ys : List ℕ) → 16 ≤ length xs
+    → captured_at order (xs ++ ys) ≡ captured_at order xs
 captured_at-append order xs ys h = number-drop_append order 4 8 xs ys (omega arith)
 
 -- More bytes after make no difference to a condition that isn't rule 3.
@@ -39,11 +44,13 @@ unfolding record_fault
 head_there order offset xs rule h other = grind (arith, nat_tests)
 
 longer : (order : Order) (offset : ℕ) (xs zs : List ℕ) (rule : Rule) → record_fault order offset xs ≡ Some rule
-    → (rule ≡ Cut → ⊥) → captured_at order zs ≡ captured_at order xs → length xs ≤ length zs → record_fault order offset zs ≡ Some rule
+    → (rule ≡ Cut → ⊥) → captured_at order zs ≡ captured_at order xs → length xs ≤ length zs
+    → record_fault order offset zs ≡ Some rule
 unfolding record_fault
 longer order offset xs zs rule h other same more = grind (arith, nat_tests)
 
-pub record_fault-append : (order : Order) (offset : ℕ) (xs ys : List ℕ) (rule : Rule) → record_fault order offset xs ≡ Some rule
+pub record_fault-append : (order : Order) (offset : ℕ) (xs ys : List ℕ) (rule : Rule)
+    → record_fault order offset xs ≡ Some rule
     → (rule ≡ Cut → ⊥) → record_fault order offset (xs ++ ys) ≡ Some rule
 record_fault-append order offset xs ys rule h other =
     longer order offset xs (xs ++ ys) rule h other
@@ -54,20 +61,25 @@ pub Fits-append : (order : Order) (offset : ℕ) (xs ys : List ℕ) → Fits ord
 Fits-append order offset xs ys f = grind (arith, captured_at-append, length-append)
 
 -- fewer than 16 bytes, or fewer than the record takes
-pub record_fault-short : (order : Order) (offset : ℕ) (bytes : List ℕ) → length bytes < 16 → record_fault order offset bytes ≡ Some Cut
+pub record_fault-short : (order : Order) (offset : ℕ) (bytes : List ℕ) → length bytes < 16
+    → record_fault order offset bytes ≡ Some Cut
 unfolding record_fault
 record_fault-short order offset bytes h = grind (arith, nat_tests)
 
-pub record_fault-cut : (order : Order) (offset : ℕ) (bytes : List ℕ) → 16 ≤ length bytes → captured_at order bytes ≤ 262144
-    → offset + (16 + captured_at order bytes) ≤ 2 ^ 40 → length bytes < 16 + captured_at order bytes → record_fault order offset bytes ≡ Some Cut
+pub record_fault-cut : (order : Order) (offset : ℕ) (bytes : List ℕ) → 16 ≤ length bytes
+    → captured_at order bytes ≤ 262144
+    → offset + (16 + captured_at order bytes) ≤ 2 ^ 40 → length bytes < 16 + captured_at order bytes
+    → record_fault order offset bytes ≡ Some Cut
 unfolding record_fault
 record_fault-cut order offset bytes head captured limit few = grind (arith, nat_tests)
 
 -- if nothing ends the records, no condition is met
-pub stop_at-fits : (order : Order) (tail : Tail) (file offset : ℕ) (bytes : List ℕ) → Fits order offset bytes → stop_at order tail file offset bytes ≡ None
+pub stop_at-fits : (order : Order) (tail : Tail) (file offset : ℕ) (bytes : List ℕ) → Fits order offset bytes
+    → stop_at order tail file offset bytes ≡ None
 stop_at-fits order tail file offset bytes f = grind (arith, stop_where-whole, record_fault-fits)
 
-pub Fits-from_stop_at : (order : Order) (tail : Tail) (file offset : ℕ) (bytes : List ℕ) → stop_at order tail file offset bytes ≡ None → Fits order offset bytes
+pub Fits-from_stop_at : (order : Order) (tail : Tail) (file offset : ℕ) (bytes : List ℕ)
+    → stop_at order tail file offset bytes ≡ None → Fits order offset bytes
 Fits-from_stop_at order tail file offset bytes h = search (Fits-from_none, no_fault)
 
 -- The header is told by the first 24 bytes alone.
@@ -88,7 +100,8 @@ unfolding header_at
 same_header xs zs magic snaplen link = grind arith
 
 -- more bytes after the header make no difference
-pub header_fault-append : (offset : ℕ) (xs ys : List ℕ) → 24 ≤ length xs → header_fault offset (xs ++ ys) ≡ header_fault offset xs
+pub header_fault-append : (offset : ℕ) (xs ys : List ℕ) → 24 ≤ length xs
+    → header_fault offset (xs ++ ys) ≡ header_fault offset xs
 header_fault-append offset xs ys h =
     same_fault offset xs (xs ++ ys) h (omega (arith, length-append xs ys))
     (λ order. number-append order 4 xs ys (omega arith))
@@ -103,7 +116,8 @@ header_at-append xs ys h =
     (λ order. number-drop_append order 4 20 xs ys (omega arith))
 
 -- the captured length of a longer list that begins with xs
-pub captured_at-front : (order : Order) (xs zs : List ℕ) → 16 ≤ length xs → take (length xs) zs ≡ xs → captured_at order zs ≡ captured_at order xs
+pub captured_at-front : (order : Order) (xs zs : List ℕ) → 16 ≤ length xs → take (length xs) zs ≡ xs
+    → captured_at order zs ≡ captured_at order xs
 captured_at-front order xs zs h front =
     ap (captured_at order) (sym (ap (λ l. l ++ drop (length xs) zs) (sym front) ∙ take-append-drop (length xs) zs))
     ∙ captured_at-append order xs (drop (length xs) zs) h

@@ -1,5 +1,6 @@
 -- What the bytes of a header or a record that isn't refused spell, and the other way round.
-use Rattle.std.proofs.Common.{◌≡◌, ℕ, ◌+◌, ◌-◌, ◌*◌, ◌%◌, ◌^◌, ◌≤◌, List, length, take, drop, Bool, true, refl, sym, ◌∙◌, ap, arith, length-drop, length-take, length-take-le, ◌||◌}
+use Rattle.std.proofs.Common.{◌≡◌, ℕ, ◌+◌, ◌-◌, ◌*◌, ◌%◌, ◌^◌, ◌≤◌, List, length, take, drop, Bool, true, refl, sym}
+use Rattle.std.proofs.Common.{◌∙◌, ap, arith, length-drop, length-take, length-take-le, ◌||◌}
 use Rattle.std.proofs.lemmas.Bool.Decides.{nat_tests}
 use Rattle.std.proofs.lemmas.List.{drop-take}
 use Rattle.cap_bytes.specs.Number.{number}
@@ -14,12 +15,14 @@ use Rattle.cap_bytes.proofs.Spelling.{number-drop_take}
 use Rattle.cap_pcap.proofs.Faults.{Fits, FitsHeader}
 
 -- the magic of a header that isn't refused, in the order in which it reads
-magic_there : (big little : Bool) (bytes : List ℕ) → is_magic Big bytes ≡ big → is_magic Little bytes ≡ little → (big || little) ≡ true
+magic_there : (big little : Bool) (bytes : List ℕ) → is_magic Big bytes ≡ big → is_magic Little bytes ≡ little
+    → (big || little) ≡ true
     → number (order_at bytes) 4 bytes ≡ magic_of (unit_at (order_at bytes) bytes)
 magic_there big little bytes is_big is_little one = grind arith
 
 -- a header that isn't refused is spelled by its bytes
-pub SpellsHeader-at : (offset : ℕ) (bytes : List ℕ) → FitsHeader offset bytes → SpellsHeader (header_at bytes) (take 24 bytes)
+pub SpellsHeader-at : (offset : ℕ) (bytes : List ℕ) → FitsHeader offset bytes
+    → SpellsHeader (header_at bytes) (take 24 bytes)
 unfolding header_at
 SpellsHeader-at offset bytes f =
     let within = f.whole in
@@ -27,15 +30,18 @@ SpellsHeader-at offset bytes f =
     record {
       size = length-take-le 24 bytes within;
       magic = number-drop_take order 4 0 24 bytes (omega arith) within ∙ magic_there _ _ bytes refl refl f.magic;
-      major = number-drop_take order 2 4 24 bytes (omega arith) within ∙ (let v = f.version in grind (arith, nat_tests));
-      minor = number-drop_take order 2 6 24 bytes (omega arith) within ∙ (let v = f.version in grind (arith, nat_tests));
+      major = number-drop_take order 2 4 24 bytes (omega arith) within
+          ∙ (let v = f.version in grind (arith, nat_tests));
+      minor = number-drop_take order 2 6 24 bytes (omega arith) within
+          ∙ (let v = f.version in grind (arith, nat_tests));
       snaplen = sym (number-drop_take order 4 16 24 bytes (omega arith) within);
       link = ap (λ n. n % 65536) (sym (number-drop_take order 4 20 24 bytes (omega arith) within));
     }
 
 -- a record that isn't refused is spelled by its bytes
 pub SpellsRecord-at : (order : Order) (unit : Fraction) (offset : ℕ) (bytes : List ℕ) → Fits order offset bytes
-    → SpellsRecord order unit (packet_of (record_at order unit offset bytes) (frame_at order bytes)) (take (16 + captured_at order bytes) bytes)
+    → SpellsRecord order unit (packet_of (record_at order unit offset bytes) (frame_at order bytes))
+    (take (16 + captured_at order bytes) bytes)
 unfolding record_at
 SpellsRecord-at order unit offset bytes f =
     let size = 16 + captured_at order bytes in
@@ -74,8 +80,10 @@ Reads-spelled order unit offset packet bytes s limit =
     let within : size ≤ length bytes = omega (arith, length-take size bytes, whole) in
     let seconds = number-drop_take order 4 0 size bytes (omega arith) within in
     let fraction = number-drop_take order 4 4 size bytes (omega arith) within in
-    let captured : captured_at order bytes ≡ length packet.frame = sym (number-drop_take order 4 8 size bytes (omega arith) within) ∙ s.captured in
-    let original : number order 4 (drop 12 bytes) ≡ packet.original = sym (number-drop_take order 4 12 size bytes (omega arith) within) ∙ sym s.original in
+    let captured : captured_at order bytes ≡ length packet.frame =
+    sym (number-drop_take order 4 8 size bytes (omega arith) within) ∙ s.captured in
+    let original : number order 4 (drop 12 bytes) ≡ packet.original =
+    sym (number-drop_take order 4 12 size bytes (omega arith) within) ∙ sym s.original in
     let units : number order 4 bytes * in_second unit + number order 4 (drop 4 bytes) ≡ packet.units =
     rw (← seconds, ← fraction) (sym s.units) in
     record {

@@ -1,5 +1,6 @@
 -- A file splits in one way, and its items are those of the split.
-use Rattle.std.proofs.Common.{◌≡◌, ℕ, zero, suc, ◌+◌, ◌^◌, ◌≤◌, ◌<◌, List, [], ◌∷◌, ◌++◌, length, take, drop, Option, Some, None, refl, sym, ◌∙◌, ap, subst, arith, length-drop, length-take-le}
+use Rattle.std.proofs.Common.{◌≡◌, ℕ, zero, suc, ◌+◌, ◌^◌, ◌≤◌, ◌<◌, List, [], ◌∷◌, ◌++◌, length, take, drop, Option}
+use Rattle.std.proofs.Common.{Some, None, refl, sym, ◌∙◌, ap, subst, arith, length-drop, length-take-le}
 use Rattle.std.proofs.lemmas.List.{take_at, drop_at, take-append-drop}
 use Rattle.cap_bytes.specs.Items.{given, stopped}
 use Rattle.cap_bytes.specs.Number.{number}
@@ -19,11 +20,13 @@ use Rattle.cap_bytes.proofs.Spelling.{number-drop_append}
 use Rattle.cap_pcap.proofs.Spelling.{SpellsRecord-at, Reads-spelled}
 
 -- how many bytes spell a packet
-pub length-spelled : (order : Order) (unit : Fraction) (p : Packet) (a : List ℕ) → SpellsRecord order unit p a → length a ≡ packet_size p
+pub length-spelled : (order : Order) (unit : Fraction) (p : Packet) (a : List ℕ) → SpellsRecord order unit p a
+    → length a ≡ packet_size p
 length-spelled order unit p a s = omega (arith, s.size, ap length s.frame, length-drop 16 a)
 
 -- one spelling, one packet
-same_spelling : (order : Order) (unit : Fraction) (p q : Packet) (a b : List ℕ) → SpellsRecord order unit p a → SpellsRecord order unit q b → a ≡ b → p ≡ q
+same_spelling : (order : Order) (unit : Fraction) (p q : Packet) (a b : List ℕ) → SpellsRecord order unit p a
+    → SpellsRecord order unit q b → a ≡ b → p ≡ q
 same_spelling order unit p q a b s t same = grind arith
 
 pub one_record-law : OneRecord
@@ -36,14 +39,16 @@ one_record-law order unit p q a b x y s t whole =
     let first = length-spelled order unit p a s in
     let second = length-spelled order unit q b t in
     let size : length a ≡ length b = omega arith in
-    let same : a ≡ b = sym (take_at a x (length a) refl) ∙ (ap (take (length a)) whole ∙ take_at b y (length a) (sym size)) in (
+    let same : a ≡ b = sym (take_at a x (length a) refl)
+    ∙ (ap (take (length a)) whole ∙ take_at b y (length a) (sym size)) in (
       same,
       same_spelling order unit p q a b s t same,
       sym (drop_at a x (length a) refl) ∙ (ap (drop (length a)) whole ∙ drop_at b y (length a) (sym size)),
     )
 
 -- a split after the same packet
-moved : (order : Order) (unit : Fraction) (offset : ℕ) (bytes : List ℕ) (p q : Packet) (qs : List Packet) (s : List ℕ) → p ≡ q
+moved : (order : Order) (unit : Fraction) (offset : ℕ) (bytes : List ℕ) (p q : Packet) (qs : List Packet)
+    (s : List ℕ) → p ≡ q
     → Splits order unit (offset + packet_size q) (drop (packet_size q) bytes) qs s
     → Splits order unit (offset + packet_size p) (drop (packet_size p) bytes) qs s
 moved order unit offset bytes p q qs s same rest = grind arith
@@ -55,14 +60,17 @@ one_split-law order unit offset bytes [] (q ∷ qs) r s a b =
 one_split-law order unit offset bytes (p ∷ ps) [] r s a b =
     absurd (b.1 p (subst (λ l. SpellsRecord order unit p (take (packet_size p) l)) b.0 a.0) a.1)
 one_split-law order unit offset bytes (p ∷ ps) (q ∷ qs) r s a b =
-    let one = one_record-law order unit p q (take (packet_size p) bytes) (take (packet_size q) bytes) (drop (packet_size p) bytes) (drop (packet_size q) bytes)
+    let one = one_record-law order unit p q (take (packet_size p) bytes) (take (packet_size q) bytes)
+    (drop (packet_size p) bytes) (drop (packet_size q) bytes)
     a.0 b.0 (take-append-drop (packet_size p) bytes ∙ sym (take-append-drop (packet_size q) bytes)) in
-    let rest = one_split-law order unit (offset + packet_size p) (drop (packet_size p) bytes) ps qs r s a.2 (moved order unit offset bytes p q qs s one.1 b.2) in
+    let rest = one_split-law order unit (offset + packet_size p) (drop (packet_size p) bytes) ps qs r s a.2
+    (moved order unit offset bytes p q qs s one.1 b.2) in
     (ap (λ x. x ∷ ps) one.1 ∙ ap (λ l. q ∷ l) rest.0, rest.1)
 
 -- if a record stands, nothing ends the records
 spelled_goes : (order : Order) (unit : Fraction) (tail : Tail) (file offset : ℕ) (bytes : List ℕ) (p : Packet)
-    → SpellsRecord order unit p (take (packet_size p) bytes) → offset + packet_size p ≤ 2 ^ 40 → stop_at order tail file offset bytes ≡ None
+    → SpellsRecord order unit p (take (packet_size p) bytes) → offset + packet_size p ≤ 2 ^ 40
+    → stop_at order tail file offset bytes ≡ None
 spelled_goes order unit tail file offset bytes p s limit =
     stop_at-fits order tail file offset bytes (Reads-spelled order unit offset p bytes s limit).fits
 
@@ -74,7 +82,8 @@ record Stands (order : Order) (unit : Fraction) (offset : ℕ) (bytes : List ℕ
   some : 16 ≤ length bytes
 
 -- there is one if nothing ends the records
-stands : (order : Order) (unit : Fraction) (tail : Tail) (file offset : ℕ) (bytes : List ℕ) → stop_at order tail file offset bytes ≡ None
+stands : (order : Order) (unit : Fraction) (tail : Tail) (file offset : ℕ) (bytes : List ℕ)
+    → stop_at order tail file offset bytes ≡ None
     → Stands order unit offset bytes
 stands order unit tail file offset bytes none =
     let fits = Fits-from_stop_at order tail file offset bytes none in
@@ -83,16 +92,20 @@ stands order unit tail file offset bytes none =
     let packet = packet_of (record_at order unit offset bytes) (frame_at order bytes) in
     record {
       packet = packet;
-      spelled = subst (λ (n : ℕ). SpellsRecord order unit packet (take (16 + n) bytes)) (sym size) (SpellsRecord-at order unit offset bytes fits);
+      spelled = subst (λ (n : ℕ). SpellsRecord order unit packet (take (16 + n) bytes)) (sym size)
+          (SpellsRecord-at order unit offset bytes fits);
       limit = omega (arith, size, fits.limit);
       some = fits.head;
     }
 
 -- what ends the records if no record begins
-ends : (header : PcapHeader) (tail : Tail) (file offset : ℕ) (bytes : List ℕ) (stop : Option Stop) → stop_at header.order tail file offset bytes ≡ stop
+ends : (header : PcapHeader) (tail : Tail) (file offset : ℕ) (bytes : List ℕ) (stop : Option Stop)
+    → stop_at header.order tail file offset bytes ≡ stop
     → HasNoRecord header.order header.unit offset bytes
-    → (s : Stop) × (stop_at header.order tail file offset bytes ≡ Some s) × (items_from header tail file offset bytes ≡ stopped s ∷ [])
-ends header tail file offset bytes (Some stop) is none = (stop, is, items_from-stop header tail file offset bytes stop is)
+    → (s : Stop) × (stop_at header.order tail file offset bytes ≡ Some s)
+    × (items_from header tail file offset bytes ≡ stopped s ∷ [])
+ends header tail file offset bytes (Some stop) is none =
+    (stop, is, items_from-stop header tail file offset bytes stop is)
 ends header tail file offset bytes None is none =
     let there = stands header.order header.unit tail file offset bytes is in
     absurd (none there.packet there.spelled there.limit)
@@ -101,26 +114,39 @@ ends header tail file offset bytes None is none =
 pub items_from-spelled : (header : PcapHeader) (tail : Tail) (file offset : ℕ) (bytes : List ℕ) (p : Packet)
     → SpellsRecord header.order header.unit p (take (packet_size p) bytes) → offset + packet_size p ≤ 2 ^ 40
     → items_from header tail file offset bytes
-    ≡ given (record_of offset p) p.frame ∷ items_from header tail file (offset + packet_size p) (drop (packet_size p) bytes)
-items_from-spelled header tail file offset bytes p s limit = grind (arith, Reads-spelled, items_from-record, stop_at-fits)
+    ≡ given (record_of offset p) p.frame ∷ items_from header tail file (offset + packet_size p)
+    (drop (packet_size p) bytes)
+items_from-spelled header tail file offset bytes p s limit =
+    grind (arith, Reads-spelled, items_from-record, stop_at-fits)
 
 pub split_items-law : SplitItems
 split_items-law header tail file offset bytes [] rest split =
     let end = ends header tail file offset rest (stop_at header.order tail file offset rest) refl split.1 in
     (end.0, end.1, ap (items_from header tail file offset) split.0 ∙ end.2)
 split_items-law header tail file offset bytes (p ∷ ps) rest split =
-    let later = split_items-law header tail file (offset + packet_size p) (drop (packet_size p) bytes) ps rest split.2 in (
+    let later = split_items-law header tail file (offset + packet_size p)
+    (drop (packet_size p) bytes) ps rest split.2 in (
       later.0,
       later.1,
-      items_from-spelled header tail file offset bytes p split.0 split.1 ∙ ap (λ l. given (record_of offset p) p.frame ∷ l) later.2,
+      items_from-spelled header tail file offset bytes p split.0 split.1
+          ∙ ap (λ l. given (record_of offset p) p.frame ∷ l) later.2,
     )
 
 -- a split by what ends the records
-split_by : (n : ℕ) (order : Order) (unit : Fraction) (offset : ℕ) (bytes : List ℕ) (stop : Option Stop) → stop_at order Refuse 0 offset bytes ≡ stop
-    → ((later : ℕ) (rest : List ℕ) → length rest < length bytes → (ps : List Packet) × (r : List ℕ) × Splits order unit later rest ps r)
+split_by : (n : ℕ) (order : Order) (unit : Fraction) (offset : ℕ) (bytes : List ℕ) (stop : Option Stop)
+    → stop_at order Refuse 0 offset bytes ≡ stop
+    → ((later : ℕ) (rest : List ℕ) → length rest < length bytes → (ps : List Packet) × (r : List ℕ)
+    × Splits order unit later rest ps r)
     → (packets : List Packet) × (rest : List ℕ) × Splits order unit offset bytes packets rest
-split_by n order unit offset bytes (Some stop) is behind =
-    ([], bytes, (refl, λ p spelled limit. let goes = spelled_goes order unit Refuse 0 offset bytes p spelled limit in cc))
+split_by n order unit offset bytes (Some stop) is behind = (
+  [],
+  bytes,
+  (
+    refl,
+    λ p spelled limit. let goes =
+        spelled_goes order unit Refuse 0 offset bytes p spelled limit in cc,
+  ),
+)
 split_by n order unit offset bytes None is behind =
     let there = stands order unit Refuse 0 offset bytes is in
     let some = there.some in

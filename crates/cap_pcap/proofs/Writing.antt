@@ -13,7 +13,8 @@ Begins-none size bytes is = record { size_is = is; front = refl; within = omega 
 
 -- n bytes more were put after it
 pub Begins-more : (size place n : ℕ) (text more old new : List ℕ) → Begins size place text old → place + n ≤ size
-    → take (place + n) new ≡ take place old ++ more → length new ≡ length old → Begins size (place + n) (text ++ more) new
+    → take (place + n) new ≡ take place old ++ more → length new ≡ length old
+    → Begins size (place + n) (text ++ more) new
 Begins-more size place n text more old new b fits is same =
     record { size_is = same ∙ b.size_is; front = is ∙ ap (λ l. l ++ more) b.front; within = fits }
 

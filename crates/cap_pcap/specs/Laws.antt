@@ -6,7 +6,8 @@ use Rattle.cap_bytes.specs.declared.faults.Tail.{Tail}
 use Rattle.cap_time.specs.Unit.{in_second}
 use Rattle.cap_time.specs.declared.stamps.Unit.{Unit as Fraction}
 use Rattle.cap_pcap.specs.Grammar.{SpellsHeader, Packet, SpellsRecord, header_bytes, record_bytes}
-use Rattle.cap_pcap.specs.Split.{header_fault, header_at, stop_at, items_from, file_items, Splits, place_behind, record_of, items_with}
+use Rattle.cap_pcap.specs.Split.{header_fault, header_at, stop_at, items_from, file_items, Splits, place_behind}
+use Rattle.cap_pcap.specs.Split.{record_of, items_with}
 use Rattle.cap_pcap.specs.declared.headers.PcapHeader.{PcapHeader}
 use Rattle.cap_bytes.specs.declared.stops.Stop.{Stop}
 
@@ -64,5 +65,6 @@ abbrev pub RecordAgain : Type 0
 RecordAgain =
     (order : Order) (unit : Fraction) (seconds fraction original : ℕ) (frame : List ℕ)
     → seconds < 2 ^ 32 → fraction < 2 ^ 32 → original < 2 ^ 32 → length frame ≤ 262144
-    → SpellsRecord order unit (record { units = seconds * in_second unit + fraction; original = original; frame = frame })
+    → SpellsRecord order unit
+    (record { units = seconds * in_second unit + fraction; original = original; frame = frame })
     (record_bytes order seconds fraction original frame)

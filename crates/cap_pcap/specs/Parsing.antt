@@ -1,5 +1,6 @@
 -- What is seen at the front of the bytes that a window shows.
-use Rattle.std.specs.Prelude.{◌≡◌, ◌||◌, true, false, ⊤, ◌≤◌, ◌<◌, ◌+◌, ◌^◌, ℕ, List, length, take, drop, IsTrue, Some, None, Result, Ok, Err}
+use Rattle.std.specs.Prelude.{◌≡◌, ◌||◌, true, false, ⊤, ◌≤◌, ◌<◌, ◌+◌, ◌^◌, ℕ, List, length, take, drop, IsTrue, Some}
+use Rattle.std.specs.Prelude.{None, Result, Ok, Err}
 use Rattle.cap_bytes.specs.Parsing.{SeesStop, FailsBy, LooksFor}
 use Rattle.cap_bytes.specs.Window.{State, Shows, coming}
 use Rattle.cap_bytes.specs.declared.faults.Fault.{Fault}
@@ -14,7 +15,8 @@ use Rattle.cap_bytes.specs.declared.stops.Stop.TheVariants as stops
 use Rattle.cap_time.specs.declared.stamps.Unit.{Unit as Fraction}
 use Rattle.cap_pcap.specs.Grammar.{SpellsRecord}
 use Rattle.cap_pcap.specs.Reader.{packet_of}
-use Rattle.cap_pcap.specs.Split.{is_magic, order_at, unit_at, header_fault, header_at, captured_at, record_fault, stop_at}
+use Rattle.cap_pcap.specs.Split.{is_magic, order_at, unit_at, header_fault, header_at, captured_at, record_fault}
+use Rattle.cap_pcap.specs.Split.{stop_at}
 use Rattle.cap_pcap.specs.declared.headers.PcapHeader.{PcapHeader}
 use Rattle.cap_pcap.specs.declared.records.Record.{Record}
 
@@ -51,7 +53,8 @@ pub record SeesRecord (header : PcapHeader) (tail : Tail) (r : Record) (old new 
   pub captured : r.captured ≤ 262144
   pub limit : new.offset + (16 + r.captured) ≤ 2 ^ 40
   pub offset : r.offset ≡ old.offset
-  pub spelled : SpellsRecord header.order header.unit (packet_of r (take r.captured (drop 16 new.shown))) (take (16 + r.captured) new.shown)
+  pub spelled : SpellsRecord header.order header.unit (packet_of r (take r.captured (drop 16 new.shown)))
+      (take (16 + r.captured) new.shown)
   pub none : IsTrue old.told → stop_at header.order tail old.file old.offset (coming old) ≡ None
 
 -- what a look at a record answers

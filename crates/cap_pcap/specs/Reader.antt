@@ -1,5 +1,6 @@
 -- What a reader of a pcap file is at one moment, and what its calls do.
-use Rattle.std.specs.Prelude.{◌≡◌, ◌+◌, ◌^◌, ◌≤◌, ◌<◌, ℕ, List, [], ◌∷◌, length, take, drop, true, false, IsTrue, Option, Some, None, option_map, IfSome, IfNone, IsSomeAnd, Result, Ok, Err, ⊤}
+use Rattle.std.specs.Prelude.{◌≡◌, ◌+◌, ◌^◌, ◌≤◌, ◌<◌, ℕ, List, [], ◌∷◌, length, take, drop, true, false, IsTrue}
+use Rattle.std.specs.Prelude.{Option, Some, None, option_map, IfSome, IfNone, IsSomeAnd, Result, Ok, Err, ⊤}
 use Rattle.cap_bytes.specs.Items.{IsEnd, Item, given, stopped, items_by_stop}
 use Rattle.cap_bytes.specs.Items as items
 use Rattle.cap_bytes.specs.Reach.{Reaches}
@@ -55,7 +56,8 @@ KeepsHeader old new = IfSome old.known (λ header. new.known ≡ Some header)
 abbrev pub GivesHeader : State PcapHeader → Result PcapHeader Fault → State PcapHeader → Type 0
 GivesHeader old (Ok header) new = HasHeader header old new
 GivesHeader old (Err (Refused refusal)) new =
-    GivesStop false (header_fault old.offset old.coming) (stops.Refused refusal) old new × IfNone old.stop (old.known ≡ None)
+    GivesStop false (header_fault old.offset old.coming) (stops.Refused refusal) old new
+    × IfNone old.stop (old.known ≡ None)
 GivesHeader old (Err (Read file offset)) new = Breaks old file offset new × (old.known ≡ None)
 GivesHeader old (Err Memory) new = Waits 24 old new × (old.known ≡ None)
 GivesHeader old (Err Write) new = ⊥
@@ -77,7 +79,8 @@ ReachesNext header old result new =
     Reaches (option_map record_size) (16 + captured_at header.order old.coming) (readers.position old) result new.read
 
 -- A record is given, whose bytes stand at the front of the bytes to come, and its frame is lent.
-pub record GivesRecord (header : PcapHeader) (old : State PcapHeader) (r : Record) (new : State PcapHeader) : Type 0 where
+pub record GivesRecord (header : PcapHeader) (old : State PcapHeader) (r : Record)
+    (new : State PcapHeader) : Type 0 where
   pub gives : Gives old.known (16 + r.captured) old new
   pub offset : r.offset ≡ old.offset
   pub captured : r.captured ≤ 262144
@@ -116,7 +119,8 @@ KeepsItems old (Err Write) new = ⊥
 
 -- what `next_record` does to them
 abbrev pub TakesItem : List (Item Record) → Result (Option Record) Fault → Option (List ℕ) → List (Item Record) → Type 0
-TakesItem old result frame new = items.TakesItem (λ r. IsSomeAnd frame (λ bytes. old ≡ given r bytes ∷ new)) old result new
+TakesItem old result frame new = items.TakesItem
+    (λ r. IsSomeAnd frame (λ bytes. old ≡ given r bytes ∷ new)) old result new
 
 -- how many bytes the record that was given last takes, by how many were captured of it
 abbrev pub size_of : Option ℕ → ℕ
@@ -141,7 +145,8 @@ IsInOrder None captured None = captured ≡ None
 IsInOrder None captured (Some stop) = (captured ≡ None) × (IsEnd stop → ⊥)
 
 -- what a reader's fields always meet
-pub record IsSound (header : Option PcapHeader) (captured : Option ℕ) (stop : Option Stop) (shown offset held : ℕ) : Type 0 where
+pub record IsSound (header : Option PcapHeader) (captured : Option ℕ) (stop : Option Stop)
+    (shown offset held : ℕ) : Type 0 where
   pub in_order : IsInOrder header captured stop
   pub within : size_of captured ≤ shown
   pub bounded : size_of captured ≤ 262160

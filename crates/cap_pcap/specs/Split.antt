@@ -1,5 +1,6 @@
 -- How a file splits into its header, its records and a rest, and what the rest is refused by.
-use Rattle.std.specs.Prelude.{◌≡◌, ◌==◌, ◌||◌, ◌&&◌, not, ℕ, ◌+◌, ◌*◌, ◌%◌, ◌^◌, ◌≤◌, nat_lt, if◌then◌else◌, Bool, true, List, [], ◌∷◌, length, take, drop, Option, Some, None}
+use Rattle.std.specs.Prelude.{◌≡◌, ◌==◌, ◌||◌, ◌&&◌, not, ℕ, ◌+◌, ◌*◌, ◌%◌, ◌^◌, ◌≤◌, nat_lt, if◌then◌else◌, Bool, true}
+use Rattle.std.specs.Prelude.{List, [], ◌∷◌, length, take, drop, Option, Some, None}
 use Rattle.cap_bytes.specs.Number.{number}
 use Rattle.cap_bytes.specs.declared.faults.Rule.{Rule}
 use Rattle.cap_bytes.specs.declared.faults.Rule.TheVariants.{Magic, Version, Cut, PacketLong, FileLimit}
@@ -98,7 +99,8 @@ items_from header tail file offset bytes = items_in records header tail file off
 
 -- the items of a file whose header is refused, or isn't
 abbrev pub refused_or : Option Rule → ℕ → ℕ → List (Item Record) → List (Item Record)
-refused_or (Some rule) file offset items = stopped (stops.Refused (record { file = file; offset = offset; rule = rule })) ∷ []
+refused_or (Some rule) file offset items = stopped
+    (stops.Refused (record { file = file; offset = offset; rule = rule })) ∷ []
 refused_or None file offset items = items
 
 -- the items of a file whose bytes begin at `offset`: 0 for a whole file

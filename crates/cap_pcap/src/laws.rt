@@ -1,5 +1,6 @@
 //! The laws of the grammar of pcap files.
-ghost use Rattle.cap_pcap.specs.Laws.{OneRecord, OneSplit, EverySplit, SplitItems, HeaderRead, RecordRead, HeaderAgain, RecordAgain};
+ghost use Rattle.cap_pcap.specs.Laws.{OneRecord, OneSplit, EverySplit, SplitItems, HeaderRead, RecordRead, HeaderAgain};
+ghost use Rattle.cap_pcap.specs.Laws.{RecordAgain};
 
 /// The laws of the grammar, as the contract of a function that does nothing.
 ///

@@ -1,7 +1,9 @@
 //! A reader of pcap files.
-ghost use Rattle.std.specs.Prelude.{◌≡◌, ◌↔◌, ◌≤◌, ◌+◌, length, IsTrue, IsSome, IsNone, Some, Ok, IfSome, OnErr, is_some};
+ghost use Rattle.std.specs.Prelude.{◌≡◌, ◌↔◌, ◌≤◌, ◌+◌, length, IsTrue, IsSome, IsNone, Some, Ok, IfSome, OnErr};
+ghost use Rattle.std.specs.Prelude.{is_some};
 ghost use Rattle.cap_bytes.specs.Reader.{opened, Keeps, HasWindow};
-ghost use Rattle.cap_pcap.specs.Reader.{items_of, GivesHeader, GivesNext, KeepsHeader, KeepsItems, ReachesHeader, ReachesNext, TakesItem, RefusesAgain, size_of, place_after};
+ghost use Rattle.cap_pcap.specs.Reader.{items_of, GivesHeader, GivesNext, KeepsHeader, KeepsItems, ReachesHeader};
+ghost use Rattle.cap_pcap.specs.Reader.{ReachesNext, TakesItem, RefusesAgain, size_of, place_after};
 
 use crate::headers::{HEADER_SIZE, PcapHeader, look_for_header};
 use crate::records::{HEAD_SIZE, Record, look_for_record, take_shown};
@@ -120,8 +122,8 @@ impl<R: Source> PcapReader<R> {
         self.read_header()
     }
 
-    /// The next record, if the window shows it whole already, as it does most of them: what `next_record` answers then, at
-    /// less cost. `None` says nothing of the record, and leaves the reader as it is. The header is the file's.
+    /// The next record, if the window shows it whole already, as it does most of them: what `next_record` answers then,
+    /// at less cost. `None` says nothing of the record, and leaves the reader as it is. The header is the file's.
     #[inline(always)]
     pub fn take_shown(&mut self, header: PcapHeader) -> Option<Record>
         requires { self.old.known ≡ Some header }

@@ -1,5 +1,6 @@
 //! The records of a pcap file. draft-ietf-opsawg-pcap, 5.
-ghost use Rattle.std.specs.Prelude.{◌≡◌, ◌+◌, ◌≤◌, ◌^◌, length, take, IsTrue, IsNone, IfSome, OnSome, is_err, IsOkUnless};
+ghost use Rattle.std.specs.Prelude.{◌≡◌, ◌+◌, ◌≤◌, ◌^◌, length, take, IsTrue, IsNone, IfSome, OnSome, is_err};
+ghost use Rattle.std.specs.Prelude.{IsOkUnless};
 ghost use Rattle.cap_bytes.specs.Device.{Puts, WriterKeeps, writer_of};
 ghost use Rattle.cap_bytes.specs.Reach.{Reaches, size_found};
 ghost use Rattle.cap_bytes.specs.Window.{Keeps, Passes, coming, position, read_to};
@@ -78,7 +79,8 @@ fn record_in(order: Order, unit: Unit, offset: u64, bytes: &[u8]) -> Record
     }
 }
 
-// The record of a file that begins with these bytes. Each order has a way of its own: on one for both, each number is read in both.
+// The record of a file that begins with these bytes. Each order has a way of its own: on one for both, each number is
+// read in both.
 #[inline(always)]
 fn record_of(header: PcapHeader, offset: u64, bytes: &[u8]) -> Record
     requires { 16 ≤ length bytes.now }

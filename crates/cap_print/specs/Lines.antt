@@ -15,4 +15,5 @@ room_in line = line.start
 -- a time in the form of its own interface: seconds, numerator, denominator
 abbrev pub time_text : Option Printed → List ℕ
 time_text None = codes "-"
-time_text (Some time) = signed_decimal time.seconds ++ codes "+" ++ decimal time.numerator ++ codes "/" ++ decimal time.denominator
+time_text (Some time) = signed_decimal time.seconds ++ codes "+" ++ decimal time.numerator ++ codes "/"
+    ++ decimal time.denominator

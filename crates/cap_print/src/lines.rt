@@ -38,8 +38,9 @@ fn write_hex(bytes: &[u8], room: &mut [u8], end: usize) -> usize
     start
 }
 
-/// A line that is being written, from its last byte to its first, as the digits of a number are: what is put stands before
-/// all that was put already. So nothing that was put is moved or copied. Each function wants room for the most that it may put.
+/// A line that is being written, from its last byte to its first, as the digits of a number are: what is put stands
+/// before all that was put already. So nothing that was put is moved or copied. Each function wants room for the most
+/// that it may put.
 #[derive(Drop)]
 pub struct Line {
     bytes: [u8; LINE],
@@ -81,7 +82,7 @@ impl Line {
 
     /// Puts a text.
     #[inline(always)]
-    pub fn put_text(&mut self, text: &[u8])
+    pub fn prepend_text(&mut self, text: &[u8])
         requires { length text.now ≤ room_in self.old }
         ensures text { text_in self.new ≡ text.now ++ text_in self.old }
         ensures room { room_in self.new + length text.now ≡ room_in self.old }
@@ -91,80 +92,80 @@ impl Line {
 
     /// Puts a label and a whole number, in decimal.
     #[inline(always)]
-    pub fn put_field(&mut self, label: &[u8], number: u64)
+    pub fn prepend_field(&mut self, label: &[u8], number: u64)
         requires { length label.now + 20 ≤ room_in self.old }
         ensures text { text_in self.new ≡ label.now ++ decimal number ++ text_in self.old }
         ensures room { room_in self.old ≤ room_in self.new + length label.now + 20 }
     {
         self.start = write_digits(number, &mut self.bytes, self.start);
-        self.put_text(label);
+        self.prepend_text(label);
     }
 
     /// Puts a label and a whole number of any integer type, in decimal.
-    pub fn put_integer<I: Integer>(&mut self, label: &[u8], number: I)
+    pub fn prepend_integer<I: Integer>(&mut self, label: &[u8], number: I)
         requires { length label.now + I.MAX_STR_LEN ≤ room_in self.old }
         ensures text { text_in self.new ≡ label.now ++ I.text number ++ text_in self.old }
         ensures room { room_in self.old ≤ room_in self.new + length label.now + I.MAX_STR_LEN }
     {
         let mut buffer = Buffer::new();
-        self.put_text(buffer.format(number).as_bytes());
-        self.put_text(label);
+        self.prepend_text(buffer.format(number).as_bytes());
+        self.prepend_text(label);
     }
 
     /// Puts a label and some bytes, in lower case hex.
     #[inline(always)]
-    pub fn put_hex(&mut self, label: &[u8], bytes: &[u8])
+    pub fn prepend_hex(&mut self, label: &[u8], bytes: &[u8])
         requires { length label.now + 2 * length bytes.now ≤ room_in self.old }
         ensures text { text_in self.new ≡ label.now ++ encode_lower bytes.now ++ text_in self.old }
         ensures room { room_in self.new + length label.now + 2 * length bytes.now ≡ room_in self.old }
     {
         self.start = write_hex(bytes, &mut self.bytes, self.start);
-        self.put_text(label);
+        self.prepend_text(label);
     }
 
     // Puts a label and the seconds of a time: few are below 0, or need more than 64 bits.
     #[inline(always)]
-    fn put_seconds(&mut self, label: &[u8], seconds: i128)
+    fn prepend_seconds(&mut self, label: &[u8], seconds: i128)
         requires { length label.now + 40 ≤ room_in self.old }
         ensures text { text_in self.new ≡ label.now ++ signed_decimal seconds ++ text_in self.old }
         ensures room { room_in self.old ≤ room_in self.new + length label.now + 40 }
     {
         match u64::try_from(seconds) {
-            Ok(seconds) => self.put_field(label, seconds),
-            Err(_) => self.put_integer(label, seconds),
+            Ok(seconds) => self.prepend_field(label, seconds),
+            Err(_) => self.prepend_integer(label, seconds),
         }
     }
 
     // Puts how many units a second has: most have a million, or a thousand million.
     #[inline(always)]
-    fn put_denominator(&mut self, denominator: u64)
+    fn prepend_denominator(&mut self, denominator: u64)
         requires { 21 ≤ room_in self.old }
         ensures text { text_in self.new ≡ codes "/" ++ decimal denominator ++ text_in self.old }
         ensures room { room_in self.old ≤ room_in self.new + 21 }
     {
         match denominator {
-            1_000_000 => self.put_text(b"/1000000"),
-            1_000_000_000 => self.put_text(b"/1000000000"),
-            _ => self.put_field(b"/", denominator),
+            1_000_000 => self.prepend_text(b"/1000000"),
+            1_000_000_000 => self.prepend_text(b"/1000000000"),
+            _ => self.prepend_field(b"/", denominator),
         }
     }
 
     /// Puts a label and a time as `SEC+NUM/DEN`, or `-` if there is none.
     #[inline(always)]
-    pub fn put_time(&mut self, label: &[u8], time: Option<Stamp>)
+    pub fn prepend_time(&mut self, label: &[u8], time: Option<Stamp>)
         requires { length label.now + 82 ≤ room_in self.old }
         ensures text { text_in self.new ≡ label.now ++ time_text (option_map printed_of time) ++ text_in self.old }
         ensures room { room_in self.old ≤ room_in self.new + length label.now + 82 }
     {
         match time {
             None => {
-                self.put_text(b"-");
-                self.put_text(label);
+                self.prepend_text(b"-");
+                self.prepend_text(label);
             }
             Some(stamp) => {
-                self.put_denominator(stamp.denominator());
-                self.put_field(b"+", stamp.numerator());
-                self.put_seconds(label, stamp.seconds());
+                self.prepend_denominator(stamp.denominator());
+                self.prepend_field(b"+", stamp.numerator());
+                self.prepend_seconds(label, stamp.seconds());
             }
         }
     }

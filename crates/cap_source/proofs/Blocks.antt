@@ -1,11 +1,14 @@
 -- What a block adds to what was read of a pcapng file.
-use Rattle.std.proofs.Common.{◌≡◌, ◌≤◌, ◌<◌, ◌+◌, ◌%◌, ℕ, Bool, true, false, List, [], ◌∷◌, length, slice_get, Option, Some, None, is_some, IsSome, IfSome, IsTrue, ◌↔◌, unwrap_or, Result, Ok, Err, refl, sym, ap, ◌∙◌, subst, arith, nat_lt, ◌==◌, cond, length-append}
+use Rattle.std.proofs.Common.{◌≡◌, ◌≤◌, ◌<◌, ◌+◌, ◌%◌, ℕ, Bool, true, false, List, [], ◌∷◌, length, slice_get, Option}
+use Rattle.std.proofs.Common.{Some, None, is_some, IsSome, IfSome, IsTrue, ◌↔◌, unwrap_or, Result, Ok, Err, refl, sym}
+use Rattle.std.proofs.Common.{ap, ◌∙◌, subst, arith, nat_lt, ◌==◌, cond, length-append}
 use Rattle.std.proofs.lemmas.Bool.Decides.{nat_tests}
 use Rattle.cap_bytes.specs.declared.faults.Refusal.{Refusal}
 use Rattle.cap_bytes.specs.declared.faults.Rule.{Rule}
 use Rattle.cap_bytes.specs.declared.numbers.Order.{Order}
 use Rattle.cap_time.specs.declared.resolutions.Interface.{Interface}
-use Rattle.cap_blocks.specs.Grammar.{section_kind, interface_kind, obsolete_kind, simple_kind, enhanced_kind, is_known, is_total, least_total}
+use Rattle.cap_blocks.specs.Grammar.{section_kind, interface_kind, obsolete_kind, simple_kind, enhanced_kind, is_known}
+use Rattle.cap_blocks.specs.Grammar.{is_total, least_total}
 use Rattle.cap_bytes.specs.Items.{IsEnd, Item, given, stopped}
 use Rattle.cap_bytes.specs.Reader.{State, Keeps, GivesStop}
 use Rattle.cap_blocks.specs.Reader.{items_of, GivesBlock, ReachesNext}
@@ -18,61 +21,71 @@ use Rattle.cap_source.proofs.Pcaps.{none_stops, cut_is}
 use Rattle.cap_bytes.specs.Number.{number}
 use Rattle.cap_bytes.specs.declared.faults.Rule.TheVariants as rules
 use Rattle.cap_source.specs.TimeBases.{interface_in}
-use Rattle.cap_source.specs.Contents.{fitting, of_interface, timed_in, simple_in, of_body, content_in}
+use Rattle.cap_source.specs.Contents.{fitting, of_interface, timed_in, simple_in, of_body, described, content_in}
 use Rattle.cap_source.specs.Feed as feeds
-use Rattle.cap_source.specs.Items.{Progress, behind, frame_in, items_at, items_in, ending_with, ending_in, unless_faulty, first_in, unless_item, is_cut}
-use Rattle.cap_source.specs.FileState.{FileState, pcapng_state, size_of, part_of, Learns, FileKeeps, GoesOn, StepsTo, Takes, TakesShown, next_at}
+use Rattle.cap_source.specs.Items.{Progress, behind, frame_in, items_at, items_in, ending_with, ending_in}
+use Rattle.cap_source.specs.Items.{unless_faulty, first_in, unless_item, is_cut}
+use Rattle.cap_source.specs.FileState.{FileState, pcapng_state, size_of, part_of, Learns, FileKeeps, GoesOn, StepsTo}
+use Rattle.cap_source.specs.FileState.{Takes, TakesShown, next_at}
 use Rattle.cap_source.specs.Reached.{counted}
 use Rattle.cap_source.specs.declared.contents.Content.{Content}
 use Rattle.cap_source.specs.declared.contents.Content.TheVariants as contents
 use Rattle.cap_source.specs.declared.contents.Packet.{Packet}
-use Rattle.cap_source.specs.declared.feeds.Ending.{Ending}
+use Rattle.cap_source.specs.declared.feeds.FileEnd.{FileEnd}
 use Rattle.cap_source.specs.declared.readers.Next.{Next}
 use Rattle.cap_source.specs.declared.readers.Next.TheVariants as nexts
 
 -- a total length that a kind allows
-pub total_least : (kind total size : ℕ) → IsTrue (is_total kind total) → size + 12 ≡ total → least_total kind ≤ 12 + size
+pub total_least : (kind total size : ℕ) → IsTrue (is_total kind total) → size + 12 ≡ total
+    → least_total kind ≤ 12 + size
 unfolding is_total
 total_least kind total size allowed is = grind (arith, nat_tests)
 
 -- what of a block
 abbrev pub IsFit : ℕ → List ℕ → Result Content Rule → Type 0
 IsFit few body (Ok contents.Section) = Unit {0}
-IsFit few body (Ok (contents.Interface interface)) = few < 1024
+IsFit few body (Ok (contents.Interface described)) = few < 1024
 IsFit few body (Ok (contents.Packet p)) = (p.place + p.captured ≤ length body) × (p.captured ≤ 262144)
 IsFit few body (Ok contents.Other) = Unit {0}
 IsFit few body (Err rule) = Unit {0}
 
-if_fit : (few : ℕ) (body : List ℕ) (b : Bool) (x y : Result Content Rule) → IsFit few body x → IsFit few body y → IsFit few body (cond b x y)
+if_fit : (few : ℕ) (body : List ℕ) (b : Bool) (x y : Result Content Rule) → IsFit few body x → IsFit few body y
+    → IsFit few body (cond b x y)
 if_fit few body b x y p q = grind arith
 
-interface_fit : (few : ℕ) (order : Order) (body : List ℕ) → IsFit few body (of_body contents.Interface (interface_in few order body))
+interface_fit : (few : ℕ) (order : Order) (body : List ℕ)
+    → IsFit few body (of_body (described order body) (interface_in few order body))
 unfolding interface_in
 interface_fit few order body = grind arith
 
-fitting_by : (few : ℕ) (p : Packet) (body : List ℕ) (a b : Bool) → nat_lt 262144 p.captured ≡ a → nat_lt (length body) (p.place + p.captured) ≡ b
+fitting_by : (few : ℕ) (p : Packet) (body : List ℕ) (a b : Bool) → nat_lt 262144 p.captured ≡ a
+    → nat_lt (length body) (p.place + p.captured) ≡ b
     → IsFit few body (of_body contents.Packet (cond a (Err rules.PacketLong) (cond b (Err rules.Captured) (Ok p))))
 fitting_by few p body a b is_a is_b = grind arith
 
 packet_fit : (few : ℕ) (p : Packet) (body : List ℕ) → IsFit few body (of_body contents.Packet (fitting p (length body)))
 unfolding fitting
-packet_fit few p body = fitting_by few p body (nat_lt 262144 p.captured) (nat_lt (length body) (p.place + p.captured)) refl refl
+packet_fit few p body = fitting_by few p body (nat_lt 262144 p.captured)
+    (nat_lt (length body) (p.place + p.captured)) refl refl
 
 at_interface : (few : ℕ) (body : List ℕ) (i : Option Interface) (make : Interface → Packet)
     → IsFit few body (of_body contents.Packet (of_interface i (λ interface. fitting (make interface) (length body))))
 at_interface few body None make = tt
 at_interface few body (Some interface) make = packet_fit few (make interface) body
 
-timed_fit : (few : ℕ) (interfaces : List Interface) (n : ℕ) (order : Order) (body : List ℕ) → IsFit few body (of_body contents.Packet (timed_in interfaces n order body))
+timed_fit : (few : ℕ) (interfaces : List Interface) (n : ℕ) (order : Order) (body : List ℕ)
+    → IsFit few body (of_body contents.Packet (timed_in interfaces n order body))
 unfolding timed_in
 timed_fit few interfaces n order body = at_interface few body (slice_get interfaces n) _
 
-simple_fit : (few : ℕ) (interfaces : List Interface) (order : Order) (body : List ℕ) → IsFit few body (of_body contents.Packet (simple_in interfaces order body))
+simple_fit : (few : ℕ) (interfaces : List Interface) (order : Order) (body : List ℕ)
+    → IsFit few body (of_body contents.Packet (simple_in interfaces order body))
 unfolding simple_in
 simple_fit few interfaces order body = at_interface few body (slice_get interfaces 0) _
 
 -- What a block says fits.
-pub content_fit : (interfaces : List Interface) (kind : ℕ) (order : Order) (body : List ℕ) → IsFit (length interfaces) body (content_in interfaces kind order body)
+pub content_fit : (interfaces : List Interface) (kind : ℕ) (order : Order) (body : List ℕ)
+    → IsFit (length interfaces) body (content_in interfaces kind order body)
 unfolding content_in
 content_fit interfaces kind order body =
     let few = length interfaces in
@@ -82,7 +95,8 @@ content_fit interfaces kind order body =
     (if_fit few body (kind == obsolete_kind) _ _ (timed_fit few interfaces (number order 2 body) order body)
     (if_fit few body (kind == simple_kind) _ _ (simple_fit few interfaces order body) tt))))
 
-pub other : (interfaces : List Interface) (kind : ℕ) (order : Order) (body : List ℕ) → is_known kind ≡ false → content_in interfaces kind order body ≡ Ok contents.Other
+pub other : (interfaces : List Interface) (kind : ℕ) (order : Order) (body : List ℕ) → is_known kind ≡ false
+    → content_in interfaces kind order body ≡ Ok contents.Other
 unfolding content_in
 other interfaces kind order body unknown = grind (arith, nat_tests)
 
@@ -91,33 +105,41 @@ unfolding is_total
 padded_body kind total size allowed is = grind (arith, nat_tests)
 
 -- What a block says doesn't depend on a body that isn't lent.
-content_same : (interfaces : List Interface) (kind : ℕ) (order : Order) (lent : Option (List ℕ)) (body : List ℕ) → is_some lent ≡ is_known kind
-    → IfSome lent (λ b. b ≡ body) → content_in interfaces kind order body ≡ content_in interfaces kind order (unwrap_or lent [])
+content_same : (interfaces : List Interface) (kind : ℕ) (order : Order) (lent : Option (List ℕ)) (body : List ℕ)
+    → is_some lent ≡ is_known kind
+    → IfSome lent (λ b. b ≡ body) → content_in interfaces kind order body
+    ≡ content_in interfaces kind order (unwrap_or lent [])
 content_same interfaces kind order lent body known is = grind (arith, other)
 
-packet_lent : (interfaces : List Interface) (kind : ℕ) (order : Order) (lent : Option (List ℕ)) (p : Packet) → is_some lent ≡ is_known kind
+packet_lent : (interfaces : List Interface) (kind : ℕ) (order : Order) (lent : Option (List ℕ)) (p : Packet)
+    → is_some lent ≡ is_known kind
     → Ok (contents.Packet p) ≡ content_in interfaces kind order (unwrap_or lent []) → IsSome lent
 packet_lent interfaces kind order lent p known is = grind (arith, other)
 
-frame_same : (lent : Option (List ℕ)) (body : List ℕ) (p : Packet) → IsSome lent → IfSome lent (λ b. b ≡ body) → part_of lent p.place p.captured ≡ frame_in p body
+frame_same : (lent : Option (List ℕ)) (body : List ℕ) (p : Packet) → IsSome lent → IfSome lent (λ b. b ≡ body)
+    → part_of lent p.place p.captured ≡ frame_in p body
 frame_same lent body p there is = grind arith
 
-lent_size : (few : ℕ) (lent : Option (List ℕ)) (p : Packet) → IsSome lent → IsFit few (unwrap_or lent []) (Ok (contents.Packet p)) → p.place + p.captured + 1 ≤ size_of lent
+lent_size : (few : ℕ) (lent : Option (List ℕ)) (p : Packet) → IsSome lent
+    → IsFit few (unwrap_or lent []) (Ok (contents.Packet p)) → p.place + p.captured + 1 ≤ size_of lent
 lent_size few lent p there fit = grind arith
 
-items_behind : (f g : ℕ) (p : Progress) (block : Block) (body : List ℕ) (content : Result Content Rule) (old new : List (Item Block)) → f ≡ g → old ≡ given block body ∷ new
+items_behind : (f g : ℕ) (p : Progress) (block : Block) (body : List ℕ) (content : Result Content Rule)
+    (old new : List (Item Block)) → f ≡ g → old ≡ given block body ∷ new
     → content_in p.interfaces block.kind block.order body ≡ content
     → items_at f p block body content (items_in f (behind p content) new) ≡ items_in g p old
 unfolding items_in
 items_behind f g p block body content old new fg is e = rw (is, ← e, fg) refl
 
-ending_behind : (p : Progress) (block : Block) (body : List ℕ) (content : Result Content Rule) (old new : List (Item Block)) → old ≡ given block body ∷ new
+ending_behind : (p : Progress) (block : Block) (body : List ℕ) (content : Result Content Rule)
+    (old new : List (Item Block)) → old ≡ given block body ∷ new
     → content_in p.interfaces block.kind block.order body ≡ content
     → unless_faulty content (ending_with p false) (ending_in (behind p content) new) ≡ ending_in p old
 unfolding ending_in
 ending_behind p block body content old new is e = rw (is, ← e) refl
 
-first_behind : (p : Progress) (block : Block) (body : List ℕ) (content : Result Content Rule) (old new : List (Item Block)) → old ≡ given block body ∷ new
+first_behind : (p : Progress) (block : Block) (body : List ℕ) (content : Result Content Rule)
+    (old new : List (Item Block)) → old ≡ given block body ∷ new
     → content_in p.interfaces block.kind block.order body ≡ content
     → unless_item content p.first (first_in (behind p content) new) ≡ first_in p old
 unfolding first_in
@@ -131,13 +153,18 @@ pub block_steps : (file : ℕ) (old new : State Order) (p : Progress) (block : B
     → StepsTo (pcapng_state old p) (next_at file p block content) (pcapng_state new (behind p content))
 block_steps file old new p block content named g k taken is =
     by content is
-    (subst (IsFit (length p.interfaces) (unwrap_or new.lent [])) (sym is) (content_fit p.interfaces block.kind block.order (unwrap_or new.lent [])))
-    (λ t. items_behind new.file old.file p block (body_in block.total old.coming) content (items_of old) (items_of new) k.file (taken t) (says t))
-    (λ t. ending_behind p block (body_in block.total old.coming) content (items_of old) (items_of new) (taken t) (says t))
-    (λ t. first_behind p block (body_in block.total old.coming) content (items_of old) (items_of new) (taken t) (says t))
+    (subst (IsFit (length p.interfaces) (unwrap_or new.lent [])) (sym is)
+    (content_fit p.interfaces block.kind block.order (unwrap_or new.lent [])))
+    (λ t. items_behind new.file old.file p block (body_in block.total old.coming) content (items_of old)
+    (items_of new) k.file (taken t) (says t))
+    (λ t. ending_behind p block (body_in block.total old.coming) content (items_of old) (items_of new)
+    (taken t) (says t))
+    (λ t. first_behind p block (body_in block.total old.coming) content (items_of old) (items_of new)
+    (taken t) (says t))
   where
     says : IsTrue old.told → content_in p.interfaces block.kind block.order (body_in block.total old.coming) ≡ content
-    says t = content_same p.interfaces block.kind block.order new.lent (body_in block.total old.coming) g.known (g.body_is t) ∙ sym is
+    says t = content_same p.interfaces block.kind block.order new.lent (body_in block.total old.coming) g.known
+        (g.body_is t) ∙ sym is
 
     goes : (q : Progress) → (IsTrue old.told → items_in new.file q (items_of new) ≡ items_in old.file p (items_of old))
         → (IsTrue old.told → ending_in q (items_of new) ≡ ending_in p (items_of old))
@@ -147,14 +174,17 @@ block_steps file old new p block content named g k taken is =
 
     by : (c : Result Content Rule) → c ≡ content_in p.interfaces block.kind block.order (unwrap_or new.lent [])
         → IsFit (length p.interfaces) (unwrap_or new.lent []) c
-        → (IsTrue old.told → items_at new.file p block (body_in block.total old.coming) c (items_in new.file (behind p c) (items_of new)) ≡ items_in old.file p (items_of old))
-        → (IsTrue old.told → unless_faulty c (ending_with p false) (ending_in (behind p c) (items_of new)) ≡ ending_in p (items_of old))
+        → (IsTrue old.told → items_at new.file p block (body_in block.total old.coming) c
+        (items_in new.file (behind p c) (items_of new)) ≡ items_in old.file p (items_of old))
+        → (IsTrue old.told → unless_faulty c (ending_with p false) (ending_in (behind p c) (items_of new))
+        ≡ ending_in p (items_of old))
         → (IsTrue old.told → unless_item c p.first (first_in (behind p c) (items_of new)) ≡ first_in p (items_of old))
         → StepsTo (pcapng_state old p) (next_at file p block c) (pcapng_state new (behind p c))
     by c same fit items ending first = grind (arith, packet_lent, lent_size, none_stops, items_in, frame_same)
 
 -- What a block leaves of the counts.
-pub block_keeps : (old new : State Order) (p : Progress) (block : Block) (content : Result Content Rule) → GivesBlock old block new → Keeps old new
+pub block_keeps : (old new : State Order) (p : Progress) (block : Block) (content : Result Content Rule)
+    → GivesBlock old block new → Keeps old new
     → content ≡ content_in p.interfaces block.kind block.order (unwrap_or new.lent [])
     → FileKeeps (pcapng_state old p) (pcapng_state new (behind p content))
 block_keeps old new p block content g k is = grind (arith, unwrap_or, content_fit, counted, length-append)
@@ -162,25 +192,30 @@ block_keeps old new p block content g k is = grind (arith, unwrap_or, content_fi
 stopped_again : (new : State Order) (stop : Stop) → new.stop ≡ Some stop → items_of new ≡ stopped stop ∷ []
 stopped_again new stop is = rw is refl
 
-no_items : (stop : Stop) (file : ℕ) (p : Progress) (items : List (Item Block)) → IsEnd stop → items ≡ stopped stop ∷ [] → [] ≡ items_in file p items
+no_items : (stop : Stop) (file : ℕ) (p : Progress) (items : List (Item Block)) → IsEnd stop → items ≡ stopped stop ∷ []
+    → [] ≡ items_in file p items
 unfolding items_in
 no_items stop file p items h is = grind arith
 
-ending_stopped : (stop : Stop) (p : Progress) (items : List (Item Block)) → items ≡ stopped stop ∷ [] → ending_with p (is_cut stop) ≡ ending_in p items
+ending_stopped : (stop : Stop) (p : Progress) (items : List (Item Block)) → items ≡ stopped stop ∷ []
+    → ending_with p (is_cut stop) ≡ ending_in p items
 unfolding ending_in
 ending_stopped stop p items is = rw is refl
 
-first_stopped : (stop : Stop) (p : Progress) (items : List (Item Block)) → items ≡ stopped stop ∷ [] → p.first ≡ first_in p items
+first_stopped : (stop : Stop) (p : Progress) (items : List (Item Block)) → items ≡ stopped stop ∷ []
+    → p.first ≡ first_in p items
 unfolding first_in
 first_stopped stop p items is = rw is refl
 
-refused_items : (refusal : Refusal) (file : ℕ) (p : Progress) (items : List (Item Block)) → items ≡ stopped (stops.Refused refusal) ∷ [] → feeds.refused refusal ∷ [] ≡ items_in file p items
+refused_items : (refusal : Refusal) (file : ℕ) (p : Progress) (items : List (Item Block))
+    → items ≡ stopped (stops.Refused refusal) ∷ [] → feeds.refused refusal ∷ [] ≡ items_in file p items
 unfolding items_in
 refused_items refusal file p items is = rw is refl
 
 -- The blocks end.
 pub end_learned : (cut : Bool) (stop : Stop) (old new : State Order) (p : Progress) → old.stop ≡ None
-    → IsEnd stop → GivesStop (is_some old.known) (block_fault old.known old.offset old.coming) stop old new → IsTrue cut ↔ (new.stop ≡ Some stops.Cut) → Keeps old new
+    → IsEnd stop → GivesStop (is_some old.known) (block_fault old.known old.offset old.coming) stop old new
+    → IsTrue cut ↔ (new.stop ≡ Some stops.Cut) → Keeps old new
     → (IsTrue old.told → items_of new ≡ items_of old)
     → Learns (pcapng_state old p) (nexts.End (ending_with p cut)) (pcapng_state new p)
 end_learned cut stop old new p free ends g was k same =
@@ -192,19 +227,26 @@ end_learned cut stop old new p free ends g was k same =
       free = refl;
       goes = record { before = at.goes.before; after = at.goes.after; failed = at.goes.failed };
       items = λ t. no_items stop old.file p (items_of old) ends (sym (same t) ∙ stopped_again new stop g.stop_is);
-      ending = λ t. ap (ending_with p) which ∙ ending_stopped stop p (items_of old) (sym (same t) ∙ stopped_again new stop g.stop_is);
+      ending = λ t. ap (ending_with p) which ∙ ending_stopped stop p (items_of old) (sym (same t)
+          ∙ stopped_again new stop g.stop_is);
       first = λ t. first_stopped stop p (items_of old) (sym (same t) ∙ stopped_again new stop g.stop_is);
     }
 
 -- A rest is refused.
 pub refusal_learned : (refusal : Refusal) (old new : State Order) (p : Progress) → old.stop ≡ None
-    → GivesStop (is_some old.known) (block_fault old.known old.offset old.coming) (stops.Refused refusal) old new → Keeps old new
+    → GivesStop (is_some old.known) (block_fault old.known old.offset old.coming) (stops.Refused refusal) old new
+    → Keeps old new
     → (IsTrue old.told → items_of old ≡ stopped (stops.Refused refusal) ∷ [])
     → Learns (pcapng_state old p) (nexts.Refused refusal (ending_with p false)) (pcapng_state new p)
 refusal_learned refusal old new p free g k same =
     let at = from_none old.stop _ free g.first in
     record {
-      is = record { file = at.is_stop.0 ∙ sym k.file; lent = omega arith; captured = omega arith; behind = omega arith };
+      is = record {
+        file = at.is_stop.0 ∙ sym k.file;
+        lent = omega arith;
+        captured = omega arith;
+        behind = omega arith;
+      };
       place = k.offset;
       free = refl;
       goes = record { before = at.goes.before; after = at.goes.after; failed = at.goes.failed };
@@ -214,7 +256,8 @@ refusal_learned refusal old new p free g k same =
     }
 
 -- the same, of what a call answered
-pub block_stepped : (file : ℕ) (old new : State Order) (p q : Progress) (block : Block) (content : Result Content Rule) (next : Option Next)
+pub block_stepped : (file : ℕ) (old new : State Order) (p q : Progress) (block : Block) (content : Result Content Rule)
+    (next : Option Next)
     → next ≡ next_at file p block content → q ≡ behind p content
     → file ≡ old.file → GivesBlock old block new → Keeps old new
     → (IsTrue old.told → items_of old ≡ given block (body_in block.total old.coming) ∷ items_of new)
@@ -223,23 +266,28 @@ pub block_stepped : (file : ℕ) (old new : State Order) (p q : Progress) (block
 block_stepped file old new p q block content next is_next is_q named g k taken is = grind (arith, block_steps)
 
 -- The same of a packet's block, of which a packet or a refusal comes next.
-pub packet_shown : (old new : FileState) (file : ℕ) (p : Progress) (block : Block) (said : Result Packet Rule) (next : Option Next)
+pub packet_shown : (old new : FileState) (file : ℕ) (p : Progress) (block : Block) (said : Result Packet Rule)
+    (next : Option Next)
     → next ≡ next_at file p block (of_body contents.Packet said) → StepsTo old next new → TakesShown old true next new
 packet_shown old new file p block said (Some next) is steps = (next, refl, steps)
 packet_shown old new file p block (Ok packet) None is steps = cc
 packet_shown old new file p block (Err rule) None is steps = cc
 
-pub block_kept : (old new : State Order) (p q : Progress) (block : Block) (content : Result Content Rule) → q ≡ behind p content → GivesBlock old block new → Keeps old new
+pub block_kept : (old new : State Order) (p q : Progress) (block : Block) (content : Result Content Rule)
+    → q ≡ behind p content → GivesBlock old block new → Keeps old new
     → content ≡ content_in p.interfaces block.kind block.order (unwrap_or new.lent [])
     → FileKeeps (pcapng_state old p) (pcapng_state new q)
 block_kept old new p q block content is_q g k is = grind (arith, block_keeps)
 
-pub refusal_kept : (refusal : Refusal) (ending : Ending) (old new : State Order) (p : Progress) → ending ≡ ending_with p false → old.stop ≡ None
-    → GivesStop (is_some old.known) (block_fault old.known old.offset old.coming) (stops.Refused refusal) old new → Keeps old new
+pub refusal_kept : (refusal : Refusal) (ending : FileEnd) (old new : State Order) (p : Progress)
+    → ending ≡ ending_with p false → old.stop ≡ None
+    → GivesStop (is_some old.known) (block_fault old.known old.offset old.coming) (stops.Refused refusal) old new
+    → Keeps old new
     → (IsTrue old.told → items_of old ≡ stopped (stops.Refused refusal) ∷ [])
     → Learns (pcapng_state old p) (nexts.Refused refusal ending) (pcapng_state new p)
 refusal_kept refusal ending old new p is_ending free g k same =
-    subst (λ (e : Ending). Learns (pcapng_state old p) (nexts.Refused refusal e) (pcapng_state new p)) (sym is_ending) (refusal_learned refusal old new p free g k same)
+    subst (λ (e : FileEnd). Learns (pcapng_state old p) (nexts.Refused refusal e) (pcapng_state new p)) (sym is_ending)
+    (refusal_learned refusal old new p free g k same)
 
 -- a packet, or a refusal of one, leaves what was read of the file
 pub behind-packet : (p : Progress) (said : Result Packet Rule) → p ≡ behind p (of_body contents.Packet said)
@@ -247,16 +295,20 @@ behind-packet p (Ok packet) = refl
 behind-packet p (Err rule) = refl
 
 -- what was said of the body that is lent
-pub content_lent : (said : Result Content Rule) (these those : List Interface) (kind : ℕ) (order : Order) (lent : Option (List ℕ)) (body : List ℕ)
+pub content_lent : (said : Result Content Rule) (these those : List Interface) (kind : ℕ) (order : Order)
+    (lent : Option (List ℕ)) (body : List ℕ)
     → said ≡ content_in these enhanced_kind order body → these ≡ those → kind ≡ enhanced_kind → lent ≡ Some body
     → said ≡ content_in those kind order (unwrap_or lent [])
 content_lent said these those kind order lent body is same kind_is lent_is = rw (kind_is, lent_is, ← same) is
 
 -- the body of an enhanced packet block has its fixed fields
-pub enhanced_size : (kind total size : ℕ) → IsTrue (is_total kind total) → size + 12 ≡ total → kind ≡ enhanced_kind → 20 ≤ size
-enhanced_size kind total size allowed is kind_is = let least = rw kind_is at (total_least kind total size allowed is) in omega (arith, least)
+pub enhanced_size : (kind total size : ℕ) → IsTrue (is_total kind total) → size + 12 ≡ total
+    → kind ≡ enhanced_kind → 20 ≤ size
+enhanced_size kind total size allowed is kind_is = let least = rw kind_is at (total_least kind total size allowed is) in
+    omega (arith, least)
 
 -- How far is read for a block.
-pub block_taken : (old new : State Order) (block : Block) (p q : Progress) → GivesBlock old block new → ReachesNext old (Ok (Some block)) new
+pub block_taken : (old new : State Order) (block : Block) (p q : Progress) → GivesBlock old block new
+    → ReachesNext old (Ok (Some block)) new
     → Takes (pcapng_state old p) (pcapng_state new q)
 block_taken old new block p q g h = (omega (arith, g.gives.next, g.least), rw g.gives.next h)

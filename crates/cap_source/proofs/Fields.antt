@@ -1,7 +1,9 @@
 -- The fields of every file's packets fit in their widths, and as many bytes were captured of each as are told.
 use Rattle.std.proofs.lemmas.Bool.Decides.{nat_tests}
 use Rattle.std.proofs.lemmas.Grind.{common_steps}
-use Rattle.std.proofs.Common.{rules, ◌≡◌, ◌*◌, ℕ, zero, suc, ◌+◌, ◌^◌, ◌≤◌, ◌<◌, nat_le, List, [], ◌∷◌, ◌++◌, length, take, drop, get_or, slice_get, mod-lt, Bool, true, false, Option, Some, None, Result, Err, IfOk, IfSome, unwrap_or, refl, ◌∙◌, subst, sym, arith, if◌then◌else◌}
+use Rattle.std.proofs.Common.{rules, ◌≡◌, ◌*◌, ℕ, zero, suc, ◌+◌, ◌^◌, ◌≤◌, ◌<◌, nat_le, List, [], ◌∷◌, ◌++◌, length}
+use Rattle.std.proofs.Common.{take, drop, get_or, slice_get, mod-lt, Bool, true, false, Option, Some, None, Result, Err}
+use Rattle.std.proofs.Common.{IfOk, IfSome, unwrap_or, refl, ◌∙◌, subst, sym, arith, if◌then◌else◌}
 use Rattle.std.proofs.lemmas.Int.{ints}
 use Rattle.std.specs.Int.{w64}
 use Rattle.std.specs.List.{AllByRecursion}
@@ -30,7 +32,8 @@ use Rattle.cap_source.specs.TimeBases.{interface_in, interface_or, interface_at,
 use Rattle.cap_source.specs.Contents.{content_in}
 use Rattle.cap_source.specs.Feed.{Item}
 use Rattle.cap_source.specs.Fields.{FitsInterface, ItemFits, FieldsFit}
-use Rattle.cap_source.specs.Items.{Progress, behind, items_at, items_in, items_of_stop, items_from, pcap_items, interface_of}
+use Rattle.cap_source.specs.Items.{Progress, behind, items_at, items_in, items_of_stop, items_from, pcap_items}
+use Rattle.cap_source.specs.Items.{interface_of}
 use Rattle.cap_source.specs.declared.contents.Content.{Content}
 use Rattle.cap_source.specs.declared.contents.Packet.{Packet}
 use Rattle.cap_time.specs.declared.resolutions.Interface.{Interface}
@@ -60,23 +63,27 @@ unfolding offset_in
 offset-fits order value = grind arith
 
 -- and so do those of an interface block
-interface-fits : (before : ℕ) (order : Order) (body : List ℕ) → AreBytes body → IfOk (interface_in before order body) FitsInterface
+interface-fits : (before : ℕ) (order : Order) (body : List ℕ) → AreBytes body
+    → IfOk (interface_in before order body) FitsInterface
 unfolding interface_in
 interface-fits before order body are =
     by (nat_le 1024 before) (options_fault order false false (options_of order (drop 8 body)))
   where
     by : (many : Bool) (fault : Option Rule)
-        → IfOk (if many then Err InterfaceLimit else interface_or fault (interface_at order body (options_of order (drop 8 body)))) FitsInterface
+        → IfOk (if many then Err InterfaceLimit else interface_or fault
+        (interface_at order body (options_of order (drop 8 body)))) FitsInterface
     by true fault = tt
     by false (Some rule) = tt
     by false None = search (rules, number-lt, of_bytes, offset-fits)
 
 -- so do those of each interface of a section
-interface_of-number : (interfaces : List Interface) (k : ℕ) (i : Interface) → AllByRecursion FitsInterface interfaces → slice_get interfaces k ≡ Some i
+interface_of-number : (interfaces : List Interface) (k : ℕ) (i : Interface) → AllByRecursion FitsInterface interfaces
+    → slice_get interfaces k ≡ Some i
     → FitsInterface i
 interface_of-number interfaces k i fit is = subst (λ found. IfSome found FitsInterface) is (each interfaces k fit)
   where
-    each : (interfaces : List Interface) (k : ℕ) → AllByRecursion FitsInterface interfaces → IfSome (slice_get interfaces k) FitsInterface
+    each : (interfaces : List Interface) (k : ℕ) → AllByRecursion FitsInterface interfaces
+        → IfSome (slice_get interfaces k) FitsInterface
     each [] k fit = tt
     each (i ∷ interfaces) zero fit = fit.0
     each (i ∷ interfaces) (suc k) fit = each interfaces k fit.1
@@ -99,13 +106,16 @@ two_words : (high low : ℕ) → high < 2 ^ 32 → low < 2 ^ 32 → high * 2 ^ 3
 two_words high low h l = omega arith
 
 -- What a block says fits, if the section's interfaces do.
-pub content-fits : (interfaces : List Interface) (kind : ℕ) (order : Order) (body : List ℕ) → AllByRecursion FitsInterface interfaces → AreBytes body
+pub content-fits : (interfaces : List Interface) (kind : ℕ) (order : Order) (body : List ℕ)
+    → AllByRecursion FitsInterface interfaces → AreBytes body
     → IfOk (content_in interfaces kind order body) (OfContent FitsInterface FitsPacket)
 content-fits interfaces kind order body fit are =
-    content-holds FitsInterface FitsPacket interfaces kind order body (interface-fits (length interfaces) order body are)
+    content-holds FitsInterface FitsPacket interfaces kind order body
+    (interface-fits (length interfaces) order body are)
     (λ k i is few. record {
       interface = interface_of-number interfaces k i fit is;
-      units = two_words (number order 4 (drop 4 body)) (number order 4 (drop 8 body)) (of_bytes order 4 body are) (of_bytes order 8 body are);
+      units = two_words (number order 4 (drop 4 body)) (number order 4 (drop 8 body)) (of_bytes order 4 body are)
+          (of_bytes order 8 body are);
       original = of_bytes order 16 body are;
     })
     (λ i is few. record {
@@ -121,7 +131,8 @@ abbrev pub IsOfBytes : pieces.Item Block → Type 0
 IsOfBytes (pieces.given block body) = AreBytes body
 IsOfBytes (pieces.stopped stop) = Unit {0}
 
-of_item : (stop : Option Stop) (block : Block) (body : List ℕ) (rest : List (pieces.Item Block)) → AreBytes body → AllByRecursion IsOfBytes rest
+of_item : (stop : Option Stop) (block : Block) (body : List ℕ) (rest : List (pieces.Item Block)) → AreBytes body
+    → AllByRecursion IsOfBytes rest
     → AllByRecursion IsOfBytes (pieces.item_or stop (pieces.given block body) rest)
 of_item stop block body rest are later = grind arith
 
@@ -129,24 +140,31 @@ pub blocks-bytes : (fuel : ℕ) (section : Option Order) (tail : Tail) (file off
     → AllByRecursion IsOfBytes (pieces.items_by blocks.blocks fuel section tail file offset bytes)
 unfolding pieces.items_by
 blocks-bytes zero section tail file offset bytes are = tt
-blocks-bytes (suc fuel) section tail file offset bytes are = search (blocks-bytes fuel, of_item, drop, AreBytes-take, AreBytes-drop)
+blocks-bytes (suc fuel) section tail file offset bytes are =
+    search (blocks-bytes fuel, of_item, drop, AreBytes-take, AreBytes-drop)
 
-block-fits : (file few : ℕ) (progress : Progress) (block : Block) (body : List ℕ) (content : Result Content Rule) (items : List Item)
-    → IfOk content (OfContent FitsInterface FitsPacket) → IsFit few body content → AllByRecursion FitsInterface progress.interfaces
+block-fits : (file few : ℕ) (progress : Progress) (block : Block) (body : List ℕ) (content : Result Content Rule)
+    (items : List Item)
+    → IfOk content (OfContent FitsInterface FitsPacket) → IsFit few body content
+    → AllByRecursion FitsInterface progress.interfaces
     → (AllByRecursion FitsInterface (behind progress content).interfaces → AllByRecursion ItemFits items)
     → AllByRecursion ItemFits (items_at file progress block body content items)
-block-fits file few progress block body content items fits within all rest = grind (arith, common_steps, nat_tests, one_more, block-frame)
+block-fits file few progress block body content items fits within all rest =
+    grind (arith, common_steps, nat_tests, one_more, block-frame)
 
 stop-fits : (stop : Stop) → AllByRecursion ItemFits (items_of_stop stop)
 stop-fits stop = grind arith
 
-blocks-fit : (file : ℕ) (progress : Progress) (items : List (pieces.Item Block)) → AllByRecursion FitsInterface progress.interfaces
+blocks-fit : (file : ℕ) (progress : Progress) (items : List (pieces.Item Block))
+    → AllByRecursion FitsInterface progress.interfaces
     → AllByRecursion IsOfBytes items → AllByRecursion ItemFits (items_in file progress items)
 unfolding items_in
 blocks-fit file progress (pieces.given block body ∷ rest) fit are =
     let content = content_in progress.interfaces block.kind block.order body in
-    block-fits file (length progress.interfaces) progress block body content (items_in file (behind progress content) rest)
-    (content-fits progress.interfaces block.kind block.order body fit are.0) (content_fit progress.interfaces block.kind block.order body) fit
+    block-fits file (length progress.interfaces) progress block body content
+    (items_in file (behind progress content) rest)
+    (content-fits progress.interfaces block.kind block.order body fit are.0)
+    (content_fit progress.interfaces block.kind block.order body) fit
     (λ all. blocks-fit file (behind progress content) rest all are.1)
 blocks-fit file progress items fit are = grind (arith, stop-fits)
 
@@ -161,7 +179,8 @@ units_below : (unit : Fraction) (a b : ℕ) → a < 256 ^ 4 → b < 256 ^ 4 → 
 units_below unit a b h k = grind arith
 
 -- those that bytes spell
-pub held-spelled : (order : Order) (unit : Fraction) (p : Record) (xs : List ℕ) → AreBytes xs → SpellsRecord order unit p xs
+pub held-spelled : (order : Order) (unit : Fraction) (p : Record) (xs : List ℕ) → AreBytes xs
+    → SpellsRecord order unit p xs
     → (p.units < 2 ^ 64) × (p.original < 2 ^ 32) × (length p.frame ≤ 262144)
 held-spelled order unit p xs are s =
     let seconds = number-lt order 4 xs are in
@@ -172,34 +191,54 @@ held-spelled order unit p xs are s =
       s.limit,
     )
 
-pub held-splits : (order : Order) (unit : Fraction) (offset : ℕ) (bytes : List ℕ) (ps : List Record) (rest : List ℕ) → AreBytes bytes
+pub held-splits : (order : Order) (unit : Fraction) (offset : ℕ) (bytes : List ℕ) (ps : List Record) (rest : List ℕ)
+    → AreBytes bytes
     → Splits order unit offset bytes ps rest → AllHeld ps
 held-splits order unit offset bytes [] rest are s = tt
 held-splits order unit offset bytes (p ∷ ps) rest are s =
-    grind (arith, held-splits order unit (offset + packet_size p) (drop (packet_size p) bytes) ps rest (AreBytes-drop (packet_size p) bytes are) s.2, held-spelled, AreBytes-take, AreBytes-drop)
+    grind (
+      arith,
+      held-splits order unit (offset + packet_size p) (drop (packet_size p) bytes) ps rest
+          (AreBytes-drop (packet_size p) bytes are) s.2,
+      held-spelled,
+      AreBytes-take,
+      AreBytes-drop,
+    )
 
-pub below_header : (bytes : List ℕ) → AreBytes bytes → ((records.header_at bytes).snaplen < 2 ^ 32) × ((records.header_at bytes).link < 2 ^ 16)
+pub below_header : (bytes : List ℕ) → AreBytes bytes → ((records.header_at bytes).snaplen < 2 ^ 32)
+    × ((records.header_at bytes).link < 2 ^ 16)
 unfolding records.header_at
-below_header bytes are =
-    (omega (arith, number-lt (records.order_at bytes) 4 (drop 16 bytes) (AreBytes-drop 16 bytes are)), mod-lt (number (records.order_at bytes) 4 (drop 20 bytes)) {m = 65536} (omega arith))
+below_header bytes are = (
+  omega (arith, number-lt (records.order_at bytes) 4 (drop 16 bytes) (AreBytes-drop 16 bytes are)),
+  mod-lt (number (records.order_at bytes) 4 (drop 20 bytes)) {m = 65536} (omega arith),
+)
 
 -- the packets of records have the one interface of the header
-records-fit : (file : ℕ) (i : Interface) (offset : ℕ) (packets : List Record) (stop : Stop) → FitsInterface i → AllHeld packets
+records-fit : (file : ℕ) (i : Interface) (offset : ℕ) (packets : List Record) (stop : Stop) → FitsInterface i
+    → AllHeld packets
     → AllByRecursion ItemFits (pcap_items file i (records.items_with offset packets stop))
 unfolding pcap_items
-records-fit file i offset (p ∷ ps) stop fits held = grind (arith, records-fit file i (offset + packet_size p) ps stop fits held.3)
+records-fit file i offset (p ∷ ps) stop fits held =
+    grind (arith, records-fit file i (offset + packet_size p) ps stop fits held.3)
 records-fit file i offset packets stop fits held = grind arith
 
 pub header-fits : (bytes : List ℕ) → AreBytes bytes → FitsInterface (interface_of (records.header_at bytes))
-header-fits bytes are = record { link = (below_header bytes are).1; snaplen = (below_header bytes are).0; offset = grind (arith, ints) }
+header-fits bytes are = record {
+  link = (below_header bytes are).1;
+  snaplen = (below_header bytes are).0;
+  offset =
+      grind (arith, ints);
+}
 
 pcap-fits : (tail : Tail) (file : ℕ) (bytes : List ℕ) → AreBytes bytes
-    → AllByRecursion ItemFits (pcap_items file (interface_of (records.header_at bytes)) (records.file_items tail file 0 bytes))
+    → AllByRecursion ItemFits (pcap_items file (interface_of (records.header_at bytes))
+    (records.file_items tail file 0 bytes))
 unfolding records.file_items pcap_items
 pcap-fits tail file bytes are = by (records.header_fault 0 bytes) refl
   where
     by : (fault : Option Rule) → records.header_fault 0 bytes ≡ fault
-        → AllByRecursion ItemFits (pcap_items file (interface_of (records.header_at bytes)) (records.file_items tail file 0 bytes))
+        → AllByRecursion ItemFits (pcap_items file (interface_of (records.header_at bytes))
+        (records.file_items tail file 0 bytes))
     by (Some rule) is = rw is ((tt, tt))
     by None is =
         let header = records.header_at bytes in

@@ -10,27 +10,34 @@ use Rattle.cap_source.specs.Readers.{state_of, is_there}
 use Rattle.cap_source.specs.declared.readers.Next.{Next}
 use Rattle.cap_source.specs.declared.readers.Reader.{Reader}
 
-pub knows : (old new : FileState) (known after : Option Next) (n : Next) → IsTrue (is_whole known old.broken) → after ≡ Some n → LearnsOr old known n new
+pub knows : (old new : FileState) (known after : Option Next) (n : Next) → IsTrue (is_whole known old.broken)
+    → after ≡ Some n → LearnsOr old known n new
     → Knows (feed_of old known) (head_of n) (feed_of new after)
 knows old new known after n whole is h = grind arith
 
 -- the first interface that was read is that of the file
-pub first_told : {R : Type 0} (old : FileState) (reader : Reader R) (p : Progress) (known after : Option Next) (n : Next) → IsTrue (is_there reader)
-    → after ≡ Some n → LearnsOr old known n (state_of reader p) → IsTrue old.told → (state_of reader p).noted ≡ first_by known old
+pub first_told : {R : Type 0} (old : FileState) (reader : Reader R) (p : Progress) (known after : Option Next)
+    (n : Next) → IsTrue (is_there reader)
+    → after ≡ Some n → LearnsOr old known n (state_of reader p) → IsTrue old.told
+    → (state_of reader p).noted ≡ first_by known old
 first_told old reader p known after n there is h t = grind arith
 
 -- the items to come stay the same, and so does the first interface
-pub first_kept : (old new : FileState) (known after : Option Next) (n : Next) → after ≡ Some n → LearnsOr old known n new → IsTrue old.told
+pub first_kept : (old new : FileState) (known after : Option Next) (n : Next) → after ≡ Some n
+    → LearnsOr old known n new → IsTrue old.told
     → SameItems (feed_of old known) (feed_of new after) × (first_by after new ≡ first_by known old)
 first_kept old new known after n is h t = grind arith
 
 -- each clause of `head` and of `has_packet`, by what `learn` answered: what comes next is known
-pub head_told : (old new : FileState) (known after : Option Next) (n : Next) (head : Head) → IsTrue (is_whole known old.broken)
-    → LearnsNext {A = ⊤} old known (Ok tt) new after → Some n ≡ after → head_of n ≡ head → Knows (feed_of old known) head (feed_of new after)
+pub head_told : (old new : FileState) (known after : Option Next) (n : Next) (head : Head)
+    → IsTrue (is_whole known old.broken)
+    → LearnsNext {A = ⊤} old known (Ok tt) new after → Some n ≡ after → head_of n ≡ head
+    → Knows (feed_of old known) head (feed_of new after)
 head_told old new known after n head whole h is e = grind (arith, knows)
 
 pub items_told : (old new : FileState) (known after : Option Next)
-    → LearnsNext {A = ⊤} old known (Ok tt) new after → IsTrue old.told → SameItems (feed_of old known) (feed_of new after)
+    → LearnsNext {A = ⊤} old known (Ok tt) new after → IsTrue old.told
+    → SameItems (feed_of old known) (feed_of new after)
 items_told old new known after h t = (first_kept old new known after h.0 h.1 h.2 t).0
 
 -- or a fault came
@@ -39,18 +46,22 @@ pub fault_told : (old new : FileState) (known after : Option Next) (fault : Faul
 fault_told old new known after fault k h = grind arith
 
 pub fault_items : (old new : FileState) (known after : Option Next) (fault : Fault)
-    → LearnsNext {A = ⊤} old known (Err fault) new after → IsTrue old.told → KeepsItems (feed_of old known) (Err fault) (feed_of new after)
+    → LearnsNext {A = ⊤} old known (Err fault) new after → IsTrue old.told
+    → KeepsItems (feed_of old known) (Err fault) (feed_of new after)
 fault_items old new known after fault h t = grind arith
 
 pub fault_found : (old new : FileState) (known after : Option Next) (fault : Fault) → FileKeeps old new
-    → LearnsNext {A = ⊤} old known (Err fault) new after → FindsPacket (feed_of old known) (Err fault) (feed_of new after)
+    → LearnsNext {A = ⊤} old known (Err fault) new after
+    → FindsPacket (feed_of old known) (Err fault) (feed_of new after)
 fault_found old new known after fault k h = grind arith
 
 pub fault_item : (old new : FileState) (known after : Option Next) (fault : Fault)
-    → LearnsNext {A = ⊤} old known (Err fault) new after → IsTrue old.told → FindsItem (feed_of old known) (Err fault) (feed_of new after)
+    → LearnsNext {A = ⊤} old known (Err fault) new after → IsTrue old.told
+    → FindsItem (feed_of old known) (Err fault) (feed_of new after)
 fault_item old new known after fault h t = grind arith
 
 -- what every answer keeps
-pub keeps_told : {A : Type 0} (old new : FileState) (known after : Option Next) (result : Result A Fault) → FileKeeps old new
+pub keeps_told : {A : Type 0} (old new : FileState) (known after : Option Next) (result : Result A Fault)
+    → FileKeeps old new
     → LearnsNext old known result new after → Keeps (feed_of old known) (feed_of new after)
 keeps_told old new known after result k h = grind arith

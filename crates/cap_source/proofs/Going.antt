@@ -1,10 +1,12 @@
 -- One look after another at what comes next of a file.
-use Rattle.std.proofs.Common.{ℕ, ◌≡◌, ◌≤◌, ◌+◌, ◌^◌, true, false, Option, Some, None, IsTrue, is_some, Result, Ok, Err, IfOk, refl, arith}
+use Rattle.std.proofs.Common.{ℕ, ◌≡◌, ◌≤◌, ◌+◌, ◌^◌, true, false, Option, Some, None, IsTrue, is_some, Result, Ok, Err}
+use Rattle.std.proofs.Common.{IfOk, refl, arith}
 use Rattle.std.specs.Bool.{⊤}
 use Rattle.cap_bytes.specs.declared.faults.Fault.{Fault}
 use Rattle.cap_bytes.specs.Reach.{ReachesTo}
 use Rattle.cap_bytes.proofs.Reach.{ReachesTo-here, ReachesTo-later}
-use Rattle.cap_source.specs.FileState.{FileState, IfTaken, ReadsTo, Takes, FileKeeps, Waits, Learns, StepsTo, Answers, TakesShown, LearnsNext, IsSound}
+use Rattle.cap_source.specs.FileState.{FileState, IfTaken, ReadsTo, Takes, FileKeeps, Waits, Learns, StepsTo, Answers}
+use Rattle.cap_source.specs.FileState.{TakesShown, LearnsNext, IsSound}
 use Rattle.cap_source.specs.Items.{Progress}
 use Rattle.cap_source.specs.Reached.{counted}
 use Rattle.cap_source.specs.Readers.{state_of, is_there, is_stopped}
@@ -16,26 +18,31 @@ use Rattle.cap_source.specs.declared.readers.Reader.TheVariants as readers
 pub FileKeeps-trans : (a b c : FileState) → FileKeeps a b → FileKeeps b c → FileKeeps a c
 FileKeeps-trans a b c k l = grind arith
 
-pub Answers-behind : {A : Type 0} (a b c : FileState) (result : Result A Fault) (after : Option Next) → Waits a b → FileKeeps a b → Answers b result after c → Answers a result after c
+pub Answers-behind : {A : Type 0} (a b c : FileState) (result : Result A Fault) (after : Option Next) → Waits a b
+    → FileKeeps a b → Answers b result after c → Answers a result after c
 Answers-behind a b c result after w k h = grind arith
 
 -- a look at one more block learned what comes next
-pub Learns-behind : (a b c : FileState) (after : Option Next) → Waits a b → FileKeeps a b → StepsTo b after c → IsTrue (is_some after)
+pub Learns-behind : (a b c : FileState) (after : Option Next) → Waits a b → FileKeeps a b → StepsTo b after c
+    → IsTrue (is_some after)
     → (next : Next) × (after ≡ Some next) × Learns a next c
 Learns-behind a b c None w k h is = grind arith
 Learns-behind a b c (Some next) w k h is = (next, refl, grind arith)
 
 -- what comes next wasn't known, and is shown
-pub LearnsNext-shown : (old new : FileState) (known after : Option Next) → is_some known ≡ false → TakesShown old true after new
+pub LearnsNext-shown : (old new : FileState) (known after : Option Next) → is_some known ≡ false
+    → TakesShown old true after new
     → LearnsNext {A = ⊤} old known (Ok tt) new after
 LearnsNext-shown old new known after not h = grind arith
 
-pub IsSound-shown : (old new : FileState) (known after : Option Next) → IsSound old known → FileKeeps old new → TakesShown old true after new
+pub IsSound-shown : (old new : FileState) (known after : Option Next) → IsSound old known → FileKeeps old new
+    → TakesShown old true after new
     → IsSound new after
 IsSound-shown old new known after i k h = grind arith
 
 -- How much is counted of a file, as the calls below ask it: cases of the reader stand here alone.
-counted_of : {R : Type 0} (reader : Reader R) (p : Progress) → IsTrue (is_there reader) → (state_of reader p).counted ≡ counted p
+counted_of : {R : Type 0} (reader : Reader R) (p : Progress) → IsTrue (is_there reader)
+    → (state_of reader p).counted ≡ counted p
 counted_of (readers.Unread window tail) p there = refl
 counted_of (readers.Pcap reader) p there = refl
 counted_of (readers.Pcapng reader) p there = refl
@@ -64,16 +71,19 @@ free_of (readers.Pcapng reader) p None not i = grind arith
 free_of readers.Moved p None not i = refl
 
 -- what comes next wasn't known, and was asked for
-pub LearnsNext-asked : {A : Type 0} (old new : FileState) (known after : Option Next) (result : Result A Fault) → is_some known ≡ false
+pub LearnsNext-asked : {A : Type 0} (old new : FileState) (known after : Option Next) (result : Result A Fault)
+    → is_some known ≡ false
     → Answers old result after new → LearnsNext old known result new after
 LearnsNext-asked old new known after result not h = grind arith
 
-pub IsSound-asked : {A : Type 0} (old new : FileState) (known after : Option Next) (result : Result A Fault) → is_some known ≡ false
+pub IsSound-asked : {A : Type 0} (old new : FileState) (known after : Option Next) (result : Result A Fault)
+    → is_some known ≡ false
     → IsSound old known → FileKeeps old new → Answers old result after new → IsSound new after
 IsSound-asked old new known after result not i k h = grind arith
 
 -- it was known
-pub LearnsNext-known : (s : FileState) (known : Option Next) → IsTrue (is_some known) → LearnsNext {A = ⊤} s known (Ok tt) s known
+pub LearnsNext-known : (s : FileState) (known : Option Next) → IsTrue (is_some known)
+    → LearnsNext {A = ⊤} s known (Ok tt) s known
 LearnsNext-known s None is = grind arith
 LearnsNext-known s (Some next) is = (next, refl, (refl, refl))
 
@@ -88,21 +98,24 @@ none_of None not = refl
 none_of (Some a) not = grind arith
 
 -- a block after which the file goes on
-pub Waits-further : (a b c : FileState) (after : Option Next) → Waits a b → FileKeeps a b → StepsTo b after c → is_some after ≡ false → Waits a c
+pub Waits-further : (a b c : FileState) (after : Option Next) → Waits a b → FileKeeps a b → StepsTo b after c
+    → is_some after ≡ false → Waits a c
 Waits-further a b c after w k h not = grind arith
 
 -- How far a file is read, in one look and in another after it.
 pub ReadsTo-here : (s : FileState) → ReadsTo s s
 ReadsTo-here s = ReachesTo-here s.most s.offset s.read
 
-Takes-later : (a b c : FileState) (end : ℕ) → FileKeeps a b → end ≤ c.offset → ReachesTo a.most end a.read b.read → Takes b c → Takes a c
+Takes-later : (a b c : FileState) (end : ℕ) → FileKeeps a b → end ≤ c.offset → ReachesTo a.most end a.read b.read
+    → Takes b c → Takes a c
 Takes-later a b c end k few h t =
     (omega (arith, k.offset, t.0), ReachesTo-later a.most end c.offset a.read b.read c.read few h (rw k.most at t.1))
 
 pub Takes-behind : (a b c : FileState) → FileKeeps a b → ReadsTo a b → Takes b c → Takes a c
 Takes-behind a b c k h t = Takes-later a b c b.offset k (omega (arith, t.0)) h t
 
-Takes-opened : (a b c : FileState) → FileKeeps a b → ReachesTo a.most (a.offset + 4) a.read b.read → Takes b c → Takes a c
+Takes-opened : (a b c : FileState) → FileKeeps a b → ReachesTo a.most (a.offset + 4) a.read b.read
+    → Takes b c → Takes a c
 Takes-opened a b c k h t = Takes-later a b c (a.offset + 4) k (omega (arith, k.offset, t.0)) h t
 
 -- what holds if a record or block is taken, and what follows from that
@@ -121,7 +134,8 @@ pub taken_map : {A : Type 0} (result : Result A Fault) (known : Option Next) (P 
 taken_map (Ok x) known P Q f h = IfTaken-map known P Q f h
 taken_map (Err fault) known P Q f h = tt
 
-pub taken_behind : {A : Type 0} (a b c : FileState) (result : Result A Fault) (known : Option Next) → FileKeeps a b → ReadsTo a b
+pub taken_behind : {A : Type 0} (a b c : FileState) (result : Result A Fault) (known : Option Next) → FileKeeps a b
+    → ReadsTo a b
     → IfOk result (λ x. IfTaken known (Takes b c)) → IfOk result (λ x. IfTaken known (Takes a c))
 taken_behind a b c result known k h t = taken_map result known (Takes b c) (Takes a c) (Takes-behind a b c k h) t
 
@@ -131,11 +145,13 @@ pub taken_opened : {A : Type 0} (a b c : FileState) (result : Result A Fault) (k
 taken_opened a b c result known k h t = taken_map result known (Takes b c) (Takes a c) (Takes-opened a b c k h) t
 
 -- a block after which what comes next is known, or isn't: then the file goes on
-pub taken_last : (a b c : FileState) (known : Option Next) → FileKeeps a b → ReadsTo a b → IfTaken known (Takes b c) → IfTaken known (Takes a c)
+pub taken_last : (a b c : FileState) (known : Option Next) → FileKeeps a b → ReadsTo a b → IfTaken known (Takes b c)
+    → IfTaken known (Takes a c)
 taken_last a b c known k h t = IfTaken-map known (Takes b c) (Takes a c) (Takes-behind a b c k h) t
 
 taken_none : (known : Option Next) (P : Type 0) → known ≡ None → IfTaken known P → P
 taken_none known P is h = grind arith
 
-pub ReadsTo-further : (a b c : FileState) (known : Option Next) → known ≡ None → FileKeeps a b → ReadsTo a b → IfTaken known (Takes b c) → ReadsTo a c
+pub ReadsTo-further : (a b c : FileState) (known : Option Next) → known ≡ None → FileKeeps a b → ReadsTo a b
+    → IfTaken known (Takes b c) → ReadsTo a c
 ReadsTo-further a b c known none k h t = (Takes-behind a b c k h (taken_none known (Takes b c) none t)).1

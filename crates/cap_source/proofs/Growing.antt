@@ -10,13 +10,15 @@ use Rattle.cap_source.specs.declared.feeds.Head.TheVariants as heads
 use Rattle.cap_source.specs.declared.packets.Meta.{Meta}
 
 -- the call for the next packet answers it
-pub memory-asked : (fault : Fault) (mid new : Feed) → GivesPacket mid (Err fault) new → OfMemory fault (new.known ≡ None)
+pub memory-asked : (fault : Fault) (mid new : Feed) → GivesPacket mid (Err fault) new
+    → OfMemory fault (new.known ≡ None)
 memory-asked (Refused refusal) mid new h = tt
 memory-asked (Read file offset) mid new h = tt
 memory-asked Write mid new h = tt
 memory-asked Memory mid new h = h.after
 
-pub memory-found : (fault : Fault) (mid new : Feed) → FindsPacket mid (Err fault) new → OfMemory fault (new.known ≡ None)
+pub memory-found : (fault : Fault) (mid new : Feed) → FindsPacket mid (Err fault) new
+    → OfMemory fault (new.known ≡ None)
 memory-found (Refused refusal) mid new h = tt
 memory-found (Read file offset) mid new h = tt
 memory-found Write mid new h = tt

@@ -12,7 +12,14 @@ pub record Went (old new : Feed) : Type 0 where
   pub lasts : Lasts old new
 
 pub Keeps-refl : (a : Feed) → Keeps a a
-Keeps-refl a = record { files = refl; told = λ t. t; can_fail = λ file c. c; places = λ file. omega arith; left = omega arith }
+Keeps-refl a = record {
+  files = refl;
+  told = λ t. t;
+  can_fail = λ file c. c;
+  places = λ file. omega arith;
+  left =
+      omega arith;
+}
 
 pub Keeps-trans : (a b c : Feed) → Keeps a b → Keeps b c → Keeps a c
 Keeps-trans a b c k l = grind arith
@@ -33,20 +40,24 @@ pub Went-none : (a : Feed) → Went a a
 Went-none a = record { keeps = Keeps-refl a; lasts = Lasts-refl a }
 
 -- one more packet
-pub Went-more : (old mid shown new : Feed) (meta : Meta) → Went old mid → GivesPacket mid (Ok (Some meta)) shown → Keeps mid shown
+pub Went-more : (old mid shown new : Feed) (meta : Meta) → Went old mid → GivesPacket mid (Ok (Some meta)) shown
+    → Keeps mid shown
     → Passes shown new → Keeps shown new → Went old new
 Went-more old mid shown new meta p gives asked passes passed = grind arith
 
 -- the call for the next packet answers a fault
-pub Walks-fault : (old mid new : Feed) (fault : Fault) → Went old mid → GivesPacket mid (Err fault) new → Walks {A = Unit {0}} old (Err fault) new
+pub Walks-fault : (old mid new : Feed) (fault : Fault) → Went old mid → GivesPacket mid (Err fault) new
+    → Walks {A = Unit {0}} old (Err fault) new
 Walks-fault old mid new fault w p = grind arith
 
 -- it answers that there is none
-pub Walks-end : (old mid new : Feed) → Went old mid → GivesPacket mid (Ok None) new → Walks {A = Unit {0}} old (Ok tt) new
+pub Walks-end : (old mid new : Feed) → Went old mid → GivesPacket mid (Ok None) new
+    → Walks {A = Unit {0}} old (Ok tt) new
 Walks-end old mid new w p = (p.known, Goes-behind old mid new w.lasts p.goes)
 
 -- A packet that came isn't written.
-pub Walks-stop : (old mid new : Feed) (meta : Meta) (fault : Fault) → Went old mid → GivesPacket mid (Ok (Some meta)) new
+pub Walks-stop : (old mid new : Feed) (meta : Meta) (fault : Fault) → Went old mid
+    → GivesPacket mid (Ok (Some meta)) new
     → (IsRead {A = Unit {0}} (Err fault) → ⊥) → Walks {A = Unit {0}} old (Err fault) new
 Walks-stop old mid new meta fault w p other = grind arith
 
@@ -55,8 +66,10 @@ pub Ends-none : (a : Feed) → IsTrue a.told → SameEndings a a
 Ends-none a t file = refl
 
 -- after one more packet
-pub Ends-more : (old mid shown new : Feed) (meta : Meta) → (IsTrue old.told → SameEndings old mid) → Keeps old mid → Keeps mid shown
-    → (IsTrue mid.told → ShowsItem mid (Ok (Some meta)) shown) → Passes shown new → IsTrue old.told → SameEndings old new
+pub Ends-more : (old mid shown new : Feed) (meta : Meta) → (IsTrue old.told → SameEndings old mid) → Keeps old mid
+    → Keeps mid shown
+    → (IsTrue mid.told → ShowsItem mid (Ok (Some meta)) shown) → Passes shown new → IsTrue old.told
+    → SameEndings old new
 Ends-more old mid shown new meta so went asked shows passed t file =
     passed.endings (asked.told (went.told t)) file ∙ ((shows (went.told t)).0.endings file ∙ so t file)
 

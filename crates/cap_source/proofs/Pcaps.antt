@@ -1,5 +1,6 @@
 -- What comes next of a pcap file.
-use Rattle.std.proofs.Common.{◌≡◌, ◌≤◌, ◌+◌, ℕ, Bool, true, false, List, [], ◌∷◌, length, Option, Some, None, is_some, IsSomeAnd, IsTrue, Ok, Err, not, ◌↔◌, refl, sym, ap, ◌∙◌, arith}
+use Rattle.std.proofs.Common.{◌≡◌, ◌≤◌, ◌+◌, ℕ, Bool, true, false, List, [], ◌∷◌, length, Option, Some, None, is_some}
+use Rattle.std.proofs.Common.{IsSomeAnd, IsTrue, Ok, Err, not, ◌↔◌, refl, sym, ap, ◌∙◌, arith}
 use Rattle.std.proofs.lemmas.List.{take_all}
 use Rattle.cap_bytes.specs.declared.faults.Fault.TheVariants.{Refused}
 use Rattle.cap_bytes.specs.declared.faults.Refusal.{Refusal}
@@ -11,7 +12,8 @@ use Rattle.cap_bytes.specs.Reader.{State, Keeps, GivesStop}
 use Rattle.cap_bytes.proofs.Items.{rule_told}
 use Rattle.cap_bytes.proofs.Parsing.{from_none, from_some}
 use Rattle.cap_bytes.proofs.Reach.{ReachesTo-here}
-use Rattle.cap_pcap.specs.Reader.{items_of, GivesHeader, GivesRecord, HasHeader, ReadsHeader, ReachesHeader, ReachesNext}
+use Rattle.cap_pcap.specs.Reader.{items_of, GivesHeader, GivesRecord, HasHeader, ReadsHeader, ReachesHeader}
+use Rattle.cap_pcap.specs.Reader.{ReachesNext}
 use Rattle.cap_pcap.specs.Split.{header_fault, header_at, record_fault}
 use Rattle.cap_pcap.specs.declared.headers.PcapHeader.{PcapHeader}
 use Rattle.cap_pcap.specs.declared.records.Record.{Record}
@@ -19,24 +21,29 @@ use Rattle.cap_bytes.specs.declared.stops.Stop.{Stop}
 use Rattle.cap_bytes.specs.declared.stops.Stop.TheVariants as stops
 use Rattle.cap_source.specs.Feed as feeds
 use Rattle.cap_source.specs.Items.{Progress, interface_of, meta_of, pcap_items, pcap_ending, pcap_ending_with, is_cut}
-use Rattle.cap_source.specs.FileState.{pcap_state, noted_by, header_or, first_of, size_of, part_of, Learns, Waits, ReadsTo, Takes, FileKeeps}
+use Rattle.cap_source.specs.FileState.{pcap_state, noted_by, header_or, first_of, size_of, part_of, Learns, Waits}
+use Rattle.cap_source.specs.FileState.{ReadsTo, Takes, FileKeeps}
 use Rattle.cap_source.specs.declared.readers.Next.TheVariants as nexts
 
-known_header : (h : Option PcapHeader) (header : PcapHeader) (bytes : List ℕ) → h ≡ Some header → header_or h bytes ≡ header
+known_header : (h : Option PcapHeader) (header : PcapHeader) (bytes : List ℕ) → h ≡ Some header
+    → header_or h bytes ≡ header
 known_header h header bytes is = rw is refl
 
-known_first : (h : Option PcapHeader) (header : PcapHeader) (stop : Option Stop) (offset : ℕ) (bytes : List ℕ) → h ≡ Some header
+known_first : (h : Option PcapHeader) (header : PcapHeader) (stop : Option Stop) (offset : ℕ) (bytes : List ℕ)
+    → h ≡ Some header
     → first_of h stop offset bytes ≡ Some (interface_of header)
 known_first h header stop offset bytes is = rw is refl
 
-lent_size : (frame : Option (List ℕ)) (captured : ℕ) → IsSomeAnd frame (λ bytes. length bytes ≡ captured) → 0 + captured + 1 ≤ size_of frame
+lent_size : (frame : Option (List ℕ)) (captured : ℕ) → IsSomeAnd frame (λ bytes. length bytes ≡ captured)
+    → 0 + captured + 1 ≤ size_of frame
 lent_size None captured h = absurd h
 lent_size (Some bytes) captured h = omega (arith, h)
 
 part_whole : (bytes : List ℕ) (captured : ℕ) → length bytes ≡ captured → part_of (Some bytes) 0 captured ≡ bytes
 part_whole bytes captured is = take_all captured bytes (omega (arith, is))
 
-items_given : (m f g : ℕ) (h i j : Interface) (r : Record) (frame : Option (List ℕ)) (old new : List (Item Record)) → m ≡ g → f ≡ g → h ≡ j → i ≡ j
+items_given : (m f g : ℕ) (h i j : Interface) (r : Record) (frame : Option (List ℕ)) (old new : List (Item Record))
+    → m ≡ g → f ≡ g → h ≡ j → i ≡ j
     → IsSomeAnd frame (λ bytes. length bytes ≡ r.captured) → IsSomeAnd frame (λ bytes. old ≡ given r bytes ∷ new)
     → feeds.packet (meta_of m h r) (part_of frame 0 r.captured) ∷ pcap_items f i new ≡ pcap_items g j old
 unfolding pcap_items
@@ -44,10 +51,12 @@ items_given m f g h i j r None old new mg fg hj ij size is = absurd size
 items_given m f g h i j r (Some bytes) old new mg fg hj ij size is =
     rw (is, mg, fg, hj, ij, part_whole bytes r.captured size) refl
 
-same_items : (f g : ℕ) (i j : Interface) (old new : List (Item Record)) → f ≡ g → i ≡ j → new ≡ old → pcap_items f i new ≡ pcap_items g j old
+same_items : (f g : ℕ) (i j : Interface) (old new : List (Item Record)) → f ≡ g → i ≡ j → new ≡ old
+    → pcap_items f i new ≡ pcap_items g j old
 same_items f g i j old new fg ij is = λ k. pcap_items (fg k) (ij k) (is k)
 
-ending_given : (r : Record) (frame : Option (List ℕ)) (old new : List (Item Record)) → IsSomeAnd frame (λ bytes. old ≡ given r bytes ∷ new)
+ending_given : (r : Record) (frame : Option (List ℕ)) (old new : List (Item Record))
+    → IsSomeAnd frame (λ bytes. old ≡ given r bytes ∷ new)
     → pcap_ending new ≡ pcap_ending old
 unfolding pcap_ending
 ending_given r None old new is = absurd is
@@ -75,10 +84,12 @@ record_learned header file r old new progress named known g k taken =
       free = ap not (none_stops new.stop g.gives.stop);
       goes = record { before = g.gives.goes.before; after = g.gives.goes.after; failed = g.gives.goes.failed };
       items = λ t.
-          items_given file new.file old.file (interface_of header) (interface_of (header_or new.known new.coming)) (interface_of (header_or old.known old.coming))
+          items_given file new.file old.file (interface_of header) (interface_of (header_or new.known new.coming))
+          (interface_of (header_or old.known old.coming))
           r new.lent (items_of old) (items_of new) named k.file
           (ap interface_of (sym (known_header old.known header old.coming known)))
-          (ap interface_of (known_header new.known header new.coming known_new ∙ sym (known_header old.known header old.coming known)))
+          (ap interface_of (known_header new.known header new.coming known_new
+          ∙ sym (known_header old.known header old.coming known)))
           g.frame (taken t);
       ending = λ t. ending_given r new.lent (items_of old) (items_of new) (taken t);
       first = λ t. ap noted_by known_new ∙ sym (known_first old.known header old.stop old.offset old.coming known);
@@ -96,17 +107,20 @@ cut_is false stops.End both = refl
 cut_is false stops.Cut both = both.1 refl
 cut_is false (stops.Refused refusal) both = refl
 
-no_items : (stop : Stop) (file : ℕ) (i : Interface) (items : List (Item Record)) → IsEnd stop → items ≡ stopped stop ∷ [] → [] ≡ pcap_items file i items
+no_items : (stop : Stop) (file : ℕ) (i : Interface) (items : List (Item Record)) → IsEnd stop
+    → items ≡ stopped stop ∷ [] → [] ≡ pcap_items file i items
 unfolding pcap_items
 no_items stops.End file i items h is = rw is refl
 no_items stops.Cut file i items h is = rw is refl
 no_items (stops.Refused refusal) file i items h is = absurd h
 
-ending_stopped : (stop : Stop) (items : List (Item Record)) → items ≡ stopped stop ∷ [] → pcap_ending_with (is_cut stop) ≡ pcap_ending items
+ending_stopped : (stop : Stop) (items : List (Item Record)) → items ≡ stopped stop ∷ []
+    → pcap_ending_with (is_cut stop) ≡ pcap_ending items
 unfolding pcap_ending
 ending_stopped stop items is = rw is refl
 
-refused_items : (refusal : Refusal) (file : ℕ) (i : Interface) (items : List (Item Record)) → items ≡ stopped (stops.Refused refusal) ∷ []
+refused_items : (refusal : Refusal) (file : ℕ) (i : Interface) (items : List (Item Record))
+    → items ≡ stopped (stops.Refused refusal) ∷ []
     → feeds.refused refusal ∷ [] ≡ pcap_items file i items
 unfolding pcap_items
 refused_items refusal file i items is = rw is refl
@@ -114,7 +128,8 @@ refused_items refusal file i items is = rw is refl
 -- The records end.
 pub end_learned : (header : PcapHeader) (cut : Bool) (stop : Stop) (old new : State PcapHeader) (progress : Progress)
     → old.known ≡ Some header → old.stop ≡ None
-    → IsEnd stop → GivesStop true (record_fault header.order old.offset old.coming) stop old new → IsTrue cut ↔ (new.stop ≡ Some stops.Cut) → Keeps old new
+    → IsEnd stop → GivesStop true (record_fault header.order old.offset old.coming) stop old new
+    → IsTrue cut ↔ (new.stop ≡ Some stops.Cut) → Keeps old new
     → (IsTrue old.told → items_of new ≡ items_of old)
     → Learns (pcap_state old progress) (nexts.End (pcap_ending_with cut)) (pcap_state new progress)
 end_learned header cut stop old new progress known free ends g was k same =
@@ -125,9 +140,12 @@ end_learned header cut stop old new progress known free ends g was k same =
       place = k.offset;
       free = refl;
       goes = record { before = at.goes.before; after = at.goes.after; failed = at.goes.failed };
-      items = λ t. no_items stop old.file (interface_of (header_or old.known old.coming)) (items_of old) ends (sym (same t) ∙ stopped_again new stop g.stop_is);
-      ending = λ t. ap pcap_ending_with which ∙ ending_stopped stop (items_of old) (sym (same t) ∙ stopped_again new stop g.stop_is);
-      first = λ t. ap noted_by (at.known_same ∙ known) ∙ sym (known_first old.known header old.stop old.offset old.coming known);
+      items = λ t. no_items stop old.file (interface_of (header_or old.known old.coming)) (items_of old) ends
+          (sym (same t) ∙ stopped_again new stop g.stop_is);
+      ending = λ t. ap pcap_ending_with which ∙ ending_stopped stop (items_of old) (sym (same t)
+          ∙ stopped_again new stop g.stop_is);
+      first = λ t. ap noted_by (at.known_same ∙ known)
+          ∙ sym (known_first old.known header old.stop old.offset old.coming known);
     }
 
 -- A rest is refused.
@@ -139,16 +157,24 @@ pub refusal_learned : (header : PcapHeader) (refusal : Refusal) (old new : State
 refusal_learned header refusal old new progress known free g k same =
     let at = from_none old.stop _ free g.first in
     record {
-      is = record { file = at.is_stop.0 ∙ sym k.file; lent = omega arith; captured = omega arith; behind = omega arith };
+      is = record {
+        file = at.is_stop.0 ∙ sym k.file;
+        lent = omega arith;
+        captured = omega arith;
+        behind = omega arith;
+      };
       place = k.offset;
       free = refl;
       goes = record { before = at.goes.before; after = at.goes.after; failed = at.goes.failed };
-      items = λ t. refused_items refusal old.file (interface_of (header_or old.known old.coming)) (items_of old) (same t);
+      items = λ t. refused_items refusal old.file (interface_of (header_or old.known old.coming))
+          (items_of old) (same t);
       ending = λ t. ending_stopped (stops.Refused refusal) (items_of old) (same t);
-      first = λ t. ap noted_by (at.known_same ∙ known) ∙ sym (known_first old.known header old.stop old.offset old.coming known);
+      first = λ t. ap noted_by (at.known_same ∙ known)
+          ∙ sym (known_first old.known header old.stop old.offset old.coming known);
     }
 
-refused_first : (h : Option PcapHeader) (stop : Option Stop) (offset : ℕ) (bytes : List ℕ) (rule : Rule) → h ≡ None → stop ≡ None
+refused_first : (h : Option PcapHeader) (stop : Option Stop) (offset : ℕ) (bytes : List ℕ) (rule : Rule) → h ≡ None
+    → stop ≡ None
     → header_fault offset bytes ≡ Some rule → None ≡ first_of h stop offset bytes
 refused_first h stop offset bytes rule unknown free is = rw (unknown, free, is) refl
 
@@ -160,23 +186,34 @@ pub header_refused : (refusal : Refusal) (old new : State PcapHeader) (p : Progr
 header_refused refusal old new p free g k same =
     let at = from_none old.stop _ free g.0.first in
     record {
-      is = record { file = at.is_stop.0 ∙ sym k.file; lent = omega arith; captured = omega arith; behind = omega arith };
+      is = record {
+        file = at.is_stop.0 ∙ sym k.file;
+        lent = omega arith;
+        captured = omega arith;
+        behind = omega arith;
+      };
       place = k.offset;
       free = refl;
       goes = record { before = at.goes.before; after = at.goes.after; failed = at.goes.failed };
-      items = λ t. refused_items refusal old.file (interface_of (header_or old.known old.coming)) (items_of old) (same t);
+      items = λ t. refused_items refusal old.file (interface_of (header_or old.known old.coming))
+          (items_of old) (same t);
       ending = λ t. ending_stopped (stops.Refused refusal) (items_of old) (same t);
-      first = λ t. ap noted_by (at.known_same ∙ from_none old.stop _ free g.1) ∙ refused_first old.known old.stop old.offset old.coming refusal.rule (from_none old.stop _ free g.1) free
-          (rule_told old.tail old.file old.offset old.coming (header_fault old.offset old.coming) refusal (at.told_stop t));
+      first = λ t. ap noted_by (at.known_same ∙ from_none old.stop _ free g.1)
+          ∙ refused_first old.known old.stop old.offset old.coming refusal.rule (from_none old.stop _ free g.1) free
+          (rule_told old.tail old.file old.offset old.coming (header_fault old.offset old.coming) refusal
+          (at.told_stop t));
     }
 
-new_header : (h : Option PcapHeader) (stop : Option Stop) (offset : ℕ) (bytes : List ℕ) (header : PcapHeader) → h ≡ None → stop ≡ None
+new_header : (h : Option PcapHeader) (stop : Option Stop) (offset : ℕ) (bytes : List ℕ) (header : PcapHeader) → h ≡ None
+    → stop ≡ None
     → header_fault offset bytes ≡ None → header ≡ header_at bytes
     → (header ≡ header_or h bytes) × (Some (interface_of header) ≡ first_of h stop offset bytes)
 new_header h stop offset bytes header unknown free whole is = rw (unknown, free, whole, is) (refl, refl)
 
-header_read : (header : PcapHeader) (known : Option PcapHeader) (old new : State PcapHeader) → old.known ≡ known → old.stop ≡ None → HasHeader header old new
-    → IsTrue old.told → (header ≡ header_or old.known old.coming) × (Some (interface_of header) ≡ first_of old.known old.stop old.offset old.coming)
+header_read : (header : PcapHeader) (known : Option PcapHeader) (old new : State PcapHeader) → old.known ≡ known
+    → old.stop ≡ None → HasHeader header old new
+    → IsTrue old.told → (header ≡ header_or old.known old.coming)
+    × (Some (interface_of header) ≡ first_of old.known old.stop old.offset old.coming)
 header_read header None old new is free h t =
     let first = from_none old.known (ReadsHeader header old new) is h.first in
     new_header old.known old.stop old.offset old.coming header is free (first.whole t) (first.header_is t)
@@ -186,20 +223,29 @@ header_read header (Some was) old new is free h t =
       ap (λ x. Some (interface_of x)) again.0 ∙ sym (known_first old.known was old.stop old.offset old.coming is),
     )
 
-header_failed : (header : PcapHeader) (known : Option PcapHeader) (old new : State PcapHeader) → old.known ≡ known → HasHeader header old new → new.failed ≡ old.failed
+header_failed : (header : PcapHeader) (known : Option PcapHeader) (old new : State PcapHeader) → old.known ≡ known
+    → HasHeader header old new → new.failed ≡ old.failed
 header_failed header None old new is h = (from_none old.known (ReadsHeader header old new) is h.first).gives.goes.failed
-header_failed header (Some was) old new is h = ap (λ (s : State PcapHeader). s.failed) (from_some old.known was (λ w. (header ≡ w) × (new ≡ old)) is h.again).1
+header_failed header (Some was) old new is h =
+    ap (λ (s : State PcapHeader). s.failed) (from_some old.known was (λ w. (header ≡ w) × (new ≡ old)) is h.again).1
 
-header_broken : (header : PcapHeader) (known : Option PcapHeader) (old new : State PcapHeader) → old.known ≡ known → HasHeader header old new → new.broken ≡ old.broken
-header_broken header None old new is h = let first = from_none old.known (ReadsHeader header old new) is h.first in first.gives.goes.after ∙ sym first.gives.goes.before
-header_broken header (Some was) old new is h = ap (λ (s : State PcapHeader). s.broken) (from_some old.known was (λ w. (header ≡ w) × (new ≡ old)) is h.again).1
+header_broken : (header : PcapHeader) (known : Option PcapHeader) (old new : State PcapHeader) → old.known ≡ known
+    → HasHeader header old new → new.broken ≡ old.broken
+header_broken header None old new is h = let first = from_none old.known (ReadsHeader header old new) is h.first in
+    first.gives.goes.after ∙ sym first.gives.goes.before
+header_broken header (Some was) old new is h =
+    ap (λ (s : State PcapHeader). s.broken) (from_some old.known was (λ w. (header ≡ w) × (new ≡ old)) is h.again).1
 
-pub header_free : (header : PcapHeader) (known : Option PcapHeader) (old new : State PcapHeader) → old.known ≡ known → old.stop ≡ None → HasHeader header old new → new.stop ≡ None
+pub header_free : (header : PcapHeader) (known : Option PcapHeader) (old new : State PcapHeader) → old.known ≡ known
+    → old.stop ≡ None → HasHeader header old new → new.stop ≡ None
 header_free header None old new is free h = (from_none old.known (ReadsHeader header old new) is h.first).gives.stop
-header_free header (Some was) old new is free h = ap (λ (s : State PcapHeader). s.stop) (from_some old.known was (λ w. (header ≡ w) × (new ≡ old)) is h.again).1 ∙ free
+header_free header (Some was) old new is free h =
+    ap (λ (s : State PcapHeader). s.stop) (from_some old.known was (λ w. (header ≡ w)
+    × (new ≡ old)) is h.again).1 ∙ free
 
 -- The file's header is read, after which everything is to come as before.
-pub header_waits : (header : PcapHeader) (old new : State PcapHeader) (p : Progress) → old.stop ≡ None → HasHeader header old new → Keeps old new
+pub header_waits : (header : PcapHeader) (old new : State PcapHeader) (p : Progress) → old.stop ≡ None
+    → HasHeader header old new → Keeps old new
     → (IsTrue old.told → items_of new ≡ items_of old) → Waits (pcap_state old p) (pcap_state new p)
 header_waits header old new p free h k same = record {
   stops = none_stops new.stop (header_free header old.known old new refl free h);
@@ -208,7 +254,8 @@ header_waits header old new p free h k same = record {
   rest = λ t.
       let read = header_read header old.known old new refl free h t in
       record {
-        items = same_items new.file old.file (interface_of (header_or new.known new.coming)) (interface_of (header_or old.known old.coming))
+        items = same_items new.file old.file (interface_of (header_or new.known new.coming))
+            (interface_of (header_or old.known old.coming))
             (items_of old) (items_of new) k.file
             (ap interface_of (known_header new.known header new.coming h.header_known ∙ read.0)) (same t);
         ending = ap pcap_ending (same t);
@@ -216,7 +263,8 @@ header_waits header old new p free h k same = record {
       };
 }
 
-pub pcap_keeps : (old new : State PcapHeader) (p : Progress) → Keeps old new → FileKeeps (pcap_state old p) (pcap_state new p)
+pub pcap_keeps : (old new : State PcapHeader) (p : Progress) → Keeps old new
+    → FileKeeps (pcap_state old p) (pcap_state new p)
 pcap_keeps old new p k = record {
   file = k.file;
   most = k.most;
@@ -230,16 +278,21 @@ pcap_keeps old new p k = record {
 }
 
 -- How far is read for a record, and for the header.
-pub record_taken : (header : PcapHeader) (old new : State PcapHeader) (r : Record) (p : Progress) → ReachesNext header old (Ok (Some r)) new
+pub record_taken : (header : PcapHeader) (old new : State PcapHeader) (r : Record) (p : Progress)
+    → ReachesNext header old (Ok (Some r)) new
     → new.offset ≡ old.offset + (16 + r.captured) → Takes (pcap_state old p) (pcap_state new p)
 record_taken header old new r p h is = (omega (arith, is), rw is h)
 
-header_by : (header : PcapHeader) (known : Option PcapHeader) (old new : State PcapHeader) → old.known ≡ known → HasHeader header old new
+header_by : (header : PcapHeader) (known : Option PcapHeader) (old new : State PcapHeader) → old.known ≡ known
+    → HasHeader header old new
     → ReachesHeader old (Ok header) new → ReachesTo old.most new.offset old.read new.read
-header_by header None old new is h reads = rw (from_none old.known (ReadsHeader header old new) is h.first).gives.next reads
+header_by header None old new is h reads =
+    rw (from_none old.known (ReadsHeader header old new) is h.first).gives.next reads
 header_by header (Some was) old new is h reads =
-    rw (from_some old.known was (λ w. (header ≡ w) × (new ≡ old)) is h.again).1 (ReachesTo-here old.most old.offset old.read)
+    rw (from_some old.known was (λ w. (header ≡ w) × (new ≡ old)) is h.again).1
+    (ReachesTo-here old.most old.offset old.read)
 
-pub header_reads : (header : PcapHeader) (old new : State PcapHeader) (p : Progress) → HasHeader header old new → ReachesHeader old (Ok header) new
+pub header_reads : (header : PcapHeader) (old new : State PcapHeader) (p : Progress) → HasHeader header old new
+    → ReachesHeader old (Ok header) new
     → ReadsTo (pcap_state old p) (pcap_state new p)
 header_reads header old new p h reads = header_by header old.known old new refl h reads

@@ -1,8 +1,11 @@
 -- What is known at a block goes by the blocks before it.
-use Rattle.std.proofs.Common.{◌≡◌, ◌==◌, ◌+◌, ◌-◌, ℕ, not, true, false, Bool, List, [], ◌∷◌, ◌++◌, ◌||◌, length, drop, slice_get, Some, Result, Ok, Err, IfOk, refl, sym, ap, ◌∙◌, subst, arith, cond, if◌then◌else◌, length-append, append_assoc, append-nil}
+use Rattle.std.proofs.Common.{◌≡◌, ◌==◌, ◌&&◌, ◌+◌, ◌-◌, ℕ, not, true, false, Bool, List, [], ◌∷◌, ◌++◌, ◌||◌, length}
+use Rattle.std.proofs.Common.{drop, slice_get, Some, Result, Ok, Err, IfOk, refl, sym, ap, ◌∙◌, subst, arith, cond}
+use Rattle.std.proofs.Common.{if◌then◌else◌, length-append, append_assoc, append-nil}
 use Rattle.std.specs.List.{filter, count_by, suffix_len, before_last, after_last}
 use Rattle.std.proofs.lemmas.Bool.Decides.{nat_tests}
-use Rattle.std.proofs.lemmas.List.{length-map, drop-append-le, drop_all, take-append-le, take_at, reverse-append, map-append}
+use Rattle.std.proofs.lemmas.List.{length-map, drop-append-le, drop_all, take-append-le, take_at, reverse-append}
+use Rattle.std.proofs.lemmas.List.{map-append}
 use Rattle.std.proofs.lemmas.List.Elements.{filter-append}
 use Rattle.std.proofs.lemmas.List.Sums.{sum_by-append}
 use Rattle.cap_bytes.specs.Items as pieces
@@ -12,17 +15,21 @@ use Rattle.cap_bytes.specs.declared.numbers.Order.{Order}
 use Rattle.cap_blocks.specs.Grammar.{obsolete_kind, simple_kind, enhanced_kind}
 use Rattle.cap_blocks.specs.OptionList.{options_of}
 use Rattle.cap_blocks.specs.declared.blocks.Block.{Block}
-use Rattle.cap_source.specs.Contents.{of_body, timed_in, simple_in, content_in}
-use Rattle.cap_source.specs.Items.{Progress, fresh, first_or, after, behind, items_at, items_in, ending_with, ending_in, unless_faulty, unless_item, first_in}
-use Rattle.cap_source.specs.Places.{Standing, is_header, is_interface, is_other, told, interfaces_of, known_behind, items_behind, ending_behind, first_behind, ItemsByPlaces, EndingByPlaces, FirstByPlaces, NumbersByPlaces}
-use Rattle.cap_source.specs.TimeBases.{interface_in, interface_at}
+use Rattle.cap_source.specs.Contents.{of_body, timed_in, simple_in, described, content_in}
+use Rattle.cap_source.specs.Items.{Progress, fresh, first_or, after, behind, items_at, items_in, ending_with, ending_in}
+use Rattle.cap_source.specs.Items.{unless_faulty, unless_item, first_in}
+use Rattle.cap_source.specs.Places.{Standing, is_header, is_interface, is_other, is_named_interface, told}
+use Rattle.cap_source.specs.Places.{interfaces_of, known_behind, items_behind, ending_behind, first_behind}
+use Rattle.cap_source.specs.Places.{ItemsByPlaces, EndingByPlaces, FirstByPlaces, NumbersByPlaces}
+use Rattle.cap_source.specs.TimeBases.{interface_in, interface_at, is_named}
 use Rattle.cap_source.specs.declared.contents.Packet.{Packet}
 use Rattle.cap_source.specs.declared.contents.Content.{Content}
 use Rattle.cap_source.specs.declared.contents.Content.TheVariants as contents
 use Rattle.cap_time.specs.declared.resolutions.Interface.{Interface}
 
 -- one more element at the end of a list
-from_end : {X : Type 0} (P : List X → Type 0) → P [] → ((xs : List X) (x : X) → P xs → P (xs ++ x ∷ [])) → (xs : List X) → P xs
+from_end : {X : Type 0} (P : List X → Type 0) → P [] → ((xs : List X) (x : X) → P xs → P (xs ++ x ∷ []))
+    → (xs : List X) → P xs
 from_end P none more xs = go [] xs none
   where
     go : (ys xs : List _) → P ys → P (ys ++ xs)
@@ -70,25 +77,29 @@ module _ {X : Type 0} (p : X → Bool) where
   apart-count q apart = from_end _ refl more
     where
       more : (xs : List X) (x : X) → count_by q (before_last p xs) + length (filter q (after_last p xs)) ≡ count_by q xs
-          → count_by q (before_last p (xs ++ x ∷ [])) + length (filter q (after_last p (xs ++ x ∷ []))) ≡ count_by q (xs ++ x ∷ [])
+          → count_by q (before_last p (xs ++ x ∷ [])) + length (filter q (after_last p (xs ++ x ∷ [])))
+          ≡ count_by q (xs ++ x ∷ [])
       more xs x h = by (p x) (q x) refl refl
         where
           by : (a b : Bool) → p x ≡ a → q x ≡ b
-              → count_by q (before_last p (xs ++ x ∷ [])) + length (filter q (after_last p (xs ++ x ∷ []))) ≡ count_by q (xs ++ x ∷ [])
+              → count_by q (before_last p (xs ++ x ∷ [])) + length (filter q (after_last p (xs ++ x ∷ [])))
+              ≡ count_by q (xs ++ x ∷ [])
           by true true is was = absurd (let e = apart x is in let f : true ≡ false = sym was ∙ e in grind arith)
           by true false is was = rw (after-more xs x, before-more xs x, count-more q xs x, is, was) (omega arith)
           by false true is was =
               rw (after-more xs x, before-more xs x, count-more q xs x, is, filter-more q (after_last p xs) x, was)
               (omega (arith, h, length-append (filter q (after_last p xs)) (x ∷ [])))
           by false false is was =
-              rw (after-more xs x, before-more xs x, count-more q xs x, is, filter-more q (after_last p xs) x, was) (omega (arith, h))
+              rw (after-more xs x, before-more xs x, count-more q xs x, is, filter-more q (after_last p xs) x, was)
+              (omega (arith, h))
 
 -- ---- what a block tells of
 
 header-apart : (b : Standing) → is_header b ≡ true → is_interface b ≡ false
 header-apart b is = grind (arith, nat_tests)
 
-interfaces-more : (bs : List Standing) (b : Standing) → interfaces_of (bs ++ b ∷ []) ≡ cond (is_interface b) (interfaces_of bs ++ told b ∷ []) (interfaces_of bs)
+interfaces-more : (bs : List Standing) (b : Standing)
+    → interfaces_of (bs ++ b ∷ []) ≡ cond (is_interface b) (interfaces_of bs ++ told b ∷ []) (interfaces_of bs)
 interfaces-more bs b = grind (arith, filter-more, map-append)
 
 first-more : (is : List Interface) (i : Interface) → slice_get (is ++ i ∷ []) 0 ≡ Some (first_or (slice_get is 0) i)
@@ -97,45 +108,61 @@ first-more (j ∷ is) i = refl
 
 pub numbers-law : NumbersByPlaces
 unfolding known_behind
-numbers-law before = rw (length-map (filter is_interface (after_last is_header before)) told) (apart-count is_header is_interface header-apart before)
+numbers-law before = rw (length-map (filter is_interface (after_last is_header before)) told)
+    (apart-count is_header is_interface header-apart before)
 
--- what a block's tests tell of what it says; an interface is its own
-abbrev Tells : (header interface other : Bool) → Interface → Content → Type 0
-Tells header interface other own contents.Section = (header ≡ true) × (interface ≡ false) × (other ≡ false)
-Tells header interface other own (contents.Interface i) = (header ≡ false) × (interface ≡ true) × (other ≡ false) × (i ≡ own)
-Tells header interface other own (contents.Packet p) = (header ≡ false) × (interface ≡ false) × (other ≡ false)
-Tells header interface other own contents.Other = (header ≡ false) × (interface ≡ false) × (other ≡ true)
+-- what a block's tests tell of what it says; an interface is its own, and has a name or not
+abbrev Tells : (header interface other : Bool) → Interface → Bool → Content → Type 0
+Tells header interface other own named contents.Section = (header ≡ true) × (interface ≡ false) × (other ≡ false)
+Tells header interface other own named (contents.Interface d) =
+    (header ≡ false) × (interface ≡ true) × (other ≡ false) × (d.interface ≡ own) × (d.is_named ≡ named)
+Tells header interface other own named (contents.Packet p) = (header ≡ false) × (interface ≡ false) × (other ≡ false)
+Tells header interface other own named contents.Other = (header ≡ false) × (interface ≡ false) × (other ≡ true)
 
-by_kind : (a b c d e : Bool) (own : Interface) (i : Result Interface Rule) (x y z : Result Packet Rule) → (a ≡ true → b ≡ false) → IfOk i (λ j. j ≡ own)
-    → IfOk (if a then Ok contents.Section else if b then of_body contents.Interface i else
-    if c then of_body contents.Packet x else if d then of_body contents.Packet y else if e then of_body contents.Packet z else Ok contents.Other)
-    (Tells a b (not (a || b || d || e || c)) own)
-by_kind a b c d e own i x y z apart is = grind arith
+by_kind : (a b c d e : Bool) (own : Interface) (order : Order) (body : List ℕ) (i : Result Interface Rule)
+    (x y z : Result Packet Rule)
+    → (a ≡ true → b ≡ false) → IfOk i (λ j. j ≡ own)
+    → IfOk (if a then Ok contents.Section else if b then of_body (described order body) i else
+    if c then of_body contents.Packet x else if d then of_body contents.Packet y else if e then of_body contents.Packet
+    z else Ok contents.Other)
+    (Tells a b (not (a || b || d || e || c)) own (is_named order body))
+by_kind a b c d e own order body i x y z apart is = grind arith
 
-interface-own : (before : ℕ) (order : Order) (body : List ℕ) → IfOk (interface_in before order body) (λ i. i ≡ interface_at order body (options_of order (drop 8 body)))
+interface-own : (before : ℕ) (order : Order) (body : List ℕ)
+    → IfOk (interface_in before order body) (λ i. i ≡ interface_at order body (options_of order (drop 8 body)))
 unfolding interface_in
 interface-own before order body = grind arith
 
+-- the same of a block's own tests
+abbrev TellsOf : Standing → Content → Type 0
+TellsOf b = Tells (is_header b) (is_interface b) (is_other b) (told b) (is_named b.0.order b.1)
+
 content-tells : (interfaces : List Interface) (b : Standing)
-    → IfOk (content_in interfaces b.0.kind b.0.order b.1) (Tells (is_header b) (is_interface b) (is_other b) (told b))
+    → IfOk (content_in interfaces b.0.kind b.0.order b.1) (TellsOf b)
 unfolding content_in
 content-tells interfaces b =
-    by_kind (is_header b) (is_interface b) (b.0.kind == enhanced_kind) (b.0.kind == obsolete_kind) (b.0.kind == simple_kind) (told b)
+    by_kind (is_header b) (is_interface b) (b.0.kind == enhanced_kind) (b.0.kind == obsolete_kind)
+    (b.0.kind == simple_kind) (told b) b.0.order b.1
     (interface_in (length interfaces) b.0.order b.1) (timed_in interfaces (number b.0.order 4 b.1) b.0.order b.1)
     (timed_in interfaces (number b.0.order 2 b.1) b.0.order b.1) (simple_in interfaces b.0.order b.1)
     (header-apart b) (interface-own (length interfaces) b.0.order b.1)
 
--- the interfaces of the section, how many stand before it, how many blocks are skipped, and the first interface, one block on
+-- the interfaces of the section, how many stand before it, how many blocks are skipped, and the first interface, one
+-- block on
 here-more : (before : List Standing) (b : Standing)
     → interfaces_of (after_last is_header (before ++ b ∷ []))
-    ≡ cond (is_header b) [] (cond (is_interface b) (interfaces_of (after_last is_header before) ++ told b ∷ []) (interfaces_of (after_last is_header before)))
+    ≡ cond (is_header b) [] (cond (is_interface b) (interfaces_of (after_last is_header before) ++ told b ∷ [])
+    (interfaces_of (after_last is_header before)))
 here-more before b = by (is_header b) refl
   where
     by : (h : Bool) → is_header b ≡ h → interfaces_of (after_last is_header (before ++ b ∷ []))
-        ≡ cond h [] (cond (is_interface b) (interfaces_of (after_last is_header before) ++ told b ∷ []) (interfaces_of (after_last is_header before)))
-    by true is = ap interfaces_of (after-more is_header before b ∙ ap (λ h. cond h [] (after_last is_header before ++ b ∷ [])) is)
+        ≡ cond h [] (cond (is_interface b) (interfaces_of (after_last is_header before) ++ told b ∷ [])
+        (interfaces_of (after_last is_header before)))
+    by true is = ap interfaces_of (after-more is_header before b
+        ∙ ap (λ h. cond h [] (after_last is_header before ++ b ∷ [])) is)
     by false is =
-        ap interfaces_of (after-more is_header before b ∙ ap (λ h. cond h [] (after_last is_header before ++ b ∷ [])) is)
+        ap interfaces_of (after-more is_header before b
+        ∙ ap (λ h. cond h [] (after_last is_header before ++ b ∷ [])) is)
         ∙ interfaces-more (after_last is_header before) b
 
 counted-none : (n m : ℕ) (b : Bool) → n ≡ m + cond b 1 0 → b ≡ false → m ≡ n
@@ -144,81 +171,109 @@ counted-none n m b is none = let e : n ≡ m + 0 = subst (λ b. n ≡ m + cond b
 counted-one : (n m : ℕ) (b : Bool) → n ≡ m + cond b 1 0 → b ≡ true → m + 1 ≡ n
 counted-one n m b is one = sym (subst (λ b. n ≡ m + cond b 1 0) one is)
 
--- two are the same if each of the four is
-same : {p q : Progress} → p.interfaces ≡ q.interfaces → p.base ≡ q.base → p.skipped ≡ q.skipped → p.first ≡ q.first → p ≡ q
-same a b c d = λ i. record { interfaces = a i; base = b i; skipped = c i; first = d i }
+-- two are the same if each of the five is
+same : {p q : Progress} → p.interfaces ≡ q.interfaces → p.base ≡ q.base → p.skipped ≡ q.skipped → p.named ≡ q.named
+    → p.first ≡ q.first → p ≡ q
+same a b c d e = λ i. record { interfaces = a i; base = b i; skipped = c i; named = d i; first = e i }
+
+-- a block of another kind has no interface with a name
+unnamed : (b : Standing) → is_interface b ≡ false → is_named_interface b ≡ false
+unnamed b is = ap (λ i. i && is_named b.0.order b.1) is
+
+named-as : (b : Standing) (named : Bool) → is_interface b ≡ true → named ≡ is_named b.0.order b.1
+    → is_named_interface b ≡ named
+named-as b named is same = ap (λ i. i && is_named b.0.order b.1) is ∙ sym same
 
 -- so what is known behind it is what it adds to what was known
-step : (before : List Standing) (b : Standing) (content : Content) → Tells (is_header b) (is_interface b) (is_other b) (told b) content
+step : (before : List Standing) (b : Standing) (content : Content) → TellsOf b content
     → after (known_behind before) content ≡ known_behind (before ++ b ∷ [])
 unfolding known_behind
 step before b content t =
-    same (here content t) (base content t) (skipped content t) (first content t)
+    same (here content t) (base content t) (skipped content t) (named content t) (first content t)
   where
-    here : (content : Content) → Tells (is_header b) (is_interface b) (is_other b) (told b) content
+    here : (content : Content) → TellsOf b content
         → (after (known_behind before) content).interfaces ≡ interfaces_of (after_last is_header (before ++ b ∷ []))
     here contents.Section t = rw (here-more before b, t.0) refl
     here (contents.Interface i) t = rw (here-more before b, t.0, t.1, t.3) refl
     here (contents.Packet p) t = rw (here-more before b, t.0, t.1) refl
     here contents.Other t = rw (here-more before b, t.0, t.1) refl
 
-    base : (content : Content) → Tells (is_header b) (is_interface b) (is_other b) (told b) content
+    base : (content : Content) → TellsOf b content
         → (after (known_behind before) content).base ≡ count_by is_interface (before_last is_header (before ++ b ∷ []))
     base contents.Section t = rw (before-more is_header before b, t.0) (numbers-law before)
     base (contents.Interface i) t = rw (before-more is_header before b, t.0) refl
     base (contents.Packet p) t = rw (before-more is_header before b, t.0) refl
     base contents.Other t = rw (before-more is_header before b, t.0) refl
 
-    skipped : (content : Content) → Tells (is_header b) (is_interface b) (is_other b) (told b) content
+    skipped : (content : Content) → TellsOf b content
         → (after (known_behind before) content).skipped ≡ count_by is_other (before ++ b ∷ [])
     skipped contents.Section t = counted-none _ _ _ (count-more is_other before b) t.2
     skipped (contents.Interface i) t = counted-none _ _ _ (count-more is_other before b) t.2
     skipped (contents.Packet p) t = counted-none _ _ _ (count-more is_other before b) t.2
     skipped contents.Other t = counted-one _ _ _ (count-more is_other before b) t.2
 
-    first : (content : Content) → Tells (is_header b) (is_interface b) (is_other b) (told b) content
+    named : (content : Content) → TellsOf b content
+        → (after (known_behind before) content).named ≡ count_by is_named_interface (before ++ b ∷ [])
+    named contents.Section t = counted-none _ _ _ (count-more is_named_interface before b) (unnamed b t.1)
+    named (contents.Interface d) t =
+        sym (count-more is_named_interface before b
+        ∙ ap (λ x. count_by is_named_interface before + cond x 1 0) (named-as b d.is_named t.1 t.4))
+    named (contents.Packet p) t = counted-none _ _ _ (count-more is_named_interface before b) (unnamed b t.1)
+    named contents.Other t = counted-none _ _ _ (count-more is_named_interface before b) (unnamed b t.1)
+
+    first : (content : Content) → TellsOf b content
         → (after (known_behind before) content).first ≡ slice_get (interfaces_of (before ++ b ∷ [])) 0
     first contents.Section t = rw (interfaces-more before b, t.1) refl
-    first (contents.Interface i) t = rw (interfaces-more before b, t.1, t.3) (sym (first-more (interfaces_of before) (told b)))
+    first (contents.Interface i) t = rw (interfaces-more before b, t.1, t.3)
+        (sym (first-more (interfaces_of before) (told b)))
     first (contents.Packet p) t = rw (interfaces-more before b, t.1) refl
     first contents.Other t = rw (interfaces-more before b, t.1) refl
 
 -- ---- the laws, from any blocks on
 
 -- what comes of a block and of those behind it, in a way that needs these only if the block breaks no rule
-module _ {A : Type 0} (at : Progress → Result Content Rule → A → A) (at-faulty : (p : Progress) (rule : Rule) (x y : A) → at p (Err rule) x ≡ at p (Err rule) y) where
+module _ {A : Type 0} (at : Progress → Result Content Rule → A → A) (at-faulty : (p : Progress) (rule : Rule) (x y : A)
+    → at p (Err rule) x ≡ at p (Err rule) y) where
   one : (before : List Standing) (b : Standing) (content : Result Content Rule) (later : Progress → A) (there : A)
-      → IfOk content (Tells (is_header b) (is_interface b) (is_other b) (told b)) → later (known_behind (before ++ b ∷ [])) ≡ there
-      → at (known_behind before) content (later (behind (known_behind before) content)) ≡ at (known_behind before) content there
+      → IfOk content (TellsOf b) → later (known_behind (before ++ b ∷ [])) ≡ there
+      → at (known_behind before) content (later (behind (known_behind before) content))
+      ≡ at (known_behind before) content there
   one before b (Ok content) later there tells is =
       ap (at (known_behind before) (Ok content)) (ap later (step before b content tells) ∙ is)
-  one before b (Err rule) later there tells is = at-faulty (known_behind before) rule (later (known_behind before)) there
+  one before b (Err rule) later there tells is =
+      at-faulty (known_behind before) rule (later (known_behind before)) there
 
-items-from : (file : ℕ) (before : List Standing) (items : List (pieces.Item Block)) → items_in file (known_behind before) items ≡ items_behind file before items
+items-from : (file : ℕ) (before : List Standing) (items : List (pieces.Item Block))
+    → items_in file (known_behind before) items ≡ items_behind file before items
 unfolding items_in items_behind
 items-from file before [] = refl
 items-from file before (pieces.stopped stop ∷ rest) = refl
 items-from file before (pieces.given block body ∷ rest) =
     one (λ p content later. items_at file p block body content later) (λ p rule x y. refl) before (block, body)
-    (content_in (known_behind before).interfaces block.kind block.order body) (λ p. items_in file p rest) (items_behind file (before ++ (block, body) ∷ []) rest)
+    (content_in (known_behind before).interfaces block.kind block.order body) (λ p. items_in file p rest)
+    (items_behind file (before ++ (block, body) ∷ []) rest)
     (content-tells (known_behind before).interfaces (block, body)) (items-from file (before ++ (block, body) ∷ []) rest)
 
-ending-from : (before : List Standing) (items : List (pieces.Item Block)) → ending_in (known_behind before) items ≡ ending_behind before items
+ending-from : (before : List Standing) (items : List (pieces.Item Block))
+    → ending_in (known_behind before) items ≡ ending_behind before items
 unfolding ending_in ending_behind
 ending-from before [] = refl
 ending-from before (pieces.stopped stop ∷ rest) = refl
 ending-from before (pieces.given block body ∷ rest) =
     one (λ p content later. unless_faulty content (ending_with p false) later) (λ p rule x y. refl) before (block, body)
-    (content_in (known_behind before).interfaces block.kind block.order body) (λ p. ending_in p rest) (ending_behind (before ++ (block, body) ∷ []) rest)
+    (content_in (known_behind before).interfaces block.kind block.order body) (λ p. ending_in p rest)
+    (ending_behind (before ++ (block, body) ∷ []) rest)
     (content-tells (known_behind before).interfaces (block, body)) (ending-from (before ++ (block, body) ∷ []) rest)
 
-first-from : (before : List Standing) (items : List (pieces.Item Block)) → first_in (known_behind before) items ≡ first_behind before items
+first-from : (before : List Standing) (items : List (pieces.Item Block))
+    → first_in (known_behind before) items ≡ first_behind before items
 unfolding first_in first_behind
 first-from before [] = refl
 first-from before (pieces.stopped stop ∷ rest) = refl
 first-from before (pieces.given block body ∷ rest) =
     one (λ p content later. unless_item content p.first later) (λ p rule x y. refl) before (block, body)
-    (content_in (known_behind before).interfaces block.kind block.order body) (λ p. first_in p rest) (first_behind (before ++ (block, body) ∷ []) rest)
+    (content_in (known_behind before).interfaces block.kind block.order body) (λ p. first_in p rest)
+    (first_behind (before ++ (block, body) ∷ []) rest)
     (content-tells (known_behind before).interfaces (block, body)) (first-from (before ++ (block, body) ∷ []) rest)
 
 -- nothing is known behind no blocks

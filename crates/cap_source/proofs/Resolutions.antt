@@ -1,5 +1,6 @@
 -- Resolutions by their codes.
-use Rattle.std.proofs.Common.{arith, ◌≡◌, ℕ, Bool, true, false, Option, Some, None, IsSome, IfSome, IsTrue, ◌↔◌, refl, ap, subst}
+use Rattle.std.proofs.Common.{arith, ◌≡◌, ℕ, Bool, true, false, Option, Some, None, IsSome, IfSome, IsTrue, ◌↔◌, refl}
+use Rattle.std.proofs.Common.{ap, subst}
 use Rattle.std.proofs.Math.Bool.{Bool-set}
 use Rattle.cap_time.specs.Code.{is_allowed}
 use Rattle.cap_time.specs.Resolution.{code_of}
@@ -11,7 +12,8 @@ use Rattle.cap_source.specs.TimeBases.{resolution_if, resolution_of, microsecond
 abbrev resolution_from : (code : ℕ) → IsTrue (is_allowed code) → Resolution
 resolution_from code allowed = record { code = code; allowed = allowed }
 
-same_from : (c d : ℕ) (p : IsTrue (is_allowed c)) (q : IsTrue (is_allowed d)) → c ≡ d → resolution_from c p ≡ resolution_from d q
+same_from : (c d : ℕ) (p : IsTrue (is_allowed c)) (q : IsTrue (is_allowed d)) → c ≡ d
+    → resolution_from c p ≡ resolution_from d q
 same_from c d p q e =
     let along : (h : IsTrue (is_allowed d)) → resolution_from c p ≡ resolution_from d h =
     subst (λ (y : ℕ). (h : IsTrue (is_allowed y)) → resolution_from c p ≡ resolution_from y h) e
@@ -30,15 +32,18 @@ same_nanoseconds r e = same_resolution r (resolution_of_unit Nano) e
 
 pub ruleset same_of_unit = (same_microseconds, same_nanoseconds)
 
-some_if : (code : ℕ) (allowed : Bool) (is : is_allowed code ≡ allowed) (r : Resolution) → r.code ≡ code → Some r ≡ resolution_if code allowed is
+some_if : (code : ℕ) (allowed : Bool) (is : is_allowed code ≡ allowed) (r : Resolution) → r.code ≡ code
+    → Some r ≡ resolution_if code allowed is
 some_if code true is r e = ap Some (same_resolution r (resolution_from code is) e)
 some_if code false is r e = cc
 
-none_if : (code : ℕ) (allowed : Bool) (is : is_allowed code ≡ allowed) → (IsTrue (is_allowed code) → ⊥) → None ≡ resolution_if code allowed is
+none_if : (code : ℕ) (allowed : Bool) (is : is_allowed code ≡ allowed) → (IsTrue (is_allowed code) → ⊥)
+    → None ≡ resolution_if code allowed is
 none_if code allowed is h = grind arith
 
 -- what is made of a code
-pub from_code_is : (code : ℕ) (o : Option Resolution) → IsSome o ↔ IsTrue (is_allowed code) → IfSome o (λ r. code_of r ≡ code) → o ≡ resolution_of code
+pub from_code_is : (code : ℕ) (o : Option Resolution) → IsSome o ↔ IsTrue (is_allowed code)
+    → IfSome o (λ r. code_of r ≡ code) → o ≡ resolution_of code
 unfolding resolution_of
 from_code_is code (Some r) both is = some_if code (is_allowed code) refl r is
 from_code_is code None both is = none_if code (is_allowed code) refl (λ a. let e = both.1 a in absurd (cc))

@@ -1,10 +1,12 @@
 -- What is true of the interfaces and of the packets that blocks say.
-use Rattle.std.proofs.Common.{◌≡◌, ◌*◌, ℕ, ◌+◌, ◌^◌, ◌≤◌, drop, slice_get, List, length, Bool, Some, None, Result, Ok, IfOk, arith, if◌then◌else◌}
+use Rattle.std.proofs.Common.{◌≡◌, ◌*◌, ℕ, ◌+◌, ◌^◌, ◌≤◌, drop, slice_get, List, length, Bool, Some, None, Result, Ok}
+use Rattle.std.proofs.Common.{IfOk, arith, if◌then◌else◌}
 use Rattle.cap_bytes.specs.Number.{number}
 use Rattle.cap_bytes.specs.declared.faults.Rule.{Rule}
 use Rattle.cap_bytes.specs.declared.numbers.Order.{Order}
 use Rattle.cap_source.specs.TimeBases.{interface_in}
-use Rattle.cap_source.specs.Contents.{fitting, timed_in, simple_in, simple_captured, of_interface, of_body, content_in}
+use Rattle.cap_source.specs.Contents.{fitting, timed_in, simple_in, simple_captured, of_interface, of_body, described}
+use Rattle.cap_source.specs.Contents.{content_in}
 use Rattle.cap_source.specs.declared.contents.Content.{Content}
 use Rattle.cap_source.specs.declared.contents.Content.TheVariants as contents
 use Rattle.cap_source.specs.declared.contents.Packet.{Packet}
@@ -60,19 +62,21 @@ module _ (OfInterface : Interface → Type 0) (OfPacket : Packet → Type 0) whe
   -- the one of an interface block, the other of a packet's
   abbrev pub OfContent : Content → Type 0
   OfContent contents.Section = Unit {0}
-  OfContent (contents.Interface i) = OfInterface i
+  OfContent (contents.Interface described) = OfInterface described.interface
   OfContent (contents.Packet p) = OfPacket p
   OfContent contents.Other = Unit {0}
 
-  by_kind : (a b c d e : Bool) (i : Result Interface Rule) (x y z : Result Packet Rule)
+  by_kind : (a b c d e : Bool) (order : Order) (body : List ℕ) (i : Result Interface Rule) (x y z : Result Packet Rule)
       → IfOk i OfInterface → IfOk x OfPacket → IfOk y OfPacket → IfOk z OfPacket
-      → IfOk (if a then Ok contents.Section else if b then of_body contents.Interface i else
-      if c then of_body contents.Packet x else if d then of_body contents.Packet y else if e then of_body contents.Packet z else Ok contents.Other) OfContent
-  by_kind a b c d e i x y z f p q r = grind arith
+      → IfOk (if a then Ok contents.Section else if b then of_body (described order body) i else
+      if c then of_body contents.Packet x else if d then of_body contents.Packet y else if e then of_body
+      contents.Packet z else Ok contents.Other) OfContent
+  by_kind a b c d e order body i x y z f p q r = grind arith
 
   pub content-holds : (interfaces : List Interface) (kind : ℕ) (order : Order) (body : List ℕ)
       → IfOk (interface_in (length interfaces) order body) OfInterface
-      → ((k : ℕ) → OfFound OfPacket interfaces k (timed_packet k order body)) → OfFound OfPacket interfaces 0 (simple_packet order body)
+      → ((k : ℕ) → OfFound OfPacket interfaces k (timed_packet k order body))
+      → OfFound OfPacket interfaces 0 (simple_packet order body)
       → IfOk (content_in interfaces kind order body) OfContent
   unfolding content_in
   content-holds interfaces kind order body interface timed simple = search (by_kind, timed-holds, simple-holds)

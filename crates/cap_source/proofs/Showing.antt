@@ -1,41 +1,55 @@
 -- Whether a packet comes next that is shown already.
-use Rattle.std.proofs.Common.{◌≡◌, IsTrue, Bool, true, false, Option, Some, None, is_some, refl, sym, ap, subst, ◌∙◌, inl, inr, arith}
+use Rattle.std.proofs.Common.{◌≡◌, IsTrue, Bool, true, false, Option, Some, None, is_some, refl, sym, ap, subst, ◌∙◌}
+use Rattle.std.proofs.Common.{inl, inr, arith}
 use Rattle.cap_source.specs.Feed.{Knows, ShowsPacket}
-use Rattle.cap_source.specs.FileState.{FileState, feed_of, head_of, is_packet, is_whole, Learns, LearnsOr, ShowsNext, TakesShown}
+use Rattle.cap_source.specs.FileState.{FileState, feed_of, head_of, is_packet, is_whole, Learns, LearnsOr, ShowsNext}
+use Rattle.cap_source.specs.FileState.{TakesShown}
 use Rattle.cap_source.specs.declared.readers.Next.{Next}
 use Rattle.cap_source.specs.declared.readers.Next.TheVariants as nexts
 
 -- it is known already
-pub shows-known : (old : FileState) (known : Option Next) (shown : Bool) → IsTrue (is_some known) → shown ≡ is_packet known → ShowsNext old known shown old known
+pub shows-known : (old : FileState) (known : Option Next) (shown : Bool) → IsTrue (is_some known)
+    → shown ≡ is_packet known → ShowsNext old known shown old known
 shows-known old None shown is e = grind arith
 shows-known old (Some (nexts.Packet meta place)) shown is e =
-    subst (λ (b : Bool). ShowsNext old (Some (nexts.Packet meta place)) b old (Some (nexts.Packet meta place))) (sym e) (meta, place, refl, (refl, refl))
+    subst (λ (b : Bool). ShowsNext old (Some (nexts.Packet meta place)) b old (Some (nexts.Packet meta place))) (sym e)
+    (meta, place, refl, (refl, refl))
 shows-known old (Some (nexts.Refused refusal ending)) shown is e =
-    subst (λ (b : Bool). ShowsNext old (Some (nexts.Refused refusal ending)) b old (Some (nexts.Refused refusal ending))) (sym e) (inl (refl, refl))
+    subst (λ (b : Bool). ShowsNext old (Some (nexts.Refused refusal ending)) b old
+    (Some (nexts.Refused refusal ending))) (sym e) (inl (refl, refl))
 shows-known old (Some (nexts.End ending)) shown is e =
-    subst (λ (b : Bool). ShowsNext old (Some (nexts.End ending)) b old (Some (nexts.End ending))) (sym e) (inl (refl, refl))
+    subst (λ (b : Bool). ShowsNext old (Some (nexts.End ending)) b old (Some (nexts.End ending))) (sym e)
+    (inl (refl, refl))
 
 -- it is learned
-pub shows-learned : (old new : FileState) (known after : Option Next) (shown : Bool) → is_some known ≡ false → TakesShown old true after new → shown ≡ is_packet after
+pub shows-learned : (old new : FileState) (known after : Option Next) (shown : Bool) → is_some known ≡ false
+    → TakesShown old true after new → shown ≡ is_packet after
     → ShowsNext old known shown new after
 shows-learned old new (Some next) after shown is h e = grind arith
 shows-learned old new None after shown is h e =
     subst (λ (a : Option Next). ShowsNext old None shown new a) (sym h.1) (by h.0 h.2 (e ∙ ap is_packet h.1))
   where
     by : (next : Next) → Learns old next new → shown ≡ is_packet (Some next) → ShowsNext old None shown new (Some next)
-    by (nexts.Packet meta place) l s = subst (λ (b : Bool). ShowsNext old None b new (Some (nexts.Packet meta place))) (sym s) (meta, place, refl, l)
+    by (nexts.Packet meta place) l s = subst (λ (b : Bool). ShowsNext old None b new (Some (nexts.Packet meta place)))
+        (sym s) (meta, place, refl, l)
     by (nexts.Refused refusal ending) l s =
-        subst (λ (b : Bool). ShowsNext old None b new (Some (nexts.Refused refusal ending))) (sym s) (inr (nexts.Refused refusal ending, refl, l))
-    by (nexts.End ending) l s = subst (λ (b : Bool). ShowsNext old None b new (Some (nexts.End ending))) (sym s) (inr (nexts.End ending, refl, l))
+        subst (λ (b : Bool). ShowsNext old None b new (Some (nexts.Refused refusal ending))) (sym s)
+        (inr (nexts.Refused refusal ending, refl, l))
+    by (nexts.End ending) l s = subst (λ (b : Bool). ShowsNext old None b new (Some (nexts.End ending))) (sym s)
+        (inr (nexts.End ending, refl, l))
 
-knows-learned : (old new : FileState) (known after : Option Next) (next : Next) → IsTrue (is_whole known old.broken) → after ≡ Some next → LearnsOr old known next new
+knows-learned : (old new : FileState) (known after : Option Next) (next : Next) → IsTrue (is_whole known old.broken)
+    → after ≡ Some next → LearnsOr old known next new
     → Knows (feed_of old known) (head_of next) (feed_of new after)
 knows-learned old new None after next whole is l = grind arith
 knows-learned old new (Some k) after next whole is l = grind arith
 
 -- the same of the file as a feed
-pub shows-packet : (old new : FileState) (known after : Option Next) (shown : Bool) → IsTrue (is_whole known old.broken) → ShowsNext old known shown new after
+pub shows-packet : (old new : FileState) (known after : Option Next) (shown : Bool) → IsTrue (is_whole known old.broken)
+    → ShowsNext old known shown new after
     → ShowsPacket (feed_of old known) shown (feed_of new after)
-shows-packet old new known after true whole h = (h.0, knows-learned old new known after (nexts.Packet h.0 h.1) whole h.2 h.3)
+shows-packet old new known after true whole h =
+    (h.0, knows-learned old new known after (nexts.Packet h.0 h.1) whole h.2 h.3)
 shows-packet old new known after false whole (inl h) = inl (λ i. feed_of (h.0 i) (h.1 i))
-shows-packet old new known after false whole (inr h) = inr (head_of h.0, knows-learned old new known after h.0 whole h.1 h.2)
+shows-packet old new known after false whole (inr h) =
+    inr (head_of h.0, knows-learned old new known after h.0 whole h.1 h.2)

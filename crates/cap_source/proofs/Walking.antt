@@ -1,5 +1,7 @@
 -- A text of the packets of a feed, written packet by packet.
-use Rattle.std.proofs.Common.{◌≡◌, ℕ, ◌≤◌, List, [], ◌∷◌, ◌++◌, length, take, drop, Bool, IsTrue, Option, Some, None, IsSome, Ok, Err, refl, sym, ap, ◌∙◌, subst, arith, append-nil, append_assoc, length-append, take-append-drop, take_at, drop_at}
+use Rattle.std.proofs.Common.{◌≡◌, ℕ, ◌≤◌, List, [], ◌∷◌, ◌++◌, length, take, drop, Bool, IsTrue, Option, Some, None}
+use Rattle.std.proofs.Common.{IsSome, Ok, Err, refl, sym, ap, ◌∙◌, subst, arith, append-nil, append_assoc}
+use Rattle.std.proofs.Common.{length-append, take-append-drop, take_at, drop_at}
 use Rattle.std.proofs.lemmas.Bool.{false≢true}
 use Rattle.cap_bytes.proofs.Putting.{Putting, Putting-more, Putting-all, Putting-front}
 use Rattle.cap_bytes.specs.Device.{Writer}
@@ -47,8 +49,10 @@ pub record Walking (first plan : Plan) (old new : Feed) (failed_old failed_new :
 -- more of the text is written
 pub Walking-by : (first plan next : Plan) (old mid new : Feed) (fo fm fn : Bool) (from m to : Writer) (line : List ℕ)
     → Walking first plan old mid fo fm from m
-    → (IsTrue mid.told → IsTrue new.told) → ((file : ℕ) → IsTrue (new.can_fail file) → IsTrue (mid.can_fail file)) → new.left ≤ mid.left
-    → (IsTrue mid.told → plan.text mid.items ≡ line ++ next.text new.items) → (IsTrue mid.told → plan.refusal mid.items ≡ next.refusal new.items)
+    → (IsTrue mid.told → IsTrue new.told) → ((file : ℕ) → IsTrue (new.can_fail file) → IsTrue (mid.can_fail file))
+    → new.left ≤ mid.left
+    → (IsTrue mid.told → plan.text mid.items ≡ line ++ next.text new.items)
+    → (IsTrue mid.told → plan.refusal mid.items ≡ next.refusal new.items)
     → (IsTrue m.told → to.held ≡ m.held ++ line)
     → (IsTrue m.told → IsTrue to.told) → (IsTrue to.can_fail → IsTrue m.can_fail) → fn ≡ fm
     → Walking first next old new fo fn from to
@@ -67,13 +71,15 @@ Walking-by first plan next old mid new fo fm fn from m to line p tells can less 
           (ap (drop (length line)) whole ∙ drop_at line behind (length line) refl)
           (Putting-more from m to (first.text old.items) (plan.text mid.items) (length line) (p.text t)
           (omega (arith, ap length whole, length-append line behind))
-          (λ w. wrote w ∙ ap (λ l. m.held ++ l) (sym (ap (take (length line)) whole ∙ take_at line behind (length line) refl)))
+          (λ w. wrote w ∙ ap (λ l. m.held ++ l) (sym (ap (take (length line)) whole
+          ∙ take_at line behind (length line) refl)))
           told cannot);
       refusal_same = λ t. sym (same (p.told t)) ∙ p.refusal_same t;
     }
 
 -- one more packet is written
-pub Walking-more : (first plan next : Plan) (old mid shown new : Feed) (fo fm fn : Bool) (from m to : Writer) (meta : Meta) (line : List ℕ)
+pub Walking-more : (first plan next : Plan) (old mid shown new : Feed) (fo fm fn : Bool) (from m to : Writer)
+    (meta : Meta) (line : List ℕ)
     → Walking first plan old mid fo fm from m
     → Keeps mid shown → (IsTrue mid.told → ShowsItem mid (Ok (Some meta)) shown)
     → Keeps shown new → (IsTrue shown.told → new.items ≡ drop 1 shown.items)
@@ -82,14 +88,17 @@ pub Walking-more : (first plan next : Plan) (old mid shown new : Feed) (fo fm fn
     → (IsTrue m.told → IsTrue to.told) → (IsTrue to.can_fail → IsTrue m.can_fail) → fn ≡ fm
     → Walking first next old new fo fn from to
 Walking-more first plan next old mid shown new fo fm fn from m to meta line p asked shows passed dropped goes =
-    let rest : IsTrue mid.told → drop 1 mid.items ≡ new.items = λ t. sym (dropped (asked.told t) ∙ ap (drop 1) (shows t).0.items) in
+    let rest : IsTrue mid.told → drop 1 mid.items ≡ new.items =
+    λ t. sym (dropped (asked.told t) ∙ ap (drop 1) (shows t).0.items) in
     Walking-by first plan next old mid new fo fm fn from m to line p
-    (λ t. passed.told (asked.told t)) (λ file c. asked.can_fail file (passed.can_fail file c)) (omega (arith, passed.left, asked.left))
+    (λ t. passed.told (asked.told t)) (λ file c. asked.can_fail file (passed.can_fail file c))
+    (omega (arith, passed.left, asked.left))
     (λ t. ap plan.text (shows t).1 ∙ (goes.text (drop 1 mid.items) ∙ ap (λ l. line ++ next.text l) (rest t)))
     (λ t. ap plan.refusal (shows t).1 ∙ (goes.refusal (drop 1 mid.items) ∙ ap next.refusal (rest t)))
 
 -- what is written if a call for the next packet answers a fault
-pub Prints-fault : (plan : Plan) (fault : Fault) (text : List ℕ) (refusal : Option Refusal) (from to : Writer) (mid shown : Feed)
+pub Prints-fault : (plan : Plan) (fault : Fault) (text : List ℕ) (refusal : Option Refusal) (from to : Writer)
+    (mid shown : Feed)
     → IsPlan plan → Putting from to text (plan.text mid.items) → IsTrue from.told → plan.refusal mid.items ≡ refusal
     → ShowsItem mid (Err fault) shown → Prints {A = Unit {0}} text refusal from.held (Err fault) to.held
 Prints-fault plan (Refused r) text refusal from to mid shown is p t same shows = (
@@ -108,24 +117,33 @@ Prints-end plan text refusal from to mid shown is p t same shows = (
 )
 
 -- What is written if the last part of a text is, or a prefix of it.
-pub Prints-whole : (fault : Fault) (text line : List ℕ) (refusal : Option Refusal) (r : Refusal) (from mid : Writer) (held : List ℕ)
+pub Prints-whole : (fault : Fault) (text line : List ℕ) (refusal : Option Refusal) (r : Refusal) (from mid : Writer)
+    (held : List ℕ)
     → Putting from mid text line → IsTrue from.told → refusal ≡ Some r
     → Prints {A = Unit {0}} line (Some r) mid.held (Err fault) held
     → Prints {A = Unit {0}} text refusal from.held (Err fault) held
-Prints-whole (Refused s) text line refusal r from mid held p t is prints = grind (arith, append_assoc, take, take-append-drop)
+Prints-whole (Refused s) text line refusal r from mid held p t is prints =
+    grind (arith, append_assoc, take, take-append-drop)
 Prints-whole (Read file offset) text line refusal r from mid held p t is prints =
-    Putting-front from mid held text line [] prints.0 (subst (Putting from mid text) (sym (append-nil line)) p) t prints.1
+    Putting-front from mid held text line [] prints.0
+    (subst (Putting from mid text) (sym (append-nil line)) p) t prints.1
 Prints-whole Write text line refusal r from mid held p t is prints =
-    Putting-front from mid held text line [] prints.0 (subst (Putting from mid text) (sym (append-nil line)) p) t prints.1
+    Putting-front from mid held text line [] prints.0
+    (subst (Putting from mid text) (sym (append-nil line)) p) t prints.1
 Prints-whole Memory text line refusal r from mid held p t is prints =
-    Putting-front from mid held text line [] prints.0 (subst (Putting from mid text) (sym (append-nil line)) p) t prints.1
+    Putting-front from mid held text line [] prints.0
+    (subst (Putting from mid text) (sym (append-nil line)) p) t prints.1
 
 -- And if a line before the last isn't written whole: a prefix of it.
-pub Prints-front : (fault : Fault) (text line behind : List ℕ) (refusal : Option Refusal) (from mid : Writer) (held : List ℕ)
+pub Prints-front : (fault : Fault) (text line behind : List ℕ) (refusal : Option Refusal) (from mid : Writer)
+    (held : List ℕ)
     → Putting from mid text (line ++ behind) → IsTrue from.told
     → Prints {A = Unit {0}} line None mid.held (Err fault) held
     → Prints {A = Unit {0}} text refusal from.held (Err fault) held
-Prints-front (Refused r) text line behind refusal from mid held p t prints = absurd (false≢true (subst IsSome (sym prints.0) refl))
+Prints-front (Refused r) text line behind refusal from mid held p t prints =
+    absurd (false≢true (subst IsSome (sym prints.0) refl))
 Prints-front (Read file offset) text line behind refusal from mid held p t prints = search (Putting-front)
-Prints-front Write text line behind refusal from mid held p t prints = Putting-front from mid held text line behind prints.0 p t prints.1
-Prints-front Memory text line behind refusal from mid held p t prints = Putting-front from mid held text line behind prints.0 p t prints.1
+Prints-front Write text line behind refusal from mid held p t prints =
+    Putting-front from mid held text line behind prints.0 p t prints.1
+Prints-front Memory text line behind refusal from mid held p t prints =
+    Putting-front from mid held text line behind prints.0 p t prints.1

@@ -19,7 +19,8 @@ abbrev pub feed_of : {R : Type 0} {source : Source.Ghosts R} {device : Device.Gh
 feed_of capture = file_feed (state_of capture.reader (progress_of capture.reached)) capture.next
 
 -- its first interface, if it stands before what comes next or the end: of instance 0
-abbrev pub first_of : {R : Type 0} {source : Source.Ghosts R} {device : Device.Ghosts R} → Capture R source device → Option Interface
+abbrev pub first_of : {R : Type 0} {source : Source.Ghosts R} {device : Device.Ghosts R} → Capture R source device
+    → Option Interface
 first_of capture = first_by capture.next (state_of capture.reader (progress_of capture.reached))
 
 -- its number, which is the one of the feed's files
@@ -27,7 +28,8 @@ abbrev pub number_of : {R : Type 0} {source : Source.Ghosts R} {device : Device.
 number_of capture = (state_of capture.reader (progress_of capture.reached)).file
 
 -- how far it was read
-abbrev pub position_of : {R : Type 0} {source : Source.Ghosts R} {device : Device.Ghosts R} → Capture R source device → Position
+abbrev pub position_of : {R : Type 0} {source : Source.Ghosts R} {device : Device.Ghosts R}
+    → Capture R source device → Position
 position_of capture =
     record {
       offset = (state_of capture.reader (progress_of capture.reached)).offset;

@@ -1,12 +1,13 @@
 -- What the blocks of a pcapng file say, and the first rule that their bodies break.
-use Rattle.std.specs.Prelude.{◌==◌, ◌||◌, ◌*◌, ◌+◌, ◌^◌, nat_lt, ℕ, if◌then◌else◌, List, length, drop, slice_get, Option, Some, None, Result, Ok, Err}
+use Rattle.std.specs.Prelude.{◌==◌, ◌||◌, ◌*◌, ◌+◌, ◌^◌, nat_lt, ℕ, if◌then◌else◌, List, length, drop, slice_get}
+use Rattle.std.specs.Prelude.{Option, Some, None, Result, Ok, Err}
 use Rattle.cap_bytes.specs.Number.{number}
 use Rattle.cap_bytes.specs.declared.faults.Rule.{Rule}
 use Rattle.cap_bytes.specs.declared.faults.Rule.TheVariants as rules
 use Rattle.cap_bytes.specs.declared.numbers.Order.{Order}
 use Rattle.cap_time.specs.declared.resolutions.Interface.{Interface}
 use Rattle.cap_blocks.specs.Grammar.{section_kind, interface_kind, obsolete_kind, simple_kind, enhanced_kind}
-use Rattle.cap_source.specs.TimeBases.{interface_in}
+use Rattle.cap_source.specs.TimeBases.{interface_in, is_named}
 use Rattle.cap_source.specs.declared.contents.Content.{Content}
 use Rattle.cap_source.specs.declared.contents.Content.TheVariants as contents
 use Rattle.cap_source.specs.declared.contents.Packet.{Packet}
@@ -59,11 +60,15 @@ abbrev pub of_body : {A : Type 0} → (A → Content) → Result A Rule → Resu
 of_body content (Ok x) = Ok (content x)
 of_body content (Err rule) = Err rule
 
+-- what an interface block says that gives that interface
+abbrev pub described : Order → List ℕ → Interface → Content
+described order body interface = contents.Interface (record { interface = interface; is_named = is_named order body })
+
 -- What a block says in a section with these interfaces, or the first rule that its body breaks.
 unfoldable pub content_in : List Interface → ℕ → Order → List ℕ → Result Content Rule
 content_in interfaces kind order body =
     if kind == section_kind then Ok contents.Section else
-    if kind == interface_kind then of_body contents.Interface (interface_in (length interfaces) order body) else
+    if kind == interface_kind then of_body (described order body) (interface_in (length interfaces) order body) else
     if kind == enhanced_kind then of_body contents.Packet (timed_in interfaces (number order 4 body) order body) else
     if kind == obsolete_kind then of_body contents.Packet (timed_in interfaces (number order 2 body) order body) else
     if kind == simple_kind then of_body contents.Packet (simple_in interfaces order body) else Ok contents.Other

@@ -1,10 +1,11 @@
 -- What a list of packets that comes one by one is at one moment, and what its calls do.
-use Rattle.std.specs.Prelude.{◌≡◌, ◌==◌, ◌*◌, ◌^◌, ◌≤◌, ◌<◌, ℕ, List, [], ◌∷◌, length, drop, Bool, true, false, IsTrue, Option, Some, None, IfSome, Result, Ok, Err, ⊤, ◌⊎◌}
+use Rattle.std.specs.Prelude.{◌≡◌, ◌==◌, ◌*◌, ◌^◌, ◌≤◌, ◌<◌, ℕ, List, [], ◌∷◌, length, drop, Bool, true, false, IsTrue}
+use Rattle.std.specs.Prelude.{Option, Some, None, IfSome, Result, Ok, Err, ⊤, ◌⊎◌}
 use Rattle.std.specs.List.{list_any}
 use Rattle.cap_bytes.specs.declared.faults.Fault.{Fault}
 use Rattle.cap_bytes.specs.declared.faults.Fault.TheVariants.{Refused, Read, Write, Memory}
 use Rattle.cap_bytes.specs.declared.faults.Refusal.{Refusal}
-use Rattle.cap_source.specs.declared.feeds.Ending.{Ending}
+use Rattle.cap_source.specs.declared.feeds.FileEnd.{FileEnd}
 use Rattle.cap_source.specs.declared.feeds.FeedHeld.{FeedHeld}
 use Rattle.cap_source.specs.declared.feeds.Head.{Head}
 use Rattle.cap_source.specs.declared.feeds.Head.TheVariants as heads
@@ -21,17 +22,16 @@ refusal_of [] = None
 refusal_of (packet meta frame ∷ items) = refusal_of items
 refusal_of (refused refusal ∷ items) = Some refusal
 
--- A feed of the packets of the files of those numbers. `items` are those to come, if the devices tell
--- their bytes, and `endings` says how each file ends, if no refusal comes before. `known` is what comes
--- next, once that was asked for, and `frame` are the captured bytes of a packet that comes next. `broken` is
--- the fault of a read that failed, once `head` has answered it. No packet to come of a file begins before its
--- place of `places`, and at most `left` packets are to come, whatever the devices do. `can_fail` says of each file whether
--- its device can fail.
+-- A feed of the packets of the files of those numbers. `items` are those to come, if the devices tell their bytes, and
+-- `endings` says how each file ends, if no refusal comes before. `known` is what comes next, once that was asked for,
+-- and `frame` are the captured bytes of a packet that comes next. `broken` is the fault of a read that failed, once
+-- `head` has answered it. No packet to come of a file begins before its place of `places`, and at most `left` packets
+-- are to come, whatever the devices do. `can_fail` says of each file whether its device can fail.
 pub record Feed : Type 0 where
   pub files : List ℕ
   pub told : Bool
   pub items : List Item
-  pub endings : ℕ → Ending
+  pub endings : ℕ → FileEnd
   pub known : Option Head
   pub frame : List ℕ
   pub broken : Option Fault
@@ -135,7 +135,8 @@ FindsItem old (Err (Read file offset)) new = ⊤
 FindsItem old (Err Write) new = ⊥
 FindsItem old (Err Memory) new = SameItems old new
 
--- what `shows_packet` answers: whether a packet comes next, and is known. If not, nothing is said of what comes next, but it may be known now.
+-- what `shows_packet` answers: whether a packet comes next, and is known. If not, nothing is said of what comes next,
+-- but it may be known now.
 abbrev pub ShowsPacket : Feed → Bool → Feed → Type 0
 ShowsPacket old true new = (meta : Meta) × Knows old (heads.Packet meta) new
 ShowsPacket old false new = (new ≡ old) ⊎ ((head : Head) × Knows old head new)

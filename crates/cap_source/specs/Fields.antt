@@ -43,4 +43,5 @@ FramesFit = (tail : Tail) (file : ℕ) (bytes : List ℕ) → AllByRecursion Has
 
 -- In every file, which is a list of bytes, the fields of the packets and of their interfaces fit in their widths, too.
 abbrev pub FieldsFit : Type 0
-FieldsFit = (tail : Tail) (file : ℕ) (bytes : List ℕ) → AreBytes bytes → AllByRecursion ItemFits (file_items tail file bytes)
+FieldsFit = (tail : Tail) (file : ℕ) (bytes : List ℕ) → AreBytes bytes
+    → AllByRecursion ItemFits (file_items tail file bytes)

@@ -1,5 +1,6 @@
 -- What a file's reader still gives, of either format, and what is learned of what comes next.
-use Rattle.std.specs.Prelude.{◌≡◌, ◌+◌, ◌-◌, ◌^◌, ◌≤◌, ◌<◌, ℕ, List, [], ◌∷◌, length, take, drop, Bool, true, false, not, IsTrue, Option, Some, None, IfSome, IfNone, Result, Ok, Err, ⊤, ◌⊎◌, is_some}
+use Rattle.std.specs.Prelude.{◌≡◌, ◌+◌, ◌-◌, ◌^◌, ◌≤◌, ◌<◌, ℕ, List, [], ◌∷◌, length, take, drop, Bool, true, false}
+use Rattle.std.specs.Prelude.{not, IsTrue, Option, Some, None, IfSome, IfNone, Result, Ok, Err, ⊤, ◌⊎◌, is_some}
 use Rattle.cap_bytes.specs.Reach.{ReachesTo}
 use Rattle.cap_bytes.specs.Reader.{State}
 use Rattle.cap_bytes.specs.Window.{State as WindowState}
@@ -20,25 +21,26 @@ use Rattle.cap_blocks.specs.declared.blocks.Block.{Block}
 use Rattle.cap_source.specs.declared.contents.Content.{Content}
 use Rattle.cap_source.specs.declared.packets.Meta.{Meta}
 use Rattle.cap_source.specs.declared.contents.Content.TheVariants as contents
-use Rattle.cap_source.specs.Items.{Progress, meta_in, ending_with, items_in, ending_in, first_in, interface_of, pcap_items, pcap_ending, unless_refused, items_from, ending_from, first_from}
+use Rattle.cap_source.specs.Items.{Progress, meta_in, ending_with, items_in, ending_in, first_in, interface_of}
+use Rattle.cap_source.specs.Items.{pcap_items, pcap_ending, unless_refused, items_from, ending_from, first_from}
 use Rattle.cap_source.specs.Reached.{counted}
-use Rattle.cap_source.specs.declared.feeds.Ending.{Ending}
+use Rattle.cap_source.specs.declared.feeds.FileEnd.{FileEnd}
 use Rattle.cap_source.specs.declared.feeds.Head.{Head}
 use Rattle.cap_source.specs.declared.feeds.Head.TheVariants as heads
 use Rattle.cap_source.specs.declared.readers.Next.{Next}
 use Rattle.cap_source.specs.declared.readers.Next.TheVariants as nexts
 
--- The file of that number as its reader still gives it: the items to come, how the file ends, and its
--- first interface if it stands before the next item or the end, if the device tells its bytes;
--- `noted` is that interface as far as the file was read. The next record or block begins at `offset` or
--- later. The file was read up to `read`, and its device gives `most` bytes at a time at most, if it tells that. `lent` is what the reader lends of the one that was given last. `stops` says that the reader
--- has come to an end. `broken` is where the header, the record or the block begins in which a read failed,
--- once one has. `counted` blocks were counted.
+-- The file of that number as its reader still gives it: the items to come, how the file ends, and its first interface
+-- if it stands before the next item or the end, if the device tells its bytes; `noted` is that interface as far as the
+-- file was read. The next record or block begins at `offset` or later. The file was read up to `read`, and its device
+-- gives `most` bytes at a time at most, if it tells that. `lent` is what the reader lends of the one that was given
+-- last. `stops` says that the reader has come to an end. `broken` is where the header, the record or the block begins
+-- in which a read failed, once one has. `counted` blocks were counted.
 pub record FileState : Type 0 where
   pub file : ℕ
   pub told : Bool
   pub items : List Item
-  pub ending : Ending
+  pub ending : FileEnd
   pub first : Option Interface
   pub noted : Option Interface
   pub offset : ℕ
@@ -84,7 +86,8 @@ header_or None bytes = records.header_at bytes
 -- its interface, unless its header is refused
 abbrev pub first_unless : Option Stop → ℕ → List ℕ → Option Interface
 first_unless (Some stop) offset bytes = None
-first_unless None offset bytes = unless_refused (records.header_fault offset bytes) (interface_of (records.header_at bytes))
+first_unless None offset bytes = unless_refused (records.header_fault offset bytes)
+    (interface_of (records.header_at bytes))
 
 abbrev pub first_of : Option PcapHeader → Option Stop → ℕ → List ℕ → Option Interface
 first_of (Some header) stop offset bytes = Some (interface_of header)
@@ -153,8 +156,8 @@ pub record FileKeeps (old new : FileState) : Type 0 where
   pub interfaces : old.interfaces ≤ 1024 → new.interfaces ≤ 1024
   pub counted : old.counted ≤ old.offset → new.counted ≤ new.offset
 
--- A record or block is taken, or several, the last of which ends where the next one begins: no read began once all of it
--- had come.
+-- A record or block is taken, or several, the last of which ends where the next one begins: no read began once all of
+-- it had come.
 abbrev pub ReadsTo : FileState → FileState → Type 0
 ReadsTo old new = ReachesTo old.most new.offset old.read new.read
 
@@ -259,7 +262,7 @@ items_by (Some (nexts.Refused refusal ending)) frame rest = refused refusal ∷ 
 items_by (Some (nexts.End ending)) frame rest = []
 
 -- how the file ends
-abbrev pub ending_by : Option Next → Ending → Ending
+abbrev pub ending_by : Option Next → FileEnd → FileEnd
 ending_by None later = later
 ending_by (Some (nexts.Packet meta place)) later = later
 ending_by (Some (nexts.Refused refusal ending)) later = ending
@@ -378,7 +381,7 @@ Steps old (Err Memory) after new = (after ≡ None) × Waits old new × (old.bro
 -- what comes next if a block says that, if anything does
 abbrev pub next_at : ℕ → Progress → Block → Result Content Rule → Option Next
 next_at file progress block (Ok contents.Section) = None
-next_at file progress block (Ok (contents.Interface interface)) = None
+next_at file progress block (Ok (contents.Interface described)) = None
 next_at file progress block (Ok (contents.Packet p)) = Some (nexts.Packet (meta_in file progress block p) p.place)
 next_at file progress block (Ok contents.Other) = None
 next_at file progress block (Err rule) =
@@ -409,8 +412,10 @@ LearnsNext old known (Err Memory) new after = (known ≡ None) × (after ≡ Non
 
 -- what asking whether a packet is shown answers
 abbrev pub ShowsNext : FileState → Option Next → Bool → FileState → Option Next → Type 0
-ShowsNext old known true new after = (meta : Meta) × (place : ℕ) × (after ≡ Some (nexts.Packet meta place)) × LearnsOr old known (nexts.Packet meta place) new
-ShowsNext old known false new after = ((new ≡ old) × (after ≡ known)) ⊎ ((next : Next) × (after ≡ Some next) × LearnsOr old known next new)
+ShowsNext old known true new after = (meta : Meta) × (place : ℕ) × (after ≡ Some (nexts.Packet meta place))
+    × LearnsOr old known (nexts.Packet meta place) new
+ShowsNext old known false new after = ((new ≡ old) × (after ≡ known))
+    ⊎ ((next : Next) × (after ≡ Some next) × LearnsOr old known next new)
 
 -- what asking for the first interface answers, of the file as a feed
 abbrev pub GivesFirst : Feed → Option Interface → Result (Option Interface) Fault → Feed → Type 0

@@ -1,4 +1,5 @@
--- Where a call that goes through a feed answers that a growth was refused, so that it isn't answered in place of a refusal or at the end.
+-- Where a call that goes through a feed answers that a growth was refused, so that it isn't answered in place of a
+-- refusal or at the end.
 use Rattle.std.specs.Prelude.{Option, Some, None, Result, Ok, Err, ⊤}
 use Rattle.cap_bytes.specs.declared.faults.Fault.{Fault}
 use Rattle.cap_bytes.specs.declared.faults.Fault.TheVariants.{Refused, Read, Write, Memory}

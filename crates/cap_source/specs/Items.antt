@@ -1,5 +1,6 @@
 -- The packets of a capture file, by the records or the blocks that it splits into.
-use Rattle.std.specs.Prelude.{◌+◌, ◌&&◌, ℕ, nat_le, if◌then◌else◌, Bool, true, false, List, [], ◌∷◌, ◌++◌, length, take, drop, Option, Some, None, Result, Ok, Err, refl}
+use Rattle.std.specs.Prelude.{◌+◌, ◌&&◌, ℕ, nat_le, if◌then◌else◌, Bool, true, false, List, [], ◌∷◌, ◌++◌, length, take}
+use Rattle.std.specs.Prelude.{drop, Option, Some, None, Result, Ok, Err, refl}
 use Rattle.cap_bytes.specs.Items as pieces
 use Rattle.cap_bytes.specs.declared.faults.Rule.{Rule}
 use Rattle.cap_bytes.specs.declared.faults.Tail.{Tail}
@@ -21,22 +22,23 @@ use Rattle.cap_source.specs.Feed.{Item, packet, refused}
 use Rattle.cap_source.specs.declared.contents.Content.{Content}
 use Rattle.cap_source.specs.declared.contents.Content.TheVariants as contents
 use Rattle.cap_source.specs.declared.contents.Packet.{Packet}
-use Rattle.cap_source.specs.declared.feeds.Ending.{Ending}
+use Rattle.cap_source.specs.declared.feeds.FileEnd.{FileEnd}
 use Rattle.cap_source.specs.declared.packets.Format.TheVariants.{Pcap, Pcapng}
 use Rattle.cap_source.specs.declared.packets.Meta.{Meta}
 
 -- How far a pcapng file was read: the interfaces of the section that is being read, in order; how many
--- interface blocks of the file stand before the section; how many of its blocks were skipped; and its
--- interface of instance 0, once that was read.
+-- interface blocks of the file stand before the section; how many of its blocks were skipped; how many of its
+-- interfaces have a name; and its interface of instance 0, once that was read.
 pub record Progress : Type 0 where
   pub interfaces : List Interface
   pub base : ℕ
   pub skipped : ℕ
+  pub named : ℕ
   pub first : Option Interface
 
 -- nothing was read yet
 abbrev pub fresh : Progress
-fresh = record { interfaces = []; base = 0; skipped = 0; first = None }
+fresh = record { interfaces = []; base = 0; skipped = 0; named = 0; first = None }
 
 abbrev pub first_or : Option Interface → Interface → Interface
 first_or None interface = interface
@@ -49,14 +51,16 @@ after progress contents.Section =
       interfaces = [];
       base = progress.base + length progress.interfaces;
       skipped = progress.skipped;
+      named = progress.named;
       first = progress.first;
     }
-after progress (contents.Interface interface) =
+after progress (contents.Interface described) =
     record {
-      interfaces = progress.interfaces ++ interface ∷ [];
+      interfaces = progress.interfaces ++ described.interface ∷ [];
       base = progress.base;
       skipped = progress.skipped;
-      first = Some (first_or progress.first interface);
+      named = progress.named + (if described.is_named then 1 else 0);
+      first = Some (first_or progress.first described.interface);
     }
 after progress (contents.Packet p) = progress
 after progress contents.Other =
@@ -64,6 +68,7 @@ after progress contents.Other =
       interfaces = progress.interfaces;
       base = progress.base;
       skipped = progress.skipped + 1;
+      named = progress.named;
       first = progress.first;
     }
 
@@ -88,10 +93,12 @@ frame_in p body = take p.captured (drop p.place body)
 -- the items of a file from a block on that says this, before those after the block
 abbrev pub items_at : ℕ → Progress → Block → List ℕ → Result Content Rule → List Item → List Item
 items_at file progress block body (Ok contents.Section) rest = rest
-items_at file progress block body (Ok (contents.Interface interface)) rest = rest
-items_at file progress block body (Ok (contents.Packet p)) rest = packet (meta_in file progress block p) (frame_in p body) ∷ rest
+items_at file progress block body (Ok (contents.Interface described)) rest = rest
+items_at file progress block body (Ok (contents.Packet p)) rest =
+    packet (meta_in file progress block p) (frame_in p body) ∷ rest
 items_at file progress block body (Ok contents.Other) rest = rest
-items_at file progress block body (Err rule) rest = refused (record { file = file; offset = block.offset; rule = rule }) ∷ []
+items_at file progress block body (Err rule) rest =
+    refused (record { file = file; offset = block.offset; rule = rule }) ∷ []
 
 -- how far a file was read after that block
 abbrev pub behind : Progress → Result Content Rule → Progress
@@ -112,9 +119,13 @@ items_in file progress (pieces.given block body ∷ rest) =
     let content = content_in progress.interfaces block.kind block.order body in
     items_at file progress block body content (items_in file (behind progress content) rest)
 
--- how a pcapng file ends that was read so far, and whether a rest was dropped
-abbrev pub ending_with : Progress → Bool → Ending
-ending_with progress was_cut = record { format = Pcapng; skipped = progress.skipped; was_cut = was_cut }
+-- how a pcapng file ends that was read so far, whether a rest was dropped, and how many interfaces have a name
+abbrev pub ending_with : Progress → Bool → FileEnd
+ending_with progress was_cut =
+    record {
+      ending = record { format = Pcapng; skipped = progress.skipped; was_cut = was_cut };
+      named = progress.named;
+    }
 
 abbrev pub is_cut : Stop → Bool
 is_cut stops.End = false
@@ -127,7 +138,7 @@ unless_faulty (Ok content) here later = later
 unless_faulty (Err rule) here later = here
 
 -- how it ends, by the blocks of its rest
-unfoldable pub ending_in : Progress → List (pieces.Item Block) → Ending
+unfoldable pub ending_in : Progress → List (pieces.Item Block) → FileEnd
 ending_in progress [] = ending_with progress false
 ending_in progress (pieces.stopped stop ∷ rest) = ending_with progress (is_cut stop)
 ending_in progress (pieces.given block body ∷ rest) =
@@ -137,7 +148,7 @@ ending_in progress (pieces.given block body ∷ rest) =
 -- one of two, by whether a block gives an item
 abbrev pub unless_item : {A : Type 0} → Result Content Rule → A → A → A
 unless_item (Ok contents.Section) here later = later
-unless_item (Ok (contents.Interface interface)) here later = later
+unless_item (Ok (contents.Interface described)) here later = later
 unless_item (Ok (contents.Packet p)) here later = here
 unless_item (Ok contents.Other) here later = later
 unless_item (Err rule) here later = here
@@ -184,13 +195,14 @@ meta_of file interface r =
 unfoldable pub pcap_items : ℕ → Interface → List (pieces.Item Record) → List Item
 pcap_items file interface [] = []
 pcap_items file interface (pieces.stopped stop ∷ rest) = items_of_stop stop
-pcap_items file interface (pieces.given r frame ∷ rest) = packet (meta_of file interface r) frame ∷ pcap_items file interface rest
+pcap_items file interface (pieces.given r frame ∷ rest) =
+    packet (meta_of file interface r) frame ∷ pcap_items file interface rest
 
 -- how a pcap file ends
-abbrev pub pcap_ending_with : Bool → Ending
-pcap_ending_with was_cut = record { format = Pcap; skipped = 0; was_cut = was_cut }
+abbrev pub pcap_ending_with : Bool → FileEnd
+pcap_ending_with was_cut = record { ending = record { format = Pcap; skipped = 0; was_cut = was_cut }; named = 0 }
 
-unfoldable pub pcap_ending : List (pieces.Item Record) → Ending
+unfoldable pub pcap_ending : List (pieces.Item Record) → FileEnd
 pcap_ending [] = pcap_ending_with false
 pcap_ending (pieces.stopped stop ∷ rest) = pcap_ending_with (is_cut stop)
 pcap_ending (pieces.given r frame ∷ rest) = pcap_ending rest
@@ -210,7 +222,7 @@ items_from tail file progress offset bytes =
     if is_pcapng bytes then items_in file progress (blocks.items_from None tail file offset bytes)
     else pcap_items file (interface_of (records.header_at bytes)) (records.file_items tail file offset bytes)
 
-unfoldable pub ending_from : Tail → ℕ → Progress → ℕ → List ℕ → Ending
+unfoldable pub ending_from : Tail → ℕ → Progress → ℕ → List ℕ → FileEnd
 ending_from tail file progress offset bytes =
     if is_pcapng bytes then ending_in progress (blocks.items_from None tail file offset bytes)
     else pcap_ending (records.file_items tail file offset bytes)
@@ -224,7 +236,7 @@ first_from tail file progress offset bytes =
 abbrev pub file_items : Tail → ℕ → List ℕ → List Item
 file_items tail file bytes = items_from tail file fresh 0 bytes
 
-abbrev pub file_ending : Tail → ℕ → List ℕ → Ending
+abbrev pub file_ending : Tail → ℕ → List ℕ → FileEnd
 file_ending tail file bytes = ending_from tail file fresh 0 bytes
 
 abbrev pub file_first : Tail → ℕ → List ℕ → Option Interface

@@ -1,9 +1,11 @@
 -- Why a capture file is a lawful feed.
-use Rattle.std.proofs.Common.{◌≡◌, ◌≤◌, ◌+◌, ◌^◌, ℕ, false, true, IsTrue, IfSome, List, [], ◌∷◌, length, drop, Option, Some, None, refl, sym, subst, arith, length-drop}
+use Rattle.std.proofs.Common.{◌≡◌, ◌≤◌, ◌+◌, ◌^◌, ℕ, false, true, IsTrue, IfSome, List, [], ◌∷◌, length, drop, Option}
+use Rattle.std.proofs.Common.{Some, None, refl, sym, subst, arith, length-drop}
 use Rattle.std.proofs.lemmas.List.{length-take-le}
 use Rattle.std.proofs.lemmas.Bool.Decides.{nat_tests}
 use Rattle.cap_source.specs.Feed.{HasFile, Leads, IfPacket, IsPacketOf, IsRefusedOf, IsFeed}
-use Rattle.cap_source.specs.FileState.{FileState, IsSound, feed_of, items_by, end_of, size_of, captured_of, behind_of, file_of, part_of, frame_of, head_by, is_whole, break_at}
+use Rattle.cap_source.specs.FileState.{FileState, IsSound, feed_of, items_by, end_of, size_of, captured_of, behind_of}
+use Rattle.cap_source.specs.FileState.{file_of, part_of, frame_of, head_by, is_whole, break_at}
 use Rattle.cap_source.specs.declared.readers.Next.{Next}
 use Rattle.cap_source.specs.declared.readers.Next.TheVariants as nexts
 
@@ -20,12 +22,16 @@ leads (Some (nexts.Packet meta place)) frame rest = refl
 leads (Some (nexts.Refused refusal ending)) frame rest = refl
 leads (Some (nexts.End ending)) frame rest = refl
 
-part_size : (lent : Option (List ℕ)) (place captured : ℕ) → place + captured + 1 ≤ size_of lent → length (part_of lent place captured) ≡ captured
+part_size : (lent : Option (List ℕ)) (place captured : ℕ) → place + captured + 1 ≤ size_of lent
+    → length (part_of lent place captured) ≡ captured
 part_size None place captured h = absurd (omega (arith, h))
-part_size (Some bytes) place captured h = length-take-le captured (drop place bytes) (omega (arith, h, length-drop place bytes))
+part_size (Some bytes) place captured h = length-take-le captured (drop place bytes)
+    (omega (arith, h, length-drop place bytes))
 
-packet : (state : FileState) (next : Option Next) → file_of next state.file ≡ state.file → end_of next ≤ size_of state.lent → captured_of next ≤ 262144
-    → behind_of next ≤ state.offset → state.offset ≤ 2 ^ 40 → IfPacket (head_by next) (λ meta. IsPacketOf (feed_of state next) meta)
+packet : (state : FileState) (next : Option Next) → file_of next state.file ≡ state.file
+    → end_of next ≤ size_of state.lent → captured_of next ≤ 262144
+    → behind_of next ≤ state.offset → state.offset ≤ 2 ^ 40
+    → IfPacket (head_by next) (λ meta. IsPacketOf (feed_of state next) meta)
 packet state None own lent captured behind limit = tt
 packet state (Some (nexts.Packet meta place)) own lent captured behind limit = record {
   file = has_file state.file meta.file own;
@@ -38,13 +44,15 @@ packet state (Some (nexts.Packet meta place)) own lent captured behind limit = r
 packet state (Some (nexts.Refused refusal ending)) own lent captured behind limit = tt
 packet state (Some (nexts.End ending)) own lent captured behind limit = tt
 
-refusal : (state : FileState) (next : Option Next) → file_of next state.file ≡ state.file → IsRefusedOf (state.file ∷ []) (head_by next)
+refusal : (state : FileState) (next : Option Next) → file_of next state.file ≡ state.file
+    → IsRefusedOf (state.file ∷ []) (head_by next)
 refusal state None own = tt
 refusal state (Some (nexts.Packet meta place)) own = tt
 refusal state (Some (nexts.Refused r ending)) own = has_file state.file r.file own
 refusal state (Some (nexts.End ending)) own = tt
 
-whole : (next : Option Next) (file : ℕ) (broken : Option ℕ) → IsTrue (is_whole next broken) → IfSome (head_by next) (λ head. break_at file broken ≡ None)
+whole : (next : Option Next) (file : ℕ) (broken : Option ℕ) → IsTrue (is_whole next broken)
+    → IfSome (head_by next) (λ head. break_at file broken ≡ None)
 whole None file broken is = tt
 whole (Some next) file None is = refl
 whole (Some next) file (Some first) is = absurd (let e : false ≡ true = is in cc)

@@ -1,5 +1,6 @@
 -- Packets without bytes in memory, as a feed, and why it is a lawful one.
-use Rattle.std.proofs.Common.{◌≡◌, ◌≤◌, ◌+◌, ◌-◌, ◌^◌, ℕ, false, true, List, [], ◌∷◌, length, drop, Option, Some, None, refl, sym, subst, arith, length-drop}
+use Rattle.std.proofs.Common.{◌≡◌, ◌≤◌, ◌+◌, ◌-◌, ◌^◌, ℕ, false, true, List, [], ◌∷◌, length, drop, Option, Some, None}
+use Rattle.std.proofs.Common.{refl, sym, subst, arith, length-drop}
 use Rattle.std.proofs.lemmas.Bool.Decides.{nat_tests}
 use Rattle.std.specs.Option.{ForSome}
 use Rattle.cap_bytes.specs.declared.faults.Rule.{Rule}
@@ -33,7 +34,8 @@ head_at file interface (Some rule) place [] = heads.Refused (record { file = fil
 
 -- the items from there on
 abbrev pub listed_items : ℕ → Interface → Option Rule → ℕ → List ℕ → List Item
-listed_items file interface end place (units ∷ later) = packet (meta_at file interface place units) [] ∷ listed_items file interface end (place + 1) later
+listed_items file interface end place (units ∷ later) =
+    packet (meta_at file interface place units) [] ∷ listed_items file interface end (place + 1) later
 listed_items file interface None place [] = []
 listed_items file interface (Some rule) place [] = refused (record { file = file; offset = place; rule = rule }) ∷ []
 
@@ -44,7 +46,7 @@ list_feed file interface end place times known =
       files = file ∷ [];
       told = true;
       items = listed_items file interface end place times;
-      endings = λ f. record { format = Pcap; skipped = 0; was_cut = false };
+      endings = λ f. record { ending = record { format = Pcap; skipped = 0; was_cut = false }; named = 0 };
       known = known;
       frame = [];
       broken = None;
@@ -58,7 +60,8 @@ has_file : (file : ℕ) → HasFile (file ∷ []) file
 has_file file = grind (arith, nat_tests)
 
 -- once what comes next is known
-head_lawful : (file : ℕ) (interface : Interface) (end : Option Rule) (place : ℕ) (times : List ℕ) → place + length times ≤ 2 ^ 40
+head_lawful : (file : ℕ) (interface : Interface) (end : Option Rule) (place : ℕ) (times : List ℕ)
+    → place + length times ≤ 2 ^ 40
     → IsFeed (list_feed file interface end place times (Some (head_at file interface end place times)))
 head_lawful file interface end place (units ∷ later) most = record {
   leads = λ t. refl;
@@ -95,8 +98,10 @@ head_lawful file interface (Some rule) place [] most = record {
   interfaces = omega arith;
 }
 
-pub lists_lawful : (file : ℕ) (interface : Interface) (end : Option Rule) (place : ℕ) (times : List ℕ) (known : Option Head)
-    → length times ≤ 2 ^ 40 → place ≤ length times → ForSome known (λ head. head ≡ head_at file interface end place (drop place times))
+pub lists_lawful : (file : ℕ) (interface : Interface) (end : Option Rule) (place : ℕ) (times : List ℕ)
+    (known : Option Head)
+    → length times ≤ 2 ^ 40 → place ≤ length times
+    → ForSome known (λ head. head ≡ head_at file interface end place (drop place times))
     → IsFeed (list_feed file interface end place (drop place times) known)
 lists_lawful file interface end place times None most within is = record {
   leads = λ t. tt;

@@ -1,15 +1,17 @@
 -- What is known at a block of a pcapng file, by the blocks before it and the kinds that they have, whatever reads them.
-use Rattle.std.specs.Prelude.{◌≡◌, ◌==◌, ◌+◌, ℕ, not, false, Bool, List, [], ◌∷◌, ◌++◌, map, length, drop, slice_get, Option}
+use Rattle.std.specs.Prelude.{◌≡◌, ◌==◌, ◌&&◌, ◌+◌, ℕ, not, false, Bool, List, [], ◌∷◌, ◌++◌, map, length, drop}
+use Rattle.std.specs.Prelude.{slice_get, Option}
 use Rattle.std.specs.List.{filter, count_by, before_last, after_last}
 use Rattle.cap_bytes.specs.Items as pieces
 use Rattle.cap_blocks.specs.Grammar.{section_kind, interface_kind, is_known}
 use Rattle.cap_blocks.specs.OptionList.{options_of}
 use Rattle.cap_blocks.specs.declared.blocks.Block.{Block}
 use Rattle.cap_source.specs.Feed.{Item}
-use Rattle.cap_source.specs.declared.feeds.Ending.{Ending}
+use Rattle.cap_source.specs.declared.feeds.FileEnd.{FileEnd}
 use Rattle.cap_source.specs.Contents.{content_in}
-use Rattle.cap_source.specs.Items.{Progress, fresh, items_at, items_in, items_of_stop, ending_with, ending_in, is_cut, unless_faulty, first_in, unless_item}
-use Rattle.cap_source.specs.TimeBases.{interface_at}
+use Rattle.cap_source.specs.Items.{Progress, fresh, items_at, items_in, items_of_stop, ending_with, ending_in, is_cut}
+use Rattle.cap_source.specs.Items.{unless_faulty, first_in, unless_item}
+use Rattle.cap_source.specs.TimeBases.{interface_at, is_named}
 use Rattle.cap_time.specs.declared.resolutions.Interface.{Interface}
 
 -- a block of a file, and its body
@@ -30,30 +32,38 @@ is_other b = not (is_known b.0.kind)
 abbrev pub told : Standing → Interface
 told b = interface_at b.0.order b.1 (options_of b.0.order (drop 8 b.1))
 
+-- a block of an interface with a name
+abbrev pub is_named_interface : Standing → Bool
+is_named_interface b = is_interface b && is_named b.0.order b.1
+
 -- the interfaces of some blocks, in their order
 abbrev pub interfaces_of : List Standing → List Interface
 interfaces_of bs = map told (filter is_interface bs)
 
--- What is known behind these blocks of a file: the interfaces of those after the last section header; how many interface blocks
--- stand before that header; how many blocks were skipped; and the first interface of all.
+-- What is known behind these blocks of a file: the interfaces of those after the last section header; how many
+-- interface blocks stand before that header; how many blocks were skipped; how many interfaces have a name; and the
+-- first interface of all.
 unfoldable pub known_behind : List Standing → Progress
 known_behind before =
     record {
       interfaces = interfaces_of (after_last is_header before);
       base = count_by is_interface (before_last is_header before);
       skipped = count_by is_other before;
+      named = count_by is_named_interface before;
       first = slice_get (interfaces_of before) 0;
     }
 
--- The items of a file's rest, how it ends, and its first interface, by what is known at each block behind all those before it.
+-- The items of a file's rest, how it ends, and its first interface, by what is known at each block behind all those
+-- before it.
 unfoldable pub items_behind : ℕ → List Standing → List (pieces.Item Block) → List Item
 items_behind file before [] = []
 items_behind file before (pieces.stopped stop ∷ rest) = items_of_stop stop
 items_behind file before (pieces.given block body ∷ rest) =
-    items_at file (known_behind before) block body (content_in (known_behind before).interfaces block.kind block.order body)
+    items_at file (known_behind before) block body
+    (content_in (known_behind before).interfaces block.kind block.order body)
     (items_behind file (before ++ (block, body) ∷ []) rest)
 
-unfoldable pub ending_behind : List Standing → List (pieces.Item Block) → Ending
+unfoldable pub ending_behind : List Standing → List (pieces.Item Block) → FileEnd
 ending_behind before [] = ending_with (known_behind before) false
 ending_behind before (pieces.stopped stop ∷ rest) = ending_with (known_behind before) (is_cut stop)
 ending_behind before (pieces.given block body ∷ rest) =
@@ -81,4 +91,5 @@ FirstByPlaces = (items : List (pieces.Item Block)) → first_in fresh items ≡ 
 
 -- An interface's number in the file: behind any blocks, the interfaces that are known end with the last one of all.
 abbrev pub NumbersByPlaces : Type 0
-NumbersByPlaces = (before : List Standing) → (known_behind before).base + length (known_behind before).interfaces ≡ count_by is_interface before
+NumbersByPlaces = (before : List Standing) → (known_behind before).base + length (known_behind before).interfaces
+    ≡ count_by is_interface before

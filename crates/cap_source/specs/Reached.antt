@@ -9,12 +9,13 @@ progress_of reached =
       interfaces = reached.interfaces.items;
       base = reached.base;
       skipped = reached.skipped;
+      named = reached.named;
       first = reached.first;
     }
 
--- how many blocks of the file are counted in it
+-- how many blocks of the file are counted in it, those of interfaces with a name twice
 abbrev pub counted : Progress → ℕ
-counted progress = progress.base + length progress.interfaces + progress.skipped
+counted progress = progress.base + length progress.interfaces + progress.skipped + progress.named
 
 -- whether there is room for an interface, once a read has failed
 abbrev pub has_room : Option ℕ → Reached → Bool

@@ -1,5 +1,6 @@
 -- A reader of either format as a file to come.
-use Rattle.std.specs.Prelude.{◌≡◌, ◌<◌, ℕ, Bool, true, false, IsTrue, List, [], Option, None, Result, Ok, Err, is_some, ⊤}
+use Rattle.std.specs.Prelude.{◌≡◌, ◌<◌, ℕ, Bool, true, false, IsTrue, List, [], Option, None, Result, Ok, Err, is_some}
+use Rattle.std.specs.Prelude.{⊤}
 use Rattle.cap_bytes.specs.Window.{State as WindowState, Shows, Breaks, coming}
 use Rattle.cap_bytes.specs.declared.faults.Fault.{Fault}
 use Rattle.cap_bytes.specs.declared.faults.Fault.TheVariants.{Refused, Read, Write, Memory}

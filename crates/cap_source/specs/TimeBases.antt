@@ -1,6 +1,10 @@
--- What the options of an interface block say of its times: their unit, and the offset that is added. draft-ietf-opsawg-pcapng, 4.2.
-use Rattle.std.specs.Prelude.{◌≡◌, ◌==◌, ◌&&◌, ◌||◌, not, nat_le, ℕ, ℤ, pos, Bool, true, false, if◌then◌else◌, List, [], ◌∷◌, length, drop, slice_index, Option, Some, None, is_some, unwrap_or, Result, Ok, Err, refl}
+-- What the options of an interface block say of its times: their unit, and the offset that is added.
+-- draft-ietf-opsawg-pcapng, 4.2.
+use Rattle.std.specs.Prelude.{◌≡◌, ◌==◌, ◌&&◌, ◌||◌, not, nat_le, ℕ, ℤ, pos, Bool, true, false, if◌then◌else◌, List, []}
+use Rattle.std.specs.Prelude.{◌∷◌, length, drop, slice_index, Option, Some, None, is_some, unwrap_or, Result, Ok, Err}
+use Rattle.std.specs.Prelude.{refl}
 use Rattle.std.specs.Int.{w64, cast_signed}
+use Rattle.std.specs.List.{list_any}
 use Rattle.cap_bytes.specs.Number.{number}
 use Rattle.cap_bytes.specs.declared.faults.Rule.{Rule}
 use Rattle.cap_bytes.specs.declared.faults.Rule.TheVariants as rules
@@ -119,6 +123,15 @@ options_fault order resolved moved (Err rule ∷ rest) = Some rule
 options_fault order resolved moved (Ok option ∷ rest) =
     or_else (option_fault order resolved moved option.0 option.1)
     (options_fault order (resolved || (option.0 == 9)) (moved || (option.0 == 14)) rest)
+
+-- an option is an if_name, of code 2
+abbrev pub is_name : OptionItem → Bool
+is_name (Ok option) = option.0 == 2
+is_name (Err rule) = false
+
+-- the interface of a body has a name: an if_name is among its options
+unfoldable pub is_named : Order → List ℕ → Bool
+is_named order body = list_any is_name (options_of order (drop 8 body))
 
 -- the interface of a body, of whose options the first of each kind counts
 abbrev pub interface_at : Order → List ℕ → List OptionItem → Interface

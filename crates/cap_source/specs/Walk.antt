@@ -33,8 +33,8 @@ pub record Lasts (old new : Feed) : Type 0 where
   pub broken : new.broken ≡ old.broken
   pub failed : new.held.failed ≡ old.held.failed
 
--- A read of one of the files failed on the way, or had failed before the call: then the file and the offset are the same.
--- The offset is the file's place from then on.
+-- A read of one of the files failed on the way, or had failed before the call: then the file and the offset are the
+-- same. The offset is the file's place from then on.
 pub record Fails (old : Feed) (file offset : ℕ) (new : Feed) : Type 0 where
   pub of : HasFile old.files file
   pub again : IfSome old.broken (λ first. Read file offset ≡ first)
@@ -44,8 +44,8 @@ pub record Fails (old : Feed) (file offset : ℕ) (new : Feed) : Type 0 where
   pub failed : IsTrue new.held.failed
   pub can_fail : IsTrue (old.can_fail file)
 
--- A call goes through a feed, to the end if it answers no fault. A failed read is answered as such, and no other fault is
--- answered for it.
+-- A call goes through a feed, to the end if it answers no fault. A failed read is answered as such, and no other fault
+-- is answered for it.
 abbrev pub Walks : {A : Type 0} → Feed → Result A Fault → Feed → Type 0
 Walks old (Ok _) new = (new.known ≡ Some heads.End) × Goes old new
 Walks old (Err (Refused refusal)) new = Goes old new

@@ -6,8 +6,8 @@ use Rattle.cap_source.specs.Fields.{FitsInterface}
 use Rattle.cap_source.specs.TimeBases.{interface_in}
 use Rattle.cap_time.specs.declared.resolutions.Interface.{Interface}
 
--- The body that is written for an interface tells of that interface, its resolution and its offset with it, wherever a section has
--- room for one.
+-- The body that is written for an interface tells of that interface, its resolution and its offset with it, wherever a
+-- section has room for one.
 abbrev pub InterfaceWritten : Type 0
 InterfaceWritten =
     (before : ℕ) (order : Order) (interface : Interface) → before < 1024 → FitsInterface interface

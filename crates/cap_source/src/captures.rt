@@ -41,11 +41,13 @@ impl<R: Source> Capture<R> {
         ensures files { (⟦<Capture<R> as PacketFeed>⟧.feed result).files ≡ file ∷ [] }
         ensures told { (⟦<Capture<R> as PacketFeed>⟧.feed result).told ≡ R.tells_coming reader }
         ensures items { (⟦<Capture<R> as PacketFeed>⟧.feed result).items ≡ file_items tail file (R.coming reader) }
-        ensures endings { (n : ℕ) → (⟦<Capture<R> as PacketFeed>⟧.feed result).endings n ≡ file_ending tail file (R.coming reader) }
+        ensures endings { (n : ℕ) → (⟦<Capture<R> as PacketFeed>⟧.feed result).endings n
+            ≡ file_ending tail file (R.coming reader) }
         ensures known { (⟦<Capture<R> as PacketFeed>⟧.feed result).known ≡ None }
         ensures whole { (⟦<Capture<R> as PacketFeed>⟧.feed result).broken ≡ None }
         ensures can_fail { (⟦<Capture<R> as PacketFeed>⟧.feed result).can_fail file ≡ R.can_fail reader }
-        ensures held { (⟦<Capture<R> as PacketFeed>⟧.feed result).held ≡ record { window = 0; interfaces = 0; failed = R.has_failed reader } }
+        ensures held { (⟦<Capture<R> as PacketFeed>⟧.feed result).held
+            ≡ record { window = 0; interfaces = 0; failed = R.has_failed reader } }
         ensures first { first_of result ≡ file_first tail file (R.coming reader) }
         ensures number { number_of result ≡ file }
         ensures position { position_of result ≡ unread_position (source_of R.Source reader) }
@@ -67,10 +69,13 @@ impl<R: Source> Capture<R> {
     /// The first interface of the file that stands before what comes next: before the first item if
     /// nothing was passed. `Read` and `Memory` come as of `head`, which is known afterwards.
     pub fn first(&mut self) -> Result<Option<Interface>, Fault>
-        ensures answer { GivesFirst (⟦<Capture<R> as PacketFeed>⟧.feed self.old) (first_of self.old) result (⟦<Capture<R> as PacketFeed>⟧.feed self.new) }
-        ensures keeps { Keeps (⟦<Capture<R> as PacketFeed>⟧.feed self.old) (⟦<Capture<R> as PacketFeed>⟧.feed self.new) }
+        ensures answer { GivesFirst (⟦<Capture<R> as PacketFeed>⟧.feed self.old) (first_of self.old) result
+            (⟦<Capture<R> as PacketFeed>⟧.feed self.new) }
+        ensures keeps { Keeps (⟦<Capture<R> as PacketFeed>⟧.feed self.old)
+            (⟦<Capture<R> as PacketFeed>⟧.feed self.new) }
         ensures items { IsTrue (⟦<Capture<R> as PacketFeed>⟧.feed self.old).told
-            → KeepsFirst (⟦<Capture<R> as PacketFeed>⟧.feed self.old) (first_of self.old) result (⟦<Capture<R> as PacketFeed>⟧.feed self.new) (first_of self.new) }
+            → KeepsFirst (⟦<Capture<R> as PacketFeed>⟧.feed self.old) (first_of self.old) result
+            (⟦<Capture<R> as PacketFeed>⟧.feed self.new) (first_of self.new) }
         ensures reads { IfOk result (λ _. IsPacket (⟦<Capture<R> as PacketFeed>⟧.feed self.new).known
             → ReadsToPacket (position_of self.old) (position_of self.new)) }
         ensures most { (position_of self.new).most ≡ (position_of self.old).most }
@@ -144,7 +149,11 @@ impl<R: Source> PacketFeed for Capture<R> {
     }
 
     fn ending(&self, _file: u32) -> Ending {
-        ending_of(self.next.get())
+        ending_of(self.next.get()).ending
+    }
+
+    fn named_interfaces(&self, _file: u32) -> u64 {
+        ending_of(self.next.get()).named
     }
 
     fn feed_held(&self) -> FeedHeld {

@@ -1,9 +1,11 @@
 //! What the blocks of a pcapng file say. draft-ietf-opsawg-pcapng, 4.
 ghost use Rattle.std.specs.Prelude.{◌≡◌, ◌≤◌, ◌+◌, ◌%◌, length};
 ghost use Rattle.cap_blocks.specs.Grammar.{enhanced_kind, least_total};
-ghost use Rattle.cap_source.specs.Contents.{fitting, timed_in, simple_captured, simple_in, of_body, content_in};
+ghost use Rattle.cap_source.specs.Contents.{fitting, timed_in, simple_captured, simple_in, of_body, described};
+ghost use Rattle.cap_source.specs.Contents.{content_in};
+ghost use Rattle.cap_source.specs.TimeBases.{interface_in};
 
-use crate::interfaces::interface_of;
+use crate::interfaces::{interface_of, is_named};
 use cap_blocks::{ENHANCED_PACKET, INTERFACE, OBSOLETE_PACKET, SECTION, SIMPLE_PACKET};
 use cap_bytes::{Order, PACKET_LIMIT, Rule, u16_at, u32_at};
 use cap_time::Interface;
@@ -30,13 +32,22 @@ pub struct Packet {
     pub place: u32,
 }
 
+/// What an interface block says.
+#[derive(Clone, Copy)]
+pub struct Described {
+    /// The interface.
+    pub interface: Interface,
+    /// Whether it has a name.
+    pub is_named: bool,
+}
+
 /// What a block says.
 #[derive(Clone, Copy)]
 pub enum Content {
     /// A section begins.
     Section,
     /// An interface of the section.
-    Interface(Interface),
+    Interface(Described),
     /// A packet.
     Packet(Packet),
     /// Nothing that is read.
@@ -89,8 +100,8 @@ fn timed_packet(
     }
 }
 
-/// What an enhanced packet block says, or the first rule that its body breaks. Each order has a way of its own: on one for both, each
-/// number is read in both. draft-ietf-opsawg-pcapng, 4.3.
+/// What an enhanced packet block says, or the first rule that its body breaks. Each order has a way of its own: on one
+/// for both, each number is read in both. draft-ietf-opsawg-pcapng, 4.3.
 #[tactic(auto, unfolding(crate::specs::Contents::content_in))]
 #[inline(always)]
 pub fn enhanced_packet(interfaces: &[Interface], order: Order, body: &[u8]) -> Result<Packet, Rule>
@@ -144,6 +155,22 @@ fn simple_packet(interfaces: &[Interface], order: Order, body: &[u8]) -> Result<
     }
 }
 
+// What an interface block says, before which that many stand in its section, or the first rule that it breaks.
+fn read_interface(before: usize, order: Order, body: &[u8]) -> Result<Described, Rule>
+    requires least { 8 ≤ length body.now }
+    requires padded { length body.now % 4 ≡ 0 }
+    ensures { of_body Content.Interface result ≡ of_body (described order body.now)
+        (interface_in before order body.now) }
+{
+    match interface_of(before, order, body) {
+        Ok(interface) => Ok(Described {
+            interface,
+            is_named: is_named(order, body),
+        }),
+        Err(rule) => Err(rule),
+    }
+}
+
 /// What a block of a known kind says in a section with these interfaces, or the first rule that its
 /// body breaks: of an interface block 13, and then for each option 10, 11 and 12; of a packet 9, 4
 /// and 8.
@@ -160,7 +187,7 @@ pub fn content_of(
 {
     match kind {
         SECTION => Ok(Content::Section),
-        INTERFACE => Ok(Content::Interface(interface_of(interfaces.len(), order, body)?)),
+        INTERFACE => Ok(Content::Interface(read_interface(interfaces.len(), order, body)?)),
         ENHANCED_PACKET => {
             let number = u32_at(order, body, 0);
             Ok(Content::Packet(timed_packet(interfaces, number, order, body)?))

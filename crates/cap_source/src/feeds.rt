@@ -1,6 +1,7 @@
 //! A list of packets that comes one by one, from wherever it comes.
 ghost use Rattle.std.specs.Prelude.{◌≡◌, IsTrue, Some};
-ghost use Rattle.cap_source.specs.Feed.{Feed, GivesHead, Keeps, KeepsItems, SameItems, FindsPacket, ShowsPacket, FindsItem, Passes, IsPacket, HasFile, IsFeed};
+ghost use Rattle.cap_source.specs.Feed.{Feed, GivesHead, Keeps, KeepsItems, SameItems, FindsPacket, ShowsPacket};
+ghost use Rattle.cap_source.specs.Feed.{FindsItem, Passes, IsPacket, HasFile, IsFeed};
 
 use crate::packets::{Format, Meta};
 use cap_bytes::{Fault, Refusal};
@@ -25,6 +26,15 @@ pub struct Ending {
     pub format: Format,
     /// Whether it ended in a rest that was cut, and that was dropped.
     pub was_cut: bool,
+}
+
+/// How a file ended, and how many of its interfaces have a name.
+#[derive(Clone, Copy)]
+pub struct FileEnd {
+    /// How it ended.
+    pub ending: Ending,
+    /// How many of its interface blocks have an `if_name`; 0 in a pcap file. draft-ietf-opsawg-pcapng, 4.2.
+    pub named: u64,
 }
 
 /// What a feed holds of its files, each number being the greatest of any of them.
@@ -54,16 +64,16 @@ pub trait PacketFeed: Drop {
         ensures items { IsTrue (feed self.old).told
             → KeepsItems (feed self.old) result (feed self.new) };
 
-    /// Whether a packet comes next, which is known then: what `head` answers, without a copy of the packet. A refusal is
-    /// answered as a fault, again and again.
+    /// Whether a packet comes next, which is known then: what `head` answers, without a copy of the packet. A refusal
+    /// is answered as a fault, again and again.
     fn has_packet(&mut self) -> Result<bool, Fault>
         ensures answer { FindsPacket (feed self.old) result (feed self.new) }
         ensures keeps { Keeps (feed self.old) (feed self.new) }
         ensures items { IsTrue (feed self.old).told
             → FindsItem (feed self.old) result (feed self.new) };
 
-    /// Whether a packet comes next that is known already, or that is at hand without a read: it is known then. `false` says
-    /// nothing of what comes next. It can't fail, so whoever takes many packets asks it first.
+    /// Whether a packet comes next that is known already, or that is at hand without a read: it is known then. `false`
+    /// says nothing of what comes next. It can't fail, so whoever takes many packets asks it first.
     fn shows_packet(&mut self) -> bool
         ensures answer { ShowsPacket (feed self.old) result (feed self.new) }
         ensures keeps { Keeps (feed self.old) (feed self.new) }
@@ -89,7 +99,13 @@ pub trait PacketFeed: Drop {
     fn ending(&self, file: u32) -> Ending
         requires end { (feed self.now).known ≡ Some Head.End }
         requires file { HasFile (feed self.now).files file }
-        ensures ending { result ≡ (feed self.now).endings file };
+        ensures ending { result ≡ ((feed self.now).endings file).ending };
+
+    /// How many interfaces of a file of that number, which is one of the feed's, have a name.
+    fn named_interfaces(&self, file: u32) -> u64
+        requires end { (feed self.now).known ≡ Some Head.End }
+        requires file { HasFile (feed self.now).files file }
+        ensures named { result ≡ ((feed self.now).endings file).named };
 
     /// What it holds.
     fn feed_held(&self) -> FeedHeld

@@ -1,7 +1,10 @@
 //! The interface blocks of a pcapng file. draft-ietf-opsawg-pcapng, 4.2.
 ghost use Rattle.std.specs.Prelude.{◌≡◌, ◌≤◌, ◌%◌, drop, length, unwrap_or, pos};
 ghost use Rattle.cap_blocks.specs.OptionList.{options_of};
-ghost use Rattle.cap_source.specs.TimeBases.{resolution_of, resolution_in, offset_in, with_resolution, with_offset, option_read, options_read, no_base, microseconds, interface_with, interface_by, interface_in};
+ghost use Rattle.cap_blocks.specs.Options.{item_of};
+ghost use Rattle.cap_source.specs.TimeBases.{resolution_of, resolution_in, offset_in, with_resolution, with_offset};
+ghost use Rattle.cap_source.specs.TimeBases.{option_read, options_read, no_base, microseconds, interface_with};
+ghost use Rattle.cap_source.specs.TimeBases.{interface_by, interface_in, is_name, is_named};
 
 use cap_blocks::Options;
 use cap_bytes::{Order, Rule, u16_at, u32_at, u64_at};
@@ -14,6 +17,8 @@ pub const INTERFACE_LIMIT: usize = 1_024;
 const RESOLUTION: u16 = 9;
 
 const OFFSET: u16 = 14;
+
+const NAME: u16 = 2;
 
 // The code of a millionth of a second, the resolution if none is given.
 const MICROSECONDS: u8 = 6;
@@ -141,6 +146,31 @@ pub fn interface_of(before: usize, order: Order, body: &[u8]) -> Result<Interfac
         return Err(Rule::InterfaceLimit);
     }
     read_interface(order, body)
+}
+
+// Whether an option is a name.
+fn is_name(option: Result<(u16, &[u8]), Rule>) -> bool
+    ensures { result ≡ is_name (item_of option.entry) }
+{
+    match option {
+        Ok((code, _)) => code == NAME,
+        Err(_) => false,
+    }
+}
+
+/// Whether the interface of an interface block has a name: an option `if_name`.
+pub fn is_named(order: Order, body: &[u8]) -> bool
+    requires least { 8 ≤ length body.now }
+    requires padded { length body.now % 4 ≡ 0 }
+    ensures { result ≡ is_named order body.now }
+{
+    let (_, options) = body.split_at(8);
+    for option in Options::new(order, options) {
+        if is_name(option) {
+            return true;
+        }
+    }
+    false
 }
 
 // A millionth of a second, the resolution if none is given.

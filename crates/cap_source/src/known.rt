@@ -5,7 +5,7 @@ ghost use Rattle.cap_source.specs.declared.feeds.Head.TheVariants as heads;
 ghost use Rattle.cap_source.specs.FileState.{head_by, is_packet, start_of};
 ghost use Rattle.cap_source.specs.declared.readers.Next.TheVariants.{Packet, Refused, End};
 
-use crate::feeds::Ending;
+use crate::feeds::{Ending, FileEnd};
 use crate::packets::{Format, Meta};
 use crate::readers::Next;
 use cap_bytes::{Refusal, Rule};
@@ -21,15 +21,15 @@ enum Kind {
     End,
 }
 
-/// What comes next of a file, if that is known. Each kind has fields of its own, so that a packet is forgotten by one mark: an
-/// `Option<Next>` would be set to zero as a whole.
+/// What comes next of a file, if that is known. Each kind has fields of its own, so that a packet is forgotten by one
+/// mark: an `Option<Next>` would be set to zero as a whole.
 #[derive(Drop)]
 pub struct Known {
     kind: Kind,
     place: u32,
     meta: Meta,
     refusal: Refusal,
-    ending: Ending,
+    ending: FileEnd,
 }
 
 impl Model for Known {
@@ -73,10 +73,13 @@ impl Known {
                 offset: 0,
                 rule: Rule::Cut,
             },
-            ending: Ending {
-                format: Format::Pcap,
-                skipped: 0,
-                was_cut: false,
+            ending: FileEnd {
+                ending: Ending {
+                    format: Format::Pcap,
+                    skipped: 0,
+                    was_cut: false,
+                },
+                named: 0,
             },
         }
     }
@@ -129,7 +132,7 @@ impl Known {
 
     /// A packet comes next.
     #[inline(always)]
-    pub fn put_packet(&mut self, meta: Meta, place: u32)
+    pub fn set_packet(&mut self, meta: Meta, place: u32)
         ensures { self.new ≡ Some (Packet meta place) }
     {
         self.kind = Kind::Packet;
@@ -138,7 +141,7 @@ impl Known {
     }
 
     /// A refusal comes next.
-    pub fn put_refused(&mut self, refusal: Refusal, ending: Ending)
+    pub fn set_refused(&mut self, refusal: Refusal, ending: FileEnd)
         ensures { self.new ≡ Some (Refused refusal ending) }
     {
         self.kind = Kind::Refused;
@@ -147,7 +150,7 @@ impl Known {
     }
 
     /// The end comes next.
-    pub fn put_end(&mut self, ending: Ending)
+    pub fn set_end(&mut self, ending: FileEnd)
         ensures { self.new ≡ Some (End ending) }
     {
         self.kind = Kind::End;

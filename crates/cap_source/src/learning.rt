@@ -3,9 +3,11 @@ ghost use Rattle.std.specs.Prelude.{◌≡◌, ◌≤◌, ◌+◌, ◌^◌, fals
 ghost use Rattle.cap_bytes.specs.Reach.{Reaches, ReachesTo};
 ghost use Rattle.cap_bytes.specs.Window as windows;
 ghost use Rattle.cap_source.specs.Items.{Progress};
-ghost use Rattle.cap_source.specs.FileState.{IsSound, LearnsNext, ShowsNext, Answers, TakesShown, FileKeeps, IfTaken, ReadsTo, Takes};
+ghost use Rattle.cap_source.specs.FileState.{IsSound, LearnsNext, ShowsNext, Answers, TakesShown, FileKeeps, IfTaken};
+ghost use Rattle.cap_source.specs.FileState.{ReadsTo, Takes};
 ghost use Rattle.cap_source.specs.Reached.{progress_of, counted};
-ghost use Rattle.cap_source.specs.Readers.{state_of, is_there, IsReady, is_stopped, Opens, LooksAtWindow, reader_by, reader_room};
+ghost use Rattle.cap_source.specs.Readers.{state_of, is_there, IsReady, is_stopped, Opens, LooksAtWindow, reader_by};
+ghost use Rattle.cap_source.specs.Readers.{reader_room};
 ghost use Rattle.cap_source.specs.declared.reached.Reached.{Reached};
 
 use crate::known::Known;
@@ -57,11 +59,14 @@ fn open<R: Source>(reader: &mut Reader<R>) -> Result<(), Fault>
     requires free { is_stopped reader.old ≡ false }
     ensures there { IsTrue (is_there reader.new) }
     ensures ready { IfOk result (λ _. IsReady reader.new) }
-    ensures answer { (progress : Progress) → Opens (state_of reader.old progress) result (state_of reader.new progress) }
+    ensures answer { (progress : Progress) → Opens (state_of reader.old progress) result
+        (state_of reader.new progress) }
     ensures reaches { (progress : Progress) → IfOk result (λ _. ReachesTo (state_of reader.old progress).most
-        ((state_of reader.old progress).offset + 4) (state_of reader.old progress).read (state_of reader.new progress).read) }
+        ((state_of reader.old progress).offset + 4) (state_of reader.old progress).read
+        (state_of reader.new progress).read) }
     ensures keeps { (progress : Progress) → FileKeeps (state_of reader.old progress) (state_of reader.new progress) }
-    ensures room { (reached : Reached) → IsTrue (reader_room reader.old reached) → IsTrue (reader_room reader.new reached) }
+    ensures room { (reached : Reached) → IsTrue (reader_room reader.old reached)
+        → IsTrue (reader_room reader.new reached) }
 {
     match reader {
         Reader::Unread(window, _) => {
@@ -74,17 +79,20 @@ fn open<R: Source>(reader: &mut Reader<R>) -> Result<(), Fault>
     }
 }
 
-// Puts the packet that comes next of a file into `known`, if the window shows it already. Answers whether it did: if not,
-// nothing has changed.
+// Puts the packet that comes next of a file into `known`, if the window shows it already. Answers whether it did: if
+// not, nothing has changed.
 #[inline(always)]
 fn take_shown<R: Source>(reader: &mut Reader<R>, reached: &Reached, known: &mut Known) -> bool
     requires unknown { known.old ≡ None }
     requires there { IsTrue (is_there reader.old) }
     requires counted { counted (progress_of reached.now) ≤ 2 ^ 40 }
     ensures there { IsTrue (is_there reader.new) }
-    ensures answer { TakesShown (state_of reader.old (progress_of reached.now)) result known.new (state_of reader.new (progress_of reached.now)) }
-    ensures reaches { IsTrue result → Takes (state_of reader.old (progress_of reached.now)) (state_of reader.new (progress_of reached.now)) }
-    ensures keeps { FileKeeps (state_of reader.old (progress_of reached.now)) (state_of reader.new (progress_of reached.now)) }
+    ensures answer { TakesShown (state_of reader.old (progress_of reached.now)) result known.new
+        (state_of reader.new (progress_of reached.now)) }
+    ensures reaches { IsTrue result → Takes (state_of reader.old (progress_of reached.now))
+        (state_of reader.new (progress_of reached.now)) }
+    ensures keeps { FileKeeps (state_of reader.old (progress_of reached.now))
+        (state_of reader.new (progress_of reached.now)) }
     ensures room { IsTrue (reader_room reader.old reached.now) → IsTrue (reader_room reader.new reached.now) }
     ensures none { result ≡ false → (reader.new ≡ reader.old) × (known.new ≡ None) }
 {
@@ -113,10 +121,12 @@ pub fn next_of<R: Source>(
     requires counted { counted (progress_of reached.old) ≤ (state_of reader.old (progress_of reached.old)).offset }
     requires room { IsTrue (reader_room reader.old reached.old) }
     ensures there { IsTrue (is_there reader.new) }
-    ensures answer { Answers (state_of reader.old (progress_of reached.old)) result known.new (state_of reader.new (progress_of reached.new)) }
+    ensures answer { Answers (state_of reader.old (progress_of reached.old)) result known.new
+        (state_of reader.new (progress_of reached.new)) }
     ensures reaches { IfOk result (λ _. IfTaken known.new
         (Takes (state_of reader.old (progress_of reached.old)) (state_of reader.new (progress_of reached.new)))) }
-    ensures keeps { FileKeeps (state_of reader.old (progress_of reached.old)) (state_of reader.new (progress_of reached.new)) }
+    ensures keeps { FileKeeps (state_of reader.old (progress_of reached.old))
+        (state_of reader.new (progress_of reached.new)) }
     ensures room { IsTrue (reader_room reader.new reached.new) }
 {
     open(reader)?;
@@ -127,8 +137,8 @@ pub fn next_of<R: Source>(
     }
 }
 
-/// Puts the packet that comes next of a file into `known`, unless that is known, if the window shows it already. Answers whether
-/// a packet is known then.
+/// Puts the packet that comes next of a file into `known`, unless that is known, if the window shows it already.
+/// Answers whether a packet is known then.
 #[inline(always)]
 pub fn shows<R: Source>(reader: &mut Reader<R>, reached: &Reached, known: &mut Known) -> bool
     requires there { IsTrue (is_there reader.old) }
@@ -138,7 +148,8 @@ pub fn shows<R: Source>(reader: &mut Reader<R>, reached: &Reached, known: &mut K
     ensures sound { IsSound (state_of reader.new (progress_of reached.now)) known.new }
     ensures answer { ShowsNext (state_of reader.old (progress_of reached.now)) known.old result
         (state_of reader.new (progress_of reached.now)) known.new }
-    ensures keeps { FileKeeps (state_of reader.old (progress_of reached.now)) (state_of reader.new (progress_of reached.now)) }
+    ensures keeps { FileKeeps (state_of reader.old (progress_of reached.now))
+        (state_of reader.new (progress_of reached.now)) }
     ensures room { IsTrue (reader_room reader.new reached.now) }
 {
     if known.is_some() {
@@ -163,7 +174,8 @@ pub fn learn<R: Source>(
         (state_of reader.new (progress_of reached.new)) known.new }
     ensures reaches { IfOk result (λ _. IfTaken known.new
         (ReadsTo (state_of reader.old (progress_of reached.old)) (state_of reader.new (progress_of reached.new)))) }
-    ensures keeps { FileKeeps (state_of reader.old (progress_of reached.old)) (state_of reader.new (progress_of reached.new)) }
+    ensures keeps { FileKeeps (state_of reader.old (progress_of reached.old))
+        (state_of reader.new (progress_of reached.new)) }
     ensures room { IsTrue (reader_room reader.new reached.new) }
 {
     if known.is_some() {

@@ -11,8 +11,8 @@ use cap_time::Interface;
 // The most packets that a list gives.
 const LIST_LIMIT: usize = 0x100_0000_0000;
 
-/// The packets of one file, in memory, as a feed that never fails: packets of one interface and without bytes, of which the
-/// times are told. A packet's offset is its place in the list, from 0 on.
+/// The packets of one file, in memory, as a feed that never fails: packets of one interface and without bytes, of which
+/// the times are told. A packet's offset is its place in the list, from 0 on.
 #[derive(Drop)]
 pub struct Listed {
     file: u32,
@@ -28,10 +28,11 @@ pub struct Listed {
 }
 
 impl Listed {
-    /// Packets at the first 2^40 of these times, in units of the interface's resolution, as the file of that number, and then
-    /// a refusal by that rule, if by one. Takes no memory.
+    /// Packets at the first 2^40 of these times, in units of the interface's resolution, as the file of that number,
+    /// and then a refusal by that rule, if by one. Takes no memory.
     pub fn new(file: u32, interface: Interface, times: Vec<u64>, end: Option<Rule>) -> Listed
-        ensures { ⟦<Listed as PacketFeed>⟧.feed result ≡ list_feed file interface end 0 (take (2 ^ 40) times.items) None }
+        ensures { ⟦<Listed as PacketFeed>⟧.feed result
+            ≡ list_feed file interface end 0 (take (2 ^ 40) times.items) None }
     {
         let mut times = times;
         times.truncate(LIST_LIMIT);
@@ -47,7 +48,8 @@ impl Listed {
 
     // What comes next.
     fn head_here(&self) -> Head
-        ensures { result ≡ head_at self.now.file self.now.interface self.now.end self.now.place (drop self.now.place self.now.times.items) }
+        ensures { result ≡ head_at self.now.file self.now.interface self.now.end self.now.place
+            (drop self.now.place self.now.times.items) }
     {
         match (self.times.get(self.place), self.end) {
             (Some(units), _) => Head::Packet(Meta {
@@ -128,6 +130,10 @@ impl PacketFeed for Listed {
             skipped: 0,
             was_cut: false,
         }
+    }
+
+    fn named_interfaces(&self, _file: u32) -> u64 {
+        0
     }
 
     fn feed_held(&self) -> FeedHeld {

@@ -3,7 +3,7 @@ ghost use Rattle.std.specs.Prelude.{◌≡◌, IsTrue, IfOk, None, Some, false};
 ghost use Rattle.cap_source.specs.Items.{Progress, resolution_of_unit, interface_of, pcap_ending_with, meta_of};
 ghost use Rattle.cap_source.specs.FileState.{Answers, TakesShown, FileKeeps, IfTaken, Takes, noted_by, pcap_state};
 
-use crate::feeds::Ending;
+use crate::feeds::{Ending, FileEnd};
 use crate::known::Known;
 use crate::packets::{Format, Meta};
 use cap_bytes::{Fault, Source};
@@ -34,13 +34,16 @@ fn interface_of_pcap(header: PcapHeader) -> Interface
 }
 
 // How a pcap file ended.
-fn ending_of_pcap(was_cut: bool) -> Ending
+fn ending_of_pcap(was_cut: bool) -> FileEnd
     ensures { result ≡ pcap_ending_with was_cut }
 {
-    Ending {
-        format: Format::Pcap,
-        skipped: 0,
-        was_cut,
+    FileEnd {
+        ending: Ending {
+            format: Format::Pcap,
+            skipped: 0,
+            was_cut,
+        },
+        named: 0,
     }
 }
 
@@ -71,14 +74,17 @@ pub fn noted_of_pcap<R: Source>(reader: &PcapReader<R>) -> Option<Interface>
     }
 }
 
-/// Puts the packet that comes next of a pcap file into `known`, if the window shows its record already, as it does most of
-/// them. Answers whether it did: if not, nothing has changed.
+/// Puts the packet that comes next of a pcap file into `known`, if the window shows its record already, as it does most
+/// of them. Answers whether it did: if not, nothing has changed.
 #[inline(always)]
 pub fn take_shown<R: Source>(reader: &mut PcapReader<R>, known: &mut Known) -> bool
     requires unknown { known.old ≡ None }
-    ensures answer { (progress : Progress) → TakesShown (pcap_state reader.old progress) result known.new (pcap_state reader.new progress) }
-    ensures reaches { (progress : Progress) → IsTrue result → Takes (pcap_state reader.old progress) (pcap_state reader.new progress) }
-    ensures keeps { (progress : Progress) → FileKeeps (pcap_state reader.old progress) (pcap_state reader.new progress) }
+    ensures answer { (progress : Progress) → TakesShown (pcap_state reader.old progress) result known.new
+        (pcap_state reader.new progress) }
+    ensures reaches { (progress : Progress) → IsTrue result
+        → Takes (pcap_state reader.old progress) (pcap_state reader.new progress) }
+    ensures keeps { (progress : Progress) → FileKeeps (pcap_state reader.old progress)
+        (pcap_state reader.new progress) }
     ensures none { result ≡ false → (reader.new ≡ reader.old) × (known.new ≡ None) }
 {
     let Some(header) = reader.known() else {
@@ -88,7 +94,7 @@ pub fn take_shown<R: Source>(reader: &mut PcapReader<R>, known: &mut Known) -> b
     match reader.take_shown(header) {
         Some(record) => {
             let meta = meta_of_record(file, header, record);
-            known.put_packet(meta, 0);
+            known.set_packet(meta, 0);
             true
         }
         None => false,
@@ -104,22 +110,25 @@ fn next_record_of<R: Source>(
     requires unknown { known.old ≡ None }
     requires header { reader.old.known ≡ Some header }
     requires free { reader.old.stop ≡ None }
-    ensures answer { (progress : Progress) → Answers (pcap_state reader.old progress) result known.new (pcap_state reader.new progress) }
-    ensures reaches { (progress : Progress) → IfOk result (λ _. IfTaken known.new (Takes (pcap_state reader.old progress) (pcap_state reader.new progress))) }
-    ensures keeps { (progress : Progress) → FileKeeps (pcap_state reader.old progress) (pcap_state reader.new progress) }
+    ensures answer { (progress : Progress) → Answers (pcap_state reader.old progress) result known.new
+        (pcap_state reader.new progress) }
+    ensures reaches { (progress : Progress) → IfOk result
+        (λ _. IfTaken known.new (Takes (pcap_state reader.old progress) (pcap_state reader.new progress))) }
+    ensures keeps { (progress : Progress) → FileKeeps (pcap_state reader.old progress)
+        (pcap_state reader.new progress) }
 {
     let file = reader.window().file();
     match reader.next_record() {
         Ok(Some(record)) => {
-            known.put_packet(meta_of_record(file, header, record), 0);
+            known.set_packet(meta_of_record(file, header, record), 0);
             Ok(())
         }
         Ok(None) => {
-            known.put_end(ending_of_pcap(reader.was_cut()));
+            known.set_end(ending_of_pcap(reader.was_cut()));
             Ok(())
         }
         Err(Fault::Refused(refusal)) => {
-            known.put_refused(refusal, ending_of_pcap(false));
+            known.set_refused(refusal, ending_of_pcap(false));
             Ok(())
         }
         Err(Fault::Read { file, offset }) => Err(Fault::Read { file, offset }),
@@ -132,14 +141,17 @@ fn next_record_of<R: Source>(
 pub fn next_of_pcap<R: Source>(reader: &mut PcapReader<R>, known: &mut Known) -> Result<(), Fault>
     requires unknown { known.old ≡ None }
     requires free { reader.old.stop ≡ None }
-    ensures answer { (progress : Progress) → Answers (pcap_state reader.old progress) result known.new (pcap_state reader.new progress) }
-    ensures reaches { (progress : Progress) → IfOk result (λ _. IfTaken known.new (Takes (pcap_state reader.old progress) (pcap_state reader.new progress))) }
-    ensures keeps { (progress : Progress) → FileKeeps (pcap_state reader.old progress) (pcap_state reader.new progress) }
+    ensures answer { (progress : Progress) → Answers (pcap_state reader.old progress) result known.new
+        (pcap_state reader.new progress) }
+    ensures reaches { (progress : Progress) → IfOk result
+        (λ _. IfTaken known.new (Takes (pcap_state reader.old progress) (pcap_state reader.new progress))) }
+    ensures keeps { (progress : Progress) → FileKeeps (pcap_state reader.old progress)
+        (pcap_state reader.new progress) }
 {
     match reader.header() {
         Ok(header) => next_record_of(reader, header, known),
         Err(Fault::Refused(refusal)) => {
-            known.put_refused(refusal, ending_of_pcap(false));
+            known.set_refused(refusal, ending_of_pcap(false));
             Ok(())
         }
         Err(Fault::Read { file, offset }) => Err(Fault::Read { file, offset }),

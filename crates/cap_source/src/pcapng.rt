@@ -1,13 +1,15 @@
 //! What comes next of a pcapng file.
-ghost use Rattle.std.specs.Prelude.{◌≡◌, ◌≤◌, ◌<◌, ◌+◌, ◌^◌, [], length, false, IsTrue, IfOk, IfSome, None, Some, Err, is_some, unwrap_or, vec_len, vec_capacity};
+ghost use Rattle.std.specs.Prelude.{◌≡◌, ◌≤◌, ◌<◌, ◌+◌, ◌^◌, [], length, false, IsTrue, IfOk, IfSome, None, Some, Err};
+ghost use Rattle.std.specs.Prelude.{is_some, unwrap_or, vec_len, vec_capacity};
 ghost use Rattle.cap_blocks.specs.Grammar.{is_known, is_total};
 ghost use Rattle.cap_source.specs.Contents.{content_in, of_body};
 ghost use Rattle.cap_source.specs.Items.{ending_with, meta_in, behind};
-ghost use Rattle.cap_source.specs.FileState.{Answers, TakesShown, FileKeeps, IfTaken, Steps, Takes, pcapng_state, next_at};
+ghost use Rattle.cap_source.specs.FileState.{Answers, TakesShown, FileKeeps, IfTaken, Steps, Takes, pcapng_state};
+ghost use Rattle.cap_source.specs.FileState.{next_at};
 ghost use Rattle.cap_source.specs.Reached.{progress_of, counted, has_room};
 
 use crate::contents::{Content, Packet, content_of, enhanced_packet};
-use crate::feeds::Ending;
+use crate::feeds::{Ending, FileEnd};
 use crate::known::Known;
 use crate::packets::{Format, Meta};
 use crate::reached::{Reached, go_on};
@@ -16,14 +18,18 @@ use cap_bytes::{Fault, Refusal, Rule, Source};
 use cap_time::Interface;
 
 // How a pcapng file ended of which that much was read.
-fn ending_of_blocks(reached: &Reached, was_cut: bool) -> Ending
+fn ending_of_blocks(reached: &Reached, was_cut: bool) -> FileEnd
     ensures { result ≡ ending_with (progress_of reached.now) was_cut }
 {
     let skipped = reached.skipped;
-    Ending {
-        format: Format::Pcapng,
-        skipped,
-        was_cut,
+    let named = reached.named;
+    FileEnd {
+        ending: Ending {
+            format: Format::Pcapng,
+            skipped,
+            was_cut,
+        },
+        named,
     }
 }
 
@@ -81,7 +87,7 @@ fn take_content(
 {
     match content {
         Ok(Content::Packet(packet)) => {
-            known.put_packet(meta_of_packet(file, block, reached, packet), packet.place);
+            known.set_packet(meta_of_packet(file, block, reached, packet), packet.place);
         }
         Ok(content) => {
             go_on(reached, content);
@@ -90,8 +96,8 @@ fn take_content(
     }
 }
 
-/// Puts what comes next of a pcapng file into `known`, if it is a packet in an enhanced packet block that the window shows
-/// already, as most are. Answers whether it did: if not, nothing has changed.
+/// Puts what comes next of a pcapng file into `known`, if it is a packet in an enhanced packet block that the window
+/// shows already, as most are. Answers whether it did: if not, nothing has changed.
 #[inline(always)]
 pub fn take_shown<R: Source>(
     reader: &mut BlockReader<R>,
@@ -100,9 +106,12 @@ pub fn take_shown<R: Source>(
 ) -> bool
     requires unknown { known.old ≡ None }
     requires counted { counted (progress_of reached.now) ≤ 2 ^ 40 }
-    ensures answer { TakesShown (pcapng_state reader.old (progress_of reached.now)) result known.new (pcapng_state reader.new (progress_of reached.now)) }
-    ensures reaches { IsTrue result → Takes (pcapng_state reader.old (progress_of reached.now)) (pcapng_state reader.new (progress_of reached.now)) }
-    ensures keeps { FileKeeps (pcapng_state reader.old (progress_of reached.now)) (pcapng_state reader.new (progress_of reached.now)) }
+    ensures answer { TakesShown (pcapng_state reader.old (progress_of reached.now)) result known.new
+        (pcapng_state reader.new (progress_of reached.now)) }
+    ensures reaches { IsTrue result → Takes (pcapng_state reader.old (progress_of reached.now))
+        (pcapng_state reader.new (progress_of reached.now)) }
+    ensures keeps { FileKeeps (pcapng_state reader.old (progress_of reached.now))
+        (pcapng_state reader.new (progress_of reached.now)) }
     ensures room { IsTrue (has_room reader.old.broken reached.now) → IsTrue (has_room reader.new.broken reached.now) }
     ensures none { result ≡ false → (reader.new ≡ reader.old) × (known.new ≡ None) }
 {
@@ -110,7 +119,7 @@ pub fn take_shown<R: Source>(
     match reader.take_packet() {
         Some(block) => {
             let said = enhanced_packet(&reached.interfaces, block.order, reader.body());
-            put_packet(reached, file, block, said, known);
+            set_packet(reached, file, block, said, known);
             true
         }
         None => false,
@@ -119,7 +128,7 @@ pub fn take_shown<R: Source>(
 
 // Puts into `known` what comes next after an enhanced packet block that says this.
 #[inline(always)]
-fn put_packet(
+fn set_packet(
     reached: &Reached,
     file: u32,
     block: Block,
@@ -131,19 +140,19 @@ fn put_packet(
 {
     match said {
         Ok(packet) => {
-            known.put_packet(meta_of_packet(file, block, reached, packet), packet.place);
+            known.set_packet(meta_of_packet(file, block, reached, packet), packet.place);
         }
         Err(rule) => refuse(reached, file, block, rule, known),
     }
 }
 
-// Puts the refusal of a block into `known`. It isn't inlined, so that a packet is written where it is kept without a look at
-// what a refusal keeps there.
+// Puts the refusal of a block into `known`. It isn't inlined, so that a packet is written where it is kept without a
+// look at what a refusal keeps there.
 #[inline(never)]
 fn refuse(reached: &Reached, file: u32, block: Block, rule: Rule, known: &mut Known)
     ensures { known.new ≡ next_at file (progress_of reached.now) block (Err rule) }
 {
-    known.put_refused(
+    known.set_refused(
         Refusal {
             file,
             offset: block.offset,
@@ -164,10 +173,13 @@ fn take_block<R: Source>(
     requires unknown { known.old ≡ None }
     requires counted { counted (progress_of reached.old) ≤ reader.old.offset }
     requires free { reader.old.stop ≡ None }
-    ensures answer { Steps (pcapng_state reader.old (progress_of reached.old)) result known.new (pcapng_state reader.new (progress_of reached.new)) }
+    ensures answer { Steps (pcapng_state reader.old (progress_of reached.old)) result known.new
+        (pcapng_state reader.new (progress_of reached.new)) }
     ensures reaches { IfOk result (λ _. IfTaken known.new
-        (Takes (pcapng_state reader.old (progress_of reached.old)) (pcapng_state reader.new (progress_of reached.new)))) }
-    ensures keeps { FileKeeps (pcapng_state reader.old (progress_of reached.old)) (pcapng_state reader.new (progress_of reached.new)) }
+        (Takes (pcapng_state reader.old (progress_of reached.old))
+        (pcapng_state reader.new (progress_of reached.new)))) }
+    ensures keeps { FileKeeps (pcapng_state reader.old (progress_of reached.old))
+        (pcapng_state reader.new (progress_of reached.new)) }
     ensures room { IsTrue (has_room reader.new.broken reached.new) }
 {
     let file = reader.window().file();
@@ -178,11 +190,11 @@ fn take_block<R: Source>(
             Ok(())
         }
         Ok(None) => {
-            known.put_end(ending_of_blocks(reached, reader.was_cut()));
+            known.set_end(ending_of_blocks(reached, reader.was_cut()));
             Ok(())
         }
         Err(Fault::Refused(refusal)) => {
-            known.put_refused(refusal, ending_of_blocks(reached, false));
+            known.set_refused(refusal, ending_of_blocks(reached, false));
             Ok(())
         }
         Err(Fault::Read { file, offset }) => Err(Fault::Read { file, offset }),
@@ -201,10 +213,13 @@ fn step<R: Source>(
     requires counted { counted (progress_of reached.old) ≤ reader.old.offset }
     requires free { reader.old.stop ≡ None }
     requires room { IsTrue (has_room reader.old.broken reached.old) }
-    ensures answer { Steps (pcapng_state reader.old (progress_of reached.old)) result known.new (pcapng_state reader.new (progress_of reached.new)) }
+    ensures answer { Steps (pcapng_state reader.old (progress_of reached.old)) result known.new
+        (pcapng_state reader.new (progress_of reached.new)) }
     ensures reaches { IfOk result (λ _. IfTaken known.new
-        (Takes (pcapng_state reader.old (progress_of reached.old)) (pcapng_state reader.new (progress_of reached.new)))) }
-    ensures keeps { FileKeeps (pcapng_state reader.old (progress_of reached.old)) (pcapng_state reader.new (progress_of reached.new)) }
+        (Takes (pcapng_state reader.old (progress_of reached.old))
+        (pcapng_state reader.new (progress_of reached.new)))) }
+    ensures keeps { FileKeeps (pcapng_state reader.old (progress_of reached.old))
+        (pcapng_state reader.new (progress_of reached.new)) }
     ensures room { IsTrue (has_room reader.new.broken reached.new) }
 {
     reached.interfaces.reserve(1)?;
@@ -222,10 +237,13 @@ pub fn next_of_blocks<R: Source>(
     requires free { reader.old.stop ≡ None }
     requires limit { reader.old.offset ≤ 2 ^ 40 }
     requires room { IsTrue (has_room reader.old.broken reached.old) }
-    ensures answer { Answers (pcapng_state reader.old (progress_of reached.old)) result known.new (pcapng_state reader.new (progress_of reached.new)) }
+    ensures answer { Answers (pcapng_state reader.old (progress_of reached.old)) result known.new
+        (pcapng_state reader.new (progress_of reached.new)) }
     ensures reaches { IfOk result (λ _. IfTaken known.new
-        (Takes (pcapng_state reader.old (progress_of reached.old)) (pcapng_state reader.new (progress_of reached.new)))) }
-    ensures keeps { FileKeeps (pcapng_state reader.old (progress_of reached.old)) (pcapng_state reader.new (progress_of reached.new)) }
+        (Takes (pcapng_state reader.old (progress_of reached.old))
+        (pcapng_state reader.new (progress_of reached.new)))) }
+    ensures keeps { FileKeeps (pcapng_state reader.old (progress_of reached.old))
+        (pcapng_state reader.new (progress_of reached.new)) }
     ensures room { IsTrue (has_room reader.new.broken reached.new) }
 {
     loop {

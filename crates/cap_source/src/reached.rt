@@ -3,7 +3,7 @@ ghost use Rattle.std.specs.Prelude.{◌≡◌, ◌<◌, ◌+◌, ◌^◌, vec_le
 ghost use Rattle.cap_source.specs.Items.{after, fresh};
 ghost use Rattle.cap_source.specs.Reached.{progress_of, counted};
 
-use crate::contents::Content;
+use crate::contents::{Content, Described};
 use cap_time::Interface;
 use std::alloc::Global;
 
@@ -16,6 +16,8 @@ pub struct Reached {
     pub base: u64,
     /// How many blocks of the file were skipped.
     pub skipped: u64,
+    /// How many interfaces of the file have a name.
+    pub named: u64,
     /// The first interface of the file, once it was read.
     pub first: Option<Interface>,
 }
@@ -28,6 +30,7 @@ pub fn nothing_reached(alloc: Global) -> Reached
         interfaces: Vec::new(alloc),
         base: 0,
         skipped: 0,
+        named: 0,
         first: None,
     }
 }
@@ -42,12 +45,16 @@ fn begin_section(reached: &mut Reached)
 }
 
 // After an interface block.
-fn add_interface(reached: &mut Reached, interface: Interface)
-    requires { vec_len reached.old.interfaces < vec_capacity reached.old.interfaces }
-    ensures { progress_of reached.new ≡ after (progress_of reached.old) (Content.Interface interface) }
+fn add_interface(reached: &mut Reached, described: Described)
+    requires room { vec_len reached.old.interfaces < vec_capacity reached.old.interfaces }
+    requires limit { counted (progress_of reached.old) < 2 ^ 40 }
+    ensures { progress_of reached.new ≡ after (progress_of reached.old) (Content.Interface described) }
 {
-    reached.first = Some(reached.first.unwrap_or(interface));
-    reached.interfaces.push_reserved(interface);
+    reached.first = Some(reached.first.unwrap_or(described.interface));
+    if described.is_named {
+        reached.named += 1;
+    }
+    reached.interfaces.push_reserved(described.interface);
 }
 
 /// Goes on after a block that says this. There is room for an interface.
@@ -58,7 +65,7 @@ pub fn go_on(reached: &mut Reached, content: Content)
 {
     match content {
         Content::Section => begin_section(reached),
-        Content::Interface(interface) => add_interface(reached, interface),
+        Content::Interface(described) => add_interface(reached, described),
         Content::Packet(_) => {}
         Content::Other => reached.skipped += 1,
     }

@@ -6,7 +6,7 @@ ghost use Rattle.cap_source.specs.FileState.{head_by, end_of, size_of, frame_of,
 ghost use Rattle.cap_source.specs.Reached.{progress_of};
 ghost use Rattle.cap_source.specs.Readers.{state_of, is_there, lent_of};
 
-use crate::feeds::{Ending, Head};
+use crate::feeds::{FileEnd, Head};
 use crate::known::Known;
 use crate::packets::Meta;
 use crate::pcap::noted_of_pcap;
@@ -22,9 +22,9 @@ pub enum Next {
     /// A packet. Its captured bytes begin at that place of what the reader lends.
     Packet(Meta, u32),
     /// A refusal.
-    Refused(Refusal, Ending),
+    Refused(Refusal, FileEnd),
     /// The end.
-    End(Ending),
+    End(FileEnd),
 }
 
 /// By what a file is read.
@@ -66,9 +66,9 @@ pub fn part_of<'a, R: Source>(reader: &'a Reader<R>, next: &Known) -> &'a [u8]
 }
 
 /// How a file ended of which the end comes next.
-pub fn ending_of(next: Option<Next>) -> Ending
+pub fn ending_of(next: Option<Next>) -> FileEnd
     requires { head_by next ≡ Some Head.End }
-    ensures { (later : Ending) → result ≡ ending_by next later }
+    ensures { (later : FileEnd) → result ≡ ending_by next later }
 {
     match next {
         Some(Next::End(ending)) => ending,

@@ -1,11 +1,13 @@
 -- The packets of a feed, counted one by one.
-use Rattle.std.proofs.Common.{◌≡◌, ◌≤◌, ◌<◌, ◌+◌, ◌*◌, ◌^◌, ℕ, cond, nat_lt, List, [], ◌∷◌, ◌++◌, drop, sym, ap, ◌∙◌, arith, Some, None, IsTrue, Ok, Err, append-nil, append_assoc, true, false}
+use Rattle.std.proofs.Common.{◌≡◌, ◌≤◌, ◌<◌, ◌+◌, ◌*◌, ◌^◌, ℕ, cond, nat_lt, List, [], ◌∷◌, ◌++◌, drop, sym, ap, ◌∙◌}
+use Rattle.std.proofs.Common.{arith, Some, None, IsTrue, Ok, Err, append-nil, append_assoc, true, false}
 use Rattle.cap_bytes.specs.declared.faults.Fault.{Fault}
 use Rattle.cap_talks.proofs.Counting.{counted-more}
 use Rattle.cap_talks.specs.counts.Counting.{packets_of, counted, with_packet}
 use Rattle.cap_talks.specs.declared.counts.counts.Counts.{Counts}
 use Rattle.cap_source.proofs.Onward.{Went, Went-none, Went-more}
-use Rattle.cap_source.specs.Feed.{Feed, Item, packet, Keeps, Passes, SameItems, FindsPacket, FindsItem, IsFeed, refusal_of}
+use Rattle.cap_source.specs.Feed.{Feed, Item, packet, Keeps, Passes, SameItems, FindsPacket, FindsItem, IsFeed}
+use Rattle.cap_source.specs.Feed.{refusal_of}
 use Rattle.cap_source.specs.Walk.{GivesPacket, ShowsItem}
 use Rattle.cap_source.specs.declared.feeds.Head.TheVariants as heads
 use Rattle.cap_source.specs.declared.packets.Meta.{Meta}
@@ -26,15 +28,18 @@ pub record IsCounted (old new : Feed) (counts : Counts) : Type 0 where
   pub refusal : IsTrue old.told → refusal_of new.items ≡ refusal_of old.items
   pub endings : IsTrue old.told → (file : ℕ) → new.endings file ≡ old.endings file
 
-pub counted-none : (feed : Feed) (counts : Counts) → feed.left ≤ 2 ^ 40 → counts ≡ counted [] → IsCounted feed feed counts
+pub counted-none : (feed : Feed) (counts : Counts) → feed.left ≤ 2 ^ 40 → counts ≡ counted []
+    → IsCounted feed feed counts
 unfolding counted
 counted-none feed counts few is = grind (arith, Went-none)
 
-packets-first : (meta : Meta) (frame : List ℕ) (items rest : List Item) → items ≡ packet meta frame ∷ rest → packets_of items ≡ meta ∷ packets_of rest
+packets-first : (meta : Meta) (frame : List ℕ) (items rest : List Item) → items ≡ packet meta frame ∷ rest
+    → packets_of items ≡ meta ∷ packets_of rest
 unfolding packets_of
 packets-first meta frame items rest is = ap packets_of is
 
-refusal-first : (meta : Meta) (frame : List ℕ) (items rest : List Item) → items ≡ packet meta frame ∷ rest → refusal_of items ≡ refusal_of rest
+refusal-first : (meta : Meta) (frame : List ℕ) (items rest : List Item) → items ≡ packet meta frame ∷ rest
+    → refusal_of items ≡ refusal_of rest
 unfolding refusal_of
 refusal-first meta frame items rest is = ap refusal_of is
 
@@ -42,9 +47,11 @@ one_or_none : (captured original : ℕ) → cond (nat_lt captured original) 1 0 
 one_or_none captured original = grind arith
 
 -- one packet more is taken
-pub counted-taken : (old mid shown new : Feed) (counts more : Counts) (meta : Meta) → IsCounted old mid counts → GivesPacket mid (Ok (Some meta)) shown → Keeps mid shown
+pub counted-taken : (old mid shown new : Feed) (counts more : Counts) (meta : Meta) → IsCounted old mid counts
+    → GivesPacket mid (Ok (Some meta)) shown → Keeps mid shown
     → (IsTrue mid.told → ShowsItem mid (Ok (Some meta)) shown) → Keeps shown new → Passes shown new
-    → (IsTrue shown.told → new.items ≡ drop 1 shown.items) → (IsTrue shown.told → (file : ℕ) → new.endings file ≡ shown.endings file)
+    → (IsTrue shown.told → new.items ≡ drop 1 shown.items)
+    → (IsTrue shown.told → (file : ℕ) → new.endings file ≡ shown.endings file)
     → meta.original < 2 ^ 32 → more ≡ with_packet counts meta → IsCounted old new more
 counted-taken old mid shown new counts more meta c gives asked shows passed passes dropped ended few is =
     let rest : IsTrue old.told → new.items ≡ drop 1 mid.items =
@@ -60,26 +67,32 @@ counted-taken old mid shown new counts more meta c gives asked shows passed pass
       told = λ t. passed.told (asked.told (c.told t));
       can_fail = λ file t. c.can_fail file (asked.can_fail file (passed.can_fail file t));
       packets = λ t.
-          c.packets t ∙ ap (λ l. c.taken ++ l) (packets-first meta shown.frame mid.items (drop 1 mid.items) (shows (c.told t)).1)
+          c.packets t ∙ ap (λ l. c.taken ++ l) (packets-first meta shown.frame mid.items (drop 1 mid.items)
+          (shows (c.told t)).1)
           ∙ sym (append_assoc c.taken (meta ∷ []) (packets_of (drop 1 mid.items)))
           ∙ ap (λ l. (c.taken ++ meta ∷ []) ++ packets_of l) (sym (rest t));
       refusal = λ t.
-          ap refusal_of (rest t) ∙ sym (refusal-first meta shown.frame mid.items (drop 1 mid.items) (shows (c.told t)).1) ∙ c.refusal t;
+          ap refusal_of (rest t)
+          ∙ sym (refusal-first meta shown.frame mid.items (drop 1 mid.items) (shows (c.told t)).1) ∙ c.refusal t;
       endings = λ t file. ended (asked.told (c.told t)) file ∙ (shows (c.told t)).0.endings file ∙ c.endings t file;
     }
 
 -- What a feed that was asked whether a packet comes next says of it: the packet that it lends, or the end, or a fault.
-pub found-packet : (mid shown : Feed) (meta : Meta) → FindsPacket mid (Ok true) shown → shown.known ≡ Some (heads.Packet meta) → GivesPacket mid (Ok (Some meta)) shown
+pub found-packet : (mid shown : Feed) (meta : Meta) → FindsPacket mid (Ok true) shown
+    → shown.known ≡ Some (heads.Packet meta) → GivesPacket mid (Ok (Some meta)) shown
 found-packet mid shown meta found lent = grind arith
 
-pub found-item : (mid shown : Feed) (meta : Meta) → IsFeed shown → IsTrue shown.told → SameItems mid shown → shown.known ≡ Some (heads.Packet meta)
+pub found-item : (mid shown : Feed) (meta : Meta) → IsFeed shown → IsTrue shown.told → SameItems mid shown
+    → shown.known ≡ Some (heads.Packet meta)
     → ShowsItem mid (Ok (Some meta)) shown
 found-item mid shown meta f t same lent = grind arith
 
-pub found-end : (mid shown : Feed) → IsFeed shown → IsTrue shown.told → SameItems mid shown → FindsPacket mid (Ok false) shown → ShowsItem mid (Ok None) shown
+pub found-end : (mid shown : Feed) → IsFeed shown → IsTrue shown.told → SameItems mid shown
+    → FindsPacket mid (Ok false) shown → ShowsItem mid (Ok None) shown
 found-end mid shown f t same found = grind arith
 
-pub found-fault : (fault : Fault) (mid shown : Feed) → IsFeed shown → IsTrue shown.told → FindsItem mid (Err fault) shown → FindsPacket mid (Err fault) shown
+pub found-fault : (fault : Fault) (mid shown : Feed) → IsFeed shown → IsTrue shown.told
+    → FindsItem mid (Err fault) shown → FindsPacket mid (Err fault) shown
     → ShowsItem mid (Err fault) shown
 found-fault fault mid shown f t items found = grind arith
 
@@ -90,7 +103,8 @@ unfolding packets_of refusal_of
 counted-end old mid shown counts c t shows = grind (arith, counted, append-nil)
 
 -- it faults
-pub counted-fault : (fault : Fault) (old mid shown new : Feed) (counts : Counts) → IsCounted old mid counts → IsTrue old.told
+pub counted-fault : (fault : Fault) (old mid shown new : Feed) (counts : Counts) → IsCounted old mid counts
+    → IsTrue old.told
     → (IsTrue mid.told → ShowsItem mid (Err fault) shown) → CountsAll old (Err fault) new
 unfolding refusal_of
 counted-fault fault old mid shown new counts c t shows = grind arith

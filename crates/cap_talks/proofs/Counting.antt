@@ -2,10 +2,12 @@
 use Rattle.std.proofs.Common.{◌≡◌, ◌+◌, cond, nat_lt, List, [], ◌∷◌, ◌++◌, arith, Some, option_map, length-append, true}
 use Rattle.std.specs.Option.{option_map_or}
 use Rattle.cap_source.specs.declared.packets.Meta.{Meta}
-use Rattle.cap_talks.specs.counts.Counting.{are_in_order, original_bytes, truncated_packets, last_packet, counted, with_packet}
+use Rattle.cap_talks.specs.counts.Counting.{are_in_order, original_bytes, truncated_packets, last_packet, counted}
+use Rattle.cap_talks.specs.counts.Counting.{with_packet}
 use Rattle.cap_talks.proofs.Times.{least-more, greatest-more, times-in_order}
 
-bytes-more : (metas : List Meta) (meta : Meta) → original_bytes (metas ++ meta ∷ []) ≡ original_bytes metas + meta.original
+bytes-more : (metas : List Meta) (meta : Meta)
+    → original_bytes (metas ++ meta ∷ []) ≡ original_bytes metas + meta.original
 bytes-more [] meta = omega arith
 bytes-more (m ∷ metas) meta = omega (arith, bytes-more metas meta)
 

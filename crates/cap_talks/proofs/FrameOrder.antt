@@ -12,7 +12,8 @@ pub by_time_total : IsTotalOrder by_time
 by_time_total = then_total (on_total (λ f. f.time) stamp_cmp_total) (on_total (λ f. f.place) nat_cmp_total)
 
 pub by_time_down_total : IsTotalOrder by_time_down
-by_time_down_total = then_total (back_total (on_total (λ f. f.time) stamp_cmp_total)) (on_total (λ f. f.place) nat_cmp_total)
+by_time_down_total = then_total (back_total (on_total (λ f. f.time) stamp_cmp_total))
+    (on_total (λ f. f.place) nat_cmp_total)
 
 pub earlier_is : (a b : Option TimedFrame) → earlier_frame a b ≡ chosen by_time a b
 earlier_is a b = cc
@@ -27,10 +28,12 @@ later-assoc : (a b c : Option TimedFrame) → later_frame (later_frame a b) c �
 later-assoc a b c = search (later_is, chosen, chosen-assoc, by_time_down_total)
 
 -- one unit more
-pub least-more : (units : List CountedUnit) (unit : CountedUnit) → least_frame (units ++ unit ∷ []) ≡ earlier_frame (least_frame units) unit.first
+pub least-more : (units : List CountedUnit) (unit : CountedUnit)
+    → least_frame (units ++ unit ∷ []) ≡ earlier_frame (least_frame units) unit.first
 least-more [] unit = earlier_is unit.first None ∙ chosen-alone by_time unit.first
 least-more (u ∷ units) unit = search (least-more units unit, earlier-assoc)
 
-pub greatest-more : (units : List CountedUnit) (unit : CountedUnit) → greatest_frame (units ++ unit ∷ []) ≡ later_frame (greatest_frame units) unit.last
+pub greatest-more : (units : List CountedUnit) (unit : CountedUnit)
+    → greatest_frame (units ++ unit ∷ []) ≡ later_frame (greatest_frame units) unit.last
 greatest-more [] unit = later_is unit.last None ∙ chosen-alone by_time_down unit.last
 greatest-more (u ∷ units) unit = search (greatest-more units unit, later-assoc)

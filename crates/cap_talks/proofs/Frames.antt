@@ -19,7 +19,8 @@ use Rattle.cap_talks.specs.declared.table.classes.Class.TheVariants as class
 
 -- a datagram is a unit if its class is that of those that count
 frames_whole : (header : HeaderFields) (captured : List ℕ) (s : Stamped)
-    → frames_of (listed (whole_unit header captured s)) ≡ some_of class.Counted (class_of (transport_of header.key.protocol captured header.data_length)) 1
+    → frames_of (listed (whole_unit header captured s))
+    ≡ some_of class.Counted (class_of (transport_of header.key.protocol captured header.data_length)) 1
 frames_whole header captured s = grind arith
 
 frames_in : (ps : List Piece) (o : Option HeaderFields) → header_of ps ≡ o
@@ -32,14 +33,23 @@ frames_of-more [] vs = omega arith
 frames_of-more (u ∷ us) vs = omega (arith, frames_of-more us vs)
 
 units-more : (x : Taken) (xs : List Taken) (l : Look) → look (length xs) x ≡ l
-    → frames_of (units_of (x ∷ xs)) ≡ frames_of (units_of xs) + frames_of (listed (unit_by l (stamped_of (length xs) x.meta) x.clock (events_of xs)))
+    → frames_of (units_of (x ∷ xs)) ≡ frames_of (units_of xs) + frames_of
+    (listed (unit_by l (stamped_of (length xs) x.meta) x.clock (events_of xs)))
 unfolding units_of unit_at
 units-more x xs l is = grind (arith, frames_of-more, listed)
 
 module _ (x : Taken) (xs : List Taken) where
-  with_look : (l : Look) → look (length xs) x ≡ l → frames_of (units_of xs) ≤ times class.Counted (classes xs) → frames_of (units_of (x ∷ xs)) ≤ times class.Counted (classes (x ∷ xs))
-  with_look (plain c) is h = omega (arith, units-more x xs (plain c) is, ap (times class.Counted) (classes-plain x xs c is), h)
-  with_look (datagram header captured) is h = grind (arith, units-more x xs (datagram header captured) is, ap (times class.Counted) (classes-datagram x xs header captured is), frames_whole header captured (stamped_of (length xs) x.meta), h)
+  with_look : (l : Look) → look (length xs) x ≡ l → frames_of (units_of xs) ≤ times class.Counted (classes xs)
+      → frames_of (units_of (x ∷ xs)) ≤ times class.Counted (classes (x ∷ xs))
+  with_look (plain c) is h =
+      omega (arith, units-more x xs (plain c) is, ap (times class.Counted) (classes-plain x xs c is), h)
+  with_look (datagram header captured) is h = grind (
+    arith,
+    units-more x xs (datagram header captured) is,
+    ap (times class.Counted) (classes-datagram x xs header captured is),
+    frames_whole header captured (stamped_of (length xs) x.meta),
+    h,
+  )
   with_look (fragment p) is h = by (completes joined) refl
     where
       joined : List Piece
@@ -48,7 +58,14 @@ module _ (x : Taken) (xs : List Taken) where
       by : (b : Bool) → completes joined ≡ b → frames_of (units_of (x ∷ xs)) ≤ times class.Counted (classes (x ∷ xs))
       by true e =
           let none = ap (λ (b : Bool). frames_of (listed (first_unit (if b then joined ∷ [] else [])))) e in
-          omega (arith, units-more x xs (fragment p) is, none, frames_in joined (header_of joined) refl, classes-completed x xs p is e class.Counted, h)
+          omega (
+            arith,
+            units-more x xs (fragment p) is,
+            none,
+            frames_in joined (header_of joined) refl,
+            classes-completed x xs p is e class.Counted,
+            h,
+          )
       by false e =
           let none = ap (λ (b : Bool). frames_of (listed (first_unit (if b then joined ∷ [] else [])))) e in
           omega (arith, units-more x xs (fragment p) is, none, ap (times class.Counted) (classes-kept x xs p is e), h)

@@ -1,5 +1,6 @@
 -- The report over files that are read.
-use Rattle.std.proofs.Common.{◌≡◌, ℕ, zero, suc, ◌+◌, Bool, List, [], length, map, IsTrue, IsOkUnless, Option, Some, None, Result, Ok, Err, refl, ap, ◌∙◌, subst, arith}
+use Rattle.std.proofs.Common.{◌≡◌, ℕ, zero, suc, ◌+◌, Bool, List, [], length, map, IsTrue, IsOkUnless, Option, Some}
+use Rattle.std.proofs.Common.{None, Result, Ok, Err, refl, ap, ◌∙◌, subst, arith}
 use Rattle.std.specs.Prelude.{if◌then◌else◌}
 use Rattle.std.specs.List.{list_all, range_with_len}
 use Rattle.std.proofs.lemmas.List.{length-map}
@@ -29,7 +30,8 @@ length-range first zero = refl
 length-range first (suc count) = ap suc (length-range (first + 1) count)
 
 -- Files of which nothing was read yet.
-module _ {A : Type 0} (reader : A → Reader) (tail : Tail) (sources : List A) (ps : List Part) (unread : IsUnreadRun tail (map reader sources) ps) where
+module _ {A : Type 0} (reader : A → Reader) (tail : Tail) (sources : List A) (ps : List Part)
+    (unread : IsUnreadRun tail (map reader sources) ps) where
   run-is : run_of ps ≡ clocked_run tail (map (λ s. (reader s).bytes) sources)
   run-is = unread.run ∙ ap (clocked_run tail) (bytes-readers reader sources)
 
@@ -41,34 +43,43 @@ module _ {A : Type 0} (reader : A → Reader) (tail : Tail) (sources : List A) (
 
   -- the report of their run is theirs
   pub tells-files : (held out : List ℕ) (result : Result (Unit {0}) Fault)
-      → (IsTrue (feed_of ps).told → TellsReport (length (feed_of ps).files) ps held result out) → IsTrue (list_all (λ s. (reader s).told) sources)
-      → Tells (report_text (length sources) (endings_of_files tail (map (λ s. (reader s).bytes) sources)) (clocked_run tail (map (λ s. (reader s).bytes) sources)))
+      → (IsTrue (feed_of ps).told → TellsReport (length (feed_of ps).files) ps held result out)
+      → IsTrue (list_all (λ s. (reader s).told) sources)
+      → Tells (report_text (length sources) (endings_of_files tail (map (λ s. (reader s).bytes) sources))
+      (clocked_run tail (map (λ s. (reader s).bytes) sources)))
       (report_refusal (clocked_run tail (map (λ s. (reader s).bytes) sources))) held result out
   tells-files held out result tells t =
-      subst (λ (e : List ℕ × Option Refusal). Tells e.0 e.1 held result out) (λ i. (report_text (count-is i) (endings-are i) (run-is i), report_refusal (run-is i)))
+      subst (λ (e : List ℕ × Option Refusal). Tells e.0 e.1 held result out)
+      (λ i. (report_text (count-is i) (endings-are i) (run-is i), report_refusal (run-is i)))
       (tells (told-readers reader tail sources ps unread t))
 
 -- all packets of a table were taken: the report is written
-pub tells-report : (old new : TableState) (held out : List ℕ) (result : Result (Unit {0}) Fault) → IsTrue (feed_of old.parts).told → TableStands old []
+pub tells-report : (old new : TableState) (held out : List ℕ) (result : Result (Unit {0}) Fault)
+    → IsTrue (feed_of old.parts).told → TableStands old []
     → TookAll old new → IsOkUnless result Write
-    → ((xs : List Taken) → TableStands new xs → Prints (text_of (length new.totals.files) (endings_so_far new) xs) None held result out)
+    → ((xs : List Taken) → TableStands new xs → Prints
+    (text_of (length new.totals.files) (endings_so_far new) xs) None held result out)
     → TellsReport (length old.totals.files) old.parts held result out
 tells-report old new held out result t stands took fault prints =
     let endings = ap (λ (d : Bool). if d then Some (feed_of new.parts).endings else None) took.done
     ∙ ap Some (λ i file. took.endings t file i) in
     tells-printed _ _ held result out (took.free t stands) fault
-    (subst (λ l. Prints l None held result out) (λ i. text_of (took.files i) (endings i) (taken_after [] (run_of old.parts)))
+    (subst (λ l. Prints l None held result out) (λ i. text_of (took.files i) (endings i)
+    (taken_after [] (run_of old.parts)))
     (prints (taken_after [] (run_of old.parts)) (took.stands t stands)))
 
 -- taking them faults: nothing is written
-pub tells-nothing : (old new : TableState) (held : List ℕ) (fault : Fault) → TakesAll old (Err fault) new → IsTrue (feed_of old.parts).told → TableStands old []
+pub tells-nothing : (old new : TableState) (held : List ℕ) (fault : Fault) → TakesAll old (Err fault) new
+    → IsTrue (feed_of old.parts).told → TableStands old []
     → TellsReport (length old.totals.files) old.parts held (Err fault) held
 tells-nothing old new held fault takes t stands = grind arith
 
 -- the feed is at its end as the report is written
-pub walks-written : (old new : Feed) (result : Result (Unit {0}) Fault) → Walks {A = Unit {0}} old (Ok tt) new → IsOkUnless result Write → Walks old result new
+pub walks-written : (old new : Feed) (result : Result (Unit {0}) Fault) → Walks {A = Unit {0}} old (Ok tt) new
+    → IsOkUnless result Write → Walks old result new
 walks-written old new result walks fault = grind (arith, Lasts-goes)
 
 -- nothing is written as packets are taken
-pub writer-same : (w : Writer) (old new : TableState) (fault : Fault) → TakesAll old (Err fault) new → WriterKeeps w (is_write {A = Unit {0}} (Err fault)) w
+pub writer-same : (w : Writer) (old new : TableState) (fault : Fault) → TakesAll old (Err fault) new
+    → WriterKeeps w (is_write {A = Unit {0}} (Err fault)) w
 writer-same w old new fault takes = grind arith

@@ -1,5 +1,6 @@
 -- When two units are of one conversation.
-use Rattle.std.proofs.Common.{arith, ◌≡◌, Bool, true, false, cond, not, ◌&&◌, ◌||◌, refl, sym, ap, ◌∙◌, true≢false, Ordering, Equal}
+use Rattle.std.proofs.Common.{arith, ◌≡◌, Bool, true, false, cond, not, ◌&&◌, ◌||◌, refl, sym, ap, ◌∙◌, true≢false}
+use Rattle.std.proofs.Common.{Ordering, Equal}
 use Rattle.std.specs.Prelude.{◌==◌}
 use Rattle.std.specs.Cmp.{IsTotalOrder}
 use Rattle.std.specs.Ordering.{is_gt, ordering_reverse}
@@ -83,22 +84,31 @@ key_law a b = by (is_forward a) (is_forward b) refl refl
         let d = same_end-is a.destination b.source (and_right sd ds h) in
         let one : a.source ≡ a.destination =
         exact_ends a.source a.destination
-        (not_both (end_cmp a.source a.destination) (end_cmp a.destination a.source) (end_total.antisymm a.source a.destination)
-        (upto_of (is_gt (end_cmp a.source a.destination)) x) (sym (turned h) ∙ upto_of (is_gt (end_cmp b.source b.destination)) y)) in
+        (not_both (end_cmp a.source a.destination) (end_cmp a.destination a.source)
+        (end_total.antisymm a.source a.destination)
+        (upto_of (is_gt (end_cmp a.source a.destination)) x) (sym (turned h)
+        ∙ upto_of (is_gt (end_cmp b.source b.destination)) y)) in
         and_true ss dd (same_of a.source b.source (one ∙ d)) (same_of a.destination b.destination (sym one ∙ s))
 
     never : is_forward a ≡ false → is_forward b ≡ false → (sd && ds) ≡ true → (dd && ss) ≡ true
     never x y h =
-        absurd (both_greater (end_cmp a.source a.destination) (end_cmp a.destination a.source) (end_total.antisymm a.source a.destination)
-        (above_of (is_gt (end_cmp a.source a.destination)) x) (sym (turned h) ∙ above_of (is_gt (end_cmp b.source b.destination)) y))
+        absurd (both_greater (end_cmp a.source a.destination) (end_cmp a.destination a.source)
+        (end_total.antisymm a.source a.destination)
+        (above_of (is_gt (end_cmp a.source a.destination)) x) (sym (turned h)
+        ∙ above_of (is_gt (end_cmp b.source b.destination)) y))
 
     by : (x y : Bool) → is_forward a ≡ x → is_forward b ≡ y
-        → same_talk (cond x (record { protocol = a.protocol; lesser = a.source; greater = a.destination }) (record { protocol = a.protocol; lesser = a.destination; greater = a.source }))
-        (cond y (record { protocol = b.protocol; lesser = b.source; greater = b.destination }) (record { protocol = b.protocol; lesser = b.destination; greater = b.source }))
+        → same_talk (cond x (record { protocol = a.protocol; lesser = a.source; greater = a.destination })
+        (record { protocol = a.protocol; lesser = a.destination; greater = a.source }))
+        (cond y (record { protocol = b.protocol; lesser = b.source; greater = b.destination })
+        (record { protocol = b.protocol; lesser = b.destination; greater = b.source }))
         ≡ (p && ((ss && dd) || (sd && ds)))
     by true true x y = ap (λ t. p && t) (sym (left_absorbs (ss && dd) (sd && ds) (to_itself x y)))
-    by true false x y = ap (λ t. p && t) (sym (right_absorbs (ss && dd) (sd && ds) (λ h. absurd (true≢false (sym x ∙ alike h ∙ y)))))
+    by true false x y = ap (λ t. p && t)
+        (sym (right_absorbs (ss && dd) (sd && ds) (λ h. absurd (true≢false (sym x ∙ alike h ∙ y)))))
     by false true x y =
-        ap (λ t. p && t) (and_turned ds sd ∙ sym (right_absorbs (ss && dd) (sd && ds) (λ h. absurd (true≢false (sym y ∙ sym (alike h) ∙ x)))))
+        ap (λ t. p && t) (and_turned ds sd
+        ∙ sym (right_absorbs (ss && dd) (sd && ds) (λ h. absurd (true≢false (sym y ∙ sym (alike h) ∙ x)))))
     by false false x y =
-        ap (λ t. p && t) (and_turned dd ss ∙ sym (left_absorbs (ss && dd) (sd && ds) (λ h. and_turned ss dd ∙ never x y h)))
+        ap (λ t. p && t) (and_turned dd ss
+        ∙ sym (left_absorbs (ss && dd) (sd && ds) (λ h. and_turned ss dd ∙ never x y h)))

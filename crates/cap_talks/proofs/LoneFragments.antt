@@ -1,5 +1,6 @@
 -- No fragment is a whole datagram by itself.
-use Rattle.std.proofs.Common.{◌≡◌, ℕ, ◌<◌, Bool, true, false, List, [], ◌∷◌, refl, ap, arith, ◌||◌, not, true≢false, Option, Some, None}
+use Rattle.std.proofs.Common.{◌≡◌, ℕ, ◌<◌, Bool, true, false, List, [], ◌∷◌, refl, ap, arith, ◌||◌, not, true≢false}
+use Rattle.std.proofs.Common.{Option, Some, None}
 use Rattle.std.specs.Prelude.{◌==◌, if◌then◌else◌}
 use Rattle.std.specs.Option.{option_map_or}
 use Rattle.std.proofs.lemmas.Bool.Decides.{nat_tests}
@@ -18,7 +19,8 @@ lone : (p : Piece) → (p.more || not (p.start == 0)) ≡ true → completes (p 
 unfolding completes
 lone p h = by p.more (p.start == 0) refl h
   where
-    by : (m z : Bool) → (p.start == 0) ≡ z → (m || not z) ≡ true → option_map_or (λ n. covers_below (p ∷ []) (blocks n)) (if m then None else Some (end_of p)) false ≡ false
+    by : (m z : Bool) → (p.start == 0) ≡ z → (m || not z) ≡ true
+        → option_map_or (λ n. covers_below (p ∷ []) (blocks n)) (if m then None else Some (end_of p)) false ≡ false
     by false false e k =
         let far : 0 < p.start = grind (arith, nat_tests) in
         let out : holds p 0 ≡ false = grind (arith, nat_tests) in
@@ -26,13 +28,15 @@ lone p h = by p.more (p.start == 0) refl h
     by m z e k = grind (arith, true≢false)
 
 -- what was found is what the bytes spell
-found_fields : (bytes : List ℕ) (whole : Bool) (h : HeaderFields) (x : List ℕ) → read_of bytes whole ≡ found h x → fields_of bytes ≡ h
+found_fields : (bytes : List ℕ) (whole : Bool) (h : HeaderFields) (x : List ℕ) → read_of bytes whole ≡ found h x
+    → fields_of bytes ≡ h
 unfolding read_of ended
 found_fields bytes whole h x g = grind arith
 
 -- a fragment that was found has MF set, or doesn't begin at 0
 part_by : (bytes : List ℕ) (f : Fragment) (b : Bool) → is_fragment bytes ≡ b
-    → (if b then Some (record { start = offset bytes; length = data_length bytes; more = more_fragments bytes }) else None) ≡ Some f → (f.more || not (f.start == 0)) ≡ true
+    → (if b then Some (record { start = offset bytes; length = data_length bytes; more = more_fragments bytes })
+    else None) ≡ Some f → (f.more || not (f.start == 0)) ≡ true
 unfolding is_fragment
 part_by bytes f b e g = grind arith
 
@@ -45,7 +49,8 @@ IsPart (plain c) = Unit {0}
 IsPart (datagram header captured) = Unit {0}
 IsPart (fragment p) = completes (p ∷ []) ≡ false
 
-part_of-by : (o : Option Fragment) (bytes : List ℕ) (h : HeaderFields) (x : List ℕ) (s : Stamped) → fields_of bytes ≡ h → h.fragment ≡ o → IsPart (look_by o h x s)
+part_of-by : (o : Option Fragment) (bytes : List ℕ) (h : HeaderFields) (x : List ℕ) (s : Stamped) → fields_of bytes ≡ h
+    → h.fragment ≡ o → IsPart (look_by o h x s)
 unfolding fields_of piece_of IsPart
 part_of-by o bytes h x s e g = grind (arith, lone, part)
 

@@ -1,5 +1,6 @@
 -- Taking all packets of a run, one by one.
-use Rattle.std.proofs.Common.{◌≡◌, ℕ, Bool, true, false, List, [], ◌∷◌, length, refl, sym, ◌∙◌, ap, arith, true≢false, Option, Some, None, Result, Ok, Err, IsTrue, inl, inr, ◌⊎◌}
+use Rattle.std.proofs.Common.{◌≡◌, ℕ, Bool, true, false, List, [], ◌∷◌, length, refl, sym, ◌∙◌, ap, arith, true≢false}
+use Rattle.std.proofs.Common.{Option, Some, None, Result, Ok, Err, IsTrue, inl, inr, ◌⊎◌}
 use Rattle.std.specs.Prelude.{IsOkUnless, if◌then◌else◌}
 use Rattle.cap_bytes.specs.declared.faults.Fault.{Fault}
 use Rattle.cap_bytes.specs.declared.faults.Fault.TheVariants.{Refused, Read, Write, Memory}
@@ -16,7 +17,8 @@ use Rattle.cap_time.specs.declared.stamps.Stamp.{Stamp}
 use Rattle.cap_talks.specs.table.CountedUnits.{refusal_at}
 use Rattle.cap_talks.specs.talks.ReportText.{taken_after, refusal_after}
 use Rattle.cap_talks.specs.talks.Reporting.{TookAll, TakesAll}
-use Rattle.cap_talks.specs.table.Stepping.{clocked, next_by, KeepsNext, TableState, TableStands, StepKeeps, Takes, Steps, IsMore}
+use Rattle.cap_talks.specs.table.Stepping.{clocked, next_by, KeepsNext, TableState, TableStands, StepKeeps, Takes}
+use Rattle.cap_talks.specs.table.Stepping.{Steps, IsMore}
 use Rattle.cap_talks.specs.table.Taken.{Taken}
 use Rattle.cap_talks.specs.table.CountedUnits.{is_limit_at}
 use Rattle.cap_talks.specs.declared.table.tables.Step.{Step}
@@ -29,8 +31,10 @@ pub record Reporting (old new : TableState) : Type 0 where
   pub files : length new.totals.files ≡ length old.totals.files
   pub stands : TableStands old [] → TableStands new taken
   pub text : IsTrue (feed_of old.parts).told → taken_after [] (run_of old.parts) ≡ taken_after taken (run_of new.parts)
-  pub refusal : IsTrue (feed_of old.parts).told → TableStands old [] → refusal_after [] (run_of old.parts) ≡ refusal_after taken (run_of new.parts)
-  pub endings : IsTrue (feed_of old.parts).told → (file : ℕ) → (feed_of new.parts).endings file ≡ (feed_of old.parts).endings file
+  pub refusal : IsTrue (feed_of old.parts).told → TableStands old []
+      → refusal_after [] (run_of old.parts) ≡ refusal_after taken (run_of new.parts)
+  pub endings : IsTrue (feed_of old.parts).told → (file : ℕ)
+      → (feed_of new.parts).endings file ≡ (feed_of old.parts).endings file
 
 pub Reporting-begin : (t : TableState) → Reporting t t
 Reporting-begin t = grind (arith, Went-none)
@@ -41,7 +45,8 @@ refusal-packet : (xs : List Taken) (x : Taken) (run : List (Clocked Item)) (b : 
 unfolding refusal_after
 refusal-packet xs x run b is = grind arith
 
-taken-packet : (xs : List Taken) (x : Taken) (run : List (Clocked Item)) → taken_after xs (clocked x ∷ run) ≡ taken_after (x ∷ xs) run
+taken-packet : (xs : List Taken) (x : Taken) (run : List (Clocked Item))
+    → taken_after xs (clocked x ∷ run) ≡ taken_after (x ∷ xs) run
 unfolding taken_after
 taken-packet xs x run = refl
 
@@ -53,7 +58,8 @@ refusal-none : (xs : List Taken) → refusal_after xs [] ≡ None
 unfolding refusal_after
 refusal-none xs = refl
 
-refusal-refused : (xs : List Taken) (clock : Option Stamp) (r : Refusal) → refusal_after xs (record { clock = clock; item = refused r } ∷ []) ≡ Some r
+refusal-refused : (xs : List Taken) (clock : Option Stamp) (r : Refusal)
+    → refusal_after xs (record { clock = clock; item = refused r } ∷ []) ≡ Some r
 unfolding refusal_after
 refusal-refused xs clock r = refl
 
@@ -62,11 +68,13 @@ more old mid new p k t = record {
   taken = t.item ∷ p.taken;
   went = record {
     keeps = Keeps-trans (feed_of old.parts) (feed_of mid.parts) (feed_of new.parts) p.went.keeps k.keeps;
-    lasts = Lasts-trans (feed_of old.parts) (feed_of mid.parts) (feed_of new.parts) p.went.lasts (Lasts-goes (feed_of mid.parts) (feed_of new.parts) t.goes);
+    lasts = Lasts-trans (feed_of old.parts) (feed_of mid.parts) (feed_of new.parts) p.went.lasts
+        (Lasts-goes (feed_of mid.parts) (feed_of new.parts) t.goes);
   };
   files = k.files ∙ p.files;
   stands = λ s. (t.stands p.taken (p.stands s)).1;
-  text = λ h. p.text h ∙ ap (taken_after p.taken) (t.run (p.went.keeps.told h)) ∙ taken-packet p.taken t.item (run_of new.parts);
+  text = λ h. p.text h ∙ ap (taken_after p.taken) (t.run (p.went.keeps.told h))
+      ∙ taken-packet p.taken t.item (run_of new.parts);
   refusal = λ h s.
       p.refusal h s ∙ ap (refusal_after p.taken) (t.run (p.went.keeps.told h))
       ∙ refusal-packet p.taken t.item (run_of new.parts) false (t.stands p.taken (p.stands s)).0;
@@ -76,20 +84,24 @@ more old mid new p k t = record {
 clash : true ≡ false → ⊥
 clash e = true≢false e
 
-pub Reporting-more : (old mid new : TableState) (step : Step) (b : Bool) → Reporting old mid → StepKeeps mid new → Steps mid (Ok step) new → IsMore step b → b ≡ true → Reporting old new
+pub Reporting-more : (old mid new : TableState) (step : Step) (b : Bool) → Reporting old mid → StepKeeps mid new
+    → Steps mid (Ok step) new → IsMore step b → b ≡ true → Reporting old new
 Reporting-more old mid new steps.Took b p k t m is = more old mid new p k t
 Reporting-more old mid new steps.Done b p k t m is = absurd (clash (sym is ∙ m))
 
-pub TakesAll-end : (old mid new : TableState) (step : Step) (b : Bool) → Reporting old mid → StepKeeps mid new → Steps mid (Ok step) new → IsMore step b → b ≡ false → TookAll old new
+pub TakesAll-end : (old mid new : TableState) (step : Step) (b : Bool) → Reporting old mid → StepKeeps mid new
+    → Steps mid (Ok step) new → IsMore step b → b ≡ false → TookAll old new
 TakesAll-end old mid new steps.Took b p k t m is = absurd (clash (sym m ∙ is))
 TakesAll-end old mid new steps.Done b p k t m is = grind (arith, refusal-none, taken-none)
 
 -- a growth was refused: it isn't known what comes next, or a packet does
-at-cause : (old new : TableState) → Waits (feed_of old.parts) (feed_of new.parts) ⊎ KeepsNext old new → IsAtPacket (feed_of new.parts).known
+at-cause : (old new : TableState) → Waits (feed_of old.parts) (feed_of new.parts) ⊎ KeepsNext old new
+    → IsAtPacket (feed_of new.parts).known
 at-cause old new (inl w) = at-unknown (feed_of new.parts).known w.after
 at-cause old new (inr k) = by (feed_of new.parts).known k.next
   where
-    by : (known : Option Head) → next_by known (clock_of new.parts) (feed_of new.parts).frame ≡ Some k.item → IsAtPacket known
+    by : (known : Option Head) → next_by known (clock_of new.parts) (feed_of new.parts).frame ≡ Some k.item
+        → IsAtPacket known
     by None is = tt
     by (Some (heads.Packet meta)) is = tt
     by (Some (heads.Refused refusal)) is = absurd (clash is)
@@ -102,13 +114,15 @@ at-cause old new (inr k) = by (feed_of new.parts).known k.next
         clash e = cc
 
 -- the same of what taking all answers
-pub taken-memory : (old new : TableState) (fault : Fault) → TakesAll old (Err fault) new → OfMemory fault (IsAtPacket (feed_of new.parts).known)
+pub taken-memory : (old new : TableState) (fault : Fault) → TakesAll old (Err fault) new
+    → OfMemory fault (IsAtPacket (feed_of new.parts).known)
 taken-memory old new (Refused refusal) t = tt
 taken-memory old new (Read file offset) t = tt
 taken-memory old new Write t = tt
 taken-memory old new Memory t = t
 
-pub TakesAll-fault : (old mid new : TableState) (fault : Fault) → Reporting old mid → Steps mid (Err fault) new → TakesAll old (Err fault) new
+pub TakesAll-fault : (old mid new : TableState) (fault : Fault) → Reporting old mid → Steps mid (Err fault) new
+    → TakesAll old (Err fault) new
 TakesAll-fault old mid new (Refused r) p (inl t) = grind (arith, refusal-refused)
 TakesAll-fault old mid new (Refused r) p (inr t) = λ h s.
     p.refusal h s ∙ ap (refusal_after p.taken) (t.run (p.went.keeps.told h))

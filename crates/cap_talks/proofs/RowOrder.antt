@@ -8,7 +8,8 @@ use Rattle.cap_time.specs.StampLaws.{stamp_cmp_total}
 use Rattle.cap_time.specs.declared.stamps.Stamp.{Stamp}
 use Rattle.cap_time.proofs.Chosen.{not_trans}
 use Rattle.cap_talks.specs.table.Talks.{Talk, earlier_frame, later_frame, frame_time, place_or, same_talk}
-use Rattle.cap_talks.specs.table.Rows.{frame_of, are_in_order, is_in_order, are_all_in_order, is_after, row_at, row_in, with_frames, with_unit, with_talk}
+use Rattle.cap_talks.specs.table.Rows.{frame_of, are_in_order, is_in_order, are_all_in_order, is_after, row_at, row_in}
+use Rattle.cap_talks.specs.table.Rows.{with_frames, with_unit, with_talk}
 use Rattle.cap_talks.specs.declared.table.rows.TalkKey.{TalkKey}
 use Rattle.cap_talks.specs.declared.table.rows.TalkRow.{TalkRow}
 use Rattle.cap_talks.specs.declared.table.talks.TalksFault.{TalksFault}
@@ -24,22 +25,27 @@ first-kept : (row : TalkRow) (frame : Option TimedFrame) → is_in_order row ≡
     → earlier_frame (frame_of row.first row.first_place) frame ≡ frame_of row.first row.first_place
 first-kept row frame order late = grind (arith, before, stamp_cmp_total.antisymm)
 
-pub frames-after : (row : TalkRow) (frame : Option TimedFrame) (time : Option Stamp) (place : ℕ) → is_in_order row ≡ true → is_after frame row.last ≡ true
-    → time ≡ frame_time frame → place ≡ place_or frame row.last_place → record row { last = time; last_place = place } ≡ with_frames row frame frame
+pub frames-after : (row : TalkRow) (frame : Option TimedFrame) (time : Option Stamp) (place : ℕ)
+    → is_in_order row ≡ true → is_after frame row.last ≡ true
+    → time ≡ frame_time frame → place ≡ place_or frame row.last_place
+    → record row { last = time; last_place = place } ≡ with_frames row frame frame
 frames-after row frame time place order late last last_place = grind (arith, first-kept, stamp_cmp_total.antisymm)
 
 -- a row stays in order
-frames-kept : (e l f g : Option TimedFrame) → are_in_order e l ≡ true → are_in_order f g ≡ true → are_in_order (earlier_frame e f) (later_frame l g) ≡ true
+frames-kept : (e l f g : Option TimedFrame) → are_in_order e l ≡ true → are_in_order f g ≡ true
+    → are_in_order (earlier_frame e f) (later_frame l g) ≡ true
 frames-kept e l f g own others = grind (arith, not_trans, stamp_cmp_total, stamp_cmp_total.antisymm)
 
 same_frame : (frame : Option TimedFrame) (place : ℕ) → frame_of (frame_time frame) (place_or frame place) ≡ frame
 same_frame frame place = grind arith
 
-row-kept : (row : TalkRow) (unit : CountedUnit) → is_in_order row ≡ true → are_in_order unit.first unit.last ≡ true → is_in_order (with_unit row unit) ≡ true
+row-kept : (row : TalkRow) (unit : CountedUnit) → is_in_order row ≡ true → are_in_order unit.first unit.last ≡ true
+    → is_in_order (with_unit row unit) ≡ true
 row-kept row unit own others = grind (arith, frames-kept, same_frame)
 
 -- each of some rows is in order, and so is that of no unit
-pub row_in-order : (rows : List Talk) (place : ℕ) → are_all_in_order rows ≡ true → is_in_order (row_in rows place) ≡ true
+pub row_in-order : (rows : List Talk) (place : ℕ) → are_all_in_order rows ≡ true
+    → is_in_order (row_in rows place) ≡ true
 row_in-order [] place all = refl
 row_in-order (talk ∷ rows) zero all = grind arith
 row_in-order (talk ∷ rows) (suc place) all = grind (arith, row_in-order rows place)
@@ -55,6 +61,7 @@ inserted key row [] own all = grind arith
 inserted key row (talk ∷ rows) own all = grind (arith, inserted key row rows)
 
 -- the rows stay in order, whatever is answered
-pub order-kept : (result : Result (Unit {0}) TalksFault) (old new : List Talk) (unit : CountedUnit) → OnOk result (new ≡ with_talk old unit) → OnErr result (new ≡ old)
+pub order-kept : (result : Result (Unit {0}) TalksFault) (old new : List Talk) (unit : CountedUnit)
+    → OnOk result (new ≡ with_talk old unit) → OnErr result (new ≡ old)
     → are_in_order unit.first unit.last ≡ true → are_all_in_order old ≡ true → are_all_in_order new ≡ true
 order-kept result old new unit more kept others all = grind (arith, row-kept, row_at-order, inserted)

@@ -1,11 +1,13 @@
 -- How many rows there are, and what all of them count, with one unit more.
-use Rattle.std.proofs.Common.{◌≡◌, ℕ, suc, ◌+◌, ◌≤◌, Bool, cond, List, [], ◌∷◌, length, refl, arith, Some, Result, is_some}
+use Rattle.std.proofs.Common.{◌≡◌, ℕ, suc, ◌+◌, ◌≤◌, Bool, cond, List, [], ◌∷◌, length, refl, arith, Some, Result}
+use Rattle.std.proofs.Common.{is_some}
 use Rattle.std.specs.Prelude.{OnOk, OnErr}
 use Rattle.std.specs.Map.{lookup}
 use Rattle.std.proofs.lemmas.Bool.{ltb-true}
 use Rattle.indexmap.specs.IndexMap.{insert_entry}
 use Rattle.cap_talks.specs.table.Talks.{Talk, key_of, row_of, same_talk}
-use Rattle.cap_talks.specs.table.Rows.{is_limit, is_refused, sum_in, frames_of_row, frames_in, bytes_of_row, bytes_in, with_unit, or_empty, row_at, with_talk}
+use Rattle.cap_talks.specs.table.Rows.{is_limit, is_refused, sum_in, frames_of_row, frames_in, bytes_of_row, bytes_in}
+use Rattle.cap_talks.specs.table.Rows.{with_unit, or_empty, row_at, with_talk}
 use Rattle.cap_talks.specs.declared.table.rows.TalkKey.{TalkKey}
 use Rattle.cap_talks.specs.declared.table.rows.TalkRow.{TalkRow}
 use Rattle.cap_talks.specs.declared.table.talks.TalksFault.{TalksFault}
@@ -28,11 +30,14 @@ module _ (count : TalkRow → ℕ) (empty : count (row_of []) ≡ 0) where
   sum-more key w n (talk ∷ rows) h = by (same_talk key talk.0) h (sum-more key w n rows)
     where
       by : (t : Bool) → count w ≡ count (or_empty (cond t (Some talk.1) (lookup (same_talk key) rows))) + n
-          → (count w ≡ count (row_at key rows) + n → sum_in count (insert_entry same_talk rows key w) ≡ sum_in count rows + n)
-          → sum_in count (cond t ((talk.0, w) ∷ rows) (talk ∷ insert_entry same_talk rows key w)) ≡ (count talk.1 + sum_in count rows) + n
+          → (count w ≡ count (row_at key rows) + n → sum_in count (insert_entry same_talk rows key w)
+          ≡ sum_in count rows + n)
+          → sum_in count (cond t ((talk.0, w) ∷ rows) (talk ∷ insert_entry same_talk rows key w))
+          ≡ (count talk.1 + sum_in count rows) + n
       by t is rest = grind arith
 
-frames_with : (row : TalkRow) (unit : CountedUnit) → frames_of_row (with_unit row unit) ≡ frames_of_row row + unit.frames
+frames_with : (row : TalkRow) (unit : CountedUnit)
+    → frames_of_row (with_unit row unit) ≡ frames_of_row row + unit.frames
 frames_with row unit = grind arith
 
 bytes_with : (row : TalkRow) (unit : CountedUnit) → bytes_of_row (with_unit row unit) ≡ bytes_of_row row + unit.bytes
@@ -45,10 +50,12 @@ pub bytes-within : (key : TalkKey) (rows : List Talk) → bytes_of_row (row_at k
 bytes-within key rows = row-within bytes_of_row refl key rows
 
 -- one unit more
-pub frames_in-more : (rows : List Talk) (unit : CountedUnit) → frames_in (with_talk rows unit) ≡ frames_in rows + unit.frames
+pub frames_in-more : (rows : List Talk) (unit : CountedUnit)
+    → frames_in (with_talk rows unit) ≡ frames_in rows + unit.frames
 frames_in-more rows unit = search (sum-more, frames_with)
 
-pub bytes_in-more : (rows : List Talk) (unit : CountedUnit) → bytes_in (with_talk rows unit) ≡ bytes_in rows + unit.bytes
+pub bytes_in-more : (rows : List Talk) (unit : CountedUnit)
+    → bytes_in (with_talk rows unit) ≡ bytes_in rows + unit.bytes
 bytes_in-more rows unit = search (sum-more, bytes_with)
 
 -- how many rows there are then
@@ -57,12 +64,15 @@ length-more : (key : TalkKey) (w : TalkRow) (rows : List Talk)
 length-more key w [] = refl
 length-more key w (talk ∷ rows) = by (same_talk key talk.0) (length-more key w rows)
   where
-    by : (t : Bool) → length (insert_entry same_talk rows key w) ≡ length rows + cond (is_some (lookup (same_talk key) rows)) 0 1
+    by : (t : Bool) → length (insert_entry same_talk rows key w)
+        ≡ length rows + cond (is_some (lookup (same_talk key) rows)) 0 1
         → length (cond t ((talk.0, w) ∷ rows) (talk ∷ insert_entry same_talk rows key w))
         ≡ suc (length rows) + cond (is_some (cond t (Some talk.1) (lookup (same_talk key) rows))) 0 1
     by t rest = grind arith
 
 -- the table stays within its limit, whatever is answered
-pub few-kept : (limit : ℕ) (result : Result (Unit {0}) TalksFault) (old new : List Talk) (unit : CountedUnit) → OnOk result (new ≡ with_talk old unit)
-    → is_limit result ≡ is_refused limit old (key_of unit) → OnErr result (new ≡ old) → length old ≤ limit → length new ≤ limit
+pub few-kept : (limit : ℕ) (result : Result (Unit {0}) TalksFault) (old new : List Talk) (unit : CountedUnit)
+    → OnOk result (new ≡ with_talk old unit)
+    → is_limit result ≡ is_refused limit old (key_of unit) → OnErr result (new ≡ old) → length old ≤ limit
+    → length new ≤ limit
 few-kept limit result old new unit more refused kept few = grind (arith, length-more, ltb-true)

@@ -1,5 +1,6 @@
 -- One step of a table.
-use Rattle.std.proofs.Common.{◌≡◌, ℕ, ◌+◌, ◌<◌, ◌≤◌, arith, Bool, Result, true, false, List, [], ◌∷◌, drop, map, refl, sym, ◌∙◌, ap, subst, ◌&&◌, true≢false, Option, Some, None, Ok, Err, IsTrue, inl}
+use Rattle.std.proofs.Common.{◌≡◌, ℕ, ◌+◌, ◌<◌, ◌≤◌, arith, Bool, Result, true, false, List, [], ◌∷◌, drop, map, refl}
+use Rattle.std.proofs.Common.{sym, ◌∙◌, ap, subst, ◌&&◌, true≢false, Option, Some, None, Ok, Err, IsTrue, inl}
 use Rattle.std.specs.Prelude.{is_some, if◌then◌else◌, IfSome}
 use Rattle.std.specs.List.{range_with_len}
 use Rattle.cap_bytes.specs.declared.faults.Fault.{Fault}
@@ -9,9 +10,11 @@ use Rattle.cap_join.specs.declared.datagrams.Datagram.{Datagram}
 use Rattle.cap_join.specs.Joiners.{JoinerState}
 use Rattle.cap_merge.proofs.RunItems.{items-of-run, first-of-run}
 use Rattle.cap_merge.specs.Merge.{LearnsBy, LearnsAll, LooksAll}
-use Rattle.cap_merge.specs.Parts.{Part, feed_of, run_of, clock_of, known_of, is_known, head_by, first_of, BeginsAt, ShowsRun}
+use Rattle.cap_merge.specs.Parts.{Part, feed_of, run_of, clock_of, known_of, is_known, head_by, first_of, BeginsAt}
+use Rattle.cap_merge.specs.Parts.{ShowsRun}
 use Rattle.cap_merge.specs.Run.{Clocked}
-use Rattle.cap_source.specs.Feed.{Feed, Item, packet, refused, Leads, IsFeed, GivesHead, FindsPacket, FindsItem, Keeps, Knows, IsPacket, IsPacketOf, IfPacket, HasFile}
+use Rattle.cap_source.specs.Feed.{Feed, Item, packet, refused, Leads, IsFeed, GivesHead, FindsPacket, FindsItem, Keeps}
+use Rattle.cap_source.specs.Feed.{Knows, IsPacket, IsPacketOf, IfPacket, HasFile}
 use Rattle.cap_source.specs.declared.feeds.Head.{Head}
 use Rattle.cap_source.specs.declared.feeds.Head.TheVariants as heads
 use Rattle.cap_source.specs.declared.packets.Meta.{Meta}
@@ -29,7 +32,8 @@ all_known : (ps qs : List Part) → LearnsAll ps qs → is_known ps ≡ true →
 all_known [] [] h k = refl
 all_known (p ∷ ps) (q ∷ qs) h k = by p.lane.head h.0 k (all_known ps qs h.1)
   where
-    by : (o : Option Head) → LearnsBy o p q → (is_some o && is_known ps) ≡ true → (is_known ps ≡ true → qs ≡ ps) → q ∷ qs ≡ p ∷ ps
+    by : (o : Option Head) → LearnsBy o p q → (is_some o && is_known ps) ≡ true → (is_known ps ≡ true → qs ≡ ps)
+        → q ∷ qs ≡ p ∷ ps
     by None l k rest = absurd (true≢false (sym k))
     by (Some head) l k rest = λ i. l i ∷ rest k i
 all_known ps qs h k = absurd h
@@ -46,44 +50,54 @@ known-some ps head h = by (is_known ps) h
         clash e = cc
 
 -- nothing waits if nothing is known to come next
-no-wait : (w : Option Datagram) (j : JoinerState) (xs : List Taken) (next : Option Taken) → Joins w j xs None → Joins w j xs next
+no-wait : (w : Option Datagram) (j : JoinerState) (xs : List Taken) (next : Option Taken) → Joins w j xs None
+    → Joins w j xs next
 no-wait None j xs next h = h
 no-wait (Some d) j xs next h = absurd (clash h.is_next)
   where
     clash : None ≡ Some h.packet → ⊥
     clash e = cc
 
-pub stands-unknown : (t : TallyState) (ps : List Part) (xs : List Taken) (next : Option Taken) → (feed_of ps).known ≡ None → Stands t xs (next_taken ps) → Stands t xs next
+pub stands-unknown : (t : TallyState) (ps : List Part) (xs : List Taken) (next : Option Taken)
+    → (feed_of ps).known ≡ None → Stands t xs (next_taken ps) → Stands t xs next
 stands-unknown t ps xs next unknown h = record {
   place = h.place;
   classes = h.classes;
   joined = h.joined;
   talks = h.talks;
-  joins = no-wait t.waiting t.joiner xs next (subst (λ (k : Option Head). Joins t.waiting t.joiner xs (next_by k (clock_of ps) (feed_of ps).frame)) unknown h.joins);
+  joins = no-wait t.waiting t.joiner xs next (subst
+      (λ (k : Option Head). Joins t.waiting t.joiner xs (next_by k (clock_of ps) (feed_of ps).frame)) unknown h.joins);
 }
 
-pub stands-asked : (t : TallyState) (ps qs : List Part) (xs : List Taken) → LearnsAll ps qs → Stands t xs (next_taken ps) → Stands t xs (next_taken qs)
+pub stands-asked : (t : TallyState) (ps qs : List Part) (xs : List Taken) → LearnsAll ps qs
+    → Stands t xs (next_taken ps) → Stands t xs (next_taken qs)
 stands-asked t ps qs xs asks h = by (feed_of ps).known refl
   where
     by : (known : Option Head) → (feed_of ps).known ≡ known → Stands t xs (next_taken qs)
     by None is = stands-unknown t ps xs (next_taken qs) is h
-    by (Some head) is = subst (λ (rs : List Part). Stands t xs (next_taken rs)) (sym (all_known ps qs asks (known-some ps head is))) h
+    by (Some head) is = subst (λ (rs : List Part). Stands t xs (next_taken rs))
+        (sym (all_known ps qs asks (known-some ps head is))) h
 
-pub next-is : (qs : List Part) (meta : Meta) (clock : Option Stamp) (frame : List ℕ) → (feed_of qs).known ≡ Some (heads.Packet meta) → clock ≡ clock_of qs → frame ≡ (feed_of qs).frame
+pub next-is : (qs : List Part) (meta : Meta) (clock : Option Stamp) (frame : List ℕ)
+    → (feed_of qs).known ≡ Some (heads.Packet meta) → clock ≡ clock_of qs → frame ≡ (feed_of qs).frame
     → next_taken qs ≡ Some (record { clock = clock; meta = meta; frame = frame })
 next-is qs meta clock frame known c f = λ i. next_by (known i) (sym c i) (sym f i)
 
 -- ---- the run
 
-leads_by : (feed : Feed) (head : Head) → IsFeed feed → IsTrue feed.told → feed.known ≡ Some head → Leads (Some head) feed.frame feed.items
+leads_by : (feed : Feed) (head : Head) → IsFeed feed → IsTrue feed.told → feed.known ≡ Some head
+    → Leads (Some head) feed.frame feed.items
 leads_by feed head law t known = subst (λ (k : Option Head). Leads k feed.frame feed.items) known (law.leads t)
 
 -- the run begins with the packet that is known to come next
-pub run-packet : (ps qs : List Part) (meta : Meta) (clock : Option Stamp) (frame : List ℕ) → IsFeed (feed_of qs) → IsTrue (feed_of qs).told
-    → (feed_of qs).known ≡ Some (heads.Packet meta) → frame ≡ (feed_of qs).frame → BeginsAt clock (run_of qs) → run_of qs ≡ run_of ps
+pub run-packet : (ps qs : List Part) (meta : Meta) (clock : Option Stamp) (frame : List ℕ) → IsFeed (feed_of qs)
+    → IsTrue (feed_of qs).told
+    → (feed_of qs).known ≡ Some (heads.Packet meta) → frame ≡ (feed_of qs).frame → BeginsAt clock (run_of qs)
+    → run_of qs ≡ run_of ps
     → run_of ps ≡ record { clock = clock; item = packet meta frame } ∷ drop 1 (run_of ps)
 run-packet ps qs meta clock frame law t known f begins same =
-    let leads : (feed_of qs).items ≡ packet meta (feed_of qs).frame ∷ drop 1 (feed_of qs).items = leads_by (feed_of qs) (heads.Packet meta) law t known in
+    let leads : (feed_of qs).items ≡ packet meta (feed_of qs).frame ∷ drop 1 (feed_of qs).items =
+    leads_by (feed_of qs) (heads.Packet meta) law t known in
     sym same
     ∙ (first-of-run (run_of qs) clock (packet meta frame) (drop 1 (feed_of qs).items) begins
     (sym (items-of-run qs) ∙ leads ∙ ap (λ (g : List ℕ). packet meta g ∷ drop 1 (feed_of qs).items) (sym f))
@@ -96,10 +110,12 @@ none-left (x ∷ xs) e = absurd (clash e)
     clash : x.item ∷ map (λ x. x.item) xs ≡ [] → ⊥
     clash e = cc
 
-pub run-end : (qs : List Part) → IsFeed (feed_of qs) → IsTrue (feed_of qs).told → (feed_of qs).known ≡ Some heads.End → run_of qs ≡ []
+pub run-end : (qs : List Part) → IsFeed (feed_of qs) → IsTrue (feed_of qs).told → (feed_of qs).known ≡ Some heads.End
+    → run_of qs ≡ []
 run-end qs law t known = none-left (run_of qs) (sym (items-of-run qs) ∙ leads_by (feed_of qs) heads.End law t known)
 
-one-left : (xs : List (Clocked Item)) (i : Item) → map (λ x. x.item) xs ≡ i ∷ [] → (clock : Option Stamp) × (xs ≡ record { clock = clock; item = i } ∷ [])
+one-left : (xs : List (Clocked Item)) (i : Item) → map (λ x. x.item) xs ≡ i ∷ [] → (clock : Option Stamp)
+    × (xs ≡ record { clock = clock; item = i } ∷ [])
 one-left [] i e = absurd (clash e)
   where
     clash : [] ≡ i ∷ [] → ⊥
@@ -112,14 +128,17 @@ one-left (x ∷ y ∷ xs) i e = absurd (clash e)
     clash : x.item ∷ y.item ∷ map (λ x. x.item) xs ≡ i ∷ [] → ⊥
     clash e = cc
 
-pub run-refused : (qs : List Part) (r : Refusal) → IsFeed (feed_of qs) → IsTrue (feed_of qs).told → (feed_of qs).known ≡ Some (heads.Refused r)
+pub run-refused : (qs : List Part) (r : Refusal) → IsFeed (feed_of qs) → IsTrue (feed_of qs).told
+    → (feed_of qs).known ≡ Some (heads.Refused r)
     → (clock : Option Stamp) × (run_of qs ≡ record { clock = clock; item = refused r } ∷ [])
-run-refused qs r law t known = one-left (run_of qs) (refused r) (sym (items-of-run qs) ∙ leads_by (feed_of qs) (heads.Refused r) law t known)
+run-refused qs r law t known = one-left (run_of qs) (refused r) (sym (items-of-run qs)
+    ∙ leads_by (feed_of qs) (heads.Refused r) law t known)
 
 -- ---- the first packet
 
 -- what is known to come next is what comes next
-pub first-asked : (ps qs : List Part) (x : Taken) → LearnsAll ps qs → next_taken qs ≡ Some x → IfSome (next_taken ps) (λ y. y ≡ x)
+pub first-asked : (ps qs : List Part) (x : Taken) → LearnsAll ps qs → next_taken qs ≡ Some x
+    → IfSome (next_taken ps) (λ y. y ≡ x)
 first-asked ps qs x asks is = by (feed_of ps).known refl
   where
     out : (o : Option Taken) → o ≡ Some x → IfSome o (λ y. y ≡ x)
@@ -136,15 +155,22 @@ first-asked ps qs x asks is = by (feed_of ps).known refl
 -- ---- what the table stands for
 
 -- nothing changed but what is known of the feeds
-pub asked : (totals : TotalsState) (tally : TallyState) (done : Bool) (ps qs : List Part) (xs : List Taken) → LearnsAll ps qs
+pub asked : (totals : TotalsState) (tally : TallyState) (done : Bool) (ps qs : List Part) (xs : List Taken)
+    → LearnsAll ps qs
     → TableStands (record { parts = ps; totals = totals; tally = tally; done = done }) xs
     → TableStands (record { parts = qs; totals = totals; tally = tally; done = done }) xs
 asked totals tally done ps qs xs asks h = record { totals = h.totals; tally = stands-asked tally ps qs xs asks h.tally }
 
-pub failed : (totals : TotalsState) (tally : TallyState) (done : Bool) (ps qs : List Part) (fault : Fault) (xs : List Taken) → GivesHead (feed_of ps) (Err fault) (feed_of qs)
+pub failed : (totals : TotalsState) (tally : TallyState) (done : Bool) (ps qs : List Part) (fault : Fault)
+    (xs : List Taken) → GivesHead (feed_of ps) (Err fault) (feed_of qs)
     → TableStands (record { parts = ps; totals = totals; tally = tally; done = done }) xs
     → TableStands (record { parts = qs; totals = totals; tally = tally; done = done }) xs
-failed totals tally done ps qs fault xs gives h = record { totals = h.totals; tally = stands-unknown tally ps xs (next_taken qs) (before (feed_of ps) (feed_of qs) fault gives) h.tally }
+failed totals tally done ps qs fault xs gives h =
+    record {
+      totals = h.totals;
+      tally = stands-unknown tally ps xs (next_taken qs)
+          (before (feed_of ps) (feed_of qs) fault gives) h.tally;
+    }
   where
     before : (old new : Feed) (fault : Fault) → GivesHead old (Err fault) new → old.known ≡ None
     before old new (Read file offset) h = h.before
@@ -152,10 +178,14 @@ failed totals tally done ps qs fault xs gives h = record { totals = h.totals; ta
     before old new fault h = absurd h
 
 -- a step that a fault of the feeds ends
-pub faulted : (totals : TotalsState) (tally : TallyState) (done : Bool) (ps qs : List Part) (fault : Fault) → IsFeed (feed_of qs) → Keeps (feed_of ps) (feed_of qs)
-    → FindsPacket (feed_of ps) (Err fault) (feed_of qs) → (IsTrue (feed_of ps).told → FindsItem (feed_of ps) (Err fault) (feed_of qs)) → LooksAll {T = Bool} ps (Err fault) qs
+pub faulted : (totals : TotalsState) (tally : TallyState) (done : Bool) (ps qs : List Part) (fault : Fault)
+    → IsFeed (feed_of qs) → Keeps (feed_of ps) (feed_of qs)
+    → FindsPacket (feed_of ps) (Err fault) (feed_of qs)
+    → (IsTrue (feed_of ps).told → FindsItem (feed_of ps) (Err fault) (feed_of qs))
+    → LooksAll {T = Bool} ps (Err fault) qs
     → (IsTrue (feed_of ps).told → ShowsRun {A = Bool} ps (Err fault) qs)
-    → Steps (record { parts = ps; totals = totals; tally = tally; done = done }) (Err fault) (record { parts = qs; totals = totals; tally = tally; done = done })
+    → Steps (record { parts = ps; totals = totals; tally = tally; done = done }) (Err fault)
+    (record { parts = qs; totals = totals; tally = tally; done = done })
 faulted totals tally done ps qs (Refused refusal) law keeps answer items asks run =
     inl (record {
       known = answer.known;
@@ -167,7 +197,13 @@ faulted totals tally done ps qs (Refused refusal) law keeps answer items asks ru
       stays = record { stands = λ xs h. asked totals tally done ps qs xs asks h; going = refl };
     })
 faulted totals tally done ps qs (Read file offset) law keeps answer items asks run =
-    record { breaks = answer; stays = record { stands = λ xs h. failed totals tally done ps qs (Read file offset) xs answer h; going = refl } }
+    record {
+      breaks = answer;
+      stays = record {
+        stands = λ xs h. failed totals tally done ps qs (Read file offset) xs answer h;
+        going = refl;
+      };
+    }
 faulted totals tally done ps qs Write law keeps answer items asks run = absurd answer
 faulted totals tally done ps qs Memory law keeps answer items asks run =
     record {
@@ -182,7 +218,8 @@ faulted totals tally done ps qs Memory law keeps answer items asks run =
 packet-law : (feed : Feed) (meta : Meta) → IsFeed feed → feed.known ≡ Some (heads.Packet meta) → IsPacketOf feed meta
 packet-law feed meta law known = subst (λ (k : Option Head). IfPacket k (λ m. IsPacketOf feed m)) known law.packet
 
-pub of-file : (feed : Feed) (meta : Meta) (count : ℕ) → IsFeed feed → feed.known ≡ Some (heads.Packet meta) → feed.files ≡ range_with_len 1 count
+pub of-file : (feed : Feed) (meta : Meta) (count : ℕ) → IsFeed feed → feed.known ≡ Some (heads.Packet meta)
+    → feed.files ≡ range_with_len 1 count
     → HasFile (range_with_len 1 count) meta.file
 of-file feed meta count law known files = subst (λ l. HasFile l meta.file) files (packet-law feed meta law known).file
 
@@ -190,14 +227,16 @@ pub is-left : (feed : Feed) (meta : Meta) → IsFeed feed → feed.known ≡ Som
 is-left feed meta law known = (packet-law feed meta law known).left
 
 -- the packet that is lent is the one that was answered
-pub known-packet : (old new : Feed) (found : Bool) (meta : Meta) → found ≡ true → FindsPacket old (Ok found) new → new.known ≡ Some (heads.Packet meta)
+pub known-packet : (old new : Feed) (found : Bool) (meta : Meta) → found ≡ true → FindsPacket old (Ok found) new
+    → new.known ≡ Some (heads.Packet meta)
     → Knows old (heads.Packet meta) new
 known-packet old new true meta e h is =
     let same : heads.Packet meta ≡ heads.Packet h.0 = cc (is, h.1.known) in
     subst (λ (w : Head). Knows old w new) (sym same) h.1
 known-packet old new false meta e h is = absurd (true≢false (sym e))
 
-pub known-end : (old new : Feed) (found : Bool) → found ≡ false → FindsPacket old (Ok found) new → Knows old heads.End new
+pub known-end : (old new : Feed) (found : Bool) → found ≡ false → FindsPacket old (Ok found) new
+    → Knows old heads.End new
 known-end old new true e h = absurd (true≢false e)
 known-end old new false e h = h
 
@@ -208,15 +247,18 @@ found-packet old new false e h = absurd (true≢false (sym e))
 -- ---- what is answered again
 
 -- what was known of what comes next is a packet, if it was known
-pub again-packet : (old new : Feed) (found : Bool) (result : Result Step Fault) → found ≡ true → FindsPacket old (Ok found) new → AnswersAgain old.known result
+pub again-packet : (old new : Feed) (found : Bool) (result : Result Step Fault) → found ≡ true
+    → FindsPacket old (Ok found) new → AnswersAgain old.known result
 again-packet old new true result e h = by old.known h.1.again
   where
-    by : (known : Option Head) → IfSome known (λ first. (heads.Packet h.0 ≡ first) × (new ≡ old)) → AnswersAgain known result
+    by : (known : Option Head) → IfSome known (λ first. (heads.Packet h.0 ≡ first) × (new ≡ old))
+        → AnswersAgain known result
     by None again = tt
     by (Some first) again = subst (λ (w : Head). AnswersAgain (Some w) result) again.0 tt
 again-packet old new false result e h = absurd (true≢false (sym e))
 
-again-head : (old new : Feed) (head : Head) (result : Result Step Fault) → Knows old head new → AnswersAgain (Some head) result → AnswersAgain old.known result
+again-head : (old new : Feed) (head : Head) (result : Result Step Fault) → Knows old head new
+    → AnswersAgain (Some head) result → AnswersAgain old.known result
 again-head old new head result knows h = by old.known knows.again
   where
     by : (known : Option Head) → IfSome known (λ first. (head ≡ first) × (new ≡ old)) → AnswersAgain known result
@@ -229,7 +271,8 @@ again-end old new knows = again-head old new heads.End (Ok steps.Done) knows ref
 unknown-again : (known : Option Head) (result : Result Step Fault) → known ≡ None → AnswersAgain known result
 unknown-again known result e = subst (λ (k : Option Head). AnswersAgain k result) (sym e) tt
 
-pub again-fault : (old new : Feed) (fault : Fault) → FindsPacket old (Err fault) new → AnswersAgain old.known (Err fault)
+pub again-fault : (old new : Feed) (fault : Fault) → FindsPacket old (Err fault) new
+    → AnswersAgain old.known (Err fault)
 again-fault old new (Refused refusal) h = again-head old new (heads.Refused refusal) (Err (Refused refusal)) h refl
 again-fault old new (Read file offset) h = unknown-again old.known (Err (Read file offset)) h.before
 again-fault old new Write h = absurd h
@@ -240,5 +283,6 @@ again-fault old new Memory h = unknown-again old.known (Err Memory) h.before
 pub stayed : (place now left to_come : ℕ) → now ≡ place → to_come ≤ left → now + to_come ≤ place + left
 stayed place now left to_come e h = omega arith
 
-pub went : (place now left mid to_come : ℕ) → now ≡ place + 1 → mid ≤ left → to_come < mid → now + to_come ≤ place + left
+pub went : (place now left mid to_come : ℕ) → now ≡ place + 1 → mid ≤ left → to_come < mid
+    → now + to_come ≤ place + left
 went place now left mid to_come e h l = omega arith

@@ -1,5 +1,6 @@
 -- What one packet more makes of the classes of those before it.
-use Rattle.std.proofs.Common.{◌≡◌, ℕ, ◌+◌, ◌≤◌, Bool, true, false, List, [], ◌∷◌, ◌++◌, length, refl, sym, ◌∙◌, ap, subst, arith}
+use Rattle.std.proofs.Common.{◌≡◌, ℕ, ◌+◌, ◌≤◌, Bool, true, false, List, [], ◌∷◌, ◌++◌, length, refl, sym, ◌∙◌, ap}
+use Rattle.std.proofs.Common.{subst, arith}
 use Rattle.std.specs.Prelude.{if◌then◌else◌, map}
 use Rattle.cap_ip.specs.Header.{HeaderFields}
 use Rattle.cap_ip.specs.Transport.{transport_of}
@@ -8,8 +9,10 @@ use Rattle.cap_join.specs.Fragments.{Piece}
 use Rattle.cap_join.specs.History.{arrives, joined_pieces, state_of}
 use Rattle.cap_join.specs.Joiners.{open_limit}
 use Rattle.cap_join.proofs.Once.{once}
-use Rattle.cap_talks.proofs.Recount.{looks, here, hits, place_of, here_few, here_once, comes_here, present, hits_all, unjoined, classes_looks, some_of, recount}
-use Rattle.cap_talks.specs.table.Classes.{class_of, class_by, class_in, classes, classes_in, counts_of, group_class, groups_of, has_place, sum_of, times, OneClass}
+use Rattle.cap_talks.proofs.Recount.{looks, here, hits, place_of, here_few, here_once, comes_here, present, hits_all}
+use Rattle.cap_talks.proofs.Recount.{unjoined, classes_looks, some_of, recount}
+use Rattle.cap_talks.specs.table.Classes.{class_of, class_by, class_in, classes, classes_in, counts_of, group_class}
+use Rattle.cap_talks.specs.table.Classes.{groups_of, has_place, sum_of, times, OneClass}
 use Rattle.cap_join.specs.Completed.{completed_of, occurs, occurs_in}
 use Rattle.cap_talks.specs.table.Taken.{Taken, Look, plain, datagram, fragment, look, events_with, events_of}
 use Rattle.cap_talks.specs.declared.table.classes.Class.{Class}
@@ -26,10 +29,12 @@ unfolding classes
 classes-before xs = classes_looks (groups_of xs) xs
 
 -- a packet of a class, or a whole datagram
-pub classes-plain : (x : Taken) (xs : List Taken) (c : Class) → look (length xs) x ≡ plain c → classes (x ∷ xs) ≡ c ∷ classes xs
+pub classes-plain : (x : Taken) (xs : List Taken) (c : Class) → look (length xs) x ≡ plain c
+    → classes (x ∷ xs) ≡ c ∷ classes xs
 classes-plain x xs c is = classes-are x xs (plain c) is ∙ ap (λ cs. c ∷ cs) (sym (classes-before xs))
 
-pub classes-datagram : (x : Taken) (xs : List Taken) (header : HeaderFields) (captured : List ℕ) → look (length xs) x ≡ datagram header captured
+pub classes-datagram : (x : Taken) (xs : List Taken) (header : HeaderFields) (captured : List ℕ)
+    → look (length xs) x ≡ datagram header captured
     → classes (x ∷ xs) ≡ class_of (transport_of header.key.protocol captured header.data_length) ∷ classes xs
 unfolding completed_of
 classes-datagram x xs header captured is =
@@ -60,7 +65,8 @@ module _ (x : Taken) (xs : List Taken) (p : Piece) (is : look (length xs) x ≡ 
   here_now : (n : ℕ) → here n (fragment p ∷ looks xs) ≤ 1
   here_now n = subst (λ (l : Look). here n (l ∷ looks xs) ≤ 1) is (here_once n (x ∷ xs))
 
-  now : completes joined ≡ true → (n : ℕ) → occurs n joined + occurs_in n (groups_of xs) ≤ here n (fragment p ∷ looks xs)
+  now : completes joined ≡ true → (n : ℕ) → occurs n joined + occurs_in n (groups_of xs)
+      ≤ here n (fragment p ∷ looks xs)
   unfolding completed_of
   now whole n =
       let all = once open_limit n (arrives x.clock p ∷ events_of xs) in
@@ -72,7 +78,8 @@ module _ (x : Taken) (xs : List Taken) (p : Piece) (is : look (length xs) x ≡ 
 
   -- one that completes its group: it is unjoined for a moment, and then all of the group have the datagram's class
   pub classes-completed : completes joined ≡ true → (c : Class)
-      → times c (classes (x ∷ xs)) + some_of c class.Unjoined (length joined) ≡ times c (class.Unjoined ∷ classes xs) + some_of c (group_class joined) (length joined)
+      → times c (classes (x ∷ xs)) + some_of c class.Unjoined (length joined)
+      ≡ times c (class.Unjoined ∷ classes xs) + some_of c (group_class joined) (length joined)
   unfolding completed_of
   classes-completed whole c =
       let ls = fragment p ∷ looks xs in
@@ -83,9 +90,12 @@ module _ (x : Taken) (xs : List Taken) (p : Piece) (is : look (length xs) x ≡ 
       ap (times c) (classes-are x xs (fragment p) is
       ∙ ap (λ (b : Bool). map (class_by ((if b then joined ∷ [] else []) ++ groups)) ls) whole) in
       let old : times c (map (class_by groups) ls) ≡ times c (class.Unjoined ∷ classes xs) =
-      ap (λ (k : Class). times c (k ∷ map (class_by groups) (looks xs))) own ∙ ap (λ (cs : List Class). times c (class.Unjoined ∷ cs)) (sym (classes-before xs)) in
-      let left : some_of c class.Unjoined (hits joined ls) ≡ some_of c class.Unjoined (length joined) = ap (some_of c class.Unjoined) all in
-      let right : some_of c (group_class joined) (hits joined ls) ≡ some_of c (group_class joined) (length joined) = ap (some_of c (group_class joined)) all in
+      ap (λ (k : Class). times c (k ∷ map (class_by groups) (looks xs))) own
+      ∙ ap (λ (cs : List Class). times c (class.Unjoined ∷ cs)) (sym (classes-before xs)) in
+      let left : some_of c class.Unjoined (hits joined ls) ≡ some_of c class.Unjoined (length joined) =
+      ap (some_of c class.Unjoined) all in
+      let right : some_of c (group_class joined) (hits joined ls) ≡ some_of c (group_class joined) (length joined) =
+      ap (some_of c (group_class joined)) all in
       omega (arith, moved, after, old, left, right)
 
 -- ---- one class each

@@ -13,11 +13,24 @@ sums-none = record { frames = refl; bytes = refl }
 
 -- one unit more
 sums-more : (units : List CountedUnit) (u : CountedUnit) → SumLaw units → SumLaw (units ++ u ∷ [])
-sums-more units u s = grind (arith, rows-more, frames_in-more, frames-more, bytes_in-more, bytes-more, ap frames_in (rows-more units u), frames-more units u, ap bytes_in (rows-more units u), bytes-more units u)
+sums-more units u s =
+    grind (
+      arith,
+      rows-more,
+      frames_in-more,
+      frames-more,
+      bytes_in-more,
+      bytes-more,
+      ap frames_in (rows-more units u),
+      frames-more units u,
+      ap bytes_in (rows-more units u),
+      bytes-more units u,
+    )
 
 sums-behind : (units rest : List CountedUnit) → SumLaw units → SumLaw (units ++ rest)
 sums-behind units [] s = subst SumLaw (sym (append-nil units)) s
-sums-behind units (u ∷ rest) s = subst SumLaw (append_assoc units (u ∷ []) rest) (sums-behind (units ++ u ∷ []) rest (sums-more units u s))
+sums-behind units (u ∷ rest) s = subst SumLaw (append_assoc units (u ∷ []) rest)
+    (sums-behind (units ++ u ∷ []) rest (sums-more units u s))
 
 pub sum_law : (units : List CountedUnit) → SumLaw units
 sum_law units = sums-behind [] units sums-none

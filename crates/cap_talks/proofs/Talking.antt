@@ -1,13 +1,16 @@
 -- The rows of the conversations of some units, with one unit more.
 use Rattle.std.proofs.lemmas.Bool.Decides.{nat_tests}
 use Rattle.std.proofs.lemmas.Grind.{common_steps}
-use Rattle.std.proofs.Common.{◌≡◌, ℕ, ◌+◌, Bool, true, false, cond, not, ◌&&◌, List, [], ◌∷◌, ◌++◌, filter, map, refl, sym, ap, ◌∙◌, true≢false, arith, Option, Some, append-nil}
+use Rattle.std.proofs.Common.{◌≡◌, ℕ, ◌+◌, Bool, true, false, cond, not, ◌&&◌, List, [], ◌∷◌, ◌++◌, filter, map, refl}
+use Rattle.std.proofs.Common.{sym, ap, ◌∙◌, true≢false, arith, Option, Some, append-nil}
 use Rattle.std.specs.Prelude.{◌==◌}
 use Rattle.std.specs.Map.{lookup}
 use Rattle.indexmap.specs.IndexMap.{insert_entry}
 use Rattle.std.proofs.lemmas.Bool.{eq-eqb}
 use Rattle.cap_talks.proofs.FrameOrder.{least-more, greatest-more}
-use Rattle.cap_talks.specs.table.Talks.{Talk, is_forward, backward, earlier_frame, later_frame, least_frame, greatest_frame, frame_time, place_or, key_of, frames_of, bytes_of, row_of, same_end, same_talk, units_of, keys_of, rows_of}
+use Rattle.cap_talks.specs.table.Talks.{Talk, is_forward, backward, earlier_frame, later_frame, least_frame}
+use Rattle.cap_talks.specs.table.Talks.{greatest_frame, frame_time, place_or, key_of, frames_of, bytes_of, row_of}
+use Rattle.cap_talks.specs.table.Talks.{same_end, same_talk, units_of, keys_of, rows_of}
 use Rattle.cap_talks.specs.table.Keys.{same_talk-is}
 use Rattle.cap_talks.specs.table.Rows.{frame_of, with_unit, or_empty, with_talk}
 use Rattle.cap_talks.specs.declared.table.rows.TalkKey.{TalkKey}
@@ -50,7 +53,8 @@ has-but : (k x : TalkKey) (ks : List TalkKey) → same_talk k x ≡ false → ha
 has-but k x [] h = refl
 has-but k x (y ∷ ks) h = by (same_talk x y) refl (has-but k x ks h)
   where
-    by : (t : Bool) → same_talk x y ≡ t → has k (but x ks) ≡ has k ks → has k (cond (not t) (y ∷ but x ks) (but x ks)) ≡ has k (y ∷ ks)
+    by : (t : Bool) → same_talk x y ≡ t → has k (but x ks) ≡ has k ks
+        → has k (cond (not t) (y ∷ but x ks) (but x ks)) ≡ has k (y ∷ ks)
     by false is rest = ap (cond (same_talk k y) true) rest
     by true is rest =
         let differs : same_talk k y ≡ false = ap (same_talk k) (sym (same_talk-is x y is)) ∙ h in
@@ -64,7 +68,8 @@ has_not-but : (k x : TalkKey) (ks : List TalkKey) → has k ks ≡ false → has
 has_not-but k x [] h = refl
 has_not-but k x (y ∷ ks) h = by (same_talk k y) refl h (same_talk x y) (has_not-but k x ks)
   where
-    by : (s : Bool) → same_talk k y ≡ s → cond s true (has k ks) ≡ false → (t : Bool) → (has k ks ≡ false → has k (but x ks) ≡ false)
+    by : (s : Bool) → same_talk k y ≡ s → cond s true (has k ks) ≡ false → (t : Bool)
+        → (has k ks ≡ false → has k (but x ks) ≡ false)
         → has k (cond (not t) (y ∷ but x ks) (but x ks)) ≡ false
     by s is n t rest = grind arith
 
@@ -76,7 +81,8 @@ keys-apart : (units : List CountedUnit) → Apart (keys_of units)
 keys-apart [] = tt
 keys-apart (u ∷ units) = (has-gone (key_of u) (keys_of units), Apart-but (key_of u) (keys_of units) (keys-apart units))
 
-filter-more : {X : Type 0} (test : X → Bool) (xs : List X) (x : X) → filter test (xs ++ x ∷ []) ≡ filter test xs ++ cond (test x) (x ∷ []) []
+filter-more : {X : Type 0} (test : X → Bool) (xs : List X) (x : X)
+    → filter test (xs ++ x ∷ []) ≡ filter test xs ++ cond (test x) (x ∷ []) []
 filter-more test [] x = refl
 filter-more test (y ∷ xs) x = grind (arith, filter-more test xs x)
 
@@ -99,10 +105,13 @@ keys-more (x ∷ units) u = by (same_talk k kx) refl (has k ks) refl (keys-more 
     more = keys_of (units ++ u ∷ [])
 
     by : (s : Bool) → same_talk k kx ≡ s → (h : Bool) → has k ks ≡ h → more ≡ cond (has k ks) ks (ks ++ k ∷ [])
-        → kx ∷ but kx more ≡ cond (cond (same_talk k kx) true (has k (but kx ks))) (kx ∷ but kx ks) ((kx ∷ but kx ks) ++ k ∷ [])
+        → kx ∷ but kx more ≡ cond (cond (same_talk k kx) true (has k (but kx ks))) (kx ∷ but kx ks)
+        ((kx ∷ but kx ks) ++ k ∷ [])
     by true is h among rest =
-        let gone : not (same_talk kx k) ≡ false = ap (λ y. not (same_talk y k)) (sym (same_talk-is k kx is)) ∙ ap not (same_talk-self k) in
-        let tail : but kx (ks ++ k ∷ []) ≡ but kx ks = filter-more (λ key. not (same_talk kx key)) ks k ∙ ap (λ b. but kx ks ++ cond b (k ∷ []) []) gone ∙ append-nil (but kx ks) in
+        let gone : not (same_talk kx k) ≡ false = ap (λ y. not (same_talk y k)) (sym (same_talk-is k kx is))
+        ∙ ap not (same_talk-self k) in
+        let tail : but kx (ks ++ k ∷ []) ≡ but kx ks = filter-more (λ key. not (same_talk kx key)) ks k
+        ∙ ap (λ b. but kx ks ++ cond b (k ∷ []) []) gone ∙ append-nil (but kx ks) in
         let left : (b : Bool) → but kx (cond b ks (ks ++ k ∷ [])) ≡ but kx ks = λ b. either b tail in
         ap (λ l. kx ∷ but kx l) rest ∙ ap (λ l. kx ∷ l) (left (has k ks))
         ∙ sym (ap (λ b. cond (cond b true (has k (but kx ks))) (kx ∷ but kx ks) ((kx ∷ but kx ks) ++ k ∷ [])) is)
@@ -116,13 +125,15 @@ no_units : (k : TalkKey) (units : List CountedUnit) → has k (keys_of units) �
 no_units k [] h = refl
 no_units k (x ∷ units) h = by (same_talk k (key_of x)) refl h (no_units k units)
   where
-    by : (s : Bool) → same_talk k (key_of x) ≡ s → cond s true (has k (but (key_of x) (keys_of units))) ≡ false → (has k (keys_of units) ≡ false → units_of k units ≡ [])
+    by : (s : Bool) → same_talk k (key_of x) ≡ s → cond s true (has k (but (key_of x) (keys_of units))) ≡ false
+        → (has k (keys_of units) ≡ false → units_of k units ≡ [])
         → cond s (x ∷ units_of k units) (units_of k units) ≡ []
     by s is n rest = grind (arith, has-but)
 
 -- A row with one unit more.
 
-pub frames-more : (units : List CountedUnit) (u : CountedUnit) → frames_of (units ++ u ∷ []) ≡ frames_of units + u.frames
+pub frames-more : (units : List CountedUnit) (u : CountedUnit)
+    → frames_of (units ++ u ∷ []) ≡ frames_of units + u.frames
 frames-more [] u = omega arith
 frames-more (x ∷ units) u = let e = frames-more units u in omega (arith, e)
 
@@ -131,16 +142,19 @@ bytes-more [] u = omega arith
 bytes-more (x ∷ units) u = let e = bytes-more units u in omega (arith, e)
 
 -- what is counted of the units that pass a test, with one more
-tested-more : (count : List CountedUnit → ℕ) (one : CountedUnit → ℕ) → ((units : List CountedUnit) (u : CountedUnit) → count (units ++ u ∷ []) ≡ count units + one u)
+tested-more : (count : List CountedUnit → ℕ) (one : CountedUnit → ℕ)
+    → ((units : List CountedUnit) (u : CountedUnit) → count (units ++ u ∷ []) ≡ count units + one u)
     → (test : CountedUnit → Bool) (units : List CountedUnit) (u : CountedUnit)
-    → count (filter test (units ++ u ∷ [])) ≡ cond (test u) (count (filter test units) + one u) (count (filter test units))
+    → count (filter test (units ++ u ∷ [])) ≡ cond (test u) (count (filter test units) + one u)
+    (count (filter test units))
 tested-more count one more test units u = grind (arith, filter-more, filter, append-nil)
 
 turned : {X : Type 0} (t : Bool) (a b : X) → cond (not t) a b ≡ cond t b a
 turned t a b = grind arith
 
 -- of the units that go back
-back-more : (count : List CountedUnit → ℕ) (one : CountedUnit → ℕ) → ((units : List CountedUnit) (u : CountedUnit) → count (units ++ u ∷ []) ≡ count units + one u)
+back-more : (count : List CountedUnit → ℕ) (one : CountedUnit → ℕ)
+    → ((units : List CountedUnit) (u : CountedUnit) → count (units ++ u ∷ []) ≡ count units + one u)
     → (units : List CountedUnit) (u : CountedUnit)
     → count (backward (units ++ u ∷ [])) ≡ cond (is_forward u) (count (backward units)) (count (backward units) + one u)
 back-more count one more units u = grind (arith, common_steps, nat_tests, tested-more, turned)
@@ -166,7 +180,8 @@ row-more units u =
     ∙ ap (λ f. place_or (earlier_frame f u.first) (place_or (least_frame units) 0)) (sym (kept (least_frame units))) in
     let last_place =
     ap (λ f. place_or f 0) greatest ∙ later-place (greatest_frame units) u.last
-    ∙ ap (λ f. place_or (later_frame f u.last) (place_or (greatest_frame units) 0)) (sym (kept (greatest_frame units))) in
+    ∙ ap (λ f. place_or (later_frame f u.last) (place_or (greatest_frame units) 0))
+    (sym (kept (greatest_frame units))) in
     λ i. record {
       forward_bytes = tested-more bytes_of (λ unit. unit.bytes) bytes-more is_forward units u i;
       backward_bytes = back-more bytes_of (λ unit. unit.bytes) bytes-more units u i;
@@ -193,16 +208,19 @@ abbrev rows_at : List CountedUnit → List TalkKey → List Talk
 rows_at units ks = map (λ key. (key, row_of (units_of key units))) ks
 
 -- a unit of no conversation among them
-others_stay : (units : List CountedUnit) (u : CountedUnit) (ks : List TalkKey) → has (key_of u) ks ≡ false → rows_at units ks ≡ rows_at (units ++ u ∷ []) ks
+others_stay : (units : List CountedUnit) (u : CountedUnit) (ks : List TalkKey) → has (key_of u) ks ≡ false
+    → rows_at units ks ≡ rows_at (units ++ u ∷ []) ks
 others_stay units u [] h = refl
 others_stay units u (y ∷ ks) h = by (same_talk (key_of u) y) refl h (others_stay units u ks)
   where
-    by : (s : Bool) → same_talk (key_of u) y ≡ s → cond s true (has (key_of u) ks) ≡ false → (has (key_of u) ks ≡ false → rows_at units ks ≡ rows_at (units ++ u ∷ []) ks)
+    by : (s : Bool) → same_talk (key_of u) y ≡ s → cond s true (has (key_of u) ks) ≡ false
+        → (has (key_of u) ks ≡ false → rows_at units ks ≡ rows_at (units ++ u ∷ []) ks)
         → rows_at units (y ∷ ks) ≡ rows_at (units ++ u ∷ []) (y ∷ ks)
     by s is n rest = grind (arith, other_row, other_way)
 
 insert-present : (units : List CountedUnit) (u : CountedUnit) (ks : List TalkKey) → Apart ks → has (key_of u) ks ≡ true
-    → insert_entry same_talk (rows_at units ks) (key_of u) (row_of (units_of (key_of u) (units ++ u ∷ []))) ≡ rows_at (units ++ u ∷ []) ks
+    → insert_entry same_talk (rows_at units ks) (key_of u) (row_of (units_of (key_of u) (units ++ u ∷ [])))
+    ≡ rows_at (units ++ u ∷ []) ks
 insert-present units u [] apart h = absurd (true≢false (sym h))
 insert-present units u (y ∷ ks) apart h = by (same_talk (key_of u) y) refl h (insert-present units u ks apart.1)
   where
@@ -210,8 +228,10 @@ insert-present units u (y ∷ ks) apart h = by (same_talk (key_of u) y) refl h (
     w = row_of (units_of (key_of u) (units ++ u ∷ []))
 
     by : (s : Bool) → same_talk (key_of u) y ≡ s → cond s true (has (key_of u) ks) ≡ true
-        → (has (key_of u) ks ≡ true → insert_entry same_talk (rows_at units ks) (key_of u) w ≡ rows_at (units ++ u ∷ []) ks)
-        → cond s ((y, w) ∷ rows_at units ks) ((y, row_of (units_of y units)) ∷ insert_entry same_talk (rows_at units ks) (key_of u) w) ≡ rows_at (units ++ u ∷ []) (y ∷ ks)
+        → (has (key_of u) ks ≡ true → insert_entry same_talk (rows_at units ks) (key_of u) w
+        ≡ rows_at (units ++ u ∷ []) ks)
+        → cond s ((y, w) ∷ rows_at units ks) ((y, row_of (units_of y units))
+        ∷ insert_entry same_talk (rows_at units ks) (key_of u) w) ≡ rows_at (units ++ u ∷ []) (y ∷ ks)
     by true is n rest =
         let one = same_talk-is (key_of u) y is in
         let absent : has (key_of u) ks ≡ false = ap (λ k. has k ks) one ∙ apart.0 in
@@ -221,7 +241,8 @@ insert-present units u (y ∷ ks) apart h = by (same_talk (key_of u) y) refl h (
     by false is n rest = search (other_row, other_way)
 
 insert-absent : (units : List CountedUnit) (u : CountedUnit) (ks : List TalkKey) → has (key_of u) ks ≡ false
-    → insert_entry same_talk (rows_at units ks) (key_of u) (row_of (units_of (key_of u) (units ++ u ∷ []))) ≡ rows_at (units ++ u ∷ []) (ks ++ key_of u ∷ [])
+    → insert_entry same_talk (rows_at units ks) (key_of u) (row_of (units_of (key_of u) (units ++ u ∷ [])))
+    ≡ rows_at (units ++ u ∷ []) (ks ++ key_of u ∷ [])
 insert-absent units u [] h = refl
 insert-absent units u (y ∷ ks) h = by (same_talk (key_of u) y) refl h (insert-absent units u ks)
   where
@@ -229,19 +250,24 @@ insert-absent units u (y ∷ ks) h = by (same_talk (key_of u) y) refl h (insert-
     w = row_of (units_of (key_of u) (units ++ u ∷ []))
 
     by : (s : Bool) → same_talk (key_of u) y ≡ s → cond s true (has (key_of u) ks) ≡ false
-        → (has (key_of u) ks ≡ false → insert_entry same_talk (rows_at units ks) (key_of u) w ≡ rows_at (units ++ u ∷ []) (ks ++ key_of u ∷ []))
-        → cond s ((y, w) ∷ rows_at units ks) ((y, row_of (units_of y units)) ∷ insert_entry same_talk (rows_at units ks) (key_of u) w)
+        → (has (key_of u) ks ≡ false → insert_entry same_talk (rows_at units ks) (key_of u) w
+        ≡ rows_at (units ++ u ∷ []) (ks ++ key_of u ∷ []))
+        → cond s ((y, w) ∷ rows_at units ks) ((y, row_of (units_of y units))
+        ∷ insert_entry same_talk (rows_at units ks) (key_of u) w)
         ≡ rows_at (units ++ u ∷ []) (y ∷ (ks ++ key_of u ∷ []))
     by s is n rest = grind (arith, other_row, other_way)
 
 -- the row that is found is the conversation's
-found_row : (k : TalkKey) (units : List CountedUnit) (ks : List TalkKey) → (has k ks ≡ false → units_of k units ≡ []) → or_empty (lookup (same_talk k) (rows_at units ks)) ≡ row_of (units_of k units)
+found_row : (k : TalkKey) (units : List CountedUnit) (ks : List TalkKey) → (has k ks ≡ false → units_of k units ≡ [])
+    → or_empty (lookup (same_talk k) (rows_at units ks)) ≡ row_of (units_of k units)
 found_row k units [] none = ap row_of (sym (none refl))
 found_row k units (y ∷ ks) none = by (same_talk k y) refl none (found_row k units ks)
   where
     by : (s : Bool) → same_talk k y ≡ s → (cond s true (has k ks) ≡ false → units_of k units ≡ [])
-        → ((has k ks ≡ false → units_of k units ≡ []) → or_empty (lookup (same_talk k) (rows_at units ks)) ≡ row_of (units_of k units))
-        → or_empty (cond s (Some (row_of (units_of y units))) (lookup (same_talk k) (rows_at units ks))) ≡ row_of (units_of k units)
+        → ((has k ks ≡ false → units_of k units ≡ []) → or_empty (lookup (same_talk k) (rows_at units ks))
+        ≡ row_of (units_of k units))
+        → or_empty (cond s (Some (row_of (units_of y units))) (lookup (same_talk k) (rows_at units ks)))
+        ≡ row_of (units_of k units)
     by true is n rest = ap (λ z. row_of (units_of z units)) (sym (same_talk-is k y is))
     by false is n rest = rest n
 
@@ -260,5 +286,6 @@ rows-more units u =
     ks : List TalkKey
     ks = keys_of units
 
-    by : (h : Bool) → has k ks ≡ h → insert_entry same_talk (rows_at units ks) k (row_of (units_of k (units ++ u ∷ []))) ≡ rows_at (units ++ u ∷ []) (cond (has k ks) ks (ks ++ k ∷ []))
+    by : (h : Bool) → has k ks ≡ h → insert_entry same_talk (rows_at units ks) k (row_of (units_of k (units ++ u ∷ [])))
+        ≡ rows_at (units ++ u ∷ []) (cond (has k ks) ks (ks ++ k ∷ []))
     by h is = grind (arith, insert-present, keys-apart, insert-absent)

@@ -1,5 +1,6 @@
 -- The text of files that were counted, and a text that is written after everything that can be refused.
-use Rattle.std.proofs.Common.{◌≡◌, ◌+◌, ℕ, suc, List, [], ◌∷◌, ◌++◌, length, IsOkUnless, refl, ap, arith, Option, None, Result}
+use Rattle.std.proofs.Common.{◌≡◌, ◌+◌, ℕ, suc, List, [], ◌∷◌, ◌++◌, length, IsOkUnless, refl, ap, arith, Option, None}
+use Rattle.std.proofs.Common.{Result}
 use Rattle.cap_bytes.specs.Printing.{Prints}
 use Rattle.cap_bytes.specs.declared.faults.Fault.{Fault}
 use Rattle.cap_bytes.specs.declared.faults.Fault.TheVariants.{Write}
@@ -12,7 +13,8 @@ use Rattle.cap_talks.specs.talks.Reading.{counted_files}
 use Rattle.cap_talks.specs.talks.Telling.{Tells}
 
 -- the lines of what was counted of files are those of the files
-pub texts-counted : (tail : Tail) (file : ℕ) (files : List (List ℕ)) → counted_texts file (counted_files tail file files) ≡ file_texts tail file files
+pub texts-counted : (tail : Tail) (file : ℕ) (files : List (List ℕ))
+    → counted_texts file (counted_files tail file files) ≡ file_texts tail file files
 texts-counted tail file [] = refl
 texts-counted tail file (bytes ∷ files) = cc (texts-counted tail (file + 1) files)
 
@@ -25,6 +27,7 @@ pub info-counted : (tail : Tail) (files : List (List ℕ)) (all : List Counted) 
 info-counted tail files all is = grind (arith, files-counted, texts-counted)
 
 -- a text that is written after everything that can be refused
-pub tells-printed : (text : List ℕ) (refusal : Option Refusal) (old : List ℕ) (result : Result (Unit {0}) Fault) (new : List ℕ) → refusal ≡ None
+pub tells-printed : (text : List ℕ) (refusal : Option Refusal) (old : List ℕ) (result : Result (Unit {0}) Fault)
+    (new : List ℕ) → refusal ≡ None
     → IsOkUnless result Write → Prints text None old result new → Tells text refusal old result new
 tells-printed text refusal old result new none fault p = grind arith

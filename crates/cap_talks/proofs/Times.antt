@@ -31,20 +31,25 @@ later-assoc : (a b c : Option Stamp) → later (later a b) c ≡ later a (later 
 later-assoc a b c = search (later_is, chosen, chosen-assoc, down_total)
 
 -- one time more
-pub least-more : (metas : List Meta) (meta : Meta) → least_time (metas ++ meta ∷ []) ≡ earlier (least_time metas) (meta_time meta)
+pub least-more : (metas : List Meta) (meta : Meta)
+    → least_time (metas ++ meta ∷ []) ≡ earlier (least_time metas) (meta_time meta)
 least-more [] meta = earlier_is (meta_time meta) None ∙ chosen-alone stamp_cmp (meta_time meta)
 least-more (m ∷ metas) meta = search (least-more metas meta, earlier-assoc)
 
-pub greatest-more : (metas : List Meta) (meta : Meta) → greatest_time (metas ++ meta ∷ []) ≡ later (greatest_time metas) (meta_time meta)
-greatest-more [] meta = later_is (meta_time meta) None ∙ (chosen-alone down (meta_time meta) ∙ sym (later_is None (meta_time meta)))
+pub greatest-more : (metas : List Meta) (meta : Meta)
+    → greatest_time (metas ++ meta ∷ []) ≡ later (greatest_time metas) (meta_time meta)
+greatest-more [] meta = later_is (meta_time meta) None
+    ∙ (chosen-alone down (meta_time meta) ∙ sym (later_is None (meta_time meta)))
 greatest-more (m ∷ metas) meta = search (greatest-more metas meta, later-assoc)
 
 -- a time after the greatest isn't before the least
-pub past-last : (first : Option Stamp) (last time : Stamp) → are_in_order first (Some last) ≡ true → stamp_cmp last time ≡ Less → first ≡ earlier first (Some time)
+pub past-last : (first : Option Stamp) (last time : Stamp) → are_in_order first (Some last) ≡ true
+    → stamp_cmp last time ≡ Less → first ≡ earlier first (Some time)
 past-last first last time order later = grind (arith, not_trans, stamp_cmp_total, stamp_cmp_total.antisymm)
 
 -- one time more, before the others, leaves the least and the greatest in order
-in_order-more : (time first last : Option Stamp) → are_in_order first last ≡ true → are_in_order (earlier time first) (later time last) ≡ true
+in_order-more : (time first last : Option Stamp) → are_in_order first last ≡ true
+    → are_in_order (earlier time first) (later time last) ≡ true
 in_order-more time first last order = grind (arith, not_trans, stamp_cmp_total, stamp_cmp_total.antisymm)
 
 pub times-in_order : (metas : List Meta) → are_in_order (least_time metas) (greatest_time metas) ≡ true

@@ -1,5 +1,6 @@
 -- What is counted of each file and of all, packet by packet.
-use Rattle.std.proofs.Common.{rules, ◌≡◌, ℕ, zero, suc, ◌+◌, ◌*◌, ◌^◌, ◌≤◌, ◌<◌, ◌==◌, Bool, true, List, [], ◌∷◌, ◌++◌, length, nat_lt, refl, ap, ◌∙◌, arith, append-nil, length-append, drop, take_at}
+use Rattle.std.proofs.Common.{rules, ◌≡◌, ℕ, zero, suc, ◌+◌, ◌*◌, ◌^◌, ◌≤◌, ◌<◌, ◌==◌, Bool, true, List, [], ◌∷◌, ◌++◌}
+use Rattle.std.proofs.Common.{length, nat_lt, refl, ap, ◌∙◌, arith, append-nil, length-append, drop, take_at}
 use Rattle.std.specs.Prelude.{replicate, slice_set, slice_index_or, if◌then◌else◌}
 use Rattle.std.specs.List.{AllByRecursion, refill}
 use Rattle.std.proofs.lemmas.Bool.Decides.{nat_tests}
@@ -18,25 +19,31 @@ one-more (suc n) x = ap (λ l. x ∷ l) (one-more n x)
 -- ---- of each file
 
 -- the counts of the packet's own file, and of another
-own : (xs : List Taken) (x : Taken) (file : ℕ) → (x.meta.file == file) ≡ true → counted (metas_of file (x ∷ xs)) ≡ with_packet (counted (metas_of file xs)) x.meta
-own xs x file is = ap (λ (b : Bool). counted (metas_of file xs ++ (if b then x.meta ∷ [] else []))) is ∙ counted-more (metas_of file xs) x.meta
+own : (xs : List Taken) (x : Taken) (file : ℕ) → (x.meta.file == file) ≡ true
+    → counted (metas_of file (x ∷ xs)) ≡ with_packet (counted (metas_of file xs)) x.meta
+own xs x file is = ap (λ (b : Bool). counted (metas_of file xs ++ (if b then x.meta ∷ [] else []))) is
+    ∙ counted-more (metas_of file xs) x.meta
 
 -- files of other numbers stay as they are
-apart : (xs : List Taken) (x : Taken) (first count : ℕ) → x.meta.file < first → counts_from first count (x ∷ xs) ≡ counts_from first count xs
+apart : (xs : List Taken) (x : Taken) (first count : ℕ) → x.meta.file < first
+    → counts_from first count (x ∷ xs) ≡ counts_from first count xs
 apart xs x first zero below = refl
 apart xs x first (suc count) below = search (rules, apart xs x (first + 1) count (omega (arith, below)))
 
 -- one packet more changes the counts of its file
 pub counts-more : (xs : List Taken) (x : Taken) (first count place : ℕ) → x.meta.file ≡ first + place → place < count
     → counts_from first count (x ∷ xs)
-    ≡ slice_set (counts_from first count xs) place (with_packet (slice_index_or (counts_from first count xs) place (counted [])) x.meta)
+    ≡ slice_set (counts_from first count xs) place
+    (with_packet (slice_index_or (counts_from first count xs) place (counted [])) x.meta)
 counts-more xs x first zero place is within = absurd (omega (arith, within))
 counts-more xs x first (suc count) zero is within = grind (arith, nat_tests, is, own, apart)
-counts-more xs x first (suc count) (suc place) is within = search (rules, counts-more xs x (first + 1) count place (omega (arith, is)) (omega (arith, within)))
+counts-more xs x first (suc count) (suc place) is within =
+    search (rules, counts-more xs x (first + 1) count place (omega (arith, is)) (omega (arith, within)))
 
 pub counts-at : (xs : List Taken) (first count place : ℕ) → place < count
     → slice_index_or (counts_from first count xs) place (counted []) ≡ counted (metas_of (first + place) xs)
-counts-at xs first (suc count) (suc place) within = grind (arith, counts-at xs (first + 1) count place (omega (arith, within)))
+counts-at xs first (suc count) (suc place) within =
+    grind (arith, counts-at xs (first + 1) count place (omega (arith, within)))
 counts-at xs first count place within = grind arith
 
 -- ---- all of them fit
@@ -72,17 +79,21 @@ room_by : (counts : Counts) → counts.packets < 2 ^ 45 → counts.bytes ≤ 2 ^
     → are_in_order counts.first counts.last ≡ true → is_room counts ≡ true
 room_by counts p b t order = grind (arith, nat_tests, p, b, t, order)
 
-counted-fits : (metas : List Meta) → (length metas < 2 ^ 45) → original_bytes metas ≤ 2 ^ 45 * 2 ^ 32 → truncated_packets metas < 2 ^ 45 → is_room (counted metas) ≡ true
+counted-fits : (metas : List Meta) → (length metas < 2 ^ 45) → original_bytes metas ≤ 2 ^ 45 * 2 ^ 32
+    → truncated_packets metas < 2 ^ 45 → is_room (counted metas) ≡ true
 unfolding counted
 counted-fits metas p b t = room_by (counted metas) p b t (counted-in_order metas)
 
 -- one packet more fits into the counts of its file
-pub has-room : (t : TotalsState) → IsSoundTotals t → t.packets < 2 ^ 45 → (place : ℕ) → place < length t.files → is_room (slice_index_or t.files place (counted [])) ≡ true
+pub has-room : (t : TotalsState) → IsSoundTotals t → t.packets < 2 ^ 45 → (place : ℕ) → place < length t.files
+    → is_room (slice_index_or t.files place (counted [])) ≡ true
 has-room t s few place within = grind (arith, counts-at, counted-fits, metas-few, metas-short, truncated-few)
 
 -- the totals with one packet more
-pub stands-more : (t u : TotalsState) (x : Taken) (xs : List Taken) (place : ℕ) → x.meta.file ≡ 1 + place → place < length t.files
-    → u.files ≡ slice_set t.files place (with_packet (slice_index_or t.files place (counted [])) x.meta) → length u.files ≡ length t.files
+pub stands-more : (t u : TotalsState) (x : Taken) (xs : List Taken) (place : ℕ) → x.meta.file ≡ 1 + place
+    → place < length t.files
+    → u.files ≡ slice_set t.files place (with_packet (slice_index_or t.files place (counted [])) x.meta)
+    → length u.files ≡ length t.files
     → u.packets ≡ t.packets + 1 → u.bytes ≡ t.bytes + x.meta.original
     → u.truncated ≡ t.truncated + (if nat_lt (length x.frame) x.meta.original then 1 else 0)
     → TotalsStand t xs → TotalsStand u (x ∷ xs)
@@ -92,8 +103,10 @@ stands-more t u x xs place is within files len packets bytes truncated s = grind
 pub refilled : {A : Type 0} (xs ws : List A) → length ws ≡ length xs → refill (length xs) xs ws ≡ ws
 refilled xs ws e = take_at ws (drop (length ws) xs) (length xs) e
 
-pub sound-more : (t u : TotalsState) (x : Taken) → IsSoundTotals t → ((xs : List Taken) → TotalsStand t xs → TotalsStand u (x ∷ xs))
-    → t.packets < 2 ^ 45 → u.packets ≡ t.packets + 1 → x.meta.original < 2 ^ 32 → length u.files ≡ length t.files → IsSoundTotals u
+pub sound-more : (t u : TotalsState) (x : Taken) → IsSoundTotals t
+    → ((xs : List Taken) → TotalsStand t xs → TotalsStand u (x ∷ xs))
+    → t.packets < 2 ^ 45 → u.packets ≡ t.packets + 1 → x.meta.original < 2 ^ 32 → length u.files ≡ length t.files
+    → IsSoundTotals u
 sound-more t u x s more few packets short files = grind arith
 
 -- nothing was taken
@@ -108,5 +121,6 @@ length-none (suc count) = ap suc (length-none count)
 pub len-new : (files : List Counts) (count : ℕ) → files ≡ replicate count (counted []) → length files ≡ count
 len-new files count is = ap length is ∙ length-none count
 
-pub stands-new : (t : TotalsState) (count : ℕ) → t.files ≡ replicate count (counted []) → t.packets ≡ 0 → t.bytes ≡ 0 → t.truncated ≡ 0 → TotalsStand t []
+pub stands-new : (t : TotalsState) (count : ℕ) → t.files ≡ replicate count (counted []) → t.packets ≡ 0 → t.bytes ≡ 0
+    → t.truncated ≡ 0 → TotalsStand t []
 stands-new t count files packets bytes truncated = grind (arith, none-counted, len-new)

@@ -1,5 +1,6 @@
 -- The first frame of a unit isn't later than its last one.
-use Rattle.std.proofs.Common.{◌≡◌, ℕ, Bool, true, false, not, List, [], ◌∷◌, length, Option, Some, None, IfSome, option_map, refl, sym, ap, ◌∙◌, subst, arith}
+use Rattle.std.proofs.Common.{◌≡◌, ℕ, Bool, true, false, not, List, [], ◌∷◌, length, Option, Some, None, IfSome}
+use Rattle.std.proofs.Common.{option_map, refl, sym, ap, ◌∙◌, subst, arith}
 use Rattle.std.specs.Ordering.{is_lt}
 use Rattle.cap_ip.specs.Header.{HeaderFields}
 use Rattle.cap_join.specs.Fragments.{Piece}
@@ -19,7 +20,8 @@ use Rattle.cap_talks.specs.table.Adding.{datagram_unit}
 use Rattle.cap_talks.specs.table.Taken.{Taken}
 use Rattle.cap_talks.specs.table.Tallies.{TallyState, Joins, Stands}
 
-by_ends : (protocol frames bytes : ℕ) (first last : Option TimedFrame) (ends : Option (End × End)) → are_in_order first last ≡ true
+by_ends : (protocol frames bytes : ℕ) (first last : Option TimedFrame) (ends : Option (End × End))
+    → are_in_order first last ≡ true
     → (frames ≡ 1 → first ≡ last) → IfSome (option_map (unit_of protocol frames bytes first last) ends) IsUnitInOrder
 by_ends protocol frames bytes first last None order one = tt
 by_ends protocol frames bytes first last (Some ends) order one = record { order = order; one = one }
@@ -28,7 +30,8 @@ by_ends protocol frames bytes first last (Some ends) order one = record { order 
 itself : (frame : Option TimedFrame) → are_in_order frame frame ≡ true
 itself frame = grind (arith, stamp_cmp_total.antisymm)
 
-pub whole-order : (header : HeaderFields) (captured : List ℕ) (stamped : Stamped) → IfSome (whole_unit header captured stamped) IsUnitInOrder
+pub whole-order : (header : HeaderFields) (captured : List ℕ) (stamped : Stamped)
+    → IfSome (whole_unit header captured stamped) IsUnitInOrder
 whole-order header captured stamped = by_ends _ _ _ _ _ _ (itself (timed_frame (Some stamped))) (λ one. refl)
 
 -- two frames that have times are there, the second not earlier than the first, or neither is
@@ -52,7 +55,8 @@ frames-order : (pieces : List Piece) → in_order (first_frame pieces) (last_fra
 frames-order [] = refl
 frames-order (p ∷ pieces) = order-more (first_frame pieces) (last_frame pieces) p.stamped (frames-order pieces)
 
-timed-order : (first last : Option Stamped) → in_order first last ≡ true → are_in_order (timed_frame first) (timed_frame last) ≡ true
+timed-order : (first last : Option Stamped) → in_order first last ≡ true
+    → are_in_order (timed_frame first) (timed_frame last) ≡ true
 timed-order first last order = grind arith
 
 frames-one : (pieces : List Piece) → length pieces ≡ 1 → first_frame pieces ≡ last_frame pieces
@@ -63,10 +67,12 @@ frames-one pieces one = grind arith
 pub joined-order : (d : Datagram) (pieces : List Piece) → IsDatagramOf d pieces → IfSome (datagram_unit d) IsUnitInOrder
 unfolding datagram_unit
 joined-order d pieces is =
-    by_ends _ _ _ _ _ _ (grind (arith, frames-order, timed-order)) (λ one. ap timed_frame (is.first ∙ frames-one pieces (sym is.frames ∙ one) ∙ sym is.last))
+    by_ends _ _ _ _ _ _ (grind (arith, frames-order, timed-order))
+    (λ one. ap timed_frame (is.first ∙ frames-one pieces (sym is.frames ∙ one) ∙ sym is.last))
 
 -- a datagram that waits
-pub waiting-order : (t : TallyState) (d : Datagram) (xs : List Taken) (next : Option Taken) → t.waiting ≡ Some d → Stands t xs next → IfSome (datagram_unit d) IsUnitInOrder
+pub waiting-order : (t : TallyState) (d : Datagram) (xs : List Taken) (next : Option Taken) → t.waiting ≡ Some d
+    → Stands t xs next → IfSome (datagram_unit d) IsUnitInOrder
 waiting-order t d xs next is h =
     let joins = subst (λ (w : Option Datagram). Joins w t.joiner xs next) is h.joins in
     joined-order d _ joins.datagram

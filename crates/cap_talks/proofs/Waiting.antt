@@ -11,7 +11,8 @@ use Rattle.cap_talks.specs.table.Tallies.{TallyState, WaitsFor, Stands, IsSoundT
 use Rattle.cap_talks.proofs.LoneFragments.{no-lone}
 use Rattle.cap_talks.proofs.Room.{few-open, waiting-room}
 
-events-are : (x : Taken) (xs : List Taken) (p : Piece) → look (length xs) x ≡ fragment p → events_of (x ∷ xs) ≡ arrives x.clock p ∷ events_of xs
+events-are : (x : Taken) (xs : List Taken) (p : Piece) → look (length xs) x ≡ fragment p
+    → events_of (x ∷ xs) ≡ arrives x.clock p ∷ events_of xs
 unfolding events_of
 events-are x xs p is = ap (λ l. events_with l x.clock (events_of xs)) is
 
@@ -30,9 +31,16 @@ left-by d j xs next w =
     let after = events-are w.packet xs w.piece w.is_fragment in
     let stands = subst (StandsFor j) after w.stands in
     let is = state-after open_limit (arrives w.packet.clock w.piece) es in
-    let room = waiting-room open_limit w.packet.clock w.piece (state_of open_limit es) (no-lone (length xs) w.packet w.piece w.is_fragment) w.whole in
+    let room = waiting-room open_limit w.packet.clock w.piece (state_of open_limit es)
+    (no-lone (length xs) w.packet w.piece w.is_fragment) w.whole in
     record {
-      room = omega (arith, lengths j.groups _ stands.groups, ap (λ s. length s.opens) is, room.0, few-open open_limit es (omega arith));
+      room = omega (
+        arith,
+        lengths j.groups _ stands.groups,
+        ap (λ s. length s.opens) is,
+        room.0,
+        few-open open_limit es (omega arith),
+      );
       given_up = stands.given_up ∙ ap (λ s. s.given_up) is ∙ room.1;
     }
 
@@ -40,5 +48,6 @@ pub groups-few : (t : TallyState) → IsSoundTally t → length t.joiner.groups 
 groups-few t s = grind (arith, lengths, few-open, left-by)
 
 -- the groups that were given up are those of the packets that were taken
-pub given-up : (t : TallyState) (xs : List Taken) (next : Option Taken) → Stands t xs next → t.joiner.given_up ≡ given_up_in xs
+pub given-up : (t : TallyState) (xs : List Taken) (next : Option Taken) → Stands t xs next
+    → t.joiner.given_up ≡ given_up_in xs
 given-up t xs next h = grind (arith, left-by)

@@ -6,6 +6,7 @@ mod table;
 mod talks;
 
 pub use crate::table::{
-    Class, CountedUnit, End, Held, Step, Table, TalkKey, TalkRow, TimedFrame, talk_laws,
+    Class, CountedUnit, End, Held, Step, Table, TalkKey, TalkRow, TimedFrame, packet_class,
+    talk_laws,
 };
 pub use crate::talks::{file_lines, report};

@@ -1,5 +1,5 @@
-//! The table of a report: what is counted of the packets of a run, one by one, and step by step of a merge of files; the row of
-//! each conversation; and the lines of files that were counted.
+//! The table of a report: what is counted of the packets of a run, one by one, and step by step of a merge of files;
+//! the row of each conversation; and the lines of files that were counted.
 
 mod adding;
 mod classes;
@@ -8,7 +8,6 @@ mod laws;
 mod looks;
 mod report_lines;
 mod rows;
-mod run_packets;
 mod tables;
 mod talk_lines;
 mod talks;
@@ -18,6 +17,7 @@ mod units;
 
 pub use crate::table::classes::Class;
 pub use crate::table::laws::talk_laws;
+pub use crate::table::looks::packet_class;
 pub use crate::table::rows::{TalkKey, TalkRow};
 pub use crate::table::tables::{Held, Step, Table};
 pub use crate::table::units::{CountedUnit, End, TimedFrame};

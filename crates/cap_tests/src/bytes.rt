@@ -159,8 +159,8 @@ fn answer<R: Source>(window: &mut Window<R>, asked: Asked) -> Result<bool, Fault
     }
 }
 
-// Steps over a file of 70,000 bytes: the answer of each, the offset then, and a place where the window shows the byte of the file
-// that stands as far from the offset.
+// Steps over a file of 70,000 bytes: the answer of each, the offset then, and a place where the window shows the byte
+// of the file that stands as far from the offset.
 const STEPS: [(Asked, bool, u64, Option<usize>); 7] = [
     (Asked::Need(3), true, 0, Some(0)),
     (Asked::Pass(3), true, 3, None),

@@ -1,5 +1,5 @@
-//! What tests ask of values. Each question is one call with few arguments, by value: what the proof of a test costs grows with
-//! its branches, and as the square of its calls and their arguments.
+//! What tests ask of values. Each question is one call with few arguments, by value: what the proof of a test costs
+//! grows with its branches, and as the square of its calls and their arguments.
 ghost use Rattle.std.specs.Prelude.{IsTrue};
 
 use std::fmt::Debug;

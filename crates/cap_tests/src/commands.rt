@@ -54,8 +54,8 @@ fn ask_front_of(rt: &impl Abort, answer: Result<(), Fault>, written: &[u8], want
     }
 }
 
-/// That an answer is as with memory after all that a text in hex says, or `Memory` after a prefix of it, if at most one growth
-/// is refused.
+/// That an answer is as with memory after all that a text in hex says, or `Memory` after a prefix of it, if at most one
+/// growth is refused.
 pub(crate) fn ask_front(
     rt: &impl Abort,
     alloc: Global,

@@ -218,6 +218,43 @@ fn a_whole_datagram_flushes(rt: HostRuntime) {
     flushes(&rt, &mut run, &last, &front);
 }
 
+// What the two fragments join to.
+const JOINED: [u8; 16] = [
+    0x03, 0xe8, 0x07, 0xd0, 0, 0x10, 0, 0, 0, 1, 2, 3, 4, 5, 6, 7,
+];
+
+// Checks how many bytes an open group holds, and how many are kept for later groups.
+fn holds_bytes(rt: &impl Abort, run: &Run, held: usize, spare: usize) {
+    same!(rt; run.joiner.held_bytes(), held);
+    same!(rt; run.joiner.held_spare(), spare);
+}
+
+// Keeps a fragment of the block 8,188, and flushes it: its buffer is kept.
+fn leaves_a_buffer(rt: &impl Abort, alloc: Global, run: &mut Run) {
+    let far = packet(rt, alloc, 9, 8_188, true, &[0xff; 8]);
+    holds!(rt; keeps_at(rt, run, Some(SECOND), &far));
+    holds_bytes(rt, run, 65_512, 0);
+    run.joiner.flush(key(9));
+    holds_bytes(rt, run, 0, 65_512);
+}
+
+// Joins two fragments in that buffer, which is kept again.
+fn joins_in_it(rt: &impl Abort, run: &mut Run, last: &[u8], front: &[u8]) {
+    holds!(rt; keeps_at(rt, run, Some(SECOND), last));
+    holds_bytes(rt, run, 16, 65_496);
+    let datagram = joined(rt, run.put(rt, Some(SECOND), front));
+    same!(rt; datagram.payload.as_slice(), JOINED.as_slice());
+    holds_bytes(rt, run, 0, 65_512);
+}
+
+#[test]
+fn a_buffer_serves_again(rt: HostRuntime) {
+    let mut run = Run::new(rt.alloc());
+    leaves_a_buffer(&rt, rt.alloc(), &mut run);
+    let (last, front) = two_fragments(&rt, rt.alloc());
+    joins_in_it(&rt, &mut run, &last, &front);
+}
+
 // A run with groups of the identifications from 0 up to a number, all at 1 second.
 fn many_groups(rt: &impl Abort, alloc: Global, count: u16) -> Run {
     let mut run = Run::new(alloc);
@@ -270,6 +307,15 @@ const UNTIMED_FIRST: [Front; 5] = [
     (Some(32 * SECOND + 1), 4, 2),
 ];
 
+// A group without a clock between groups that grow old one by one; the last fragment is of that one.
+const UNTIMED_BETWEEN: [Front; 5] = [
+    (Some(SECOND), 1, 1),
+    (None, 2, 2),
+    (Some(2 * SECOND), 3, 3),
+    (Some(31 * SECOND + 1), 4, 3),
+    (Some(32 * SECOND + 1), 2, 2),
+];
+
 // Fragments that begin datagrams are kept one by one.
 fn opens(rt: &impl Abort, alloc: Global, fronts: &[Front]) {
     let mut run = Run::new(alloc);
@@ -284,6 +330,7 @@ fn opens(rt: &impl Abort, alloc: Global, fronts: &[Front]) {
 fn old_groups_in_any_order_of_clocks(rt: HostRuntime) {
     opens(&rt, rt.alloc(), &FALLING);
     opens(&rt, rt.alloc(), &UNTIMED_FIRST);
+    opens(&rt, rt.alloc(), &UNTIMED_BETWEEN);
 }
 
 // Puts a packet, and once more if it ran out of memory: the joiner is then as it was.

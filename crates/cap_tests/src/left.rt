@@ -18,20 +18,28 @@ const CUT: Fault = Fault::Refused(Refusal {
     rule: Rule::Cut,
 });
 
-// Files, how a merge or a join of them ends, how many blocks they hold that are skipped, and how many packets run back.
-type Row = (&'static [File], Result<(), Fault>, u128, u128);
+// Files, how a merge or a join of them ends, how many blocks they hold that are skipped, how many interfaces with
+// names, and how many packets run back.
+type Row = (&'static [File], Result<(), Fault>, u128, u128, u128);
 
 const LEFT: [Row; 5] = [
-    (&[OPTIONS_PCAPNG], Ok(()), 1, 0),
-    (&[RUNS_ON, RUNS_ON], Ok(()), 0, 0),
-    (&[RUNS_BACK, RUNS_BACK], Ok(()), 0, 2),
-    (&[OPTIONS_PCAPNG, RUNS_BACK, OPTIONS_PCAPNG], Ok(()), 2, 1),
-    (&[RUNS_BACK, CUT_PCAP], Err(CUT), 0, 0),
+    (&[OPTIONS_PCAPNG], Ok(()), 1, 1, 0),
+    (&[RUNS_ON, RUNS_ON], Ok(()), 0, 0, 0),
+    (&[RUNS_BACK, RUNS_BACK], Ok(()), 0, 0, 2),
+    (
+        &[OPTIONS_PCAPNG, RUNS_BACK, OPTIONS_PCAPNG],
+        Ok(()),
+        2,
+        2,
+        1,
+    ),
+    (&[RUNS_BACK, CUT_PCAP], Err(CUT), 0, 0, 0),
 ];
 
 // What is left before a command is done.
 const BEFORE: Left = Left {
     skipped: 7,
+    named: 7,
     ran_back: 7,
 };
 
@@ -63,23 +71,33 @@ fn join<R: Source, W: Sink>(
 
 // What is left of files that are merged.
 fn merges(rt: &impl Abort, alloc: Global, row: &Row) {
-    let (files, ending, skipped, ran_back) = *row;
+    let (files, ending, skipped, named, ran_back) = *row;
     let mut left = BEFORE;
     let mut writer = room_of(rt, alloc, 512);
     let sources = sources_of(rt, alloc, files, 4096);
     let answer = merge(rt, alloc, sources, &mut writer, &mut left);
-    let wanted = (ending, Left { skipped, ran_back });
+    let left_out = Left {
+        skipped,
+        named,
+        ran_back,
+    };
+    let wanted = (ending, left_out);
     same!(rt; (answer, left), wanted, files);
 }
 
 // What is left of files that are joined.
 fn joins(rt: &impl Abort, alloc: Global, row: &Row) {
-    let (files, ending, skipped, ran_back) = *row;
+    let (files, ending, skipped, named, ran_back) = *row;
     let mut left = BEFORE;
     let mut writer = room_of(rt, alloc, 512);
     let sources = sources_of(rt, alloc, files, 4096);
     let answer = join(rt, alloc, sources, &mut writer, &mut left);
-    let wanted = (ending, Left { skipped, ran_back });
+    let left_out = Left {
+        skipped,
+        named,
+        ran_back,
+    };
+    let wanted = (ending, left_out);
     same!(rt; (answer, left), wanted, files);
 }
 
@@ -97,15 +115,16 @@ fn always_memory_files_are_joined_with_a_count(rt: HostRuntime) {
     }
 }
 
-// A file, the format that it is written in, and how many of its blocks are skipped.
-const CONVERTED: [(File, Format, u128); 3] = [
-    (OPTIONS_PCAPNG, Format::Pcapng, 1),
-    (OPTIONS_PCAPNG, Format::Pcap, 1),
-    (RUNS_BACK, Format::Pcapng, 0),
+// A file, the format that it is written in, how many of its blocks are skipped, and how many of its interfaces have
+// names.
+const CONVERTED: [(File, Format, u128, u128); 3] = [
+    (OPTIONS_PCAPNG, Format::Pcapng, 1, 1),
+    (OPTIONS_PCAPNG, Format::Pcap, 1, 1),
+    (RUNS_BACK, Format::Pcapng, 0, 0),
 ];
 
 // What is left of a file that is converted.
-fn converts(rt: &impl Abort, alloc: Global, file: File, format: Format, skipped: u128) {
+fn converts(rt: &impl Abort, alloc: Global, file: File, format: Format, kept_back: (u128, u128)) {
     let mut left = BEFORE;
     let mut writer = room_of(rt, alloc, 512);
     let source = reader_of(rt, alloc, file, 4096);
@@ -119,14 +138,19 @@ fn converts(rt: &impl Abort, alloc: Global, file: File, format: Format, skipped:
         &mut writer,
         &mut left,
     );
-    let ran_back = 0;
-    same!(rt; (answer, left), (Ok(()), Left { skipped, ran_back }), file);
+    let (skipped, named) = kept_back;
+    let left_out = Left {
+        skipped,
+        named,
+        ran_back: 0,
+    };
+    same!(rt; (answer, left), (Ok(()), left_out), file);
 }
 
 #[test]
 fn always_memory_files_are_converted_with_a_count(rt: HostRuntime) {
-    for (file, format, skipped) in &CONVERTED {
-        converts(&rt, rt.alloc(), *file, *format, *skipped);
+    for (file, format, skipped, named) in &CONVERTED {
+        converts(&rt, rt.alloc(), *file, *format, (*skipped, *named));
     }
 }
 
@@ -149,30 +173,50 @@ fn a_packet_runs_back(rt: HostRuntime) {
 }
 
 // How a run ended, what is left, and what is told of it.
-const TOLD: [(Outcome, u128, u128, &str); 7] = [
-    (Outcome::Done, 0, 0, ""),
-    (Outcome::Done, 1, 0, "not carried on: 1 block\n"),
-    (Outcome::Done, 3, 0, "not carried on: 3 blocks\n"),
-    (Outcome::Done, 0, 2, "ran back: 2 packets\n"),
+const TOLD: [(Outcome, [u128; 3], &str); 10] = [
+    (Outcome::Done, [0, 0, 0], ""),
+    (Outcome::Done, [1, 0, 0], "not carried on: 1 block\n"),
+    (Outcome::Done, [3, 0, 0], "not carried on: 3 blocks\n"),
     (
         Outcome::Done,
-        12,
-        1,
+        [0, 1, 0],
+        "not carried on: names of 1 interface\n",
+    ),
+    (
+        Outcome::Done,
+        [0, 2, 0],
+        "not carried on: names of 2 interfaces\n",
+    ),
+    (
+        Outcome::Done,
+        [3, 1, 0],
+        "not carried on: 3 blocks, names of 1 interface\n",
+    ),
+    (Outcome::Done, [0, 0, 2], "ran back: 2 packets\n"),
+    (
+        Outcome::Done,
+        [12, 0, 1],
         "not carried on: 12 blocks\nran back: 1 packet\n",
     ),
-    (Outcome::Fault(CUT), 12, 1, ""),
-    (Outcome::Line(LineFault::Help), 12, 1, ""),
+    (Outcome::Fault(CUT), [12, 1, 1], ""),
+    (Outcome::Line(LineFault::Help), [12, 1, 1], ""),
 ];
 
 // What is told of what is left.
-fn tells(rt: &impl Abort, outcome: &Outcome, skipped: u128, ran_back: u128, text: &str) {
-    let line = left_lines(outcome, &Left { skipped, ran_back });
+fn tells(rt: &impl Abort, outcome: &Outcome, counts: [u128; 3], text: &str) {
+    let [skipped, named, ran_back] = counts;
+    let left = Left {
+        skipped,
+        named,
+        ran_back,
+    };
+    let line = left_lines(outcome, &left);
     same!(rt; line.as_slice(), text.as_bytes());
 }
 
 #[test]
 fn what_is_left_is_told(rt: HostRuntime) {
-    for (outcome, skipped, ran_back, text) in &TOLD {
-        tells(&rt, outcome, *skipped, *ran_back, *text);
+    for (outcome, counts, text) in &TOLD {
+        tells(&rt, outcome, *counts, *text);
     }
 }

@@ -1,5 +1,5 @@
-//! Tests of all crates: of reading and of what it stands on, of what is made of captures, and of the commands, the command line,
-//! outcomes and the line of progress.
+//! Tests of all crates: of reading and of what it stands on, of what is made of captures, and of the commands, the
+//! command line, outcomes and the line of progress.
 #![tactic(auto)]
 
 #[cfg(test)]

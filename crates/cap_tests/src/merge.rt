@@ -70,8 +70,9 @@ fn time(units: u64, code: u8) -> Option<Stamp> {
 // The file and the time of a packet that comes, in units and by the code of its clock.
 type Came = (u32, u64, u8);
 
-// Two files, the packets that come, and the file and the offset of the refusal that ends them. Row by row: files that run
-// back; refusals that are read ahead; equal times of different forms, where the file decides; a file without packets.
+// Two files, the packets that come, and the file and the offset of the refusal that ends them. Row by row: files that
+// run back; refusals that are read ahead; equal times of different forms, where the file decides; a file without
+// packets.
 const MERGED: [(Side, Side, &[Came], Option<(u32, u64)>); 6] = [
     (
         (0, &[5, 1], false),

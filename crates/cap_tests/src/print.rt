@@ -6,23 +6,23 @@ use cap_time::{Interface, Resolution, Stamp};
 #[test]
 fn a_line_of_numbers(rt: HostRuntime) {
     let mut line = Line::new();
-    line.put_text(b"\n");
-    line.put_hex(b" data ", &[0x0a, 0xff]);
-    line.put_integer(b" bytes ", 18_446_744_073_709_551_616u128);
-    line.put_field(b"packets ", 3);
+    line.prepend_text(b"\n");
+    line.prepend_hex(b" data ", &[0x0a, 0xff]);
+    line.prepend_integer(b" bytes ", 18_446_744_073_709_551_616u128);
+    line.prepend_field(b"packets ", 3);
     same!(&rt;
         line.as_slice(),
         b"packets 3 bytes 18446744073709551616 data 0aff\n".as_slice()
     );
     line.clear();
-    line.put_field(b"", u64::MAX);
+    line.prepend_field(b"", u64::MAX);
     same!(&rt; line.as_slice(), b"18446744073709551615".as_slice());
 }
 
 #[test]
 fn times_in_their_own_form(rt: HostRuntime) {
     let mut line = Line::new();
-    line.put_time(b"first ", None);
+    line.prepend_time(b"first ", None);
     same!(&rt; line.as_slice(), b"first -".as_slice());
     // a resolution's code, an offset, and units
     for (code, offset, units, text) in [
@@ -38,7 +38,7 @@ fn times_in_their_own_form(rt: HostRuntime) {
             offset,
         };
         line.clear();
-        line.put_time(b"", Some(Stamp::new(units, &interface)));
+        line.prepend_time(b"", Some(Stamp::new(units, &interface)));
         same!(&rt; line.as_slice(), text, units);
     }
 }

@@ -9,7 +9,8 @@ use cap_time::{Interface, Resolution, Stamp};
 use std::alloc::Global;
 use std::process::Abort;
 
-// Four packets from 10.0.0.1 to 10.0.0.2 of identification 7: data from 16 on, the last; data from 0 on, twice; data from 8 on.
+// Four packets from 10.0.0.1 to 10.0.0.2 of identification 7: data from 16 on, the last; data from 0 on, twice; data
+// from 8 on.
 pub(crate) const FRAGMENTS: [[u8; 28]; 4] = [
     [
         0x45, 0, 0, 0x1c, 0, 7, 0, 2, 0x40, 0x11, 0, 0, 10, 0, 0, 1, 10, 0, 0, 2, 0xb0, 0xb1, 0xb2,

@@ -13,5 +13,10 @@ pub use cap_pcap::{PcapHeader, PcapReader, Record, put_header, put_record};
 pub use cap_source::{Capture, Ending, FeedHeld, Format, Head, Meta, PacketFeed};
 pub use cap_talks::{Held, Step, Table, file_lines, report};
 pub use cap_time::{Interface, Resolution, Stamp, Unit};
-pub use cap_tool::{Job, LineFault, blocks_to, convert_to, join_to, list_to, merge_to, parse};
-pub use cap_write::{to_pcap, to_pcapng, write_joined, write_merged};
+pub use cap_tool::{
+    Job, LineFault, blocks_to, convert_to, join_to, join_to_pcap, list_to, merge_to, merge_to_pcap,
+    parse,
+};
+pub use cap_write::{
+    to_pcap, to_pcapng, write_joined, write_joined_pcap, write_merged, write_merged_pcap,
+};

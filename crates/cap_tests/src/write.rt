@@ -8,7 +8,9 @@ use crate::hex_vectors::{
 };
 use cap_bytes::{Fault, Order, Rule, Sink, Source, Tail};
 use cap_source::Capture;
-use cap_write::{to_pcap, to_pcapng, write_joined, write_merged};
+use cap_write::{
+    to_pcap, to_pcapng, write_joined, write_joined_pcap, write_merged, write_merged_pcap,
+};
 use std::alloc::Global;
 use std::process::Abort;
 
@@ -135,6 +137,52 @@ fn always_memory_files_are_merged(rt: HostRuntime) {
     }
 }
 
+const NOTHING: File = &[];
+
+// The packet of CARRIED_PCAP twice. CARRY_PCAP has it at 1 second and 1,500,000 microseconds.
+const CARRIED_TWICE: File = &[
+    ETHERNET,
+    "0200000020a107000400000004000000",
+    "01020304",
+    "0200000020a107000400000004000000",
+    "01020304",
+];
+
+const EARLY_AS_PCAP: File = &[ETHERNET, "01000000000000000000000000000000"];
+
+const MERGED_AS_PCAP: [Row; 5] = [
+    (&[CARRY_PCAPNG], CARRIED_PCAP, Ok(())),
+    (&[CARRIED_PCAP, CARRY_PCAP], CARRIED_TWICE, Ok(())),
+    (&[LATE, EARLY], EARLY_AS_PCAP, Err((2, 40, Rule::Cut))),
+    (
+        &[CARRY_PCAP, SIMPLE_PACKET],
+        NOTHING,
+        Err((2, 48, Rule::NoTime)),
+    ),
+    (
+        &[HEADER_ONLY, SECTION_ALONE],
+        NOTHING,
+        Err((1, 0, Rule::NoInterface)),
+    ),
+];
+
+// What a merge of files writes as pcap, and answers.
+fn merges_as_pcap(rt: &impl Abort, alloc: Global, row: &Row) {
+    let (input, output, ending) = *row;
+    let mut merged = merged_of(rt, alloc, sources_of(rt, alloc, input, 1));
+    let mut writer = room_of(rt, alloc, 512);
+    let answer = write_merged_pcap(&mut merged, Order::Little, &mut writer);
+    let found = (answer, writer.bytes());
+    ask_written(rt, alloc, found, answer_of_files(ending), output);
+}
+
+#[test]
+fn always_memory_files_are_merged_as_pcap(rt: HostRuntime) {
+    for row in &MERGED_AS_PCAP {
+        merges_as_pcap(&rt, rt.alloc(), row);
+    }
+}
+
 // The datagram that FRAGMENT_FRAMES make, as a file.
 const JOINED: File = &[
     SECTION,
@@ -203,5 +251,37 @@ fn joins(rt: &impl Abort, alloc: Global, row: &Row) {
 fn always_memory_datagrams_are_joined(rt: HostRuntime) {
     for row in &DATAGRAMS {
         joins(&rt, rt.alloc(), row);
+    }
+}
+
+// The datagram that FRAGMENT_FRAMES make, as a pcap file.
+const JOINED_AS_PCAP: File = &[
+    "d4c3b2a10200040000000000000000000000000065000000",
+    "04000000000000002c0000002c000000",
+    "4500002c00070000401166b80a0000010a000002",
+    "03e907d100180000a0a1a2a3a4a5a6a7b0b1b2b3b4b5b6b7",
+];
+
+const DATAGRAMS_AS_PCAP: [Row; 4] = [
+    (&[FRAGMENT_FRAMES], JOINED_AS_PCAP, Ok(())),
+    (&[CARRY_PCAP], NOTHING, Err((1, 0, Rule::NoInterface))),
+    (&[SIMPLE_PACKET], NOTHING, Err((1, 48, Rule::NoTime))),
+    (&[CUT_FRAGMENTS], NOTHING, Err((1, 156, Rule::Cut))),
+];
+
+// What is joined of files as pcap, and what is answered.
+fn joins_as_pcap(rt: &impl Abort, alloc: Global, row: &Row) {
+    let (input, output, ending) = *row;
+    let mut merged = merged_of(rt, alloc, sources_of(rt, alloc, input, 1));
+    let mut writer = room_of(rt, alloc, 512);
+    let answer = write_joined_pcap(alloc, &mut merged, Order::Little, &mut writer);
+    let found = (answer, writer.bytes());
+    ask_written(rt, alloc, found, answer_of_files(ending), output);
+}
+
+#[test]
+fn always_memory_datagrams_are_joined_as_pcap(rt: HostRuntime) {
+    for row in &DATAGRAMS_AS_PCAP {
+        joins_as_pcap(&rt, rt.alloc(), row);
     }
 }

@@ -1,5 +1,6 @@
 -- What follows for stamps: their times and printed forms, and their order.
-use Rattle.std.proofs.Common.{◌≡◌, ℕ, ◌*◌, ◌+◌, ◌-◌, ◌/◌, ◌%◌, ◌^◌, ◌<◌, refl, sym, ap, subst, ◌∙◌, arith, ℤ, pos, negsuc, ◌+ℤ◌, ◌*ℤ◌, Ordering, Less, Equal}
+use Rattle.std.proofs.Common.{◌≡◌, ℕ, ◌*◌, ◌+◌, ◌-◌, ◌/◌, ◌%◌, ◌^◌, ◌<◌, refl, sym, ap, subst, ◌∙◌, arith, ℤ, pos}
+use Rattle.std.proofs.Common.{negsuc, ◌+ℤ◌, ◌*ℤ◌, Ordering, Less, Equal}
 use Rattle.std.proofs.lemmas.Int.{ints}
 use Rattle.std.proofs.Math.Bridge.{le_prop}
 use Rattle.std.proofs.lemmas.Nat.{div-add-mod', mod_below}
@@ -15,8 +16,10 @@ use Rattle.cap_time.specs.declared.stamps.Stamp.{Stamp}
 use Rattle.cap_time.specs.Resolution.{units_of}
 use Rattle.cap_time.specs.Time.{time_at, time_cmp, time_plus, printed_form, printed_plus, floor_of, remainder_of}
 use Rattle.cap_time.specs.TimeLaws.{time_cmp-alike}
-use Rattle.cap_time.specs.Stamp.{offset_of, seconds_of, numerator_of, printed_of, time_of, time_in, stamp_cmp, stamp_in, stamp_plus, whole_of}
-use Rattle.cap_time.specs.StampLaws.{stamp_cmp-parts, stamp_cmp_total, fraction_cmp, same_parts, numerator_below, CountAlike}
+use Rattle.cap_time.specs.Stamp.{offset_of, seconds_of, numerator_of, printed_of, time_of, time_in, stamp_cmp, stamp_in}
+use Rattle.cap_time.specs.Stamp.{stamp_plus, whole_of}
+use Rattle.cap_time.specs.StampLaws.{stamp_cmp-parts, stamp_cmp_total, fraction_cmp, same_parts, numerator_below}
+use Rattle.cap_time.specs.StampLaws.{CountAlike}
 use Rattle.cap_time.proofs.PrintedForm.{printed_form-time_at, time_at-stamped, time_at-later}
 
 -- a stamp's printed form is that of its time
@@ -27,9 +30,20 @@ printed_of-time a = sym (printed_form-time_at (seconds_of a) (numerator_of a) a.
 floored : (z : ℤ) (d : ℕ) → 0 < d → pos (remainder_of z d) +ℤ floor_of z d *ℤ pos d ≡ z
 unfolding floor_of remainder_of
 floored (pos k) d h =
-    same_in _ (pos k) (omega (arith, sum_is_lem (pos (k % d)) (pos (k / d) *ℤ pos d), product_is (pos (k / d)) (pos d), div-add-mod' k d))
+    same_in _ (pos k) (omega (
+      arith,
+      sum_is_lem (pos (k % d)) (pos (k / d) *ℤ pos d),
+      product_is (pos (k / d)) (pos d),
+      div-add-mod' k d,
+    ))
 floored (negsuc k) d h =
-    same_in _ (negsuc k) (omega (arith, sum_is_lem (pos (d - 1 - k % d)) (negsuc (k / d) *ℤ pos d), product_is (negsuc (k / d)) (pos d), div-add-mod' k d, mod_below k d h))
+    same_in _ (negsuc k) (omega (
+      arith,
+      sum_is_lem (pos (d - 1 - k % d)) (negsuc (k / d) *ℤ pos d),
+      product_is (negsuc (k / d)) (pos d),
+      div-add-mod' k d,
+      mod_below k d h,
+    ))
 
 -- the floor and the rest of a whole number of 64 bits, by its bits and its sign
 pub low_of : (z : ℤ) → FitsSigned w64 z → of_z w64 z ≡ remainder_of z (2 ^ 64)
@@ -56,35 +70,46 @@ low_above (negsuc n) h g = grind arith
 abbrev stamp_from : (units denominator low : ℕ) → ℤ → 0 < denominator → Stamp
 stamp_from u d l h p = record { units = u; denominator = d; low = l; high = h; positive = p }
 
-pub same_stamp : (u d e l m : ℕ) (h k : ℤ) (p : 0 < d) (q : 0 < e) → d ≡ e → l ≡ m → h ≡ k → stamp_from u d l h p ≡ stamp_from u e m k q
+pub same_stamp : (u d e l m : ℕ) (h k : ℤ) (p : 0 < d) (q : 0 < e) → d ≡ e → l ≡ m → h ≡ k
+    → stamp_from u d l h p ≡ stamp_from u e m k q
 same_stamp u d e l m h k p q denominator low high =
-    subst (λ (y : ℕ). (r : 0 < y) → stamp_from u d l h p ≡ stamp_from u y m k r) denominator (λ r i. stamp_from u d (low i) (high i) (le_prop p r i)) q
+    subst (λ (y : ℕ). (r : 0 < y) → stamp_from u d l h p ≡ stamp_from u y m k r) denominator
+    (λ r i. stamp_from u d (low i) (high i) (le_prop p r i)) q
 
 pub offset_of-stamp_in : (units : ℕ) (interface : Interface) → offset_of (stamp_in units interface) ≡ interface.offset
 unfolding stamp_in
 offset_of-stamp_in units interface = floored interface.offset (2 ^ 64) (omega arith)
 
-pub seconds_of-stamp_in : (units : ℕ) (interface : Interface) → seconds_of (stamp_in units interface) ≡ interface.offset +ℤ pos (units / units_of interface.resolution)
+pub seconds_of-stamp_in : (units : ℕ) (interface : Interface)
+    → seconds_of (stamp_in units interface) ≡ interface.offset +ℤ pos (units / units_of interface.resolution)
 unfolding stamp_in
-seconds_of-stamp_in units interface = ap (λ (z : ℤ). z +ℤ pos (units / units_of interface.resolution)) (offset_of-stamp_in units interface)
+seconds_of-stamp_in units interface = ap (λ (z : ℤ). z +ℤ pos (units / units_of interface.resolution))
+    (offset_of-stamp_in units interface)
 
 -- the whole units that it is, by those of its interface
 pub whole_of-stamp_in : (d units : ℕ) (interface : Interface) → whole_of d (stamp_in units interface)
     ≡ (if units % units_of interface.resolution * d % units_of interface.resolution == 0
-    then Some (interface.offset +ℤ pos (units / units_of interface.resolution), units % units_of interface.resolution * d / units_of interface.resolution) else None)
+    then Some (
+      interface.offset +ℤ pos (units / units_of interface.resolution),
+      units % units_of interface.resolution * d / units_of interface.resolution,
+    ) else None)
 unfolding stamp_in
 whole_of-stamp_in d units interface =
     ap (λ (z : ℤ). if units % units_of interface.resolution * d % units_of interface.resolution == 0
-    then Some (z, units % units_of interface.resolution * d / units_of interface.resolution) else None) (seconds_of-stamp_in units interface)
+    then Some (z, units % units_of interface.resolution * d / units_of interface.resolution) else None)
+    (seconds_of-stamp_in units interface)
 
 -- how far the seconds of an interface's stamps reach
-pub least_in : (units : ℕ) (interface : Interface) → neg_ℤ (pos (2 ^ 63)) ≤ℤ interface.offset → neg_ℤ (pos (2 ^ 63)) ≤ℤ seconds_of (stamp_in units interface)
+pub least_in : (units : ℕ) (interface : Interface) → neg_ℤ (pos (2 ^ 63)) ≤ℤ interface.offset
+    → neg_ℤ (pos (2 ^ 63)) ≤ℤ seconds_of (stamp_in units interface)
 unfolding stamp_in
 least_in units interface h = omega (arith, ints, h, offset_of-stamp_in units interface)
 
-pub most_in : (units : ℕ) (interface : Interface) → units < 2 ^ 64 → interface.offset <ℤ pos (2 ^ 63) → seconds_of (stamp_in units interface) <ℤ pos (2 ^ 65)
+pub most_in : (units : ℕ) (interface : Interface) → units < 2 ^ 64 → interface.offset <ℤ pos (2 ^ 63)
+    → seconds_of (stamp_in units interface) <ℤ pos (2 ^ 65)
 unfolding stamp_in
-most_in units interface few h = omega (arith, ints, h, offset_of-stamp_in units interface, div-le_self units (units_of interface.resolution))
+most_in units interface few h =
+    omega (arith, ints, h, offset_of-stamp_in units interface, div-le_self units (units_of interface.resolution))
 
 -- a stamp of later seconds counts from a later second
 pub offset_of-plus : (a : Stamp) (k : ℕ) → offset_of (stamp_plus a k) ≡ offset_of a +ℤ pos k
@@ -101,24 +126,35 @@ time_of-plus a k = time_at-later (seconds_of a) _ (numerator_of a) a.denominator
 
 pub printed_of-plus : (a : Stamp) (k : ℕ) → printed_of (stamp_plus a k) ≡ printed_plus (printed_of a) k
 unfolding stamp_plus
-printed_of-plus a k = λ i. record { seconds = seconds_of-plus a k i; numerator = numerator_of a; denominator = a.denominator }
+printed_of-plus a k = λ i. record {
+  seconds = seconds_of-plus a k i;
+  numerator = numerator_of a;
+  denominator =
+      a.denominator;
+}
 
-pub time_of-stamp_in : (units : ℕ) (interface : Interface) → time_of (stamp_in units interface) ≡ time_in units interface
+pub time_of-stamp_in : (units : ℕ) (interface : Interface)
+    → time_of (stamp_in units interface) ≡ time_in units interface
 unfolding stamp_in
 time_of-stamp_in units interface =
-    time_at-stamped interface.offset _ units _ (units_of interface.resolution) refl (ap (λ (z : ℤ). z +ℤ pos (units / units_of interface.resolution)) (offset_of-stamp_in units interface))
+    time_at-stamped interface.offset _ units _ (units_of interface.resolution) refl
+    (ap (λ (z : ℤ). z +ℤ pos (units / units_of interface.resolution)) (offset_of-stamp_in units interface))
 
-pub printed_of-stamp_in : (units : ℕ) (interface : Interface) → printed_of (stamp_in units interface) ≡ printed_form (time_in units interface)
-printed_of-stamp_in units interface = printed_of-time (stamp_in units interface) ∙ ap printed_form (time_of-stamp_in units interface)
+pub printed_of-stamp_in : (units : ℕ) (interface : Interface)
+    → printed_of (stamp_in units interface) ≡ printed_form (time_in units interface)
+printed_of-stamp_in units interface = printed_of-time (stamp_in units interface)
+    ∙ ap printed_form (time_of-stamp_in units interface)
 
 -- stamps that count alike compare as their units do
 pub stamp_cmp-alike : (a b : Stamp) → CountAlike a b → stamp_cmp a b ≡ nat_cmp a.units b.units
 unfolding stamp_cmp
 stamp_cmp-alike a b alike =
     let seconds : offset_of b ≡ offset_of a = sym (λ i. pos (alike.1 i) +ℤ alike.2 i *ℤ pos (2 ^ 64)) in
-    let own : time_of a ≡ time_at a.units a.denominator (offset_of a) = time_at-stamped (offset_of a) _ a.units a.denominator a.denominator refl refl in
+    let own : time_of a ≡ time_at a.units a.denominator (offset_of a) =
+    time_at-stamped (offset_of a) _ a.units a.denominator a.denominator refl refl in
     let others : time_of b ≡ time_at b.units a.denominator (offset_of a) =
-    time_at-stamped (offset_of a) _ b.units b.denominator a.denominator (sym alike.0) (ap (λ (z : ℤ). z +ℤ pos (b.units / b.denominator)) seconds) in
+    time_at-stamped (offset_of a) _ b.units b.denominator a.denominator (sym alike.0)
+    (ap (λ (z : ℤ). z +ℤ pos (b.units / b.denominator)) seconds) in
     (λ i. time_cmp (own i) (others i)) ∙ time_cmp-alike (offset_of a) a.units b.units a.denominator a.positive
 
 -- a stamp is before any later second's
@@ -126,16 +162,21 @@ pub stamp_cmp-later : (a : Stamp) (k : ℕ) → 0 < k → stamp_cmp a (stamp_plu
 unfolding stamp_plus
 stamp_cmp-later a k h =
     stamp_cmp-parts a (stamp_plus a k)
-    ∙ sym (ap (λ (r : Ordering). ordering_then r (fraction_cmp a (stamp_plus a k))) (int_cmp_is (seconds_of a) (seconds_of (stamp_plus a k)) Less (omega (arith, ints, seconds_of-plus a k))))
+    ∙ sym (ap (λ (r : Ordering). ordering_then r (fraction_cmp a (stamp_plus a k)))
+    (int_cmp_is (seconds_of a) (seconds_of (stamp_plus a k)) Less (omega (arith, ints, seconds_of-plus a k))))
 
 -- stamps of one time are so that many seconds later
-pub stamp_plus-alike : (a b : Stamp) (k : ℕ) → stamp_cmp a b ≡ Equal → stamp_cmp (stamp_plus a k) (stamp_plus b k) ≡ Equal
+pub stamp_plus-alike : (a b : Stamp) (k : ℕ) → stamp_cmp a b ≡ Equal
+    → stamp_cmp (stamp_plus a k) (stamp_plus b k) ≡ Equal
 unfolding stamp_plus
 stamp_plus-alike a b k same =
-    let parts : (seconds_of a ≡ seconds_of b) × (numerator_of a * b.denominator ≡ numerator_of b * a.denominator) = same_parts a b same in
-    let seconds : seconds_of (stamp_plus a k) ≡ seconds_of (stamp_plus b k) = seconds_of-plus a k ∙ ap (λ (z : ℤ). z +ℤ pos k) parts.0 ∙ sym (seconds_of-plus b k) in
+    let parts : (seconds_of a ≡ seconds_of b) × (numerator_of a * b.denominator ≡ numerator_of b * a.denominator) =
+    same_parts a b same in
+    let seconds : seconds_of (stamp_plus a k) ≡ seconds_of (stamp_plus b k) = seconds_of-plus a k
+    ∙ ap (λ (z : ℤ). z +ℤ pos k) parts.0 ∙ sym (seconds_of-plus b k) in
     stamp_cmp-parts (stamp_plus a k) (stamp_plus b k)
-    ∙ sym (λ i. ordering_then (int_cmp_is (seconds_of (stamp_plus a k)) (seconds_of (stamp_plus b k)) Equal seconds i) (nat_cmp_is (numerator_of a * b.denominator) (numerator_of b * a.denominator) Equal parts.1 i))
+    ∙ sym (λ i. ordering_then (int_cmp_is (seconds_of (stamp_plus a k)) (seconds_of (stamp_plus b k)) Equal seconds i)
+    (nat_cmp_is (numerator_of a * b.denominator) (numerator_of b * a.denominator) Equal parts.1 i))
 
 -- a stamp is level with itself
 pub stamp_cmp_itself : (a : Stamp) → stamp_cmp a a ≡ Equal
@@ -151,7 +192,8 @@ turned r h = grind arith
 pub stamp_upto_turned : (a b : Stamp) → is_lt (stamp_cmp a b) ≡ false → is_gt (stamp_cmp b a) ≡ false
 stamp_upto_turned a b h = ap is_gt (stamp_cmp_total.antisymm b a) ∙ turned (stamp_cmp a b) h
 
-pub stamp_upto_trans : (a b c : Stamp) → is_gt (stamp_cmp a b) ≡ false → is_gt (stamp_cmp b c) ≡ false → is_gt (stamp_cmp a c) ≡ false
+pub stamp_upto_trans : (a b c : Stamp) → is_gt (stamp_cmp a b) ≡ false → is_gt (stamp_cmp b c) ≡ false
+    → is_gt (stamp_cmp a c) ≡ false
 stamp_upto_trans a b c = upto stamp_cmp_total a b c
 
 -- for `grind`

@@ -19,9 +19,12 @@ whole_below n d e h p = grind arith
 pub whole_here : (s : ℤ) (n d e : ℕ) → n < d → 0 < e → n * e % d ≡ 0 → IsWhole e (time_at n d s) s (n * e / d)
 whole_here s n d e h p exact = grind (arith, whole_below, time_cmp-units)
 
-pub whole_nowhere : (s : ℤ) (n d e : ℕ) → n < d → ¬ (n * e % d ≡ 0) → (z : ℤ) (u : ℕ) → ¬ (IsWhole e (time_at n d s) z u)
+pub whole_nowhere : (s : ℤ) (n d e : ℕ) → n < d → ¬ (n * e % d ≡ 0) → (z : ℤ) (u : ℕ)
+    → ¬ (IsWhole e (time_at n d s) z u)
 whole_nowhere s n d e h inexact z u whole =
-    let both : (int_cmp s z ≡ Equal) × (nat_cmp (n * e) (u * d) ≡ Equal) = both_equal (int_cmp s z) (nat_cmp (n * e) (u * d)) (sym (time_cmp-units s z n d u e h whole.below) ∙ whole.same) in
+    let both : (int_cmp s z ≡ Equal) × (nat_cmp (n * e) (u * d) ≡ Equal) =
+    both_equal (int_cmp s z) (nat_cmp (n * e) (u * d)) (sym (time_cmp-units s z n d u e h whole.below)
+    ∙ whole.same) in
     let same : n * e ≡ u * d = ranked (n * e) (u * d) Equal (sym both.1) in
     let multiple : (u * d + 0) % d ≡ 0 = mod-mul-add u d 0 (omega arith) in
     let plain : u * d + 0 ≡ n * e = omega (arith, same) in
@@ -33,7 +36,8 @@ pub in_second_positive : (unit : Fraction) → 0 < in_second unit
 in_second_positive unit = grind arith
 
 whole_case : (e : ℕ) (a : Stamp) → 0 < e → (b : Bool) → (numerator_of a * e % denominator_of a == 0) ≡ b
-    → MatchOption {T = ℤ × ℕ} (if b then Some (seconds_of a, numerator_of a * e / denominator_of a) else None) (IsNeverWhole e (time_of a)) (λ w. IsWhole e (time_of a) w.0 w.1)
+    → MatchOption {T = ℤ × ℕ} (if b then Some (seconds_of a, numerator_of a * e / denominator_of a) else None)
+    (IsNeverWhole e (time_of a)) (λ w. IsWhole e (time_of a) w.0 w.1)
 whole_case e a p b test = grind (arith, whole_here, whole_nowhere)
 
 -- what `whole_of` answers: the one pair that is the time, or nothing if there is none

@@ -18,7 +18,8 @@ pub ruleset powers = (power_of_ten, power_of_two)
 two_below_ten : (n : ℕ) → (n ≤ 2 ^ 63) × (1 ≤ n) → (n ≤ 10 ^ 19) × (1 ≤ n)
 two_below_ten n h = (omega (arith, h.0), h.1)
 
-choice : (binary : Bool) (e : ℕ) → IsTrue (cond binary (nat_le e 63) (nat_le e 19)) → (cond binary (2 ^ e) (10 ^ e) ≤ 10 ^ 19) × (1 ≤ cond binary (2 ^ e) (10 ^ e))
+choice : (binary : Bool) (e : ℕ) → IsTrue (cond binary (nat_le e 63) (nat_le e 19))
+    → (cond binary (2 ^ e) (10 ^ e) ≤ 10 ^ 19) × (1 ≤ cond binary (2 ^ e) (10 ^ e))
 choice true e h = two_below_ten (2 ^ e) (power_of_two e (leb-true e 63 h))
 choice false e h = power_of_ten e (leb-true e 19 h)
 

@@ -1,5 +1,6 @@
 -- What contracts see of a `Stamp`: its printed form, its time, and how stamps compare.
-use Rattle.std.specs.Prelude.{ℕ, ◌+◌, ◌*◌, ◌/◌, ◌%◌, ◌^◌, ℤ, pos, ◌+ℤ◌, ◌*ℤ◌, Bool, Option, Some, None, ◌==◌, if◌then◌else◌}
+use Rattle.std.specs.Prelude.{ℕ, ◌+◌, ◌*◌, ◌/◌, ◌%◌, ◌^◌, ℤ, pos, ◌+ℤ◌, ◌*ℤ◌, Bool, Option, Some, None, ◌==◌}
+use Rattle.std.specs.Prelude.{if◌then◌else◌}
 use Rattle.std.specs.Ordering.{eq_by_cmp}
 use Rattle.std.specs.declared.cmp.Ordering.{Ordering}
 use Rattle.cap_time.specs.declared.resolutions.Interface.{Interface}
@@ -23,7 +24,12 @@ abbrev pub denominator_of : Stamp → ℕ
 denominator_of stamp = stamp.denominator
 
 abbrev pub printed_of : Stamp → Printed
-printed_of stamp = record { seconds = seconds_of stamp; numerator = numerator_of stamp; denominator = denominator_of stamp }
+printed_of stamp = record {
+  seconds = seconds_of stamp;
+  numerator = numerator_of stamp;
+  denominator =
+      denominator_of stamp;
+}
 
 -- the time: the numerator's units after the seconds
 abbrev pub time_of : Stamp → Time
@@ -52,8 +58,13 @@ stamp_in units interface = record {
 
 -- the stamp of that many seconds later, in the same form
 unfoldable pub stamp_plus : Stamp → ℕ → Stamp
-stamp_plus stamp seconds = record stamp { low = (stamp.low + seconds) % 2 ^ 64; high = stamp.high +ℤ pos ((stamp.low + seconds) / 2 ^ 64) }
+stamp_plus stamp seconds = record stamp {
+  low = (stamp.low + seconds) % 2 ^ 64;
+  high =
+      stamp.high +ℤ pos ((stamp.low + seconds) / 2 ^ 64);
+}
 
 -- its whole seconds, and how many of d units in a second its fraction is, if that is a whole number
 abbrev pub whole_of : ℕ → Stamp → Option (ℤ × ℕ)
-whole_of d stamp = if numerator_of stamp * d % denominator_of stamp == 0 then Some (seconds_of stamp, numerator_of stamp * d / denominator_of stamp) else None
+whole_of d stamp = if numerator_of stamp * d % denominator_of stamp == 0 then Some
+    (seconds_of stamp, numerator_of stamp * d / denominator_of stamp) else None

@@ -1,7 +1,10 @@
 -- Why stamps are in a total order, and why equal ones hash alike.
-use Rattle.std.proofs.Common.{◌≡◌, ℕ, ◌*◌, ◌/◌, ◌^◌, ◌<◌, ◌++◌, refl, sym, ap, ◌∙◌, subst, arith, Ordering, Less, Equal, Greater}
+use Rattle.std.proofs.Common.{◌≡◌, ℕ, ◌*◌, ◌/◌, ◌^◌, ◌<◌, ◌++◌, refl, sym, ap, ◌∙◌, subst, arith, Ordering, Less, Equal}
+use Rattle.std.proofs.Common.{Greater}
 use Rattle.std.specs.Ordering.{int_cmp, nat_cmp, ordering_then, as_partial_cmp, is_lt, is_gt}
-use Rattle.std.specs.Cmp.{IsTotalOrder, IsEquivalence, IsPartialEquivalence, IsPartialOrder, nat_cmp_total, int_cmp_total, on_total, then_total, Equal-is, eq_by_cmp_equiv, partial_equiv_from_equiv, po, ranked, int_ranked}
+use Rattle.std.specs.Cmp.{IsTotalOrder, IsEquivalence, IsPartialEquivalence, IsPartialOrder, nat_cmp_total}
+use Rattle.std.specs.Cmp.{int_cmp_total, on_total, then_total, Equal-is, eq_by_cmp_equiv, partial_equiv_from_equiv, po}
+use Rattle.std.specs.Cmp.{ranked, int_ranked}
 use Rattle.std.proofs.Math.Nat.{mul-div-mul_right}
 use Rattle.std.proofs.lemmas.Bool.{true≢false}
 use Rattle.std.proofs.lemmas.Nat.{mod_below}
@@ -16,9 +19,12 @@ pub numerator_below : (a : Stamp) → numerator_of a < denominator_of a
 numerator_below a = mod_below a.units a.denominator a.positive
 
 -- stamps compare by their seconds, and then by their numerators crosswise
-pub stamp_cmp-parts : (a b : Stamp) → stamp_cmp a b ≡ ordering_then (int_cmp (seconds_of a) (seconds_of b)) (nat_cmp (numerator_of a * denominator_of b) (numerator_of b * denominator_of a))
+pub stamp_cmp-parts : (a b : Stamp) → stamp_cmp a b
+    ≡ ordering_then (int_cmp (seconds_of a) (seconds_of b))
+    (nat_cmp (numerator_of a * denominator_of b) (numerator_of b * denominator_of a))
 unfolding stamp_cmp
-stamp_cmp-parts a b = time_cmp-units (seconds_of a) (seconds_of b) (numerator_of a) a.denominator (numerator_of b) b.denominator (numerator_below a) (numerator_below b)
+stamp_cmp-parts a b = time_cmp-units (seconds_of a) (seconds_of b) (numerator_of a) a.denominator
+    (numerator_of b) b.denominator (numerator_below a) (numerator_below b)
 
 -- the second part of that comparison
 abbrev pub fraction_cmp : Stamp → Stamp → Ordering
@@ -27,13 +33,16 @@ fraction_cmp a b = units_cmp (numerator_of a) a.denominator (numerator_of b) b.d
 fraction_cmp_total : IsTotalOrder fraction_cmp
 fraction_cmp_total = record {
   antisymm = λ a b. nat_cmp_total.antisymm (numerator_of a * b.denominator) (numerator_of b * a.denominator);
-  trans = λ a b c. units_trans (numerator_of a) a.denominator (numerator_of b) b.denominator (numerator_of c) c.denominator a.positive;
-  congr = λ a b c. units_congr (numerator_of a) a.denominator (numerator_of b) b.denominator (numerator_of c) c.denominator a.positive b.positive;
+  trans = λ a b c. units_trans (numerator_of a) a.denominator (numerator_of b) b.denominator
+      (numerator_of c) c.denominator a.positive;
+  congr = λ a b c. units_congr (numerator_of a) a.denominator (numerator_of b) b.denominator
+      (numerator_of c) c.denominator a.positive b.positive;
 }
 
 -- `Ord`'s law
 pub stamp_cmp_total : IsTotalOrder stamp_cmp
-stamp_cmp_total = subst IsTotalOrder (λ i a b. sym (stamp_cmp-parts a b) i) (then_total (on_total seconds_of int_cmp_total) fraction_cmp_total)
+stamp_cmp_total = subst IsTotalOrder (λ i a b. sym (stamp_cmp-parts a b) i)
+    (then_total (on_total seconds_of int_cmp_total) fraction_cmp_total)
 
 -- the laws of `Eq`, `PartialEq` and `PartialOrd`
 pub stamp_eq_equivalence : IsEquivalence stamp_eq
@@ -55,7 +64,8 @@ same_quotient n d m e k p q same =
     let scaled : n * e * k ≡ m * d * k = ap (λ (x : ℕ). x * k) same in
     let tops : n * k * e ≡ m * k * d = omega (arith, scaled) in
     let bottoms : d * e ≡ e * d = omega arith in
-    sym (mul-div-mul_right (n * k) d q) ∙ ap (λ (x : ℕ). x / (d * e)) tops ∙ ap (λ (x : ℕ). m * k * d / x) bottoms ∙ mul-div-mul_right (m * k) e p
+    sym (mul-div-mul_right (n * k) d q) ∙ ap (λ (x : ℕ). x / (d * e)) tops ∙ ap (λ (x : ℕ). m * k * d / x) bottoms
+    ∙ mul-div-mul_right (m * k) e p
 
 -- what is written to a hasher: the seconds and the binary places, which depend on the time alone
 abbrev pub stamp_hash : Stamp → fed.HashWrites
@@ -68,17 +78,25 @@ both_equal Equal s e = (refl, e)
 both_equal Greater s e = absurd (true≢false (ap is_gt e))
 
 -- equal times have equal seconds and equal cross products
-pub same_parts : (a b : Stamp) → stamp_cmp a b ≡ Equal → (seconds_of a ≡ seconds_of b) × (numerator_of a * denominator_of b ≡ numerator_of b * denominator_of a)
+pub same_parts : (a b : Stamp) → stamp_cmp a b ≡ Equal → (seconds_of a ≡ seconds_of b)
+    × (numerator_of a * denominator_of b ≡ numerator_of b * denominator_of a)
 same_parts a b e =
-    let both : (int_cmp (seconds_of a) (seconds_of b) ≡ Equal) × (fraction_cmp a b ≡ Equal) = both_equal (int_cmp (seconds_of a) (seconds_of b)) (fraction_cmp a b) (sym (stamp_cmp-parts a b) ∙ e) in
-    (int_ranked (seconds_of a) (seconds_of b) Equal (sym both.0), ranked (numerator_of a * b.denominator) (numerator_of b * a.denominator) Equal (sym both.1))
+    let both : (int_cmp (seconds_of a) (seconds_of b) ≡ Equal)
+    × (fraction_cmp a b ≡ Equal) = both_equal (int_cmp (seconds_of a) (seconds_of b)) (fraction_cmp a b)
+    (sym (stamp_cmp-parts a b) ∙ e) in (
+      int_ranked (seconds_of a) (seconds_of b) Equal (sym both.0),
+      ranked (numerator_of a * b.denominator) (numerator_of b * a.denominator) Equal (sym both.1),
+    )
 
 -- `Hash`'s law
 pub stamp_hash-same : (a b : Stamp) → IsTrue (stamp_eq a b) → stamp_hash a ≡ stamp_hash b
 stamp_hash-same a b h =
-    let parts : (seconds_of a ≡ seconds_of b) × (numerator_of a * denominator_of b ≡ numerator_of b * denominator_of a) = same_parts a b ((Equal-is (stamp_cmp a b)).0 h) in
+    let parts : (seconds_of a ≡ seconds_of b)
+    × (numerator_of a * denominator_of b ≡ numerator_of b * denominator_of a) =
+    same_parts a b ((Equal-is (stamp_cmp a b)).0 h) in
     let places : binary_places (numerator_of a) (denominator_of a) ≡ binary_places (numerator_of b) (denominator_of b) =
-    same_quotient (numerator_of a) a.denominator (numerator_of b) b.denominator (2 ^ 64) a.positive b.positive parts.1 in
+    same_quotient (numerator_of a) a.denominator (numerator_of b) b.denominator
+    (2 ^ 64) a.positive b.positive parts.1 in
     λ i. fed.i128 (parts.0 i) ++ fed.u128 (places i)
 
 -- two stamps count the same units from the same second

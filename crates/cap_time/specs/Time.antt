@@ -43,7 +43,12 @@ pub record Printed : Type 0 where
   pub denominator : ℕ
 
 abbrev pub printed_form : Time → Printed
-printed_form t = record { seconds = floor_of t.numerator t.denominator; numerator = remainder_of t.numerator t.denominator; denominator = t.denominator }
+printed_form t = record {
+  seconds = floor_of t.numerator t.denominator;
+  numerator =
+      remainder_of t.numerator t.denominator;
+  denominator = t.denominator;
+}
 
 -- the form of that many seconds later
 abbrev pub printed_plus : Printed → ℕ → Printed

@@ -1,5 +1,6 @@
 -- How two times compare that are given as whole seconds and units below a second's worth.
-use Rattle.std.proofs.Common.{◌≡◌, ℕ, suc, ◌+◌, ◌*◌, ◌<◌, ◌≤◌, sym, ap, ◌∙◌, arith, ℤ, pos, ◌+ℤ◌, ◌*ℤ◌, Ordering, Less, Equal, Greater}
+use Rattle.std.proofs.Common.{◌≡◌, ℕ, suc, ◌+◌, ◌*◌, ◌<◌, ◌≤◌, sym, ap, ◌∙◌, arith, ℤ, pos, ◌+ℤ◌, ◌*ℤ◌, Ordering, Less}
+use Rattle.std.proofs.Common.{Equal, Greater}
 use Rattle.std.specs.Prelude.{◌<ℤ◌}
 use Rattle.std.proofs.Math.Nat.{mul-le-mul_right, mul-lt-mul_of_pos_right, lt_of_mul-lt-mul_right, le_of_lt}
 use borrow.Author.Differences.{up, down, lt_out, below_in, same_in, sum_is_lem, product_is}
@@ -12,12 +13,14 @@ unfoldable pub cross : ℤ → ℕ → ℕ → ℕ → ℤ
 cross s n d e = (pos n +ℤ s *ℤ pos d) *ℤ pos e
 
 -- that product is n * e above s * (d * e), with s read as a difference
-pub cross_is : (s : ℤ) (n d e : ℕ) → up (cross s n d e) + down s * (d * e) ≡ down (cross s n d e) + n * e + up s * (d * e)
+pub cross_is : (s : ℤ) (n d e : ℕ) → up (cross s n d e) + down s * (d * e)
+    ≡ down (cross s n d e) + n * e + up s * (d * e)
 unfolding cross
 cross_is s n d e =
     let whole : ℤ = s *ℤ pos d in
     let sum : ℤ = pos n +ℤ whole in
-    let sum_scaled : (up sum + 0 + down whole) * e ≡ (down sum + n + up whole) * e = ap (λ (x : ℕ). x * e) (sum_is_lem (pos n) whole) in
+    let sum_scaled : (up sum + 0 + down whole) * e ≡ (down sum + n + up whole) * e =
+    ap (λ (x : ℕ). x * e) (sum_is_lem (pos n) whole) in
     let up_scaled : up whole * e ≡ (up s * d + down s * 0) * e = ap (λ (x : ℕ). x * e) (product_is s (pos d)).0 in
     let down_scaled : down whole * e ≡ (up s * 0 + down s * d) * e = ap (λ (x : ℕ). x * e) (product_is s (pos d)).1 in
     omega (arith, sum_scaled, up_scaled, down_scaled, product_is sum (pos e))
@@ -51,7 +54,8 @@ by_seconds : (s z : ℤ) (n d m e : ℕ) → n < d → m < e → (r : Ordering) 
     → ordering_then r (units_cmp n d m e) ≡ int_cmp (cross s n d e) (cross z m e d)
 by_seconds s z n d m e p q Less h = int_cmp_is (cross s n d e) (cross z m e d) Less (less s z n d m e p q h)
 by_seconds s z n d m e p q Equal h =
-    int_cmp_is (cross s n d e) (cross s m e d) (units_cmp n d m e) (by_units s n d m e (units_cmp n d m e) (ranks (n * e) (m * d)))
+    int_cmp_is (cross s n d e) (cross s m e d) (units_cmp n d m e)
+    (by_units s n d m e (units_cmp n d m e) (ranks (n * e) (m * d)))
     ∙ ap (λ (x : ℤ). int_cmp (cross s n d e) (cross x m e d)) h
 by_seconds s z n d m e p q Greater h = int_cmp_is (cross s n d e) (cross z m e d) Greater (less z s m e n d q p h)
 
@@ -62,7 +66,8 @@ unfolding time_cmp time_at cross
 time_cmp-units s z n d m e p q = sym (by_seconds s z n d m e p q (int_cmp s z) (int_ranks s z))
 
 -- scaling both numbers changes nothing
-rank_scaled : (x y k : ℕ) → 0 < k → (r : Ordering) → MatchOrdering r (x < y) (x ≡ y) (y < x) → MatchOrdering r (x * k < y * k) (x * k ≡ y * k) (y * k < x * k)
+rank_scaled : (x y k : ℕ) → 0 < k → (r : Ordering) → MatchOrdering r (x < y) (x ≡ y) (y < x)
+    → MatchOrdering r (x * k < y * k) (x * k ≡ y * k) (y * k < x * k)
 rank_scaled x y k p Less h = mul-lt-mul_of_pos_right h p
 rank_scaled x y k p Equal h = ap (λ (n : ℕ). n * k) h
 rank_scaled x y k p Greater h = mul-lt-mul_of_pos_right h p
@@ -75,9 +80,11 @@ pub time_cmp-alike : (s : ℤ) (n m d : ℕ) → 0 < d → time_cmp (time_at n d
 unfolding time_cmp time_at cross
 time_cmp-alike s n m d p =
     sym (nat_cmp-scaled n m d p
-    ∙ int_cmp_is (cross s n d d) (cross s m d d) (units_cmp n d m d) (by_units s n d m d (units_cmp n d m d) (ranks (n * d) (m * d))))
+    ∙ int_cmp_is (cross s n d d) (cross s m d d) (units_cmp n d m d)
+    (by_units s n d m d (units_cmp n d m d) (ranks (n * d) (m * d))))
 
-pub units_trans : (n d m e k f : ℕ) → 0 < d → units_cmp n d m e ≡ Less → units_cmp m e k f ≡ Less → units_cmp n d k f ≡ Less
+pub units_trans : (n d m e k f : ℕ) → 0 < d → units_cmp n d m e ≡ Less → units_cmp m e k f ≡ Less
+    → units_cmp n d k f ≡ Less
 units_trans n d m e k f p g h =
     let first : n * e < m * d = ranked (n * e) (m * d) Less (sym g) in
     let second : m * f < k * e = ranked (m * f) (k * e) Less (sym h) in
@@ -92,4 +99,5 @@ units_congr n d m e k f p q h =
     let scaled : n * e * f ≡ m * d * f = ap (λ (x : ℕ). x * f) same in
     let left : (n * f) * e ≡ (m * f) * d = omega (arith, scaled) in
     let right : (k * d) * e ≡ (k * e) * d = omega arith in
-    nat_cmp-scaled (n * f) (k * d) e q ∙ ap (λ (x : ℕ). nat_cmp x ((k * d) * e)) left ∙ ap (λ (x : ℕ). nat_cmp ((m * f) * d) x) right ∙ sym (nat_cmp-scaled (m * f) (k * e) d p)
+    nat_cmp-scaled (n * f) (k * d) e q ∙ ap (λ (x : ℕ). nat_cmp x ((k * d) * e)) left
+    ∙ ap (λ (x : ℕ). nat_cmp ((m * f) * d) x) right ∙ sym (nat_cmp-scaled (m * f) (k * e) d p)

@@ -1,5 +1,6 @@
 //! Stamps: exact times, which keep the form in which their interface counted them.
-ghost use Rattle.std.specs.Prelude.{◌≡◌, ◌==◌, ◌<◌, ◌*◌, ◌/◌, ◌%◌, ◌≤ℤ◌, ◌<ℤ◌, ◌^◌, pos, neg_ℤ, Some, None, IfSome, IfNone, if◌then◌else◌};
+ghost use Rattle.std.specs.Prelude.{◌≡◌, ◌==◌, ◌<◌, ◌*◌, ◌/◌, ◌%◌, ◌≤ℤ◌, ◌<ℤ◌, ◌^◌, pos, neg_ℤ, Some, None, IfSome};
+ghost use Rattle.std.specs.Prelude.{IfNone, if◌then◌else◌};
 ghost use Rattle.cap_time.specs.Time.{floor_of, remainder_of};
 
 mod order;
@@ -30,17 +31,18 @@ impl Unit {
     }
 }
 
-/// An exact time: a number of units, counted from a whole second as its interface counts them. It is printed as whole seconds
-/// and a fraction of a second that isn't reduced. Stamps compare, and hash, by the time: half a second is the same
-/// as 5/10 and as 512/1024. Before second 0 the seconds are negative and the fraction still counts
-/// forward: half a second before 0 is -1 and 1/2.
+/// An exact time: a number of units, counted from a whole second as its interface counts them. It is printed as whole
+/// seconds and a fraction of a second that isn't reduced. Stamps compare, and hash, by the time: half a second is the
+/// same as 5/10 and as 512/1024. Before second 0 the seconds are negative and the fraction still counts forward: half a
+/// second before 0 is -1 and 1/2.
 // Each packet has a stamp, but few are printed: so seconds and fraction are divided out where they are asked for.
 #[derive(Clone, Copy, Debug)]
 pub struct Stamp {
     units: u64,
     // how many of them there are in a second
     denominator: u64,
-    // the second from which they count, as `high * 2^64 + low`: seconds that are added take it beyond an interface's offset
+    // the second from which they count, as `high * 2^64 + low`: seconds that are added take it beyond an interface's
+    // offset
     low: u64,
     high: i32,
     ghost positive: { 0 < denominator },
@@ -79,7 +81,8 @@ fn split(units: u64, in_second: u64) -> (u64, u64)
 fn whole_units(numerator: u64, denominator: u64, in_second: u32) -> Option<u32>
     requires fraction { numerator < denominator }
     requires second { 0 < in_second }
-    ensures { result ≡ (if numerator * in_second % denominator == 0 then Some (numerator * in_second / denominator) else None) }
+    ensures { result ≡ (if numerator * in_second % denominator == 0 then Some
+        (numerator * in_second / denominator) else None) }
 {
     if denominator == u64::from(in_second) {
         return Some(numerator as u32);

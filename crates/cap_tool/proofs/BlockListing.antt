@@ -1,5 +1,6 @@
 -- The lines of a file's blocks, written one by one.
-use Rattle.std.proofs.Common.{◌≡◌, ℕ, ◌+◌, ◌^◌, ◌≤◌, List, ◌∷◌, ◌++◌, length, take, drop, Bool, IsTrue, Option, None, Ok, Err, refl, sym, ap, ◌∙◌, subst, arith, take_at, drop_at, append-nil, length-append}
+use Rattle.std.proofs.Common.{◌≡◌, ℕ, ◌+◌, ◌^◌, ◌≤◌, List, ◌∷◌, ◌++◌, length, take, drop, Bool, IsTrue, Option, None}
+use Rattle.std.proofs.Common.{Ok, Err, refl, sym, ap, ◌∙◌, subst, arith, take_at, drop_at, append-nil, length-append}
 use Rattle.cap_bytes.proofs.Putting.{Putting, Putting-more}
 use Rattle.cap_bytes.specs.Device.{Writer}
 use Rattle.cap_bytes.specs.declared.faults.Fault.{Fault}
@@ -32,7 +33,8 @@ pub record Printing (old new : State Order) (failed_old failed_new : Bool) (from
   pub refusal_same : IsTrue old.told → refusal_of (items_of new) ≡ refusal_of (items_of old)
 
 -- no line is written yet
-pub Printing-none : (reader : State Order) (failed : Bool) (writer : Writer) → Printing reader reader failed failed writer writer 1
+pub Printing-none : (reader : State Order) (failed : Bool) (writer : Writer)
+    → Printing reader reader failed failed writer writer 1
 Printing-none reader failed writer = record {
   number = omega arith;
   limit = omega arith;
@@ -44,28 +46,41 @@ Printing-none reader failed writer = record {
   told = λ t. t;
   writer_told = λ t. t;
   writer_cannot = λ t. t;
-  lines = λ t. record { at = 0; within = omega arith; left = refl; written = λ w. sym (append-nil writer.held); told = λ w. w; cannot = λ f. f };
+  lines = λ t. record {
+    at = 0;
+    within = omega arith;
+    left = refl;
+    written = λ w. sym (append-nil writer.held);
+    told = λ w. w;
+    cannot = λ f. f;
+  };
   refusal_same = λ t. refl;
 }
 
 -- the lines of a block and of those after it
-pub block_lines-given : (n : ℕ) (block : Block) (body : List ℕ) (items rest : List (Item Block)) → items ≡ given block body ∷ rest
+pub block_lines-given : (n : ℕ) (block : Block) (body : List ℕ) (items rest : List (Item Block))
+    → items ≡ given block body ∷ rest
     → block_lines n items ≡ block_text n block ++ block_lines (n + 1) rest
 unfolding block_lines
 block_lines-given n block body items rest is = ap (block_lines n) is
 
-pub refusal_of-given : (block : Block) (body : List ℕ) (items rest : List (Item Block)) → items ≡ given block body ∷ rest
+pub refusal_of-given : (block : Block) (body : List ℕ) (items rest : List (Item Block))
+    → items ≡ given block body ∷ rest
     → refusal_of items ≡ refusal_of rest
 unfolding refusal_of
 refusal_of-given block body items rest is = ap refusal_of is
 
 -- what is written if a call for the next block answers a fault
-pub Prints-block_fault : (fault : Fault) (text : List ℕ) (refusal : Option Refusal) (from to : Writer) (n : ℕ) (old new : State Order)
+pub Prints-block_fault : (fault : Fault) (text : List ℕ) (refusal : Option Refusal) (from to : Writer) (n : ℕ)
+    (old new : State Order)
     → Putting from to text (block_lines n (items_of old)) → IsTrue from.told → refusal_of (items_of old) ≡ refusal
     → TakesItem old (Err fault) new → Prints {A = Unit {0}} text refusal from.held (Err fault) to.held
 unfolding block_lines refusal_of
-Prints-block_fault (Refused r) text refusal from to n old new p t same took =
-    (sym same ∙ ap refusal_of took.0, Putting-all from to text (block_lines n (items_of old)) p (ap (block_lines n) took.0) t)
+Prints-block_fault (Refused r) text refusal from to n old new p t same took = (
+  sym same ∙ ap refusal_of took.0,
+  Putting-all from to text (block_lines n (items_of old)) p
+      (ap (block_lines n) took.0) t,
+)
 Prints-block_fault (Read file offset) text refusal from to n old new p t same took = (p.at, p.written t)
 Prints-block_fault Write text refusal from to n old new p t same took = absurd took
 Prints-block_fault Memory text refusal from to n old new p t same took = (p.at, p.written t)
@@ -85,12 +100,14 @@ Prints-block_end text refusal from to n old new p t same took = (
 )
 
 -- one more block is given, and its line written
-pub Printing-more : (old mid new : State Order) (fo fm fn : Bool) (from m to : Writer) (n : ℕ) (block : Block) (body line : List ℕ)
+pub Printing-more : (old mid new : State Order) (fo fm fn : Bool) (from m to : Writer) (n : ℕ) (block : Block)
+    (body line : List ℕ)
     → Printing old mid fo fm from m n
     → GivesBlock mid block new → Keeps mid new
     → (IsTrue mid.told → items_of mid ≡ given block body ∷ items_of new)
     → line ≡ block_text n block
-    → (IsTrue m.told → to.held ≡ m.held ++ line) → (IsTrue m.told → IsTrue to.told) → (IsTrue to.can_fail → IsTrue m.can_fail) → fn ≡ fm
+    → (IsTrue m.told → to.held ≡ m.held ++ line) → (IsTrue m.told → IsTrue to.told)
+    → (IsTrue to.can_fail → IsTrue m.can_fail) → fn ≡ fm
     → Printing old new fo fn from to (n + 1)
 Printing-more old mid new fo fm fn from m to n block body line p gives keeps took is wrote told cannot failed =
     record {
@@ -100,19 +117,27 @@ Printing-more old mid new fo fm fn from m to n block body line p gives keeps too
       file = keeps.file ∙ p.file;
       can_fail = λ c. p.can_fail (keeps.can_fail c);
       offset = omega (arith, p.offset, keeps.offset);
-      lasts = record { broken = gives.gives.goes.after ∙ sym gives.gives.goes.before ∙ p.lasts.broken; failed = gives.gives.goes.failed ∙ p.lasts.failed };
+      lasts = record {
+        broken = gives.gives.goes.after ∙ sym gives.gives.goes.before
+            ∙ p.lasts.broken;
+        failed = gives.gives.goes.failed ∙ p.lasts.failed;
+      };
       told = λ t. keeps.told (p.told t);
       writer_told = λ t. told (p.writer_told t);
       writer_cannot = λ c. p.writer_cannot (cannot c);
       lines = λ t.
           let next = block_lines (n + 1) (items_of new) in
           let split : block_lines n (items_of mid) ≡ line ++ next =
-          block_lines-given n block body (items_of mid) (items_of new) (took (p.told t)) ∙ ap (λ l. l ++ next) (sym is) in
+          block_lines-given n block body (items_of mid) (items_of new) (took (p.told t))
+          ∙ ap (λ l. l ++ next) (sym is) in
           subst (Putting from to (block_lines 1 (items_of old)))
           (ap (drop (length line)) split ∙ drop_at line next (length line) refl)
-          (Putting-more from m to (block_lines 1 (items_of old)) (block_lines n (items_of mid)) (length line) (p.lines t)
+          (Putting-more from m to (block_lines 1 (items_of old)) (block_lines n (items_of mid))
+          (length line) (p.lines t)
           (omega (arith, ap length split, length-append line next))
-          (λ w. wrote w ∙ ap (λ l. m.held ++ l) (sym (ap (take (length line)) split ∙ take_at line next (length line) refl)))
+          (λ w. wrote w ∙ ap (λ l. m.held ++ l) (sym (ap (take (length line)) split
+          ∙ take_at line next (length line) refl)))
           told cannot);
-      refusal_same = λ t. sym (refusal_of-given block body (items_of mid) (items_of new) (took (p.told t))) ∙ p.refusal_same t;
+      refusal_same = λ t. sym (refusal_of-given block body (items_of mid) (items_of new) (took (p.told t)))
+          ∙ p.refusal_same t;
     }

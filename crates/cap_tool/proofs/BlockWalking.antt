@@ -1,5 +1,6 @@
 -- Going through the blocks of a file.
-use Rattle.std.proofs.Common.{◌≡◌, ℕ, ◌≤◌, ◌∷◌, [], Bool, IsTrue, Option, Some, None, Result, Ok, Err, refl, sym, ◌∙◌, subst, arith}
+use Rattle.std.proofs.Common.{◌≡◌, ℕ, ◌≤◌, ◌∷◌, [], Bool, IsTrue, Option, Some, None, Result, Ok, Err, refl, sym, ◌∙◌}
+use Rattle.std.proofs.Common.{subst, arith}
 use Rattle.std.specs.Prelude.{IfSome, IfNone, IsSome}
 use Rattle.cap_blocks.specs.Reader.{GivesBlock, GivesNext}
 use Rattle.cap_blocks.specs.declared.blocks.Block.{Block}
@@ -19,14 +20,17 @@ lasts-trans : (old mid new : State Order) → Lasts old mid → Lasts mid new �
 lasts-trans old mid new a b = record { broken = b.broken ∙ a.broken; failed = b.failed ∙ a.failed }
 
 -- what ended the blocks comes, now or again
-lasts-stop : (inside : Bool) (fault : Option Rule) (stop : Stop) (old new : State Order) → GivesStop inside fault stop old new → Lasts old new
+lasts-stop : (inside : Bool) (fault : Option Rule) (stop : Stop) (old new : State Order)
+    → GivesStop inside fault stop old new → Lasts old new
 lasts-stop inside fault stop old new g = by old.stop g.again g.first
   where
-    by : (o : Option Stop) → IfSome o (λ first. (stop ≡ first) × (new ≡ old)) → IfNone o (readers.Stops inside fault stop old new) → Lasts old new
+    by : (o : Option Stop) → IfSome o (λ first. (stop ≡ first) × (new ≡ old))
+        → IfNone o (readers.Stops inside fault stop old new) → Lasts old new
     by None again first = record { broken = first.goes.after ∙ sym first.goes.before; failed = first.goes.failed }
     by (Some s) again first = subst (Lasts old) (sym again.1) (record { broken = refl; failed = refl })
 
-module _ (old mid new : State Order) (fo fm : Bool) (from m : Writer) (n : ℕ) (p : Printing old mid fo fm from m n) where
+module _ (old mid new : State Order) (fo fm : Bool) (from m : Writer) (n : ℕ)
+    (p : Printing old mid fo fm from m n) where
   pub walks-fault : (fault : Fault) → GivesNext mid (Err fault) new → WalksBlocks {A = Unit {0}} old (Err fault) new
   walks-fault (Refused refusal) g = (g.stop_is, lasts-trans old mid new p.lasts (lasts-stop _ _ _ mid new g))
   walks-fault (Read file offset) g = record {
@@ -46,7 +50,14 @@ module _ (old mid new : State Order) (fo fm : Bool) (from m : Writer) (n : ℕ) 
           clash e = cc
       by (Some x) b is first = tt
   walks-fault Write g = absurd g
-  walks-fault Memory g = (g.0.stop, lasts-trans old mid new p.lasts (record { broken = g.0.goes.after ∙ sym g.0.goes.before; failed = g.0.goes.failed }))
+  walks-fault Memory g = (
+    g.0.stop,
+    lasts-trans old mid new p.lasts (record {
+      broken = g.0.goes.after
+          ∙ sym g.0.goes.before;
+      failed = g.0.goes.failed;
+    }),
+  )
 
   some : (o : Option Stop) (s : Stop) → o ≡ Some s → IsSome o
   some o s is = grind arith
@@ -56,10 +67,15 @@ module _ (old mid new : State Order) (fo fm : Bool) (from m : Writer) (n : ℕ) 
 
   pub lasts-given : (block : Block) → GivesBlock mid block new → Lasts old new
   lasts-given block g =
-      lasts-trans old mid new p.lasts (record { broken = g.gives.goes.after ∙ sym g.gives.goes.before; failed = g.gives.goes.failed })
+      lasts-trans old mid new p.lasts (record {
+        broken = g.gives.goes.after
+            ∙ sym g.gives.goes.before;
+        failed = g.gives.goes.failed;
+      })
 
 -- A failed read is of the only file.
-pub fails-walked : {A : Type 0} (old new : State Order) (can_fail : Bool) (result : Result A Fault) → WalksBlocks old result new → old.file ≡ 1
+pub fails-walked : {A : Type 0} (old new : State Order) (can_fail : Bool) (result : Result A Fault)
+    → WalksBlocks old result new → old.file ≡ 1
     → (IsTrue old.can_fail → IsTrue can_fail) → FailsOf (can_fail ∷ []) result
 fails-walked old new can_fail (Ok u) w is can = tt
 fails-walked old new can_fail (Err (Refused r)) w is can = tt

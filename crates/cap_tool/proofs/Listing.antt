@@ -17,7 +17,8 @@ pub plan_of-is : (n : ℕ) → IsPlan (plan_of n)
 unfolding list_lines refusal_of
 plan_of-is n = record { text_none = refl; text_refused = λ r. refl; refusal_none = refl; refusal_refused = λ r. refl }
 
-pub plan_of-next : (n : ℕ) (meta : Meta) (frame : List ℕ) → GoesOn (plan_of n) meta frame (packet_text n meta frame) (plan_of (n + 1))
+pub plan_of-next : (n : ℕ) (meta : Meta) (frame : List ℕ)
+    → GoesOn (plan_of n) meta frame (packet_text n meta frame) (plan_of (n + 1))
 unfolding list_lines refusal_of
 plan_of-next n meta frame = record { text = λ items. refl; refusal = λ items. refl }
 

@@ -6,6 +6,7 @@ use Rattle.cap_bytes.specs.declared.faults.Fault.{Fault}
 use Rattle.cap_bytes.specs.Printing.{PrintsFront}
 
 -- all that was written is a prefix
-pub Puts-front : {A : Type 0} → (answer : Result A Fault) (old new text : List ℕ) → Puts old answer new text → PrintsFront text old new
+pub Puts-front : {A : Type 0} → (answer : Result A Fault) (old new text : List ℕ) → Puts old answer new text
+    → PrintsFront text old new
 Puts-front (Ok _) old new text puts = (length text, puts ∙ ap (λ l. old ++ l) (sym (take-length text)))
 Puts-front (Err _) old new text puts = puts

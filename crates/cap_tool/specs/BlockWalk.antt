@@ -11,8 +11,8 @@ pub record Lasts (old new : State Order) : Type 0 where
   pub broken : new.broken ≡ old.broken
   pub failed : new.failed ≡ old.failed
 
--- A read failed on the way, or had failed before the call: then the file and the offset are the same. The reader tells that offset
--- from then on.
+-- A read failed on the way, or had failed before the call: then the file and the offset are the same. The reader tells
+-- that offset from then on.
 pub record Fails (old : State Order) (file offset : ℕ) (new : State Order) : Type 0 where
   pub of : file ≡ old.file
   pub again : IfSome old.broken (λ first. offset ≡ first)
@@ -21,8 +21,8 @@ pub record Fails (old : State Order) (file offset : ℕ) (new : State Order) : T
   pub failed : IsTrue new.failed
   pub can_fail : IsTrue old.can_fail
 
--- It goes to the end if it answers no fault. A failed read is answered as such, and no other fault is answered for it; a refusal is
--- what ended the blocks, and a growth is refused only before their end.
+-- It goes to the end if it answers no fault. A failed read is answered as such, and no other fault is answered for it;
+-- a refusal is what ended the blocks, and a growth is refused only before their end.
 abbrev pub WalksBlocks : {A : Type 0} → State Order → Result A Fault → State Order → Type 0
 WalksBlocks old (Ok _) new = IsSome new.stop × Lasts old new
 WalksBlocks old (Err (Refused refusal)) new = (new.stop ≡ Some (stops.Refused refusal)) × Lasts old new

@@ -4,11 +4,21 @@ use Rattle.cap_bytes.specs.declared.faults.Refusal.{Refusal}
 use Rattle.cap_bytes.specs.declared.faults.Tail.{Tail}
 use Rattle.cap_bytes.specs.declared.numbers.Order.{Order}
 use Rattle.cap_merge.specs.Files.{clocked_run}
-use Rattle.cap_write.specs.Joined.{joined_bytes, joined_refusal}
+use Rattle.cap_source.specs.declared.packets.Format.{Format}
+use Rattle.cap_source.specs.declared.packets.Format.TheVariants.{Pcapng}
+use Rattle.cap_tool.specs.RunText.{datagrams_refusal, datagrams_text}
 
--- what is written of the datagrams of files of those bytes, and the refusal that is then answered, if there is one
+-- what is written in that format of the datagrams of files of those bytes, and the refusal that is then answered, if
+-- there is one
+abbrev pub join_text_in : Format → Order → Tail → List (List ℕ) → List ℕ
+join_text_in format order tail files = datagrams_text format order (clocked_run tail files)
+
+abbrev pub join_refusal_in : Format → Tail → List (List ℕ) → Option Refusal
+join_refusal_in format tail files = datagrams_refusal format (clocked_run tail files)
+
+-- the same in pcapng
 abbrev pub join_text : Order → Tail → List (List ℕ) → List ℕ
-join_text order tail files = joined_bytes order (clocked_run tail files)
+join_text order tail files = join_text_in Pcapng order tail files
 
 abbrev pub join_refusal : Tail → List (List ℕ) → Option Refusal
-join_refusal tail files = joined_refusal (clocked_run tail files)
+join_refusal tail files = join_refusal_in Pcapng tail files

@@ -1,31 +1,55 @@
 -- What a command that writes a capture leaves out, or leaves as it was, and the lines that tell it.
-use Rattle.std.specs.Prelude.{ℕ, zero, suc, ◌+◌, ◌==◌, List, [], ◌∷◌, ◌++◌, codes, decimal, if◌then◌else◌}
-use Rattle.cap_source.specs.declared.feeds.Ending.{Ending}
+use Rattle.std.specs.Prelude.{◌≡◌, ℕ, zero, suc, ◌+◌, ◌==◌, ◌&&◌, List, [], ◌++◌, codes, decimal, if◌then◌else◌}
+use Rattle.cap_source.specs.declared.feeds.FileEnd.{FileEnd}
 use Rattle.cap_tool.specs.declared.left.Left.{Left}
 use Rattle.cap_tool.specs.declared.outcomes.Outcome.{Outcome}
 use Rattle.cap_tool.specs.declared.outcomes.Outcome.TheVariants as outcomes
 
 -- nothing was left out, and nothing ran back
 abbrev pub nothing_left : Left
-nothing_left = record { skipped = 0; ran_back = 0 }
+nothing_left = record { skipped = 0; named = 0; ran_back = 0 }
 
--- the blocks of a file that ended so
-abbrev pub left_of : Ending → Left
-left_of ending = record { skipped = ending.skipped; ran_back = 0 }
+-- the skipped blocks and the named interfaces of a file that ended so
+abbrev pub left_of : FileEnd → Left
+left_of end = record { skipped = end.ending.skipped; named = end.named; ran_back = 0 }
 
--- how many blocks were skipped of the first files, so many of them, by how each ends
-abbrev pub skipped_in : (ℕ → Ending) → ℕ → ℕ
-skipped_in endings zero = 0
-skipped_in endings (suc file) = skipped_in endings file + (endings (suc file)).skipped
+-- the sum of a count over the first files, so many of them, by how each ends
+abbrev pub sum_in : (FileEnd → ℕ) → (ℕ → FileEnd) → ℕ → ℕ
+sum_in count endings zero = 0
+sum_in count endings (suc file) = sum_in count endings file + count (endings (suc file))
 
--- a line of a count, unless that is 0
+-- how many blocks were skipped of these, and how many interfaces have a name
+abbrev pub skipped_in : (ℕ → FileEnd) → ℕ → ℕ
+skipped_in endings count = sum_in (λ end. end.ending.skipped) endings count
+
+abbrev pub named_in : (ℕ → FileEnd) → ℕ → ℕ
+named_in endings count = sum_in (λ end. end.named) endings count
+
+-- what isn't carried on of the first files, so many of them, by how each ends
+pub record Drops (endings : ℕ → FileEnd) (count : ℕ) (left : Left) : Type 0 where
+  pub skipped : left.skipped ≡ skipped_in endings count
+  pub named : left.named ≡ named_in endings count
+
+-- a label, a count and what is counted, unless the count is 0
 abbrev pub count_text : List ℕ → ℕ → List ℕ → List ℕ → List ℕ
-count_text label count one many = if count == 0 then [] else label ++ decimal count ++ (if count == 1 then one else many)
+count_text label count one many = if count == 0 then [] else label ++ decimal count
+    ++ (if count == 1 then one else many)
+
+-- what stands before the number of named interfaces
+abbrev pub names_label : ℕ → List ℕ
+names_label skipped = if skipped == 0 then codes "not carried on: names of " else codes ", names of "
+
+-- the line of what isn't carried on: the blocks, and the interfaces with names
+abbrev pub dropped_text : ℕ → ℕ → List ℕ
+dropped_text skipped named =
+    count_text (codes "not carried on: ") skipped (codes " block") (codes " blocks")
+    ++ count_text (names_label skipped) named (codes " interface") (codes " interfaces")
+    ++ (if (skipped == 0) && (named == 0) then [] else codes "\n")
 
 -- the lines of what is left
 abbrev pub left_text : Left → List ℕ
 left_text left =
-    count_text (codes "not carried on: ") left.skipped (codes " block\n") (codes " blocks\n")
+    dropped_text left.skipped left.named
     ++ count_text (codes "ran back: ") left.ran_back (codes " packet\n") (codes " packets\n")
 
 -- these, if all was done

@@ -4,11 +4,21 @@ use Rattle.cap_bytes.specs.declared.faults.Refusal.{Refusal}
 use Rattle.cap_bytes.specs.declared.faults.Tail.{Tail}
 use Rattle.cap_bytes.specs.declared.numbers.Order.{Order}
 use Rattle.cap_merge.specs.Files.{run_of_files}
-use Rattle.cap_write.specs.Texts.{merged_bytes, merged_refusal}
+use Rattle.cap_source.specs.declared.packets.Format.{Format}
+use Rattle.cap_source.specs.declared.packets.Format.TheVariants.{Pcapng}
+use Rattle.cap_tool.specs.RunText.{packets_refusal, packets_text}
 
--- what is written of files of those bytes in the order of time, and the refusal that is then answered, if there is one
+-- what is written in that format of files of those bytes in the order of time, and the refusal that is then answered,
+-- if there is one
+abbrev pub merge_text_in : Format → Order → Tail → List (List ℕ) → List ℕ
+merge_text_in format order tail files = packets_text format order (run_of_files tail files)
+
+abbrev pub merge_refusal_in : Format → Tail → List (List ℕ) → Option Refusal
+merge_refusal_in format tail files = packets_refusal format (run_of_files tail files)
+
+-- the same in pcapng
 abbrev pub merge_text : Order → Tail → List (List ℕ) → List ℕ
-merge_text order tail files = merged_bytes order (run_of_files tail files)
+merge_text order tail files = merge_text_in Pcapng order tail files
 
 abbrev pub merge_refusal : Tail → List (List ℕ) → Option Refusal
-merge_refusal tail files = merged_refusal (run_of_files tail files)
+merge_refusal tail files = merge_refusal_in Pcapng tail files

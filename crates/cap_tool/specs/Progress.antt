@@ -1,10 +1,12 @@
 -- The line that shows how far a run is.
-use Rattle.std.specs.Prelude.{ℕ, ◌-◌, ◌*◌, ◌/◌, ◌%◌, List, [], ◌++◌, codes, decimal, nat_lt, ◌||◌, nat_eq, not, if◌then◌else◌, Option, Some, None}
+use Rattle.std.specs.Prelude.{ℕ, ◌-◌, ◌*◌, ◌/◌, ◌%◌, List, [], ◌++◌, codes, decimal, nat_lt, ◌||◌, nat_eq, not}
+use Rattle.std.specs.Prelude.{if◌then◌else◌, Option, Some, None}
 
 -- a number of bytes, in millions or thousands of millions, rounded down to a tenth
 abbrev pub amount_text : ℕ → List ℕ
 amount_text bytes =
-    if nat_lt bytes 1000000000 then decimal (bytes / 1000000) ++ codes "." ++ decimal (bytes / 100000 % 10) ++ codes " MB"
+    if nat_lt bytes 1000000000 then decimal (bytes / 1000000) ++ codes "." ++ decimal (bytes / 100000 % 10)
+    ++ codes " MB"
     else decimal (bytes / 1000000000) ++ codes "." ++ decimal (bytes / 100000000 % 10) ++ codes " GB"
 
 -- how many bytes there are, if that is known
@@ -26,5 +28,6 @@ left_text read (Some total) millis =
 -- how far a run is that has read that many bytes, of that many, in that many thousandths of a second
 abbrev pub progress_text : ℕ → Option ℕ → ℕ → List ℕ
 progress_text read total millis =
-    codes "  " ++ amount_text read ++ of_text total ++ codes ", " ++ amount_text (read * 1000 / millis) ++ codes " a second"
+    codes "  " ++ amount_text read ++ of_text total ++ codes ", " ++ amount_text (read * 1000 / millis)
+    ++ codes " a second"
     ++ left_text read total millis

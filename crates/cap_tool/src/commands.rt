@@ -5,10 +5,10 @@ ghost use Rattle.cap_bytes.specs.Device.{WriterKeeps, writer_of};
 ghost use Rattle.cap_bytes.specs.Printing.{Prints, is_write};
 ghost use Rattle.cap_source.specs.ReadFaults.{FailsOf};
 ghost use Rattle.cap_tool.specs.Converted.{convert_text, convert_refusal};
-ghost use Rattle.cap_tool.specs.JoinText.{join_text, join_refusal};
-ghost use Rattle.cap_tool.specs.MergeText.{merge_text, merge_refusal};
+ghost use Rattle.cap_tool.specs.JoinText.{join_text, join_text_in, join_refusal, join_refusal_in};
+ghost use Rattle.cap_tool.specs.MergeText.{merge_text, merge_text_in, merge_refusal, merge_refusal_in};
 
-use crate::counting::{NOTHING_LEFT, convert_and_count, join_with, merge_with};
+use crate::counting::{NOTHING_LEFT, convert_and_count, in_pcap, in_pcapng, join_with, merge_with};
 use cap_bytes::{Fault, Order, Sink, Source, Tail};
 use cap_source::Format;
 use std::alloc::Global;
@@ -58,7 +58,34 @@ pub fn merge_to<R: Source, W: Sink>(
     ensures read { FailsOf (map R.can_fail sources.items) result }
 {
     let mut left = NOTHING_LEFT;
-    merge_with(alloc, sources, tail, order, false, writer, &mut left)
+    let pcapng = in_pcapng(order);
+    merge_with(alloc, sources, tail, pcapng, false, writer, &mut left)
+}
+
+/// Writes the packets of 1 to 32 capture files, each of either format, as a pcap file in that byte order, sorted as
+/// `merge_to` sorts them. It has the link, the snaplen and the fraction of a second of the first packet's interface. It
+/// ends at the first refusal, which it answers: one of a file that is read, or of a packet that can't be written (rules
+/// 17 to 20, or 21 if there is no packet: see `write_merged_pcap`). `Read` comes if a read fails, `Write` if a write
+/// does, `Memory` if a growth is refused; after these a prefix of that text is written.
+pub fn merge_to_pcap<R: Source, W: Sink>(
+    alloc: Global,
+    sources: Vec<R>,
+    tail: Tail,
+    order: Order,
+    writer: &mut W,
+) -> Result<(), Fault>
+    requires some { 1 ≤ vec_len sources }
+    requires most { vec_len sources ≤ 32 }
+    ensures text { IsTrue (list_all R.tells_coming sources.items) → IsTrue (W.tells_held writer.old)
+        → Prints (merge_text_in Format.Pcap order tail (map R.coming sources.items))
+        (merge_refusal_in Format.Pcap tail (map R.coming sources.items))
+        (W.held writer.old) result (W.held writer.new) }
+    ensures writer { WriterKeeps (writer_of W.Sink writer.old) (is_write result) (writer_of W.Sink writer.new) }
+    ensures read { FailsOf (map R.can_fail sources.items) result }
+{
+    let mut left = NOTHING_LEFT;
+    let pcap = in_pcap(order);
+    merge_with(alloc, sources, tail, pcap, false, writer, &mut left)
 }
 
 /// Writes the whole IPv4 datagrams of 1 to 32 capture files, each of either format, as a pcapng file of
@@ -83,5 +110,32 @@ pub fn join_to<R: Source, W: Sink>(
     ensures read { FailsOf (map R.can_fail sources.items) result }
 {
     let mut left = NOTHING_LEFT;
-    join_with(alloc, sources, tail, order, false, writer, &mut left)
+    let pcapng = in_pcapng(order);
+    join_with(alloc, sources, tail, pcapng, false, writer, &mut left)
+}
+
+/// Writes the whole IPv4 datagrams of 1 to 32 capture files, each of either format, as a pcap file in that byte order:
+/// those that `join_to` writes. It ends at the first refusal, which it answers: one of a file that is read, or of a
+/// packet or a datagram that can't be written (rules 17, 19 and 20, or 21 if there is no datagram: see
+/// `write_joined_pcap`). `Read` comes if a read fails, `Write` if a write does, `Memory` if a growth is refused; after
+/// these a prefix of that text is written.
+pub fn join_to_pcap<R: Source, W: Sink>(
+    alloc: Global,
+    sources: Vec<R>,
+    tail: Tail,
+    order: Order,
+    writer: &mut W,
+) -> Result<(), Fault>
+    requires some { 1 ≤ vec_len sources }
+    requires most { vec_len sources ≤ 32 }
+    ensures text { IsTrue (list_all R.tells_coming sources.items) → IsTrue (W.tells_held writer.old)
+        → Prints (join_text_in Format.Pcap order tail (map R.coming sources.items))
+        (join_refusal_in Format.Pcap tail (map R.coming sources.items))
+        (W.held writer.old) result (W.held writer.new) }
+    ensures writer { WriterKeeps (writer_of W.Sink writer.old) (is_write result) (writer_of W.Sink writer.new) }
+    ensures read { FailsOf (map R.can_fail sources.items) result }
+{
+    let mut left = NOTHING_LEFT;
+    let pcap = in_pcap(order);
+    join_with(alloc, sources, tail, pcap, false, writer, &mut left)
 }

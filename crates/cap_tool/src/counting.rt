@@ -1,10 +1,11 @@
 //! What `capt convert`, `merge` and `join` write of files, and what they leave out of it or as it was.
-ghost use Rattle.std.specs.Prelude.{◌≡◌, ◌≤◌, ◌∷◌, [], IsTrue, IfOk, IsOkUnless, OnOk, OnErr, Some, length, map, vec_len};
+ghost use Rattle.std.specs.Prelude.{◌≡◌, ◌≤◌, ◌∷◌, [], IsTrue, IfOk, IsOkUnless, OnOk, OnErr, Some, length, map};
+ghost use Rattle.std.specs.Prelude.{vec_len};
 ghost use Rattle.std.specs.List.{list_all, range_with_len};
 ghost use Rattle.cap_bytes.specs.Device.{WriterKeeps, writer_of};
 ghost use Rattle.cap_bytes.specs.Printing.{Prints, is_write};
 ghost use Rattle.cap_merge.specs.Files.{endings_of_files};
-ghost use Rattle.cap_merge.specs.Parts.{feed_of};
+ghost use Rattle.cap_merge.specs.Parts.{feed_of, run_of};
 ghost use Rattle.cap_merge.specs.Readers.{AreUnread, IsUnreadRun, reader_of};
 ghost use Rattle.cap_merge.specs.View.{parts_of, feeds_of};
 ghost use Rattle.cap_source.specs.Captures.{feed_of as file_of, number_of, first_of};
@@ -15,37 +16,78 @@ ghost use Rattle.cap_source.specs.Walk.{SameEndings, Walks};
 ghost use Rattle.cap_source.specs.declared.feeds.Head.{Head};
 ghost use Rattle.cap_tool.specs.Converted.{convert_text, convert_refusal};
 ghost use Rattle.cap_tool.specs.FileText.{file_text, file_refusal};
-ghost use Rattle.cap_tool.specs.JoinText.{join_text, join_refusal};
-ghost use Rattle.cap_tool.specs.Left.{nothing_left, left_of, skipped_in};
-ghost use Rattle.cap_tool.specs.MergeText.{merge_text, merge_refusal};
+ghost use Rattle.cap_tool.specs.JoinText.{join_text, join_text_in, join_refusal, join_refusal_in};
+ghost use Rattle.cap_tool.specs.Left.{nothing_left, left_of, Drops};
+ghost use Rattle.cap_tool.specs.MergeText.{merge_text, merge_text_in, merge_refusal, merge_refusal_in};
 ghost use Rattle.cap_tool.specs.RanBack.{ran_back_in};
+ghost use Rattle.cap_tool.specs.RunText.{datagrams_refusal, datagrams_text, packets_refusal, packets_text};
 
 use crate::left::Left;
 use crate::time_watched::TimeWatched;
 use cap_bytes::{Fault, Order, Sink, Source, Tail};
 use cap_merge::Merged;
 use cap_source::{Capture, Format, PacketFeed};
-use cap_write::{to_pcap, to_pcapng, write_joined, write_merged};
+use cap_write::{
+    to_pcap, to_pcapng, write_joined, write_joined_pcap, write_merged, write_merged_pcap,
+};
 use std::alloc::Global;
+
+/// What a file is written in.
+#[derive(Clone, Copy)]
+pub(crate) struct Target {
+    /// Its format.
+    pub format: Format,
+    /// The byte order of its numbers.
+    pub order: Order,
+}
+
+/// A pcap file of that byte order.
+pub(crate) fn in_pcap(order: Order) -> Target
+    ensures format { result.format ≡ Format.Pcap }
+    ensures order { result.order ≡ order }
+{
+    Target {
+        format: Format::Pcap,
+        order,
+    }
+}
+
+/// A pcapng file of that byte order.
+pub(crate) fn in_pcapng(order: Order) -> Target
+    ensures format { result.format ≡ Format.Pcapng }
+    ensures order { result.order ≡ order }
+{
+    Target {
+        format: Format::Pcapng,
+        order,
+    }
+}
 
 /// Nothing was left out, and nothing ran back.
 pub(crate) const NOTHING_LEFT: Left = Left {
     skipped: 0,
+    named: 0,
     ran_back: 0,
 };
 
-// How many blocks were skipped of the files of a feed that has come to its end.
-fn skipped_of<F: PacketFeed>(feed: &F, files: u32) -> u128
+// What isn't carried on of the files of a feed that has come to its end.
+fn dropped_of<F: PacketFeed>(feed: &F, files: u32) -> Left
     requires end { (F.feed feed.now).known ≡ Some Head.End }
     requires files { (F.feed feed.now).files ≡ range_with_len 1 files }
     requires most { files ≤ 32 }
-    ensures { result ≡ skipped_in (F.feed feed.now).endings files }
+    ensures { Drops (F.feed feed.now).endings files result }
 {
     let mut skipped: u128 = 0;
+    let mut named: u128 = 0;
     for place in 0..files {
         skipped += u128::from(feed.ending(place + 1).skipped);
+        named += u128::from(feed.named_interfaces(place + 1));
     }
-    skipped
+    Left {
+        skipped,
+        named,
+        ran_back: 0,
+    }
 }
 
 // How many packets ran back of the files that were watched.
@@ -63,16 +105,20 @@ fn ran_back_of<F: PacketFeed>(feeds: &[TimeWatched<F>]) -> u128
 // What is left of files that were merged, after a call that answered so and took them to their end if it was done.
 fn left_after<F: PacketFeed>(answer: &Result<(), Fault>, merged: &Merged<TimeWatched<F>>) -> Left
     requires end { OnOk answer.now ((feed_of (parts_of merged.now)).known ≡ Some Head.End) }
-    ensures skipped { OnOk answer.now (result.skipped
-        ≡ skipped_in (feed_of (parts_of merged.now)).endings (length (feed_of (parts_of merged.now)).files)) }
+    ensures dropped { OnOk answer.now
+        (Drops (feed_of (parts_of merged.now)).endings (length (feed_of (parts_of merged.now)).files) result) }
     ensures ran_back { OnOk answer.now (result.ran_back ≡ ran_back_in (feeds_of merged.now)) }
     ensures fault { OnErr answer.now (result ≡ nothing_left) }
 {
     match answer {
-        Ok(()) => Left {
-            skipped: skipped_of(merged, merged.files()),
-            ran_back: ran_back_of(merged.feeds()),
-        },
+        Ok(()) => {
+            let dropped = dropped_of(merged, merged.files());
+            Left {
+                skipped: dropped.skipped,
+                named: dropped.named,
+                ran_back: ran_back_of(merged.feeds()),
+            }
+        }
         Err(_) => NOTHING_LEFT,
     }
 }
@@ -87,6 +133,7 @@ fn left_of_one<F: PacketFeed>(answer: &Result<(), Fault>, feed: &F) -> Left
     match answer {
         Ok(()) => Left {
             skipped: u128::from(feed.ending(1).skipped),
+            named: u128::from(feed.named_interfaces(1)),
             ran_back: 0,
         },
         Err(_) => NOTHING_LEFT,
@@ -148,7 +195,8 @@ fn write_file<R: Source, W: Sink>(
         (W.held writer.old) result (W.held writer.new) }
     ensures writer { WriterKeeps (writer_of W.Sink writer.old) (is_write result) (writer_of W.Sink writer.new) }
     ensures walks { Walks (file_of capture.old) result (file_of capture.new) }
-    ensures endings { OnOk result (IsTrue (file_of capture.old).told → SameEndings (file_of capture.old) (file_of capture.new)) }
+    ensures endings { OnOk result (IsTrue (file_of capture.old).told
+        → SameEndings (file_of capture.old) (file_of capture.new)) }
     ensures keeps { Keeps (file_of capture.old) (file_of capture.new) }
 {
     match format {
@@ -157,8 +205,9 @@ fn write_file<R: Source, W: Sink>(
     }
 }
 
-/// Writes what `convert_to` writes, and answers what it answers. `left` says how many blocks of the file aren't carried on;
-/// no packet is told as one that ran back, since each stays where it was. After a fault nothing is told.
+/// Writes what `convert_to` writes, and answers what it answers. `left` says how many blocks of the file and names of
+/// its interfaces aren't carried on; no packet is told as one that ran back, since each stays where it was. After a
+/// fault nothing is told.
 pub fn convert_and_count<R: Source, W: Sink>(
     alloc: Global,
     source: R,
@@ -183,12 +232,59 @@ pub fn convert_and_count<R: Source, W: Sink>(
     answer
 }
 
-/// Writes what `merge_to` writes. `left` says of it what `merge_and_count` says, if times are watched.
+// Writes the packets of a run of which nothing was passed.
+fn write_run<F: PacketFeed, W: Sink>(
+    alloc: Global,
+    merged: &mut Merged<F>,
+    target: Target,
+    writer: &mut W,
+) -> Result<(), Fault>
+    ensures text { IsTrue (feed_of (parts_of merged.old)).told → IsTrue (W.tells_held writer.old)
+        → Prints (packets_text target.format target.order (feed_of (parts_of merged.old)).items)
+        (packets_refusal target.format (feed_of (parts_of merged.old)).items)
+        (W.held writer.old) result (W.held writer.new) }
+    ensures writer { WriterKeeps (writer_of W.Sink writer.old) (is_write result) (writer_of W.Sink writer.new) }
+    ensures walks { Walks (feed_of (parts_of merged.old)) result (feed_of (parts_of merged.new)) }
+    ensures endings { OnOk result (IsTrue (feed_of (parts_of merged.old)).told
+        → SameEndings (feed_of (parts_of merged.old)) (feed_of (parts_of merged.new))) }
+    ensures keeps { Keeps (feed_of (parts_of merged.old)) (feed_of (parts_of merged.new)) }
+{
+    match target.format {
+        Format::Pcap => write_merged_pcap(merged, target.order, writer),
+        Format::Pcapng => write_merged(alloc, merged, target.order, writer),
+    }
+}
+
+// Writes the datagrams of a run of which nothing was passed.
+fn write_datagrams<F: PacketFeed, W: Sink>(
+    alloc: Global,
+    merged: &mut Merged<F>,
+    target: Target,
+    writer: &mut W,
+) -> Result<(), Fault>
+    ensures text { IsTrue (feed_of (parts_of merged.old)).told → IsTrue (W.tells_held writer.old)
+        → Prints (datagrams_text target.format target.order (run_of (parts_of merged.old)))
+        (datagrams_refusal target.format (run_of (parts_of merged.old)))
+        (W.held writer.old) result (W.held writer.new) }
+    ensures writer { WriterKeeps (writer_of W.Sink writer.old) (is_write result) (writer_of W.Sink writer.new) }
+    ensures walks { Walks (feed_of (parts_of merged.old)) result (feed_of (parts_of merged.new)) }
+    ensures endings { OnOk result (IsTrue (feed_of (parts_of merged.old)).told
+        → SameEndings (feed_of (parts_of merged.old)) (feed_of (parts_of merged.new))) }
+    ensures keeps { Keeps (feed_of (parts_of merged.old)) (feed_of (parts_of merged.new)) }
+{
+    match target.format {
+        Format::Pcap => write_joined_pcap(alloc, merged, target.order, writer),
+        Format::Pcapng => write_joined(alloc, merged, target.order, writer),
+    }
+}
+
+/// Writes what `merge_to` writes, in either format. `left` says of it what `merge_and_count` says, if times are
+/// watched.
 pub(crate) fn merge_with<R: Source, W: Sink>(
     alloc: Global,
     sources: Vec<R>,
     tail: Tail,
-    order: Order,
+    target: Target,
     counts: bool,
     writer: &mut W,
     left: &mut Left,
@@ -196,23 +292,25 @@ pub(crate) fn merge_with<R: Source, W: Sink>(
     requires some { 1 ≤ vec_len sources }
     requires most { vec_len sources ≤ 32 }
     ensures text { IsTrue (list_all R.tells_coming sources.items) → IsTrue (W.tells_held writer.old)
-        → Prints (merge_text order tail (map R.coming sources.items)) (merge_refusal tail (map R.coming sources.items))
+        → Prints (merge_text_in target.format target.order tail (map R.coming sources.items))
+        (merge_refusal_in target.format tail (map R.coming sources.items))
         (W.held writer.old) result (W.held writer.new) }
     ensures writer { WriterKeeps (writer_of W.Sink writer.old) (is_write result) (writer_of W.Sink writer.new) }
     ensures read { FailsOf (map R.can_fail sources.items) result }
-    ensures skipped { OnOk result (IsTrue (list_all R.tells_coming sources.items)
-        → left.new.skipped ≡ skipped_in (endings_of_files tail (map R.coming sources.items)) (length sources.items)) }
+    ensures dropped { OnOk result (IsTrue (list_all R.tells_coming sources.items)
+        → Drops (endings_of_files tail (map R.coming sources.items)) (length sources.items) left.new) }
     ensures fault { OnErr result (left.new ≡ nothing_left) }
 {
     *left = NOTHING_LEFT;
     let mut merged = merge_watched(alloc, sources, tail, counts)?;
-    let answer = write_merged(alloc, &mut merged, order, writer);
+    let answer = write_run(alloc, &mut merged, target, writer);
     *left = left_after(&answer, &merged);
     answer
 }
 
-/// Writes what `merge_to` writes, and answers what it answers. `left` says how many blocks of the files aren't carried on,
-/// and how many packets had a time below the greatest so far of their file. After a fault nothing is told.
+/// Writes what `merge_to` writes, and answers what it answers. `left` says how many blocks of the files and names of
+/// their interfaces aren't carried on, and how many packets had a time below the greatest so far of their file. After a
+/// fault nothing is told.
 pub fn merge_and_count<R: Source, W: Sink>(
     alloc: Global,
     sources: Vec<R>,
@@ -228,19 +326,20 @@ pub fn merge_and_count<R: Source, W: Sink>(
         (W.held writer.old) result (W.held writer.new) }
     ensures writer { WriterKeeps (writer_of W.Sink writer.old) (is_write result) (writer_of W.Sink writer.new) }
     ensures read { FailsOf (map R.can_fail sources.items) result }
-    ensures skipped { OnOk result (IsTrue (list_all R.tells_coming sources.items)
-        → left.new.skipped ≡ skipped_in (endings_of_files tail (map R.coming sources.items)) (length sources.items)) }
+    ensures dropped { OnOk result (IsTrue (list_all R.tells_coming sources.items)
+        → Drops (endings_of_files tail (map R.coming sources.items)) (length sources.items) left.new) }
     ensures fault { OnErr result (left.new ≡ nothing_left) }
 {
-    merge_with(alloc, sources, tail, order, true, writer, left)
+    let pcapng = in_pcapng(order);
+    merge_with(alloc, sources, tail, pcapng, true, writer, left)
 }
 
-/// Writes what `join_to` writes. `left` says of it what `join_and_count` says, if times are watched.
+/// Writes what `join_to` writes, in either format. `left` says of it what `join_and_count` says, if times are watched.
 pub(crate) fn join_with<R: Source, W: Sink>(
     alloc: Global,
     sources: Vec<R>,
     tail: Tail,
-    order: Order,
+    target: Target,
     counts: bool,
     writer: &mut W,
     left: &mut Left,
@@ -248,23 +347,25 @@ pub(crate) fn join_with<R: Source, W: Sink>(
     requires some { 1 ≤ vec_len sources }
     requires most { vec_len sources ≤ 32 }
     ensures text { IsTrue (list_all R.tells_coming sources.items) → IsTrue (W.tells_held writer.old)
-        → Prints (join_text order tail (map R.coming sources.items)) (join_refusal tail (map R.coming sources.items))
+        → Prints (join_text_in target.format target.order tail (map R.coming sources.items))
+        (join_refusal_in target.format tail (map R.coming sources.items))
         (W.held writer.old) result (W.held writer.new) }
     ensures writer { WriterKeeps (writer_of W.Sink writer.old) (is_write result) (writer_of W.Sink writer.new) }
     ensures read { FailsOf (map R.can_fail sources.items) result }
-    ensures skipped { OnOk result (IsTrue (list_all R.tells_coming sources.items)
-        → left.new.skipped ≡ skipped_in (endings_of_files tail (map R.coming sources.items)) (length sources.items)) }
+    ensures dropped { OnOk result (IsTrue (list_all R.tells_coming sources.items)
+        → Drops (endings_of_files tail (map R.coming sources.items)) (length sources.items) left.new) }
     ensures fault { OnErr result (left.new ≡ nothing_left) }
 {
     *left = NOTHING_LEFT;
     let mut run = merge_watched(alloc, sources, tail, counts)?;
-    let answer = write_joined(alloc, &mut run, order, writer);
+    let answer = write_datagrams(alloc, &mut run, target, writer);
     *left = left_after(&answer, &run);
     answer
 }
 
-/// Writes what `join_to` writes, and answers what it answers. `left` says how many blocks of the files aren't carried on,
-/// and how many packets had a time below the greatest so far of their file. After a fault nothing is told.
+/// Writes what `join_to` writes, and answers what it answers. `left` says how many blocks of the files and names of
+/// their interfaces aren't carried on, and how many packets had a time below the greatest so far of their file. After a
+/// fault nothing is told.
 pub fn join_and_count<R: Source, W: Sink>(
     alloc: Global,
     sources: Vec<R>,
@@ -280,9 +381,10 @@ pub fn join_and_count<R: Source, W: Sink>(
         (W.held writer.old) result (W.held writer.new) }
     ensures writer { WriterKeeps (writer_of W.Sink writer.old) (is_write result) (writer_of W.Sink writer.new) }
     ensures read { FailsOf (map R.can_fail sources.items) result }
-    ensures skipped { OnOk result (IsTrue (list_all R.tells_coming sources.items)
-        → left.new.skipped ≡ skipped_in (endings_of_files tail (map R.coming sources.items)) (length sources.items)) }
+    ensures dropped { OnOk result (IsTrue (list_all R.tells_coming sources.items)
+        → Drops (endings_of_files tail (map R.coming sources.items)) (length sources.items) left.new) }
     ensures fault { OnErr result (left.new ≡ nothing_left) }
 {
-    join_with(alloc, sources, tail, order, true, writer, left)
+    let pcapng = in_pcapng(order);
+    join_with(alloc, sources, tail, pcapng, true, writer, left)
 }

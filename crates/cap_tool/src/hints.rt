@@ -30,6 +30,10 @@ fn magic_meaning(task: Task, kind: Kind) -> &'static str {
     }
 }
 
+// What rule 21 means of a run that is written as one pcap file.
+const NOTHING_TO_WRITE: &str =
+    "there is no packet or datagram to write, and so no link type for the pcap header";
+
 // What is wrong with a capture that breaks a rule.
 fn meaning(rule: Rule) -> &'static str {
     match rule {
@@ -105,11 +109,11 @@ fn rule_line<R: Files<File = File>>(
     ensures { IfSome result (λ line. IsHintLine (string_bytes line)) }
 {
     let name = name_of(job, file)?;
-    let why = match rule {
-        Rule::Magic => magic_meaning(job.task, kind_at(files, name)),
-        _ => meaning(rule),
-    };
-    line(alloc, name, &why)
+    match rule {
+        Rule::Magic => line(alloc, name, &magic_meaning(job.task, kind_at(files, name))),
+        Rule::NoInterface if job.task != Task::Convert => told(alloc, NOTHING_TO_WRITE),
+        _ => line(alloc, name, &meaning(rule)),
+    }
 }
 
 // Why a file can't be read.

@@ -2,7 +2,7 @@
 ghost use Rattle.std.specs.Prelude.{◌≡◌, ◌∷◌, [], IsTrue, OnErr, OnOk, map, vec_len};
 ghost use Rattle.std.specs.List.{list_all};
 ghost use Rattle.cap_line.specs.Jobs.{IsWhole};
-ghost use Rattle.cap_tool.specs.Jobs.{Does, tail_of};
+ghost use Rattle.cap_tool.specs.Jobs.{Does, format_in, tail_of};
 ghost use Rattle.cap_tool.specs.JobLeft.{Leaves};
 ghost use Rattle.cap_tool.specs.Left.{nothing_left};
 ghost use Rattle.cap_bytes.specs.Device.{WriterKeeps, writer_of};
@@ -10,11 +10,12 @@ ghost use Rattle.cap_bytes.specs.Printing.{is_write};
 ghost use Rattle.cap_source.specs.ReadFaults.{FailsOf};
 
 use crate::blocks::blocks_to;
-use crate::counting::{NOTHING_LEFT, convert_and_count, join_with, merge_with};
+use crate::counting::{NOTHING_LEFT, Target, convert_and_count, join_with, merge_with};
 use crate::left::Left;
 use crate::list::list_to;
 use cap_bytes::{Fault, Sink, Source, Tail};
 use cap_line::{Job, Task};
+use cap_source::Format;
 use cap_talks::{file_lines, report};
 use std::alloc::Global;
 
@@ -35,6 +36,17 @@ fn only<R: Source>(mut sources: Vec<R>) -> R
     ensures { sources.items ≡ result ∷ [] }
 {
     sources.remove(0)
+}
+
+// What `merge` and `join` write a file in: a pcapng file if no format is asked for.
+fn target_of(job: &Job<'_>) -> Target
+    ensures format { result.format ≡ format_in job.now.to }
+    ensures order { result.order ≡ job.now.order }
+{
+    Target {
+        format: job.to.unwrap_or(Format::Pcapng),
+        order: job.order,
+    }
 }
 
 // Does a job. Times are watched for those that run back if they are to be counted.
@@ -68,8 +80,8 @@ fn job_with<R: Source, W: Sink>(
             let format = job.to.unwrap();
             convert_and_count(alloc, only(sources), tail, job.order, format, writer, left)
         }
-        Task::Merge => merge_with(alloc, sources, tail, job.order, counts, writer, left),
-        Task::Join => join_with(alloc, sources, tail, job.order, counts, writer, left),
+        Task::Merge => merge_with(alloc, sources, tail, target_of(job), counts, writer, left),
+        Task::Join => join_with(alloc, sources, tail, target_of(job), counts, writer, left),
     }
 }
 

@@ -1,7 +1,7 @@
 //! What a command that writes a capture leaves out, or leaves as it was, and the lines that tell it.
 ghost use Rattle.std.specs.Prelude.{◌≡◌, ◌+◌, ◌≤◌, ◌++◌, length};
 ghost use Rattle.cap_print.specs.Lines.{room_in, text_in};
-ghost use Rattle.cap_tool.specs.Left.{count_text, left_text, left_told};
+ghost use Rattle.cap_tool.specs.Left.{count_text, dropped_text, left_text, left_told, names_label as names_label_text};
 
 use crate::outcomes::Outcome;
 use cap_print::Line;
@@ -11,12 +11,14 @@ use cap_print::Line;
 pub struct Left {
     /// How many blocks of the files aren't carried on: those that were skipped.
     pub skipped: u128,
+    /// How many interfaces of the files have a name, which isn't carried on.
+    pub named: u128,
     /// How many packets had a time below the greatest so far of their file.
     pub ran_back: u128,
 }
 
-// Puts a label and a count before what was put, and what is counted behind it, unless there is none.
-fn put_count(line: &mut Line, label: &[u8], count: u128, one: &[u8], many: &[u8])
+// Puts a label and a count before what was put, and what is counted behind it, unless the count is 0.
+fn prepend_count(line: &mut Line, label: &[u8], count: u128, one: &[u8], many: &[u8])
     requires one { length label.now + length one.now + 40 ≤ room_in line.old }
     requires many { length label.now + length many.now + 40 ≤ room_in line.old }
     requires longer { length one.now ≤ length many.now }
@@ -26,34 +28,58 @@ fn put_count(line: &mut Line, label: &[u8], count: u128, one: &[u8], many: &[u8]
     if count == 0 {
         return;
     }
-    line.put_text(if count == 1 { one } else { many });
-    line.put_integer(label, count);
+    line.prepend_text(if count == 1 { one } else { many });
+    line.prepend_integer(label, count);
 }
 
-// `not carried on: 3 blocks`, `ran back: 1 packet`
+// `not carried on: 3 blocks, names of 1 interface`
+fn prepend_dropped(line: &mut Line, skipped: u128, named: u128)
+    requires { 200 ≤ room_in line.old }
+    ensures { text_in line.new ≡ dropped_text skipped named ++ text_in line.old }
+{
+    if skipped == 0 && named == 0 {
+        return;
+    }
+    line.prepend_text(b"\n");
+    prepend_count(
+        line,
+        names_label(skipped),
+        named,
+        b" interface",
+        b" interfaces",
+    );
+    prepend_count(line, b"not carried on: ", skipped, b" block", b" blocks");
+}
+
+// What stands before the number of named interfaces.
+fn names_label(skipped: u128) -> &'static [u8]
+    ensures { result.now ≡ names_label_text skipped }
+{
+    if skipped == 0 {
+        b"not carried on: names of "
+    } else {
+        b", names of "
+    }
+}
+
+// `not carried on: 3 blocks, names of 1 interface`, `ran back: 1 packet`
 fn count_lines(left: &Left) -> Line
     ensures { text_in result ≡ left_text left.now }
 {
     let mut line = Line::new();
-    put_count(
+    prepend_count(
         &mut line,
         b"ran back: ",
         left.ran_back,
         b" packet\n",
         b" packets\n",
     );
-    put_count(
-        &mut line,
-        b"not carried on: ",
-        left.skipped,
-        b" block\n",
-        b" blocks\n",
-    );
+    prepend_dropped(&mut line, left.skipped, left.named);
     line
 }
 
-/// The lines that tell what is left after a run that is done: `not carried on: 3 blocks` and `ran back: 2 packets`, each
-/// unless it would tell of none. There is none after any other run.
+/// The lines that tell what is left after a run that is done: `not carried on: 3 blocks, names of 1 interface` and `ran
+/// back: 2 packets`, each unless it would tell of none. There is none after any other run.
 pub fn left_lines(outcome: &Outcome, left: &Left) -> Line
     ensures { text_in result ≡ left_told outcome.now left.now }
 {

@@ -1,5 +1,5 @@
-//! What the commands of `capt` do over readers and writers, and a run of the program: its files and standard streams, what is
-//! shown of it while it lasts, how it ends, and what a terminal is told of it.
+//! What the commands of `capt` do over readers and writers, and a run of the program: its files and standard streams,
+//! what is shown of it while it lasts, how it ends, and what a terminal is told of it.
 #![tactic(auto)]
 
 mod blocks;
@@ -24,7 +24,7 @@ mod whole;
 
 pub use crate::blocks::blocks_to;
 pub use crate::closed::{Closed, check_input};
-pub use crate::commands::{convert_to, join_to, merge_to};
+pub use crate::commands::{convert_to, join_to, join_to_pcap, merge_to, merge_to_pcap};
 pub use crate::counting::{convert_and_count, join_and_count, merge_and_count};
 pub use crate::hints::hint;
 pub use crate::jobs::{job_and_count, job_to};

@@ -15,17 +15,17 @@ use std::cmp::min;
 
 // Puts a label and the first bytes of a packet, at most 16, in lower case hex, or `-` if there are none.
 #[inline(always)]
-fn put_data(line: &mut Line, label: &[u8], bytes: &[u8])
+fn prepend_data(line: &mut Line, label: &[u8], bytes: &[u8])
     requires { length label.now + 32 ≤ room_in line.old }
     ensures text { text_in line.new ≡ label.now ++ data_text bytes.now ++ text_in line.old }
     ensures room { room_in line.old ≤ room_in line.new + length label.now + 32 }
 {
     if bytes.is_empty() {
-        line.put_text(b"-");
-        line.put_text(label);
+        line.prepend_text(b"-");
+        line.prepend_text(label);
     } else {
         let (shown, _) = bytes.split_at(min(bytes.len(), 16));
-        line.put_hex(label, shown);
+        line.prepend_hex(label, shown);
     }
 }
 
@@ -42,39 +42,39 @@ pub(crate) fn write_packet(line: &mut Line, n: u64, meta: &Meta, bytes: &[u8])
     ensures { text_in line.new ≡ packet_text n meta.now bytes.now }
 {
     line.clear();
-    line.put_text(b"\n");
-    put_data(line, b" data ", bytes);
-    line.put_field(b" link ", u64::from(meta.interface.link));
-    line.put_field(b" original ", u64::from(meta.original));
-    line.put_field(b" captured ", u64::from(meta.captured));
-    line.put_time(b" time ", stamp_of(meta));
-    line.put_field(b" offset ", meta.offset);
-    line.put_field(b"packet ", n);
+    line.prepend_text(b"\n");
+    prepend_data(line, b" data ", bytes);
+    line.prepend_field(b" link ", u64::from(meta.interface.link));
+    line.prepend_field(b" original ", u64::from(meta.original));
+    line.prepend_field(b" captured ", u64::from(meta.captured));
+    line.prepend_time(b" time ", stamp_of(meta));
+    line.prepend_field(b" offset ", meta.offset);
+    line.prepend_field(b"packet ", n);
 }
 
 // Puts a label and the order of a block's numbers.
 #[inline(always)]
-fn put_order(line: &mut Line, label: &[u8], order: Order)
+fn prepend_order(line: &mut Line, label: &[u8], order: Order)
     requires { length label.now + 6 ≤ room_in line.old }
     ensures text { text_in line.new ≡ label.now ++ order_text order ++ text_in line.old }
     ensures room { room_in line.old ≤ room_in line.new + length label.now + 6 }
 {
     match order {
-        Order::Big => line.put_text(b"big"),
-        Order::Little => line.put_text(b"little"),
+        Order::Big => line.prepend_text(b"big"),
+        Order::Little => line.prepend_text(b"little"),
     }
-    line.put_text(label);
+    line.prepend_text(label);
 }
 
 // Puts a label and a block's kind, in eight lower case hex digits.
 #[inline(always)]
 #[tactic(auto, unfolding(cap_bytes::specs::Number::bytes_of))]
-fn put_kind(line: &mut Line, label: &[u8], kind: u32)
+fn prepend_kind(line: &mut Line, label: &[u8], kind: u32)
     requires { length label.now + 8 ≤ room_in line.old }
     ensures text { text_in line.new ≡ label.now ++ kind_text kind ++ text_in line.old }
     ensures room { room_in line.new + length label.now + 8 ≡ room_in line.old }
 {
-    line.put_hex(label, &kind.to_be_bytes());
+    line.prepend_hex(label, &kind.to_be_bytes());
 }
 
 /// Makes a line that of the block number n, from 1:
@@ -83,10 +83,10 @@ pub(crate) fn write_block(line: &mut Line, n: u64, block: &Block)
     ensures { text_in line.new ≡ block_text n block.now }
 {
     line.clear();
-    line.put_text(b"\n");
-    line.put_field(b" total ", u64::from(block.total));
-    put_kind(line, b" kind ", block.kind);
-    put_order(line, b" order ", block.order);
-    line.put_field(b" offset ", block.offset);
-    line.put_field(b"block ", n);
+    line.prepend_text(b"\n");
+    line.prepend_field(b" total ", u64::from(block.total));
+    prepend_kind(line, b" kind ", block.kind);
+    prepend_order(line, b" order ", block.order);
+    line.prepend_field(b" offset ", block.offset);
+    line.prepend_field(b"block ", n);
 }

@@ -2,7 +2,8 @@
 ghost use Rattle.std.specs.Prelude.{◌≡◌, ◌≤◌, ◌++◌, length, is_err, IsTrue, IsFalse, IsOk, IsErr, IsOkUnless};
 ghost use Rattle.cap_bytes.specs.Device.{Puts, WriterKeeps, writer_of};
 ghost use Rattle.cap_print.specs.Lines.{text_in};
-ghost use Rattle.cap_tool.specs.Outcomes.{ends_by, status_after, fault_text, line_text, outcome_text, refusal_text, read_text, open_text, told_text, is_help, HelpEnds};
+ghost use Rattle.cap_tool.specs.Outcomes.{ends_by, status_after, fault_text, line_text, outcome_text, refusal_text};
+ghost use Rattle.cap_tool.specs.Outcomes.{read_text, open_text, told_text, is_help, HelpEnds};
 ghost use Rattle.cap_bytes.specs.Printing.{PrintsFront};
 
 use cap_bytes::{Fault, Refusal, Sink, put_all};
@@ -76,12 +77,12 @@ fn refusal_line(refusal: &Refusal) -> Line
     ensures { text_in result ≡ refusal_text refusal.now }
 {
     let mut line = Line::new();
-    line.put_text(b"\n");
-    line.put_text(refusal.rule.name().as_bytes());
-    line.put_text(b" ");
-    line.put_field(b" rule ", u64::from(refusal.rule.number()));
-    line.put_field(b" offset ", refusal.offset);
-    line.put_field(b"refused: file ", u64::from(refusal.file));
+    line.prepend_text(b"\n");
+    line.prepend_text(refusal.rule.name().as_bytes());
+    line.prepend_text(b" ");
+    line.prepend_field(b" rule ", u64::from(refusal.rule.number()));
+    line.prepend_field(b" offset ", refusal.offset);
+    line.prepend_field(b"refused: file ", u64::from(refusal.file));
     line
 }
 
@@ -90,9 +91,9 @@ fn read_line(file: u32, offset: u64) -> Line
     ensures { text_in result ≡ read_text file offset }
 {
     let mut line = Line::new();
-    line.put_text(b"\n");
-    line.put_field(b" offset ", offset);
-    line.put_field(b"fault: read file ", u64::from(file));
+    line.prepend_text(b"\n");
+    line.prepend_field(b" offset ", offset);
+    line.prepend_field(b"fault: read file ", u64::from(file));
     line
 }
 
@@ -101,8 +102,8 @@ fn open_line(file: u32) -> Line
     ensures { text_in result ≡ open_text file }
 {
     let mut line = Line::new();
-    line.put_text(b"\n");
-    line.put_field(b"fault: open file ", u64::from(file));
+    line.prepend_text(b"\n");
+    line.prepend_field(b"fault: open file ", u64::from(file));
     line
 }
 
@@ -112,7 +113,7 @@ fn short_line(text: &[u8]) -> Line
     ensures { text_in result ≡ text.now }
 {
     let mut line = Line::new();
-    line.put_text(text);
+    line.prepend_text(text);
     line
 }
 

@@ -24,50 +24,50 @@ const CUT: &[u8] = b"\x1b[?7l";
 const WRAP: &[u8] = b"\x1b[?7h";
 
 // Puts a label and a number of bytes, in millions or thousands of millions, to a tenth.
-fn put_amount(line: &mut Line, label: &[u8], bytes: u128)
+fn prepend_amount(line: &mut Line, label: &[u8], bytes: u128)
     requires { length label.now + 84 ≤ room_in line.old }
     ensures text { text_in line.new ≡ label.now ++ amount_text bytes ++ text_in line.old }
     ensures room { room_in line.old ≤ room_in line.new + length label.now + 84 }
 {
     if bytes < 1_000_000_000 {
-        line.put_text(b" MB");
-        line.put_integer(b".", bytes / 100_000 % 10);
-        line.put_integer(label, bytes / 1_000_000);
+        line.prepend_text(b" MB");
+        line.prepend_integer(b".", bytes / 100_000 % 10);
+        line.prepend_integer(label, bytes / 1_000_000);
     } else {
-        line.put_text(b" GB");
-        line.put_integer(b".", bytes / 100_000_000 % 10);
-        line.put_integer(label, bytes / 1_000_000_000);
+        line.prepend_text(b" GB");
+        line.prepend_integer(b".", bytes / 100_000_000 % 10);
+        line.prepend_integer(label, bytes / 1_000_000_000);
     }
 }
 
 // Puts how many bytes there are, if that is known.
-fn put_total(line: &mut Line, total: Option<u64>)
+fn prepend_total(line: &mut Line, total: Option<u64>)
     requires { 88 ≤ room_in line.old }
     ensures text { text_in line.new ≡ of_text total ++ text_in line.old }
     ensures room { room_in line.old ≤ room_in line.new + 88 }
 {
     if let Some(total) = total {
-        put_amount(line, b" of ", u128::from(total));
+        prepend_amount(line, b" of ", u128::from(total));
     }
 }
 
 // Puts a label and a time of that many seconds.
-fn put_seconds(line: &mut Line, label: &[u8], seconds: u128)
+fn prepend_seconds(line: &mut Line, label: &[u8], seconds: u128)
     requires { length label.now + 44 ≤ room_in line.old }
     ensures text { text_in line.new ≡ label.now ++ time_text seconds ++ text_in line.old }
     ensures room { room_in line.old ≤ room_in line.new + length label.now + 44 }
 {
     if seconds < 60 {
-        line.put_text(b" s");
-        line.put_integer(label, seconds);
+        line.prepend_text(b" s");
+        line.prepend_integer(label, seconds);
     } else {
-        line.put_text(b" min");
-        line.put_integer(label, seconds / 60);
+        line.prepend_text(b" min");
+        line.prepend_integer(label, seconds / 60);
     }
 }
 
 // Puts how long the rest will take, if that can be told.
-fn put_left(line: &mut Line, read: u64, total: Option<u64>, millis: u64)
+fn prepend_left(line: &mut Line, read: u64, total: Option<u64>, millis: u64)
     requires { 51 ≤ room_in line.old }
     ensures text { text_in line.new ≡ left_text read total millis ++ text_in line.old }
     ensures room { room_in line.old ≤ room_in line.new + 51 }
@@ -78,9 +78,9 @@ fn put_left(line: &mut Line, read: u64, total: Option<u64>, millis: u64)
     if read == 0 || total <= read {
         return;
     }
-    line.put_text(b" left");
+    line.prepend_text(b" left");
     let rest = u128::from(total - read) * u128::from(millis);
-    put_seconds(line, b", ", rest / (u128::from(read) * 1000));
+    prepend_seconds(line, b", ", rest / (u128::from(read) * 1000));
 }
 
 /// How far a run is that has read that many bytes, of that many, in that many thousandths of a second:
@@ -90,12 +90,12 @@ pub fn progress_line(read: u64, total: Option<u64>, millis: u64) -> Line
     ensures { text_in result ≡ progress_text read total millis }
 {
     let mut line = Line::new();
-    put_left(&mut line, read, total, millis);
-    line.put_text(b" a second");
+    prepend_left(&mut line, read, total, millis);
+    line.prepend_text(b" a second");
     let a_second = u128::from(read) * 1000 / u128::from(millis);
-    put_amount(&mut line, b", ", a_second);
-    put_total(&mut line, total);
-    put_amount(&mut line, b"  ", u128::from(read));
+    prepend_amount(&mut line, b", ", a_second);
+    prepend_total(&mut line, total);
+    prepend_amount(&mut line, b"  ", u128::from(read));
     line
 }
 
@@ -128,8 +128,8 @@ pub struct Progress<'a, C: Clock> {
 
 impl<'a, C: Clock> Progress<'a, C> {
     /// The progress of a run that begins now, and that has that many bytes to read, if that is known. It is shown on
-    /// the terminal `screen`, if there is one; if `is_shared`, what is written goes there too, and progress is shown only
-    /// until something is written.
+    /// the terminal `screen`, if there is one; if `is_shared`, what is written goes there too, and progress is shown
+    /// only until something is written.
     pub fn new(
         clock: &'a C,
         screen: Option<Stderr>,

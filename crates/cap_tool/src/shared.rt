@@ -7,7 +7,8 @@ use std::cell::RefCell;
 use std::io;
 use std::io::{BufWriter, ErrorKind, Write};
 
-/// A buffered output that is shared: what writes to it goes through a `Shared`, and what reads may write out what waits.
+/// A buffered output that is shared: what writes to it goes through a `Shared`, and what reads may write out what
+/// waits.
 #[derive(Drop)]
 pub struct SharedOutput {
     buffered: RefCell<BufWriter<Remembered<Output>>>,

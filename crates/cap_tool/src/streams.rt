@@ -1,7 +1,9 @@
 //! The files and the standard streams of a run.
-ghost use Rattle.std.specs.Prelude.{◌≡◌, ◌≢◌, ◌≤◌, ◌+◌, ◌++◌, ◌∷◌, [], codes, length, map, vec_len, IfOk, IfErr, IsErr, IsFalse, IsTrue, option_map, Some, None};
+ghost use Rattle.std.specs.Prelude.{◌≡◌, ◌≢◌, ◌≤◌, ◌+◌, ◌++◌, ◌∷◌, [], codes, length, map, vec_len, IfOk, IfErr, IsErr};
+ghost use Rattle.std.specs.Prelude.{IsFalse, IsTrue, option_map, Some, None};
 ghost use Rattle.cap_tool.specs.Watched.{inner_of};
-ghost use Rattle.cap_tool.specs.Streams.{IsOutFile, IsStandardOut, StopsOpening, StopsCreating, is_dash, is_standard, standards_of};
+ghost use Rattle.cap_tool.specs.Streams.{IsOutFile, IsStandardOut, StopsOpening, StopsCreating, is_dash, is_standard};
+ghost use Rattle.cap_tool.specs.Streams.{standards_of};
 
 use crate::outcomes::Outcome;
 use crate::progress::Progress;
@@ -194,7 +196,8 @@ fn add_size(size: Option<u64>, regular: Option<Regular>) -> Option<u64> {
 impl Inputs {
     // Adds an input, of which that is known.
     fn add(&mut self, input: Input, regular: Option<Regular>) -> Result<(), AllocError>
-        ensures all { IfOk result (λ _. standards_of self.new.sources.items ≡ standards_of self.old.sources.items ++ is_standard input ∷ []) }
+        ensures all { IfOk result (λ _. standards_of self.new.sources.items ≡ standards_of self.old.sources.items
+            ++ is_standard input ∷ []) }
         ensures len { IfOk result (λ _. vec_len self.new.sources ≡ vec_len self.old.sources + 1) }
     {
         self.ids.push(id_of(regular))?;

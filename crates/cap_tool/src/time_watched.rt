@@ -1,6 +1,7 @@
 //! A feed whose packets' times are watched for those that run back.
 ghost use Rattle.std.specs.Prelude.{◌≡◌, ◌+◌, ◌≤◌, ◌^◌, IsTrue};
-ghost use Rattle.cap_source.specs.Feed.{GivesHead, Keeps, KeepsItems, FindsPacket, ShowsPacket, FindsItem, SameItems, Passes, IsPacket, IfPacket};
+ghost use Rattle.cap_source.specs.Feed.{GivesHead, Keeps, KeepsItems, FindsPacket, ShowsPacket, FindsItem, SameItems};
+ghost use Rattle.cap_source.specs.Feed.{Passes, IsPacket, IfPacket};
 ghost use Rattle.cap_source.specs.Times.{meta_time};
 ghost use Rattle.cap_time.specs.Clock.{later};
 ghost use Rattle.cap_tool.specs.RunningBack.{runs_back, no_times, times_by};
@@ -42,7 +43,8 @@ fn takes_back(greatest: &mut Option<Stamp>, time: Option<Stamp>) -> bool
 impl<F: PacketFeed> TimeWatched<F> {
     ghost use Rattle.cap_tool.specs.TimeWatched.{inner_of, times_of, watches_of};
 
-    /// The packets of a feed that gives at most 2^40 of them, as the one of a file does. They are counted if it `watches`.
+    /// The packets of a feed that gives at most 2^40 of them, as the one of a file does. They are counted if it
+    /// `watches`.
     pub fn new(inner: F, watches: bool) -> TimeWatched<F>
         requires few { (F.feed inner).left ≤ 2 ^ 40 }
         ensures inner { inner_of result ≡ inner }
@@ -135,6 +137,10 @@ impl<F: PacketFeed> PacketFeed for TimeWatched<F> {
 
     fn ending(&self, file: u32) -> Ending {
         self.inner.ending(file)
+    }
+
+    fn named_interfaces(&self, file: u32) -> u64 {
+        self.inner.named_interfaces(file)
     }
 
     fn feed_held(&self) -> FeedHeld {

@@ -1,5 +1,6 @@
 -- The packets of a feed, written one by one in the form of pcapng.
-use Rattle.std.proofs.Common.{◌≡◌, ℕ, ◌≤◌, ◌<◌, ◌==◌, List, length, Bool, IsTrue, false, Some, None, refl, arith, length-append}
+use Rattle.std.proofs.Common.{◌≡◌, ℕ, ◌≤◌, ◌<◌, ◌==◌, List, length, Bool, IsTrue, false, Some, None, refl, arith}
+use Rattle.std.proofs.Common.{length-append}
 use Rattle.std.proofs.lemmas.Bool.{eq-eqb, ne_eqb}
 use Rattle.cap_bytes.specs.Device.{Writer}
 use Rattle.cap_bytes.specs.declared.faults.Rule.{Rule}
@@ -19,7 +20,8 @@ eqb-false a b h = ne_eqb a b (λ e. omega (arith, h, e))
 -- How many interfaces are described after a packet is how many are used then.
 pub count_after-is : (origins : List Origin) (meta : Meta) (frame : List ℕ)
     → count_after (length origins) (numbered_of origins meta frame) ≡ length (with_origin origins meta)
-count_after-is origins meta frame = grind (arith, eqb-false, position_or_len-some, eq-eqb, position_or_len-none, length-append)
+count_after-is origins meta frame =
+    grind (arith, eqb-false, position_or_len-some, eq-eqb, position_or_len-none, length-append)
 
 -- what is written after those interfaces were described
 abbrev pub plan_of : Order → List Origin → Plan
@@ -30,20 +32,24 @@ unfolding numbered packets_bytes refusal_in
 plan_of-is order origins = grind arith
 
 -- a packet that isn't refused
-pub plan_of-next : (order : Order) (origins : List Origin) (meta : Meta) (frame : List ℕ) → write_fault origins meta ≡ None
-    → GoesOn (plan_of order origins) meta frame (one_bytes order origins meta frame) (plan_of order (with_origin origins meta))
+pub plan_of-next : (order : Order) (origins : List Origin) (meta : Meta) (frame : List ℕ)
+    → write_fault origins meta ≡ None
+    → GoesOn (plan_of order origins) meta frame (one_bytes order origins meta frame)
+    (plan_of order (with_origin origins meta))
 unfolding numbered packets_bytes refusal_in
 plan_of-next order origins meta frame none =
     record { text = λ items. rw (none, count_after-is origins meta frame) refl; refusal = λ items. rw none refl }
 
 -- a packet that is
-pub plan_of-refused : (order : Order) (origins : List Origin) (meta : Meta) (frame : List ℕ) (rule : Rule) → write_fault origins meta ≡ Some rule
+pub plan_of-refused : (order : Order) (origins : List Origin) (meta : Meta) (frame : List ℕ) (rule : Rule)
+    → write_fault origins meta ≡ Some rule
     → GivesUp (plan_of order origins) meta frame (refusal_at meta rule)
 unfolding numbered packets_bytes refusal_in
 plan_of-refused order origins meta frame rule is = grind arith
 
 -- The packets so far of a feed that was `old` are written by a writer that was `from`.
-pub record Feeding (order : Order) (old new : Feed) (origins_old origins : List Origin) (failed_old failed_new : Bool) (from to : Writer) : Type 0 where
+pub record Feeding (order : Order) (old new : Feed) (origins_old origins : List Origin) (failed_old failed_new : Bool)
+    (from to : Writer) : Type 0 where
   pub limit : length origins ≤ 1024
   pub went : Went old new
   pub ends : IsTrue old.told → SameEndings old new

@@ -6,7 +6,8 @@ use Rattle.std.proofs.lemmas.List.FromFn.{length-map-range_with_len}
 use Rattle.cap_ip.proofs.Shapes.{IsPiece-fits, IfFound-ended, IfFound-steps, length-part, le-whole}
 use Rattle.cap_ip.specs.Fields.{data_length, is_fragment, offset}
 use Rattle.cap_ip.specs.Header.{HeaderFields, IsPiece}
-use Rattle.cap_ip.specs.Read.{Reading, found, bad, cut, read_of, ended, fields_of, fragment_of, data_of as data_in, lacks_data, is_misfit, is_partial, IfFound}
+use Rattle.cap_ip.specs.Read.{Reading, found, bad, cut, read_of, ended, fields_of, fragment_of, data_of as data_in}
+use Rattle.cap_ip.specs.Read.{lacks_data, is_misfit, is_partial, IfFound}
 use Rattle.cap_ip.specs.declared.headers.Fragment.{Fragment}
 use Rattle.cap_ip.specs.declared.headers.Key.{Key}
 use Rattle.cap_join.proofs.Grouping.{greatest_end-short, total_of-reached, IsShaped-piece_of}
@@ -28,7 +29,8 @@ piece_at o n m h e = grind arith
 abbrev HasPiece : HeaderFields → List ℕ → Type 0
 HasPiece header captured = IfSome header.fragment (IsPiece (length captured))
 
-found_piece : (bytes : List ℕ) → is_misfit bytes ≡ false → is_partial bytes ≡ false → HasPiece (fields_of bytes) (data_in bytes)
+found_piece : (bytes : List ℕ) → is_misfit bytes ≡ false → is_partial bytes ≡ false
+    → HasPiece (fields_of bytes) (data_in bytes)
 unfolding fields_of fragment_of data_in data_length is_misfit offset is_partial lacks_data
 found_piece bytes fits whole = grind (arith, piece_at, IsPiece-fits, is_fragment, length-part, le-whole)
 
@@ -37,14 +39,17 @@ unfolding read_of
 read-piece bytes whole = search (IfFound-steps, nat_lt, ended, IfFound-ended, found_piece)
 
 -- the open groups' fragments are shaped
-found_shaped : (key : Key) (now : Option Stamp) (es : List Entry) (os : List OpenGroup) → AreEntriesOf es os → IfSome (group_at key (live_at now os)) (λ o. AreShaped o.pieces)
+found_shaped : (key : Key) (now : Option Stamp) (es : List Entry) (os : List OpenGroup) → AreEntriesOf es os
+    → IfSome (group_at key (live_at now os)) (λ o. AreShaped o.pieces)
 found_shaped key now (e ∷ es) (o ∷ os) h = grind (arith, found_shaped key now es os h.1)
 found_shaped key now es os h = grind arith
 
-with_shaped : (p : Piece) (o : Option OpenGroup) → IsShaped p → IfSome o (λ o. AreShaped o.pieces) → AreShaped (pieces_with p o)
+with_shaped : (p : Piece) (o : Option OpenGroup) → IsShaped p → IfSome o (λ o. AreShaped o.pieces)
+    → AreShaped (pieces_with p o)
 with_shaped p o s h = grind arith
 
-joined_shaped : (clock : Option Stamp) (p : Piece) (events : List Event) (joiner : JoinerState) → StandsFor joiner events → IsShaped p
+joined_shaped : (clock : Option Stamp) (p : Piece) (events : List Event) (joiner : JoinerState)
+    → StandsFor joiner events → IsShaped p
     → AreShaped (joined_pieces clock p (state_of open_limit events))
 unfolding joined_pieces
 joined_shaped clock p events joiner stands s = grind (arith, with_shaped, found_shaped)
@@ -53,9 +58,11 @@ short_data : (ps : List Piece) → AreShaped ps → length (data_of ps) ≤ 6551
 unfolding data_of
 short_data ps shaped = grind (arith, length-map-range_with_len, total_of-reached, greatest_end-short)
 
-short-bad : (arrived : Arrived) (r : Reading) (clock : Option Stamp) (stamped : Stamped) (events : List Event) (joiner : JoinerState) → IfFound r HasPiece → StandsFor joiner events
+short-bad : (arrived : Arrived) (r : Reading) (clock : Option Stamp) (stamped : Stamped) (events : List Event)
+    (joiner : JoinerState) → IfFound r HasPiece → StandsFor joiner events
     → IsArrived r clock stamped events arrived → IsShort arrived
-short-bad arrived (found header captured) clock stamped events joiner piece stands h = grind (arith, short_data, joined_shaped, IsShaped-piece_of, common_steps, nat_tests)
+short-bad arrived (found header captured) clock stamped events joiner piece stands h =
+    grind (arith, short_data, joined_shaped, IsShaped-piece_of, common_steps, nat_tests)
 short-bad as_.Bad bad clock stamped events joiner piece stands h = tt
 short-bad as_.Cut bad clock stamped events joiner piece stands h = tt
 short-bad (as_.Whole head bytes) bad clock stamped events joiner piece stands h = tt
@@ -68,6 +75,8 @@ short-bad as_.Kept cut clock stamped events joiner piece stands h = tt
 short-bad (as_.Joined d) cut clock stamped events joiner piece stands h = absurd h
 
 -- so is what a joiner answers short
-pub arrived-short : (bytes : List ℕ) (whole : Bool) (clock : Option Stamp) (stamped : Stamped) (events : List Event) (joiner : JoinerState) (arrived : Arrived)
+pub arrived-short : (bytes : List ℕ) (whole : Bool) (clock : Option Stamp) (stamped : Stamped) (events : List Event)
+    (joiner : JoinerState) (arrived : Arrived)
     → StandsFor joiner events → IsArrived (read_of bytes whole) clock stamped events arrived → IsShort arrived
-arrived-short bytes whole clock stamped events joiner arrived stands h = short-bad arrived (read_of bytes whole) clock stamped events joiner (read-piece bytes whole) stands h
+arrived-short bytes whole clock stamped events joiner arrived stands h =
+    short-bad arrived (read_of bytes whole) clock stamped events joiner (read-piece bytes whole) stands h

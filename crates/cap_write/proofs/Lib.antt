@@ -1,5 +1,6 @@
 mod Completed
 pub mod Feeding
+mod Forming
 mod Joining
 mod Lengths
 mod Numbers

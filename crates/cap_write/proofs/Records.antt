@@ -1,5 +1,6 @@
 -- The packets of a feed, written one by one in the form of pcap.
-use Rattle.std.proofs.Common.{arith, ◌≡◌, ℕ, not, List, Bool, IsTrue, Option, Some, None, is_none, Result, Err, if◌then◌else◌}
+use Rattle.std.proofs.Common.{arith, ◌≡◌, ℕ, not, List, Bool, IsTrue, Option, Some, None, is_none, Result, Err}
+use Rattle.std.proofs.Common.{if◌then◌else◌}
 use Rattle.cap_bytes.specs.Device.{Writer}
 use Rattle.cap_bytes.specs.declared.faults.Fault.{Fault}
 use Rattle.cap_bytes.specs.declared.faults.Fault.TheVariants.{Refused}
@@ -25,18 +26,21 @@ fault_by units same fraction interface =
     if is_none units then Some NoTime else if not same then Some LinkMixed else units_fault fraction interface units
 
 -- a packet without a time
-pub HasRecord-untimed : (first : Interface) (meta : Meta) (fault : Fault) → HasUnits meta (Err fault) → HasRecord first meta (Err fault)
+pub HasRecord-untimed : (first : Interface) (meta : Meta) (fault : Fault) → HasUnits meta (Err fault)
+    → HasRecord first meta (Err fault)
 unfolding record_fault
 HasRecord-untimed first meta fault h = grind arith
 
 -- a packet of another link
-pub HasRecord-mixed : (first : Interface) (meta : Meta) (units : ℕ) (fault : Fault) → meta.units ≡ Some units → (meta.interface.link ≡ first.link → ⊥)
+pub HasRecord-mixed : (first : Interface) (meta : Meta) (units : ℕ) (fault : Fault) → meta.units ≡ Some units
+    → (meta.interface.link ≡ first.link → ⊥)
     → fault ≡ Refused (refusal_at meta LinkMixed) → HasRecord first meta (Err fault)
 unfolding record_fault
 HasRecord-mixed first meta units fault is other told = grind arith
 
 -- a packet whose time is written, or isn't
-pub HasRecord-timed : (first : Interface) (meta : Meta) (units : ℕ) (result : Result RecordTime Fault) → meta.units ≡ Some units → meta.interface.link ≡ first.link
+pub HasRecord-timed : (first : Interface) (meta : Meta) (units : ℕ) (result : Result RecordTime Fault)
+    → meta.units ≡ Some units → meta.interface.link ≡ first.link
     → HasTime (fraction_of first) meta units result → HasRecord first meta result
 unfolding record_fault
 HasRecord-timed first meta units result is one h = grind arith
@@ -50,17 +54,20 @@ unfolding records_bytes records_refusal
 plan_of-is order first = grind arith
 
 pub plan_of-next : (order : Order) (first : Interface) (meta : Meta) (frame : List ℕ) → record_fault first meta ≡ None
-    → GoesOn (plan_of order first) meta frame (text_or (record_fault first meta) (packet_record order first meta frame)) (plan_of order first)
+    → GoesOn (plan_of order first) meta frame (text_or (record_fault first meta) (packet_record order first meta frame))
+    (plan_of order first)
 unfolding records_bytes records_refusal
 plan_of-next order first meta frame none = grind arith
 
-pub plan_of-refused : (order : Order) (first : Interface) (meta : Meta) (frame : List ℕ) (rule : Rule) → record_fault first meta ≡ Some rule
+pub plan_of-refused : (order : Order) (first : Interface) (meta : Meta) (frame : List ℕ) (rule : Rule)
+    → record_fault first meta ≡ Some rule
     → GivesUp (plan_of order first) meta frame (refusal_at meta rule)
 unfolding records_bytes records_refusal
 plan_of-refused order first meta frame rule is = grind arith
 
 -- The packets so far of a feed that was `old` are written by a writer that was `from`.
-pub record Recording (order : Order) (first : Interface) (old new : Feed) (failed_old failed_new : Bool) (from to : Writer) : Type 0 where
+pub record Recording (order : Order) (first : Interface) (old new : Feed) (failed_old failed_new : Bool)
+    (from to : Writer) : Type 0 where
   pub went : Went old new
   pub ends : IsTrue old.told → SameEndings old new
   pub walk : Walking (plan_of order first) (plan_of order first) old new failed_old failed_new from to

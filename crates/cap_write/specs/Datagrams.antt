@@ -1,12 +1,10 @@
 -- What the calls of `write_joined` answer.
-use Rattle.std.specs.Prelude.{◌≡◌, ◌≤◌, ⊤, ℕ, Bool, true, false, List, [], ◌∷◌, length, Option, Some, None}
+use Rattle.std.specs.Prelude.{◌≡◌, ◌≤◌, ⊤, ℕ, Bool, true, false, List, length, Option, Some, None}
 use Rattle.cap_join.specs.History.{Event}
 use Rattle.cap_join.specs.Joiners.{JoinerState, StandsFor}
 use Rattle.cap_join.specs.declared.arrivals.Arrived.{Arrived}
 use Rattle.cap_join.specs.declared.arrivals.Arrived.TheVariants as as_
-use Rattle.cap_source.specs.Feed.{Item, packet, refused}
 use Rattle.cap_write.specs.Joined.{Complete, complete_of, datagram_bytes}
-use Rattle.cap_write.specs.Numbering.{Origin, with_origin}
 
 -- A buffer has the bytes of the datagram, if there is one.
 abbrev pub IsFilled : Option Complete → Bool → List ℕ → Type 0
@@ -32,9 +30,3 @@ IsShort (as_.Joined d) = length d.payload.items ≤ 65515
 -- A joiner stands for some events.
 abbrev pub Stands : JoinerState → Type 0
 Stands joiner = (events : List Event) × StandsFor joiner events
-
--- the interfaces that are described after some items, after those of `origins` were
-unfoldable pub origins_behind : List Origin → List Item → List Origin
-origins_behind origins [] = origins
-origins_behind origins (packet meta frame ∷ items) = origins_behind (with_origin origins meta) items
-origins_behind origins (refused refusal ∷ items) = origins

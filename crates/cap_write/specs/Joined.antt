@@ -1,5 +1,6 @@
 -- The datagrams of a run of packets, each written as one packet that begins with its header (RFC 791, 3.1 and 3.2).
-use Rattle.std.specs.Prelude.{ℕ, ◌+◌, ◌==◌, ◌&&◌, List, [], ◌∷◌, ◌++◌, length, Bool, true, false, Option, Some, None, is_some, option_and_then, if◌then◌else◌}
+use Rattle.std.specs.Prelude.{ℕ, ◌+◌, ◌==◌, ◌&&◌, List, [], ◌∷◌, ◌++◌, length, Bool, true, false, Option, Some, None}
+use Rattle.std.specs.Prelude.{is_some, option_and_then, if◌then◌else◌}
 use Rattle.cap_bytes.specs.declared.faults.Refusal.{Refusal}
 use Rattle.cap_bytes.specs.declared.numbers.Order.{Order}
 use Rattle.cap_ip.specs.Header.{HeaderFields}
@@ -41,8 +42,8 @@ has_form transports.NoPorts = true
 has_form transports.Bad = false
 has_form transports.Cut = false
 
--- A datagram of which that many bytes of data were captured from its front, if they are all of a length and have the form of
--- its protocol.
+-- A datagram of which that many bytes of data were captured from its front, if they are all of a length and have the
+-- form of its protocol.
 unfoldable pub complete_of : HeaderFields → List ℕ → ℕ → Option Complete
 complete_of header captured size =
     if (length captured == size) && has_form (transport_of header.key.protocol captured size)
@@ -51,10 +52,11 @@ complete_of header captured size =
 -- the datagram that some fragments make, once they complete it: the header is that of the latest that begins at 0
 unfoldable pub joined_of : List Piece → Option Complete
 joined_of pieces =
-    if completes pieces then option_and_then (λ h. complete_of h (data_of pieces) (length (data_of pieces))) (header_of pieces) else None
+    if completes pieces then option_and_then (λ h. complete_of h (data_of pieces) (length (data_of pieces)))
+    (header_of pieces) else None
 
--- The datagram that a packet completes, of which that was read, if `group` has the fragments of a fragment's group: the packet is a
--- whole datagram, or the last fragment that was missing.
+-- The datagram that a packet completes, of which that was read, if `group` has the fragments of a fragment's group: the
+-- packet is a whole datagram, or the last fragment that was missing.
 abbrev pub datagram_by : Option Fragment → HeaderFields → List ℕ → Stamped → (Piece → List Piece) → Option Complete
 datagram_by None header captured stamped group = complete_of header captured header.data_length
 datagram_by (Some fragment) header captured stamped group = joined_of (group (piece_of header captured stamped))
@@ -76,8 +78,10 @@ datagram_at ends whole stamped group = None
 abbrev pub group_after : Option Stamp → List Event → Piece → List Piece
 group_after clock events p = joined_pieces clock p (state_of open_limit events)
 
-abbrev pub completed_by : Option Fragment → HeaderFields → List ℕ → Option Stamp → Stamped → List Event → Option Complete
-completed_by fragment header captured clock stamped events = datagram_by fragment header captured stamped (group_after clock events)
+abbrev pub completed_by : Option Fragment → HeaderFields → List ℕ → Option Stamp → Stamped → List Event
+    → Option Complete
+completed_by fragment header captured clock stamped events =
+    datagram_by fragment header captured stamped (group_after clock events)
 
 abbrev pub completed_in : Reading → Option Stamp → Stamped → List Event → Option Complete
 completed_in reading clock stamped events = datagram_in reading stamped (group_after clock events)
@@ -100,18 +104,26 @@ stamped_of place meta = record { time = meta_time meta; place = place; original 
 -- the datagram that a packet completes, which has that place in the run and that clock
 unfoldable pub completed : ℕ → List Event → Option Stamp → Meta → List ℕ → Option Complete
 completed place events clock meta frame =
-    completed_at (network_of meta.interface.link frame meta.original) (is_whole frame meta.original) clock (stamped_of place meta) events
+    completed_at (network_of meta.interface.link frame meta.original) (is_whole frame meta.original) clock
+    (stamped_of place meta) events
 
 unfoldable pub events_after : ℕ → List Event → Option Stamp → Meta → List ℕ → List Event
 events_after place events clock meta frame =
-    events_at (network_of meta.interface.link frame meta.original) (is_whole frame meta.original) clock (stamped_of place meta) events
+    events_at (network_of meta.interface.link frame meta.original) (is_whole frame meta.original) clock
+    (stamped_of place meta) events
 
 -- the interface of a written datagram: no link header (LINKTYPE_RAW, 101) and no limit; times as at the packet's own
 abbrev pub raw_interface : Interface → Interface
-raw_interface interface = record { link = 101; snaplen = 0; resolution = interface.resolution; offset = interface.offset }
+raw_interface interface = record {
+  link = 101;
+  snaplen = 0;
+  resolution = interface.resolution;
+  offset =
+      interface.offset;
+}
 
--- what is told of a datagram as one packet of that many bytes: it has the place, the time and the interface's number of the packet
--- that completed it
+-- what is told of a datagram as one packet of that many bytes: it has the place, the time and the interface's number of
+-- the packet that completed it
 abbrev pub datagram_meta : Meta → ℕ → Meta
 datagram_meta meta size = record meta { interface = raw_interface meta.interface; captured = size; original = size }
 
@@ -122,8 +134,8 @@ abbrev pub datagram_items : Meta → Option Complete → List Item
 datagram_items meta None = []
 datagram_items meta (Some d) = datagram_item meta d ∷ []
 
--- What is to be written of a packet: the datagram that it completes, if it does. A packet without a time stands for itself, so
--- that its writing is refused.
+-- What is to be written of a packet: the datagram that it completes, if it does. A packet without a time stands for
+-- itself, so that its writing is refused.
 abbrev pub items_with : Meta → List ℕ → Option Complete → List Item
 items_with meta frame d = if is_some meta.units then datagram_items meta d else packet meta frame ∷ []
 

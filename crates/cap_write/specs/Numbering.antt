@@ -1,5 +1,6 @@
 -- The packets that are written of a list, each with the number of its interface, and what refuses a packet.
-use Rattle.std.specs.Prelude.{◌==◌, ◌&&◌, not, ℕ, nat_le, if◌then◌else◌, Bool, false, List, [], ◌∷◌, length, Option, Some, None, is_none, unwrap_or, option_map}
+use Rattle.std.specs.Prelude.{◌==◌, ◌&&◌, not, ℕ, nat_le, if◌then◌else◌, Bool, false, List, [], ◌∷◌, length, Option}
+use Rattle.std.specs.Prelude.{Some, None, is_none, unwrap_or, option_map}
 use Rattle.std.specs.List.{list_any, position_or_len}
 use Rattle.indexmap.specs.IndexSet.{insert_key}
 use Rattle.cap_bytes.specs.declared.faults.Refusal.{Refusal}

@@ -1,5 +1,6 @@
 -- What is written of one file as pcap.
-use Rattle.std.specs.Prelude.{◌==◌, ◌%◌, ◌^◌, not, ◌&&◌, ℕ, ℤ, pos, nat_abs, int_le, int_lt, if◌then◌else◌, Bool, List, [], ◌∷◌, ◌++◌, Option, Some, None, is_none}
+use Rattle.std.specs.Prelude.{◌==◌, ◌%◌, ◌^◌, not, ◌&&◌, ℕ, ℤ, pos, nat_abs, int_le, int_lt, if◌then◌else◌, Bool, List}
+use Rattle.std.specs.Prelude.{[], ◌∷◌, ◌++◌, Option, Some, None, is_none}
 use Rattle.cap_bytes.specs.declared.faults.Refusal.{Refusal}
 use Rattle.cap_bytes.specs.declared.faults.Rule.{Rule}
 use Rattle.cap_bytes.specs.declared.faults.Rule.TheVariants.{NoTime, LinkMixed, Inexact, TimeRange, NoInterface}

@@ -17,7 +17,8 @@ HasTime fraction meta units (Ok time) =
     (whole_time fraction meta.interface units ≡ Some (pos time.seconds, time.fraction))
     × (time_fault (whole_time fraction meta.interface units) ≡ None)
 HasTime fraction meta units (Err (Refused refusal)) =
-    (rule : Rule) × (time_fault (whole_time fraction meta.interface units) ≡ Some rule) × (refusal ≡ refusal_at meta rule)
+    (rule : Rule) × (time_fault (whole_time fraction meta.interface units) ≡ Some rule)
+    × (refusal ≡ refusal_at meta rule)
 HasTime fraction meta units (Err (Read file offset)) = ⊥
 HasTime fraction meta units (Err Write) = ⊥
 HasTime fraction meta units (Err Memory) = ⊥

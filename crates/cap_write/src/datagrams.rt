@@ -55,7 +55,8 @@ fn has_form(transport: Transport) -> bool
 
 // Whether all of a datagram's data was captured, and has the form of its protocol.
 fn is_complete(header: &Header, captured: &[u8], size: u32) -> bool
-    ensures { result ≡ ((length captured.now == size) && has_form (transport_of header.now.key.protocol captured.now size)) }
+    ensures { result ≡ ((length captured.now == size)
+        && has_form (transport_of header.now.key.protocol captured.now size)) }
 {
     captured.len() == size as usize && has_form(transport(header.key().protocol, captured, size))
 }
@@ -112,14 +113,17 @@ fn stamped_of(run: &PlacedPacket<'_>) -> Stamped
     }
 }
 
-// Takes the IPv4 packet that a packet of a run carries, and puts the datagram that it completes, if it does, into the room.
+// Takes the IPv4 packet that a packet of a run carries, and puts the datagram that it completes, if it does, into the
+// room.
 fn take_ipv4(joining: &mut Joining, run: &PlacedPacket<'_>, bytes: &[u8]) -> Result<bool, Fault>
     requires stands { Stands joining.old.joiner }
     requires place { joining.old.joiner.next ≤ run.now.place }
     ensures filled { IfOk result (λ some. (events : List Event) → StandsFor joining.old.joiner events →
-        IsFilled (completed_in (read_of bytes.now (whole_in run.now)) run.now.clock (stamped_in run.now) events) some joining.new.packet.items) }
+        IsFilled (completed_in (read_of bytes.now (whole_in run.now)) run.now.clock (stamped_in run.now) events) some
+        joining.new.packet.items) }
     ensures stands { OnOk result ((events : List Event) → StandsFor joining.old.joiner events →
-        StandsFor joining.new.joiner (events_with (read_of bytes.now (whole_in run.now)) run.now.clock (stamped_in run.now) events)) }
+        StandsFor joining.new.joiner (events_with (read_of bytes.now (whole_in run.now)) run.now.clock
+        (stamped_in run.now) events)) }
     ensures next { OnOk result (joining.new.joiner.next ≤ run.now.place + 1) }
     ensures short { IfOk result (λ some. IsTrue some → length joining.new.packet.items ≤ 65535) }
     ensures fault { IsOkUnless result Fault.Memory }
@@ -142,9 +146,11 @@ pub(crate) fn take_packet(joining: &mut Joining, run: &PlacedPacket<'_>) -> Resu
     requires stands { Stands joining.old.joiner }
     requires place { joining.old.joiner.next ≤ run.now.place }
     ensures filled { IfOk result (λ some. (events : List Event) → StandsFor joining.old.joiner events →
-        IsFilled (completed run.now.place events run.now.clock run.now.meta.now run.now.frame.now) some joining.new.packet.items) }
+        IsFilled (completed run.now.place events run.now.clock run.now.meta.now run.now.frame.now) some
+        joining.new.packet.items) }
     ensures stands { OnOk result ((events : List Event) → StandsFor joining.old.joiner events →
-        StandsFor joining.new.joiner (events_after run.now.place events run.now.clock run.now.meta.now run.now.frame.now)) }
+        StandsFor joining.new.joiner
+        (events_after run.now.place events run.now.clock run.now.meta.now run.now.frame.now)) }
     ensures next { OnOk result (joining.new.joiner.next ≤ run.now.place + 1) }
     ensures short { IfOk result (λ some. IsTrue some → length joining.new.packet.items ≤ 65535) }
     ensures fault { IsOkUnless result Fault.Memory }

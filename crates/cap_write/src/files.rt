@@ -34,7 +34,8 @@ pub fn to_pcapng<R: Source, W: Sink>(
         (W.held writer.old) result (W.held writer.new) }
     ensures writer { WriterKeeps (writer_of W.Sink writer.old) (is_write result) (writer_of W.Sink writer.new) }
     ensures walks { Walks (feed_of capture.old) result (feed_of capture.new) }
-    ensures endings { OnOk result (IsTrue (feed_of capture.old).told → SameEndings (feed_of capture.old) (feed_of capture.new)) }
+    ensures endings { OnOk result (IsTrue (feed_of capture.old).told
+        → SameEndings (feed_of capture.old) (feed_of capture.new)) }
     ensures memory { IfMemory result (IsAtPacket (feed_of capture.new).known
         ⊎ (IsTrue (feed_of capture.old).told → IsSome (first_of capture.old))) }
     ensures keeps { Keeps (feed_of capture.old) (feed_of capture.new) }
@@ -63,7 +64,8 @@ pub fn to_pcap<R: Source, W: Sink>(
         (W.held writer.old) result (W.held writer.new) }
     ensures writer { WriterKeeps (writer_of W.Sink writer.old) (is_write result) (writer_of W.Sink writer.new) }
     ensures walks { Walks (feed_of capture.old) result (feed_of capture.new) }
-    ensures endings { OnOk result (IsTrue (feed_of capture.old).told → SameEndings (feed_of capture.old) (feed_of capture.new)) }
+    ensures endings { OnOk result (IsTrue (feed_of capture.old).told
+        → SameEndings (feed_of capture.old) (feed_of capture.new)) }
     ensures memory { IfMemory result ((feed_of capture.new).known ≡ None) }
     ensures keeps { Keeps (feed_of capture.old) (feed_of capture.new) }
 {

@@ -52,8 +52,8 @@ fn is_full(origins: &Origins, meta: &Meta) -> bool
     origins.len() >= WRITTEN_INTERFACE_LIMIT && !origins.contains(&(meta.file, meta.instance))
 }
 
-// Whether a packet's interface is the first that was used. Of a file with one interface all are, and this costs less than
-// to look it up.
+// Whether a packet's interface is the first that was used. Of a file with one interface all are, and this costs less
+// than to look it up.
 fn is_first(origins: &Origins, meta: &Meta) -> bool
     ensures { result ≡ is_first origins.now.keys meta.now }
 {

@@ -1,5 +1,5 @@
 //! Files of whole datagrams.
-ghost use Rattle.std.specs.Prelude.{◌≡◌, ◌+◌, ◌≤◌, ◌<◌, ◌^◌, length, List, [], IsSome, IsTrue, OnOk};
+ghost use Rattle.std.specs.Prelude.{◌≡◌, ◌+◌, ◌≤◌, ◌<◌, ◌^◌, length, List, [], IsSome, IsTrue, OnOk, None};
 ghost use Rattle.cap_bytes.specs.Device.{WriterKeeps, writer_of};
 ghost use Rattle.cap_bytes.specs.Printing.{Prints, IsRead, is_write};
 ghost use Rattle.cap_join.specs.History.{Event};
@@ -9,15 +9,15 @@ ghost use Rattle.cap_merge.specs.View.{parts_of};
 ghost use Rattle.cap_source.specs.Feed.{Keeps};
 ghost use Rattle.cap_source.specs.Walk.{Walks, SameEndings};
 ghost use Rattle.cap_source.specs.Growing.{IfMemory, IsAtPacket};
-ghost use Rattle.cap_write.specs.Datagrams.{Stands, origins_behind};
+ghost use Rattle.cap_write.specs.Datagrams.{Stands};
+ghost use Rattle.cap_write.specs.Forms.{IsFew, form_behind, form_refusal, form_stop, form_text, state_of};
 ghost use Rattle.cap_write.specs.Joined.{datagram_meta, events_after, joined_items, joined_bytes, joined_refusal};
-ghost use Rattle.cap_write.specs.Numbering.{refusal_in};
+ghost use Rattle.cap_write.specs.PcapRun.{joined_pcap_bytes, joined_pcap_refusal};
 ghost use Rattle.cap_write.specs.PlacedPackets.{items_in};
-ghost use Rattle.cap_write.specs.Texts.{text_behind};
 
 use crate::datagrams::take_packet;
+use crate::forms::{Form, end_of, put_in};
 use crate::interfaces::{Origins, units_of};
-use crate::packets::put_one;
 use crate::placed_packets::{Joining, PlacedPacket};
 use cap_blocks::put_section;
 use cap_bytes::{Fault, Order, Sink};
@@ -54,26 +54,27 @@ fn datagram_meta(meta: &Meta, size: u32) -> Meta
 
 // Writes the datagram that a packet of a run completes, if it does.
 fn put_completed<W: Sink>(
-    origins: &mut Origins,
+    form: &mut Form,
     joining: &mut Joining,
     order: Order,
     run: &PlacedPacket<'_>,
     writer: &mut W,
 ) -> Result<(), Fault>
-    requires limit { length origins.old.keys ≤ 1024 }
+    requires limit { IsFew (state_of form.old) }
     requires stands { Stands joining.old.joiner }
     requires place { joining.old.joiner.next ≤ run.now.place }
     ensures text { IsTrue (W.tells_held writer.old) → (events : List Event) → StandsFor joining.old.joiner events
-        → Prints (text_behind order origins.old.keys (items_in run.now events))
-        (refusal_in origins.old.keys (items_in run.now events))
+        → Prints (form_text order (state_of form.old) (items_in run.now events))
+        (form_stop (state_of form.old) (items_in run.now events))
         (W.held writer.old) result (W.held writer.new) }
-    ensures origins { OnOk result ((events : List Event) → StandsFor joining.old.joiner events
-        → (origins.new.keys ≡ origins_behind origins.old.keys (items_in run.now events))
-        × (refusal_in origins.old.keys (items_in run.now events) ≡ None)) }
+    ensures form { OnOk result ((events : List Event) → StandsFor joining.old.joiner events
+        → (state_of form.new ≡ form_behind (state_of form.old) (items_in run.now events))
+        × (form_stop (state_of form.old) (items_in run.now events) ≡ None)) }
     ensures stands { OnOk result ((events : List Event) → StandsFor joining.old.joiner events
-        → StandsFor joining.new.joiner (events_after run.now.place events run.now.clock run.now.meta.now run.now.frame.now)) }
+        → StandsFor joining.new.joiner
+        (events_after run.now.place events run.now.clock run.now.meta.now run.now.frame.now)) }
     ensures next { OnOk result (joining.new.joiner.next ≤ run.now.place + 1) }
-    ensures limit { length origins.new.keys ≤ 1024 }
+    ensures limit { IsFew (state_of form.new) }
     ensures writer { WriterKeeps (writer_of W.Sink writer.old) (is_write result) (writer_of W.Sink writer.new) }
     ensures read { IsRead result → ⊥ }
     ensures memory { IfMemory result (IsSome run.now.meta.now.units) }
@@ -81,28 +82,29 @@ fn put_completed<W: Sink>(
     units_of(run.meta)?;
     if take_packet(joining, run)? {
         let meta = datagram_meta(run.meta, joining.packet.len() as u32);
-        put_one(origins, order, &meta, joining.packet.as_slice(), writer)
+        put_in(form, order, &meta, joining.packet.as_slice(), writer)
     } else {
         Ok(())
     }
 }
 
-// Writes the datagrams of a run after the interfaces of `origins` were described.
+// Writes the datagrams of a run, after what was written before.
 fn put_joined<F: PacketFeed, W: Sink>(
     alloc: Global,
     merged: &mut Merged<F>,
     order: Order,
-    origins: &mut Origins,
+    form: &mut Form,
     writer: &mut W,
 ) -> Result<(), Fault>
-    requires limit { length origins.old.keys ≤ 1024 }
+    requires limit { IsFew (state_of form.old) }
     ensures text { IsTrue (feed_of (parts_of merged.old)).told → IsTrue (W.tells_held writer.old)
-        → Prints (text_behind order origins.old.keys (joined_items 0 [] (run_of (parts_of merged.old))))
-        (refusal_in origins.old.keys (joined_items 0 [] (run_of (parts_of merged.old))))
+        → Prints (form_text order (state_of form.old) (joined_items 0 [] (run_of (parts_of merged.old))))
+        (form_refusal (state_of form.old) (joined_items 0 [] (run_of (parts_of merged.old))))
         (W.held writer.old) result (W.held writer.new) }
     ensures writer { WriterKeeps (writer_of W.Sink writer.old) (is_write result) (writer_of W.Sink writer.new) }
     ensures walks { Walks (feed_of (parts_of merged.old)) result (feed_of (parts_of merged.new)) }
-    ensures endings { OnOk result (IsTrue (feed_of (parts_of merged.old)).told → SameEndings (feed_of (parts_of merged.old)) (feed_of (parts_of merged.new))) }
+    ensures endings { OnOk result (IsTrue (feed_of (parts_of merged.old)).told
+        → SameEndings (feed_of (parts_of merged.old)) (feed_of (parts_of merged.new))) }
     ensures memory { IfMemory result (IsAtPacket (feed_of (parts_of merged.new)).known) }
     ensures keeps { Keeps (feed_of (parts_of merged.old)) (feed_of (parts_of merged.new)) }
 {
@@ -120,11 +122,11 @@ fn put_joined<F: PacketFeed, W: Sink>(
             meta: &meta,
             frame: merged.frame(),
         };
-        put_completed(origins, &mut joining, order, &run, writer)?;
+        put_completed(form, &mut joining, order, &run, writer)?;
         merged.pass();
         place += 1;
     }
-    Ok(())
+    end_of(form)
 }
 
 /// Writes the datagrams of a run of packets as a pcapng file (draft-ietf-opsawg-pcapng, 4) of one section in
@@ -149,11 +151,43 @@ pub fn write_joined<F: PacketFeed, W: Sink>(
         (W.held writer.old) result (W.held writer.new) }
     ensures writer { WriterKeeps (writer_of W.Sink writer.old) (is_write result) (writer_of W.Sink writer.new) }
     ensures walks { Walks (feed_of (parts_of merged.old)) result (feed_of (parts_of merged.new)) }
-    ensures endings { OnOk result (IsTrue (feed_of (parts_of merged.old)).told → SameEndings (feed_of (parts_of merged.old)) (feed_of (parts_of merged.new))) }
+    ensures endings { OnOk result (IsTrue (feed_of (parts_of merged.old)).told
+        → SameEndings (feed_of (parts_of merged.old)) (feed_of (parts_of merged.new))) }
     ensures memory { IfMemory result (IsAtPacket (feed_of (parts_of merged.new)).known) }
     ensures keeps { Keeps (feed_of (parts_of merged.old)) (feed_of (parts_of merged.new)) }
 {
     put_section(writer, order)?;
-    let mut origins = Origins::new(alloc);
-    put_joined(alloc, merged, order, &mut origins, writer)
+    let mut numbered = Form::Pcapng(Origins::new(alloc));
+    put_joined(alloc, merged, order, &mut numbered, writer)
+}
+
+/// Writes the datagrams of a run of packets as a pcap file (draft-ietf-opsawg-pcap, 4 and 5) in that byte order: the
+/// datagrams that `write_joined` writes, with link 101 and no snaplen, in microseconds if each unit of the first
+/// datagram's interface is a whole number of them, else in nanoseconds.
+///
+/// `Refused` comes at a packet that has no time (rule 17, no-time), whatever it holds, at one that completes a datagram
+/// and has a time that isn't whole in that fraction (19, inexact) or one whose seconds are below 0 or above
+/// 4,294,967,295 (20, time-range), and if the run ends in a refusal: what is written is the text of the datagrams
+/// before it. The header is written with the first datagram; if none comes, nothing is written, and unless the run ends
+/// in a refusal rule 21, no-interface, is answered of file 1. After `Read`, `Write` or `Memory` a prefix of the text is
+/// written.
+pub fn write_joined_pcap<F: PacketFeed, W: Sink>(
+    alloc: Global,
+    merged: &mut Merged<F>,
+    order: Order,
+    writer: &mut W,
+) -> Result<(), Fault>
+    ensures text { IsTrue (feed_of (parts_of merged.old)).told → IsTrue (W.tells_held writer.old)
+        → Prints (joined_pcap_bytes order (run_of (parts_of merged.old)))
+        (joined_pcap_refusal (run_of (parts_of merged.old)))
+        (W.held writer.old) result (W.held writer.new) }
+    ensures writer { WriterKeeps (writer_of W.Sink writer.old) (is_write result) (writer_of W.Sink writer.new) }
+    ensures walks { Walks (feed_of (parts_of merged.old)) result (feed_of (parts_of merged.new)) }
+    ensures endings { OnOk result (IsTrue (feed_of (parts_of merged.old)).told
+        → SameEndings (feed_of (parts_of merged.old)) (feed_of (parts_of merged.new))) }
+    ensures memory { IfMemory result (IsAtPacket (feed_of (parts_of merged.new)).known) }
+    ensures keeps { Keeps (feed_of (parts_of merged.old)) (feed_of (parts_of merged.new)) }
+{
+    let mut headed = Form::Pcap(None);
+    put_joined(alloc, merged, order, &mut headed, writer)
 }

@@ -1,9 +1,10 @@
-//! Written files: the packets of a feed in either format, one capture file, the packets of several in one order, or the datagrams of
-//! these; exactly as they were read, or a refusal.
+//! Written files: the packets of a feed in either format, one capture file, the packets of several in one order, or the
+//! datagrams of these; exactly as they were read, or a refusal.
 #![tactic(auto)]
 
 mod datagrams;
 mod files;
+mod forms;
 mod interfaces;
 mod joined;
 mod merged;
@@ -13,5 +14,5 @@ mod pcapng;
 mod placed_packets;
 
 pub use crate::files::{to_pcap, to_pcapng};
-pub use crate::joined::write_joined;
-pub use crate::merged::write_merged;
+pub use crate::joined::{write_joined, write_joined_pcap};
+pub use crate::merged::{write_merged, write_merged_pcap};

@@ -1,17 +1,19 @@
 //! Merged files.
-ghost use Rattle.std.specs.Prelude.{IsTrue, OnOk};
+ghost use Rattle.std.specs.Prelude.{◌≡◌, IsTrue, OnOk, None};
 ghost use Rattle.cap_bytes.specs.Device.{WriterKeeps, writer_of};
 ghost use Rattle.cap_bytes.specs.Printing.{Prints, is_write};
 ghost use Rattle.cap_source.specs.Feed.{Keeps};
 ghost use Rattle.cap_source.specs.Walk.{Walks, SameEndings};
 ghost use Rattle.cap_source.specs.Growing.{IfMemory, IsAtPacket};
+ghost use Rattle.cap_write.specs.PcapRun.{run_bytes, run_refusal};
 ghost use Rattle.cap_write.specs.Texts.{merged_bytes, merged_refusal};
 
-use crate::interfaces::Origins;
+use crate::interfaces::{Origins, units_of};
 use crate::packets::put_packets;
+use crate::pcap::{no_interface, put_file};
 use cap_blocks::put_section;
 use cap_bytes::{Fault, Order, Sink};
-use cap_source::PacketFeed;
+use cap_source::{PacketFeed, next_packet};
 use std::alloc::Global;
 
 /// Writes the packets of a feed as a pcapng file (draft-ietf-opsawg-pcapng, 4) of one section in that byte
@@ -37,4 +39,35 @@ pub fn write_merged<F: PacketFeed, W: Sink>(
     put_section(writer, order)?;
     let mut origins = Origins::new(alloc);
     put_packets(feed, order, &mut origins, writer)
+}
+
+/// Writes the packets of a feed as a pcap file (draft-ietf-opsawg-pcap, 4 and 5) in that byte order, with the link and
+/// the snaplen of the first packet's interface, in microseconds if each unit of that interface is a whole number of
+/// them, else in nanoseconds. `Refused` comes, in this order, at a packet that has no time (rule 17, no-time), has
+/// another link (18, link-mixed), has a time that isn't whole in that fraction (19, inexact) or one whose seconds are
+/// below 0 or above 4,294,967,295 (20, time-range), and if the feed's packets end in a refusal: what is written is the
+/// text of the packets before it. Nothing is written if the first packet has no time, or if no packet comes: then rule
+/// 21, no-interface, is answered of file 1, unless the feed ends in a refusal. After `Read`, `Write` or `Memory` a
+/// prefix of the text is written.
+pub fn write_merged_pcap<F: PacketFeed, W: Sink>(
+    feed: &mut F,
+    order: Order,
+    writer: &mut W,
+) -> Result<(), Fault>
+    ensures text { IsTrue (F.feed feed.old).told → IsTrue (W.tells_held writer.old)
+        → Prints (run_bytes order (F.feed feed.old).items) (run_refusal (F.feed feed.old).items)
+        (W.held writer.old) result (W.held writer.new) }
+    ensures writer { WriterKeeps (writer_of W.Sink writer.old) (is_write result) (writer_of W.Sink writer.new) }
+    ensures walks { Walks (F.feed feed.old) result (F.feed feed.new) }
+    ensures endings { OnOk result (IsTrue (F.feed feed.old).told → SameEndings (F.feed feed.old) (F.feed feed.new)) }
+    ensures memory { IfMemory result ((F.feed feed.new).known ≡ None) }
+    ensures keeps { Keeps (F.feed feed.old) (F.feed feed.new) }
+{
+    match next_packet(feed)? {
+        Some(meta) => {
+            units_of(&meta)?;
+            put_file(feed, order, &meta.interface, writer)
+        }
+        None => Err(no_interface(1)),
+    }
 }

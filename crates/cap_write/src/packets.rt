@@ -1,5 +1,6 @@
 //! The packets of a feed, written one by one in the form of pcapng.
-ghost use Rattle.std.specs.Prelude.{◌≡◌, ◌+◌, ◌≤◌, ◌++◌, length, IsTrue, is_err, IsOkUnless, OnOk, None, if◌then◌else◌, ◌==◌, []};
+ghost use Rattle.std.specs.Prelude.{◌≡◌, ◌+◌, ◌≤◌, ◌++◌, length, IsTrue, is_err, IsOkUnless, OnOk, None, if◌then◌else◌};
+ghost use Rattle.std.specs.Prelude.{◌==◌, []};
 ghost use Rattle.cap_bytes.specs.Device.{Puts, WriterKeeps, writer_of};
 ghost use Rattle.cap_bytes.specs.Printing.{Prints, IsRead, is_write};
 ghost use Rattle.cap_blocks.specs.Grammar.{interface_bytes, packet_bytes};
@@ -80,7 +81,8 @@ pub(crate) fn put_one<W: Sink>(
         → Prints (one_bytes order origins.old.keys meta.now frame.now)
         (refusal_by meta.now (write_fault origins.old.keys meta.now))
         (W.held writer.old) result (W.held writer.new) }
-    ensures origins { OnOk result ((origins.new.keys ≡ with_origin origins.old.keys meta.now) × (write_fault origins.old.keys meta.now ≡ None)) }
+    ensures origins { OnOk result ((origins.new.keys ≡ with_origin origins.old.keys meta.now)
+        × (write_fault origins.old.keys meta.now ≡ None)) }
     ensures limit { length origins.new.keys ≤ 1024 }
     ensures writer { WriterKeeps (writer_of W.Sink writer.old) (is_write result) (writer_of W.Sink writer.new) }
     ensures read { IsRead result → ⊥ }

@@ -1,11 +1,12 @@
 //! A feed written as a pcap file.
-ghost use Rattle.std.specs.Prelude.{◌≡◌, ◌≤◌, length, IsTrue, IsFalse, OnOk, Some, None};
+ghost use Rattle.std.specs.Prelude.{◌≡◌, ◌≤◌, [], length, IsTrue, IsFalse, OnOk, Some, None};
 ghost use Rattle.cap_bytes.specs.Device.{WriterKeeps, writer_of};
 ghost use Rattle.cap_bytes.specs.Printing.{Prints, IsRead, is_write};
 ghost use Rattle.cap_source.specs.Feed.{Keeps};
 ghost use Rattle.cap_source.specs.Walk.{Walks, SameEndings};
 ghost use Rattle.cap_source.specs.Growing.{IfMemory};
-ghost use Rattle.cap_write.specs.Pcap.{fraction_of, header_of, packet_record, record_fault, records_bytes, records_refusal, pcap_bytes, pcap_refusal};
+ghost use Rattle.cap_write.specs.Pcap.{fraction_of, header_of, packet_record, record_fault, records_bytes};
+ghost use Rattle.cap_write.specs.Pcap.{records_refusal, pcap_bytes, pcap_refusal, bare_refusal};
 ghost use Rattle.cap_write.specs.Times.{HasTime, HasRecord, IsBare};
 ghost use Rattle.cap_write.specs.Texts.{text_or};
 ghost use Rattle.cap_write.specs.Numbering.{refusal_by};
@@ -31,8 +32,8 @@ fn fraction_of(first: &Interface) -> Unit
     }
 }
 
-// The header that is written.
-fn header_of(order: Order, first: &Interface) -> PcapHeader
+/// The header that is written.
+pub(crate) fn header_of(order: Order, first: &Interface) -> PcapHeader
     ensures { result ≡ header_of order first.now }
 {
     PcapHeader {
@@ -68,8 +69,8 @@ fn written_time(first: &Interface, meta: &Meta) -> Result<RecordTime, Fault>
     time_of(units, fraction_of(first), meta)
 }
 
-// Writes a packet, or answers why it isn't written.
-fn put_one<W: Sink>(
+/// Writes a packet after the header of that interface, or answers why it isn't written.
+pub(crate) fn put_after_header<W: Sink>(
     first: &Interface,
     order: Order,
     meta: &Meta,
@@ -108,14 +109,14 @@ fn put_records<F: PacketFeed, W: Sink>(
     ensures keeps { Keeps (F.feed feed.old) (F.feed feed.new) }
 {
     while let Some(meta) = next_packet(feed)? {
-        put_one(first, order, &meta, feed.frame(), writer)?;
+        put_after_header(first, order, &meta, feed.frame(), writer)?;
         feed.pass();
     }
     Ok(())
 }
 
-// Writes a header and the packets of a feed after it.
-fn put_file<F: PacketFeed, W: Sink>(
+/// Writes a header and the packets of a feed after it.
+pub(crate) fn put_file<F: PacketFeed, W: Sink>(
     feed: &mut F,
     order: Order,
     first: &Interface,
@@ -135,6 +136,17 @@ fn put_file<F: PacketFeed, W: Sink>(
     put_records(feed, order, first, writer)
 }
 
+/// The refusal of a file of that number that describes no interface.
+pub(crate) fn no_interface(file: u32) -> Fault
+    ensures { result ≡ Fault.Refused (bare_refusal file []) }
+{
+    Fault::Refused(Refusal {
+        file,
+        offset: 0,
+        rule: Rule::NoInterface,
+    })
+}
+
 // Answers the refusal of a file that describes no interface: its own, or that it describes none.
 fn refuse_bare<F: PacketFeed>(feed: &mut F, file: u32) -> Result<(), Fault>
     ensures text { IsTrue (F.feed feed.old).told
@@ -147,21 +159,18 @@ fn refuse_bare<F: PacketFeed>(feed: &mut F, file: u32) -> Result<(), Fault>
 {
     match feed.head()? {
         Head::Refused(refusal) => Err(Fault::Refused(refusal)),
-        Head::Packet(_) | Head::End => Err(Fault::Refused(Refusal {
-            file,
-            offset: 0,
-            rule: Rule::NoInterface,
-        })),
+        Head::Packet(_) | Head::End => Err(no_interface(file)),
     }
 }
 
-/// Writes the packets of a feed as the pcap file (draft-ietf-opsawg-pcap, 4 and 5), in that byte order, of a file of that number with
-/// that first interface: with its link and its snaplen, in microseconds if each of its units is a whole number of them, else in
-/// nanoseconds. `Refused` comes, in this order, at a packet that has no time (rule 17, no-time), has another link (18, link-mixed),
-/// has a time that isn't whole in that fraction (19, inexact) or one whose seconds are below 0 or above 4,294,967,295 (20,
-/// time-range), and if the feed's items end in a refusal: what is written is the text of the packets before it. If there is no
-/// first interface, the feed's own refusal, or rule 21, no-interface, is answered, and nothing is written. After `Read`, `Write`
-/// or `Memory` a prefix of the text is written.
+/// Writes the packets of a feed as the pcap file (draft-ietf-opsawg-pcap, 4 and 5), in that byte order, of a file of
+/// that number with that first interface: with its link and its snaplen, in microseconds if each of its units is a
+/// whole number of them, else in nanoseconds. `Refused` comes, in this order, at a packet that has no time (rule 17,
+/// no-time), has another link (18, link-mixed), has a time that isn't whole in that fraction (19, inexact) or one whose
+/// seconds are below 0 or above 4,294,967,295 (20, time-range), and if the feed's items end in a refusal: what is
+/// written is the text of the packets before it. If there is no first interface, the feed's own refusal, or rule 21,
+/// no-interface, is answered, and nothing is written. After `Read`, `Write` or `Memory` a prefix of the text is
+/// written.
 pub(crate) fn put_pcap<F: PacketFeed, W: Sink>(
     feed: &mut F,
     start: FileStart,

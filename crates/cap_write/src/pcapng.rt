@@ -55,11 +55,11 @@ fn put_front<W: Sink>(writer: &mut W, order: Order, first: Option<Interface>) ->
     put_first(writer, order, first)
 }
 
-/// Writes the packets of a feed as the pcapng file (draft-ietf-opsawg-pcapng, 4), of one section in that byte order, of a file of
-/// that number: its first interface, if there is one, right after the section header, and each other interface in front of its
-/// first packet. `Refused` comes at a packet that has no time (rule 17, no-time), at one whose interface would be the 1,025th (rule
-/// 13, interface-limit), and if the feed's items end in a refusal: what is written is the text of the packets before it. After
-/// `Read`, `Write` or `Memory` a prefix of the text is written.
+/// Writes the packets of a feed as the pcapng file (draft-ietf-opsawg-pcapng, 4), of one section in that byte order, of
+/// a file of that number: its first interface, if there is one, right after the section header, and each other
+/// interface in front of its first packet. `Refused` comes at a packet that has no time (rule 17, no-time), at one
+/// whose interface would be the 1,025th (rule 13, interface-limit), and if the feed's items end in a refusal: what is
+/// written is the text of the packets before it. After `Read`, `Write` or `Memory` a prefix of the text is written.
 pub(crate) fn put_pcapng<F: PacketFeed, W: Sink>(
     alloc: Global,
     feed: &mut F,
@@ -74,7 +74,8 @@ pub(crate) fn put_pcapng<F: PacketFeed, W: Sink>(
     ensures writer { WriterKeeps (writer_of W.Sink writer.old) (is_write result) (writer_of W.Sink writer.new) }
     ensures walks { Walks (F.feed feed.old) result (F.feed feed.new) }
     ensures endings { OnOk result (IsTrue (F.feed feed.old).told → SameEndings (F.feed feed.old) (F.feed feed.new)) }
-    ensures memory { IfMemory result (IsAtPacket (F.feed feed.new).known ⊎ (IsSome start.first × (F.feed feed.new ≡ F.feed feed.old))) }
+    ensures memory { IfMemory result (IsAtPacket (F.feed feed.new).known
+        ⊎ (IsSome start.first × (F.feed feed.new ≡ F.feed feed.old))) }
     ensures keeps { Keeps (F.feed feed.old) (F.feed feed.new) }
 {
     let mut origins = first_origins(alloc, start)?;

@@ -1,8 +1,12 @@
 //! The program `capt`: packet captures, read, reported, converted, merged and joined by proved code.
 #![tactic(auto)]
 
-ghost use Rattle.std.specs.Prelude.{◌≡◌, ◌⊎◌, IfErr, IfOk, vec_len};
+ghost use Rattle.std.specs.Prelude.{◌≡◌, ◌⊎◌, IfErr, IfOk, IsFalse, map, string_bytes, vec_len, Result};
+ghost use Rattle.cap_line.specs.CommandLine.{Parses};
 ghost use Rattle.cap_line.specs.Jobs.{IsWhole};
+ghost use Rattle.cap_line.specs.declared.faults.LineFault.{LineFault};
+ghost use Rattle.cap_line.specs.declared.jobs.Job.{Job};
+ghost use Rattle.cap_tool.specs.Outcomes.{is_help};
 
 use cap_bytes::{Fault, Source, Tracked, put_all};
 use cap_line::{Job, LineFault, NOT_UTF_8, USAGE, message, parse};
@@ -19,8 +23,8 @@ use std::process::ExitCode;
 use std::rt::{Env, Files};
 use std::time::Clock;
 
-// How many bytes wait for a write: none at a terminal, if each line is seen as it comes. A write that begins or ends within a page
-// costs the system more, so few and large ones are made.
+// How many bytes wait for a write: none at a terminal, if each line is seen as it comes. A write that begins or ends
+// within a page costs the system more, so few and large ones are made.
 fn output_buffer(is_terminal: bool) -> usize {
     if is_terminal { 0 } else { 262_144 }
 }
@@ -45,11 +49,25 @@ fn shared(alloc: Global, output: Output) -> Result<SharedOutput, Outcome> {
     }
 }
 
-// What a job leaves out of what it writes, which is counted if it is told.
+// What a job leaves out of what it writes. At a terminal, or if words ask for it, that is counted and a failure is
+// explained.
 #[derive(Drop)]
 struct Told {
     counts: bool,
     left: Left,
+}
+
+impl Told {
+    fn new(counts: bool) -> Told {
+        Told {
+            counts,
+            left: Left {
+                skipped: 0,
+                named: 0,
+                ran_back: 0,
+            },
+        }
+    }
 }
 
 // Does a job, and flushes what waits in the output's buffer.
@@ -195,15 +213,6 @@ fn stop_of(answer: Result<(), Stop>) -> Stop {
     }
 }
 
-// Whether more is told than the line of a fault, at a terminal and where that is asked for: which file it is of, and what
-// is left out of what was written.
-fn explains(faults: Stderr, job: Option<&Job<'_>>) -> bool {
-    match job {
-        Some(job) => job.explain || faults.is_terminal(),
-        None => faults.is_terminal(),
-    }
-}
-
 // Tells more of a run than its line, on standard error: what is left out of what was written, or why it isn't done.
 fn explain<R: Files<File = File> + AllocGlobal>(
     rt: &R,
@@ -219,55 +228,116 @@ fn explain<R: Files<File = File> + AllocGlobal>(
     }
 }
 
+// Tells how a run ended, and more of it if that is asked for: `said` is what is told of words that give no job. Answers
+// how the program ends: as the run did, unless help could not be written.
+fn finish<R: Files<File = File> + AllocGlobal>(
+    rt: &R,
+    streams: StandardStreams,
+    job: Option<&Job<'_>>,
+    stop: Stop,
+    said: &[u8],
+    told: &Told,
+) -> Outcome
+    ensures same { IsFalse (is_help stop.outcome) → result ≡ stop.outcome }
+{
+    let mut faults = Tracked::new(streams.faults);
+    let outcome = tell(
+        stop.outcome,
+        said,
+        &mut Tracked::new(streams.output),
+        &mut faults,
+    );
+    if told.counts {
+        let stop = Stop {
+            outcome,
+            error: stop.error,
+        };
+        explain(rt, job, &stop, &told.left, &mut faults);
+    }
+    outcome
+}
+
+// Does a job, and tells how it ended.
+fn do_job<R: Files<File = File> + Clock + AllocGlobal>(
+    rt: &R,
+    job: &Job<'_>,
+    streams: StandardStreams,
+    has_no_input: bool,
+) -> Outcome
+    requires { IsWhole job.now }
+{
+    let mut told = Told::new(job.explain || streams.faults.is_terminal());
+    let stop = stop_of(run(rt, job, streams, has_no_input, &mut told));
+    finish(rt, streams, Some(job), stop, USAGE.as_bytes(), &told)
+}
+
+// Whether some words ask to explain a failure, even if they give no job.
+fn asks(words: &[String]) -> bool {
+    for word in words.iter() {
+        if word.as_str() == "--explain" {
+            return true;
+        }
+    }
+    false
+}
+
+// Tells why words give no job: ends as that fault, unless help could not be written.
+fn tell_fault<R: Files<File = File> + AllocGlobal>(
+    rt: &R,
+    words: &[String],
+    fault: LineFault,
+    streams: StandardStreams,
+) -> Outcome
+    ensures { IsFalse (is_help (Outcome.Line fault)) → result ≡ Outcome.Line fault }
+{
+    let told = Told::new(asks(words) || streams.faults.is_terminal());
+    let stop = Stop {
+        outcome: Outcome::Line(fault),
+        error: None,
+    };
+    match message(rt.alloc(), words) {
+        Some(text) => finish(rt, streams, None, stop, text.as_bytes(), &told),
+        None => finish(rt, streams, None, stop, USAGE.as_bytes(), &told),
+    }
+}
+
+// Does what the words of a command line ask for, and tells how that ended. Words that give no job end as `parse`
+// answers, unless help could not be written.
+fn run_words<R: Files<File = File> + Clock + AllocGlobal>(
+    rt: &R,
+    words: &[String],
+    streams: StandardStreams,
+    has_no_input: bool,
+) -> Outcome
+    ensures refused { (parsed : Result Job LineFault) × Parses (map string_bytes words.now) parsed
+        × IfErr parsed (λ fault. IsFalse (is_help (Outcome.Line fault)) → result ≡ Outcome.Line fault) }
+{
+    match parse(rt.alloc(), words) {
+        Ok(job) => do_job(rt, &job, streams, has_no_input),
+        Err(fault) => tell_fault(rt, words, fault, streams),
+    }
+}
+
 fn main(rt: HostRuntime) -> ExitCode {
     let closed = Closed::find(&rt, rt.stdin(), rt.stdout(), rt.stderr());
-    let mut output = Tracked::new(rt.stdout());
-    let mut faults = Tracked::new(rt.stderr());
     let streams = StandardStreams {
         input: rt.stdin(),
         output: rt.stdout(),
         faults: rt.stderr(),
     };
-    let ending = match words_of(&rt) {
-        Ok(words) => {
-            let parsed = parse(rt.alloc(), words.as_slice());
-            let mut told = Told {
-                counts: explains(rt.stderr(), parsed.as_ref().ok()),
-                left: Left {
-                    skipped: 0,
-                    ran_back: 0,
-                },
-            };
-            let (stop, said) = match &parsed {
-                Ok(job) => {
-                    let has_no_input = closed.has_no_input();
-                    (
-                        stop_of(run(&rt, job, streams, has_no_input, &mut told)),
-                        None,
-                    )
-                }
-                Err(fault) => {
-                    let stop = Stop::from(Outcome::Line(*fault));
-                    (stop, message(rt.alloc(), words.as_slice()))
-                }
-            };
-            let ending = match said {
-                Some(text) => tell(stop.outcome, text.as_bytes(), &mut output, &mut faults),
-                None => tell(stop.outcome, USAGE.as_bytes(), &mut output, &mut faults),
-            };
-            if told.counts {
-                let stop = Stop {
-                    outcome: ending,
-                    error: stop.error,
-                };
-                explain(&rt, parsed.as_ref().ok(), &stop, &told.left, &mut faults);
-            }
-            ending
-        }
+    let outcome = match words_of(&rt) {
+        Ok(words) => run_words(&rt, words.as_slice(), streams, closed.has_no_input()),
         Err(fault) => {
-            let outcome = Outcome::Line(fault);
-            tell(outcome, NOT_UTF_8.as_bytes(), &mut output, &mut faults)
+            let stop = Stop::from(Outcome::Line(fault));
+            finish(
+                &rt,
+                streams,
+                None,
+                stop,
+                NOT_UTF_8.as_bytes(),
+                &Told::new(false),
+            )
         }
     };
-    ExitCode::from(status_of(&ending))
+    ExitCode::from(status_of(&outcome))
 }

@@ -11,7 +11,8 @@ none [] n t = absurd (true≢false (sym t))
 none (x ∷ xs) zero t = absurd (true≢false (sym t))
 none (x ∷ xs) (suc n) t = none xs n t
 
-pub never_read : {X : Type 0} {A : Type 0} (xs : List X) (answer : Result A Fault) → FailsOf (map (λ _. false) xs) answer → IsRead answer → ⊥
+pub never_read : {X : Type 0} {A : Type 0} (xs : List X) (answer : Result A Fault)
+    → FailsOf (map (λ _. false) xs) answer → IsRead answer → ⊥
 never_read xs (Ok a) fails read = read
 never_read xs (Err (Refused refusal)) fails read = read
 never_read xs (Err (Read file offset)) fails read = none xs (file - 1) fails.1

@@ -3,7 +3,11 @@ use Rattle.std.specs.Prelude.{◌≡◌, ◌≤◌, ◌<◌, ◌⊎◌, ◌-◌,
 use Rattle.std.proofs.Common.{refl, sym, ap, ◌∙◌, arith}
 use Rattle.cap_bytes.specs.Rules.{rule_number}
 use Rattle.cap_bytes.specs.declared.faults.Rule.{Rule}
-use Rattle.cap_bytes.specs.declared.faults.Rule.TheVariants.{Magic, Version, Cut, PacketLong, BlockLength, BlockTrailer, OrderMagic, Captured, InterfaceUnknown, OptionEnd, OptionLength, Resolution, InterfaceLimit, FileLimit, OpenLimit, TalkLimit, NoTime, LinkMixed, Inexact, TimeRange, NoInterface}
+use Rattle.cap_bytes.specs.declared.faults.Rule.TheVariants.{Magic, Version, Cut, PacketLong, BlockLength, BlockTrailer}
+use Rattle.cap_bytes.specs.declared.faults.Rule.TheVariants.{OrderMagic, Captured, InterfaceUnknown, OptionEnd}
+use Rattle.cap_bytes.specs.declared.faults.Rule.TheVariants.{OptionLength, Resolution, InterfaceLimit, FileLimit}
+use Rattle.cap_bytes.specs.declared.faults.Rule.TheVariants.{OpenLimit, TalkLimit, NoTime, LinkMixed, Inexact}
+use Rattle.cap_bytes.specs.declared.faults.Rule.TheVariants.{TimeRange, NoInterface}
 
 -- the rules in the order of their numbers, from 1 on
 abbrev rules : List Rule

@@ -11,7 +11,8 @@ use Rattle.capt_c.specs.declared.sources.Slice.{Slice}
 abbrev reader : List ℕ → Reader
 reader bytes = record { told = true; can_fail = false; bytes = bytes }
 
-by_rests : (slices : List Slice) → map (reader_of (λ _. true) (λ _. false) rest_of) slices ≡ map reader (map rest_of slices)
+by_rests : (slices : List Slice) → map (reader_of (λ _. true) (λ _. false) rest_of) slices
+    ≡ map reader (map rest_of slices)
 by_rests [] = refl
 by_rests (slice ∷ slices) = ap (λ (rs : List Reader). reader (rest_of slice) ∷ rs) (by_rests slices)
 
@@ -21,4 +22,5 @@ by_bytes (file ∷ files) = ap (λ (rs : List Reader). reader (bytes_of file) �
 
 pub same-readers : (slices : List Slice) (files : List Bytes) → map rest_of slices ≡ map bytes_of files
     → map (reader_of (λ _. true) (λ _. false) rest_of) slices ≡ map reader_of_file files
-same-readers slices files same = by_rests slices ∙ ap (λ (bs : List (List ℕ)). map reader bs) same ∙ sym (by_bytes files)
+same-readers slices files same = by_rests slices ∙ ap (λ (bs : List (List ℕ)). map reader bs) same
+    ∙ sym (by_bytes files)

@@ -29,8 +29,8 @@ Shown items answer len status place (Some (helds.Text text)) =
     (text.items ≡ items) × (len ≡ length items)
     × (status ≡ status_of_result (by_memory answer)) × (place ≡ place_of_result (by_memory answer))
 
--- A caller is shown a text of that length that was made as `Does` says, from nothing, and how the job ended; or nothing for want of
--- memory.
+-- A caller is shown a text of that length that was made as `Does` says, from nothing, and how the job ended; or nothing
+-- for want of memory.
 abbrev pub Ends : (List ℕ → Result Unit Fault → List ℕ → Type 0) → ℕ → ℕ → Place → Option Held → Type 0
 Ends Does len status place held =
     (answer : Result Unit Fault) × (items : List ℕ) × Does [] answer items × Shown items answer len status place held

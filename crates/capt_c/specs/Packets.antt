@@ -1,5 +1,6 @@
 -- What is told of a packet in numbers, and what a call for the next one does.
-use Rattle.std.specs.Prelude.{◌≡◌, ℕ, ◌^◌, ◌≤◌, length, take, ℤ, pos, ◌+ℤ◌, ◌*ℤ◌, List, [], ◌∷◌, Bool, true, false, IsTrue, Option, Some, None, IfSome, Result, Ok, Err}
+use Rattle.std.specs.Prelude.{◌≡◌, ℕ, ◌^◌, ◌≤◌, length, take, ℤ, pos, ◌+ℤ◌, ◌*ℤ◌, List, [], ◌∷◌, Bool, true, false}
+use Rattle.std.specs.Prelude.{IsTrue, Option, Some, None, IfSome, Result, Ok, Err}
 use Rattle.cap_bytes.specs.declared.faults.Fault.{Fault}
 use Rattle.cap_bytes.specs.declared.faults.Fault.TheVariants.{Refused, Read, Write, Memory}
 use Rattle.cap_source.specs.Feed.{Feed, Item, Breaks, packet, refused}
@@ -33,12 +34,14 @@ answer_of (heads.Packet meta) = Ok true
 answer_of (heads.Refused refusal) = Err (Refused refusal)
 answer_of heads.End = Ok false
 
--- If it was known what comes next, that is what is answered: the end and a refusal, which stay known, come again and again.
+-- If it was known what comes next, that is what is answered: the end and a refusal, which stay known, come again and
+-- again.
 abbrev pub Agrees : Option Head → Result Bool Fault → Type 0
 Agrees known answer = IfSome known (λ head. answer ≡ answer_of head)
 
--- The next packet was told and passed, or it is known that there is none. If the bytes of the capture are known, it was the next of its
--- packets, and the refusal is the one that ends them. After a refused growth the packets to come are the same.
+-- The next packet was told and passed, or it is known that there is none. If the bytes of the capture are known, it was
+-- the next of its packets, and the refusal is the one that ends them. After a refused growth the packets to come are
+-- the same.
 abbrev pub Leaves : Feed → Result Bool Fault → Packet → Feed → Type 0
 Leaves old (Ok true) p new =
     (meta : Meta) × Shows meta p × (IsTrue old.told → (frame : List ℕ) × (old.items ≡ packet meta frame ∷ new.items))
@@ -60,11 +63,13 @@ Told old (p ∷ ps) new =
     (meta : Meta) × (frame : List ℕ) × (rest : List Item)
     × (old ≡ packet meta frame ∷ rest) × Shows meta p × Told rest ps new
 
--- The next packets were told and passed, as many as `count` says, or it is known that there is none: as `Leaves` has it for one.
+-- The next packets were told and passed, as many as `count` says, or it is known that there is none: as `Leaves` has it
+-- for one.
 abbrev pub LeavesMany : Feed → Result Bool Fault → ℕ → List Packet → Feed → Type 0
 LeavesMany old (Ok true) count packets new =
     (1 ≤ count) × (count ≤ length packets) × (IsTrue old.told → Told old.items (take count packets) new.items)
-LeavesMany old (Ok false) count packets new = (count ≡ 0) × (new.known ≡ Some heads.End) × (IsTrue old.told → old.items ≡ [])
+LeavesMany old (Ok false) count packets new = (count ≡ 0) × (new.known ≡ Some heads.End)
+    × (IsTrue old.told → old.items ≡ [])
 LeavesMany old (Err (Refused refusal)) count packets new =
     (count ≡ 0) × (new.known ≡ Some (heads.Refused refusal)) × (IsTrue old.told → old.items ≡ refused refusal ∷ [])
 LeavesMany old (Err (Read file offset)) count packets new = (count ≡ 0) × Breaks old file offset new

@@ -34,8 +34,8 @@ abbrev pub place_of_step : Result Bool Fault → Place
 place_of_step (Ok found) = nowhere
 place_of_step (Err fault) = place_of fault
 
--- A capture is open of which no packet was told; or no memory was found. `told` says whether its bytes are known, which are
--- `bytes` then, and `can_fail` whether its reads can fail.
+-- A capture is open of which no packet was told; or no memory was found. `told` says whether its bytes are known, which
+-- are `bytes` then, and `can_fail` whether its reads can fail.
 abbrev pub Opens : (Reader → Feed) → Tail → Bool → List ℕ → Bool → ℕ → Option Held → Type 0
 Opens feed tail told bytes can_fail status None = status ≡ 5
 Opens feed tail told bytes can_fail status (Some (helds.Text text)) = ⊥
@@ -79,7 +79,7 @@ abbrev pub EndTold : Feed → Result Head Fault → ℕ → End → Type 0
 EndTold feed (Ok (heads.Packet meta)) status end = status ≡ 6
 EndTold feed (Ok (heads.Refused refusal)) status end = status ≡ 6
 EndTold feed (Ok heads.End) status end =
-    (status ≡ 0) × ((file : ℕ) → feed.files ≡ file ∷ [] → ShowsEnding (feed.endings file) end)
+    (status ≡ 0) × ((file : ℕ) → feed.files ≡ file ∷ [] → ShowsEnding (feed.endings file).ending end)
 EndTold feed (Err fault) status end = status ≡ 6
 
 -- What a call answers and leaves that tells how a capture ended.

@@ -24,7 +24,8 @@ fn more<F: PacketFeed>(feed: &mut F, packets: &mut [Packet]) -> usize
     count
 }
 
-/// Tells the next packets and passes them: one, and those after it that are at hand without a read, as many as there is room for.
+/// Tells the next packets and passes them: one, and those after it that are at hand without a read, as many as there is
+/// room for.
 pub fn step_many<F: PacketFeed>(
     feed: &mut F,
     packets: &mut [Packet],

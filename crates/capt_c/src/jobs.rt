@@ -296,7 +296,8 @@ pub extern "C" fn capt_blocks(
     text: &mut Text,
     place: &mut Place,
 ) -> u32
-    ensures text { Ends (Prints (block_list (tail_of allow_cut) bytes.now) (block_refusal (tail_of allow_cut) bytes.now))
+    ensures text { Ends (Prints (block_list (tail_of allow_cut) bytes.now)
+        (block_refusal (tail_of allow_cut) bytes.now))
         text.new.len result place.new text.new.handle.kept.value }
     ensures read { result ≡ 3 → ⊥ }
 {

@@ -12,7 +12,7 @@ use cap_tool::fault_line;
 use std::cmp::min;
 
 // The version of the library.
-const VERSION: &str = "0.1.0";
+const VERSION: &str = "1.0.0";
 
 // The rule of a number.
 fn rule_of(number: u32) -> Option<Rule>
@@ -56,7 +56,8 @@ fn put(text: &[u8], buffer: &mut [u8]) -> usize
     text.len()
 }
 
-/// Puts as much of a rule's name into a buffer as it has room for, and answers how long the name is: 0 if there is no such rule.
+/// Puts as much of a rule's name into a buffer as it has room for, and answers how long the name is: 0 if there is no
+/// such rule.
 #[unsafe(no_mangle)]
 pub extern "C" fn capt_rule_name(rule: u32, buffer: &mut [u8]) -> usize
     ensures { Names rule result (length buffer.old) buffer.new }
@@ -112,7 +113,7 @@ pub extern "C" fn capt_error_text(status: u32, place: &Place, buffer: &mut [u8])
 /// Puts as much of the version into a buffer as it has room for, and answers how long it is.
 #[unsafe(no_mangle)]
 pub extern "C" fn capt_version(buffer: &mut [u8]) -> usize
-    ensures { PutsText (codes "0.1.0") result (length buffer.old) buffer.new }
+    ensures { PutsText (codes "1.0.0") result (length buffer.old) buffer.new }
 {
     put(VERSION.as_bytes(), buffer)
 }

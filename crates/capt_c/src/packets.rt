@@ -5,8 +5,8 @@ ghost use Rattle.capt_c.specs.Packets.{Shows, ShowsTime};
 use cap_source::Meta;
 use cap_time::Stamp;
 
-/// A packet. Its time is `seconds + carry * 2^64` whole seconds since 1970, and `numerator / denominator` of a second: `carry` is 0
-/// unless the seconds don't fit in 64 bits, and `denominator` is 0 if the packet has no time.
+/// A packet. Its time is `seconds + carry * 2^64` whole seconds since 1970, and `numerator / denominator` of a second:
+/// `carry` is 0 unless the seconds don't fit in 64 bits, and `denominator` is 0 if the packet has no time.
 #[repr(C)]
 #[derive(Clone, Copy, Drop)]
 pub struct Packet {
@@ -61,7 +61,8 @@ fn whole(seconds: i128) -> (i64, u32)
 // The time of a packet, if it has one.
 #[inline(always)]
 fn time_of(meta: &Meta) -> Time
-    ensures { ShowsTime meta.now.units meta.now.interface result.seconds result.carry result.numerator result.denominator }
+    ensures { ShowsTime meta.now.units meta.now.interface result.seconds result.carry result.numerator
+        result.denominator }
 {
     match meta.units {
         Some(units) => {

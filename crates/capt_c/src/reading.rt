@@ -53,7 +53,8 @@ fn told(answer: Result<bool, Fault>, place: &mut Place) -> u32
 
 // Tells the next packet of what is held, if that is a capture.
 fn next_of(held: &mut Held, packet: &mut Packet, place: &mut Place) -> u32
-    ensures { Nexts (λ c. ⟦<Capture<Input> as PacketFeed>⟧.feed c) (Some held.old) result packet.new place.new (Some held.new) }
+    ensures { Nexts (λ c. ⟦<Capture<Input> as PacketFeed>⟧.feed c) (Some held.old) result packet.new place.new
+        (Some held.new) }
 {
     match held {
         Held::Capture(capture) => told(step(capture, packet), place),
@@ -127,7 +128,8 @@ pub extern "C" fn capt_next(
     packet: &mut Packet,
     place: &mut Place,
 ) -> u32
-    ensures { Nexts (λ c. ⟦<Capture<Input> as PacketFeed>⟧.feed c) reader.old.kept.value result packet.new place.new reader.new.kept.value }
+    ensures { Nexts (λ c. ⟦<Capture<Input> as PacketFeed>⟧.feed c) reader.old.kept.value result packet.new place.new
+        reader.new.kept.value }
 {
     match reader.take(alloc) {
         Some(held) => {
@@ -148,7 +150,8 @@ fn next_many_of(
     place: &mut Place,
 ) -> u32
     requires { 0 < length packets.old }
-    ensures { NextsMany (λ c. ⟦<Capture<Input> as PacketFeed>⟧.feed c) (Some held.old) result count.new packets.new place.new (Some held.new) }
+    ensures { NextsMany (λ c. ⟦<Capture<Input> as PacketFeed>⟧.feed c)
+        (Some held.old) result count.new packets.new place.new (Some held.new) }
 {
     match held {
         Held::Capture(capture) => told(step_many(capture, packets, count), place),
@@ -156,8 +159,8 @@ fn next_many_of(
     }
 }
 
-/// Tells the next packets of a capture, and passes them: one, and those after it that are at hand without a read, as many as there is
-/// room for, at least for one.
+/// Tells the next packets of a capture, and passes them: one, and those after it that are at hand without a read, as
+/// many as there is room for, at least for one.
 #[unsafe(no_mangle)]
 pub extern "C" fn capt_next_many(
     alloc: Global,
@@ -166,7 +169,9 @@ pub extern "C" fn capt_next_many(
     count: &mut usize,
     place: &mut Place,
 ) -> u32
-    ensures { 0 < length packets.old → NextsMany (λ c. ⟦<Capture<Input> as PacketFeed>⟧.feed c) reader.old.kept.value result count.new packets.new place.new reader.new.kept.value }
+    ensures { 0 < length packets.old
+        → NextsMany (λ c. ⟦<Capture<Input> as PacketFeed>⟧.feed c) reader.old.kept.value result count.new packets.new
+        place.new reader.new.kept.value }
 {
     if packets.is_empty() {
         return MISUSE;
@@ -193,9 +198,11 @@ pub extern "C" fn capt_close(alloc: Global, handle: &mut Handle)
 // Tells how a capture ended, if nothing comes next of it.
 fn tell_end(capture: &mut Capture<Input>, ending: &mut End) -> u32
     ensures answer { (answer : Result Head Fault)
-        × GivesHead (⟦<Capture<Input> as PacketFeed>⟧.feed capture.old) answer (⟦<Capture<Input> as PacketFeed>⟧.feed capture.new)
+        × GivesHead (⟦<Capture<Input> as PacketFeed>⟧.feed capture.old) answer
+        (⟦<Capture<Input> as PacketFeed>⟧.feed capture.new)
         × EndTold (⟦<Capture<Input> as PacketFeed>⟧.feed capture.new) answer result ending.new }
-    ensures keeps { Keeps (⟦<Capture<Input> as PacketFeed>⟧.feed capture.old) (⟦<Capture<Input> as PacketFeed>⟧.feed capture.new) }
+    ensures keeps { Keeps (⟦<Capture<Input> as PacketFeed>⟧.feed capture.old)
+        (⟦<Capture<Input> as PacketFeed>⟧.feed capture.new) }
 {
     match capture.head() {
         Ok(Head::End) => {
@@ -217,7 +224,8 @@ fn tell_end(capture: &mut Capture<Input>, ending: &mut End) -> u32
 
 // Tells how what is held ended, if that is a capture of which nothing comes next.
 fn end_of(held: &mut Held, ending: &mut End) -> u32
-    ensures { TellsEnd (λ c. ⟦<Capture<Input> as PacketFeed>⟧.feed c) (Some held.old) result ending.new (Some held.new) }
+    ensures { TellsEnd (λ c. ⟦<Capture<Input> as PacketFeed>⟧.feed c) (Some held.old) result ending.new
+        (Some held.new) }
 {
     match held {
         Held::Capture(capture) => tell_end(capture, ending),
@@ -228,7 +236,8 @@ fn end_of(held: &mut Held, ending: &mut End) -> u32
 /// Tells how a capture ended of which all packets were told.
 #[unsafe(no_mangle)]
 pub extern "C" fn capt_end(alloc: Global, reader: &mut Handle, ending: &mut End) -> u32
-    ensures { TellsEnd (λ c. ⟦<Capture<Input> as PacketFeed>⟧.feed c) reader.old.kept.value result ending.new reader.new.kept.value }
+    ensures { TellsEnd (λ c. ⟦<Capture<Input> as PacketFeed>⟧.feed c) reader.old.kept.value result ending.new
+        reader.new.kept.value }
 {
     match reader.take(alloc) {
         Some(held) => {

@@ -1,5 +1,6 @@
 //! What captures are read from: bytes of the caller's, and standard input.
-ghost use Rattle.std.specs.Prelude.{◌≡◌, ◌≤◌, ◌<◌, ◌++◌, ◌-◌, [], take, drop, length, true, false, None, Some, IfOk, min};
+ghost use Rattle.std.specs.Prelude.{◌≡◌, ◌≤◌, ◌<◌, ◌++◌, ◌-◌, [], take, drop, length, true, false, None, Some, IfOk};
+ghost use Rattle.std.specs.Prelude.{min};
 
 use cap_bytes::{Broken, Device, Source, Tracked};
 use std::cmp::min;

@@ -4,7 +4,8 @@ ghost use Rattle.cap_merge.specs.Readers.{IsUnreadRun};
 ghost use Rattle.cap_talks.specs.table.Stepping.{TableStands};
 ghost use Rattle.cap_talks.specs.table.TableView.{table_of};
 ghost use Rattle.capt_c.specs.Answers.{tail_of};
-ghost use Rattle.capt_c.specs.Tables.{OpensTable, StepsTable, WritesTable, reader_of_file, status_of_step, place_of_step};
+ghost use Rattle.capt_c.specs.Tables.{OpensTable, StepsTable, WritesTable, reader_of_file, status_of_step};
+ghost use Rattle.capt_c.specs.Tables.{place_of_step};
 
 use crate::answers::{DONE, MEMORY, MISUSE, PACKET, Place, nowhere, place_of, status_of, tail_of};
 use crate::handles::{Handle, Held};
@@ -35,7 +36,8 @@ fn table_over(
     Ok(Box::new(alloc, Table::new(alloc, merged))?)
 }
 
-/// Opens a table of 1 to 32 captures in memory, which stay as they are until it is closed. What the handle held is let go.
+/// Opens a table of 1 to 32 captures in memory, which stay as they are until it is closed. What the handle held is let
+/// go.
 #[unsafe(no_mangle)]
 pub extern "C" fn capt_table_open(
     alloc: Global,

@@ -1,3 +1,3 @@
-//! What files hold, and the conversations in them.
+//! What files hold, the conversations in them, and the class of a packet.
 
-pub use cap_talks::{Held, Step, Table, file_lines, report};
+pub use cap_talks::{Class, Held, Step, Table, file_lines, packet_class, report};

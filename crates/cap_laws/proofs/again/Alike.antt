@@ -40,13 +40,15 @@ module _ {A : Type 0} (P : A → A → Type 0) (time : A → Option Stamp) (same
   twin_files (f ∷ fs) (g ∷ gs) h = twins f g h.0 ∷ twin_files fs gs h.1
   twin_files fs gs h = absurd h
 
-  files-one : (fs gs : List (List A)) (h : AllZip (AllZip P) fs gs) → map (map_track (λ t. t.one)) (map opened (twin_files fs gs h)) ≡ map opened fs
+  files-one : (fs gs : List (List A)) (h : AllZip (AllZip P) fs gs)
+      → map (map_track (λ t. t.one)) (map opened (twin_files fs gs h)) ≡ map opened fs
   unfolding twin_files
   files-one [] [] h = refl
   files-one (f ∷ fs) (g ∷ gs) h = λ i. opened (twins-one f g h.0 i) ∷ files-one fs gs h.1 i
   files-one fs gs h = absurd h
 
-  files-other : (fs gs : List (List A)) (h : AllZip (AllZip P) fs gs) → map (map_track (λ t. t.other)) (map opened (twin_files fs gs h)) ≡ map opened gs
+  files-other : (fs gs : List (List A)) (h : AllZip (AllZip P) fs gs)
+      → map (map_track (λ t. t.other)) (map opened (twin_files fs gs h)) ≡ map opened gs
   unfolding twin_files
   files-other [] [] h = refl
   files-other (f ∷ fs) (g ∷ gs) h = λ i. opened (twins-other f g h.0 i) ∷ files-other fs gs h.1 i
@@ -59,22 +61,28 @@ module _ {A : Type 0} (P : A → A → Type 0) (time : A → Option Stamp) (same
   merge-one : (fs gs : List (List A)) (h : AllZip (AllZip P) fs gs)
       → map (λ x. x.item.one) (merged (λ t. time t.one) (map opened (twin_files fs gs h))) ≡ merge_of time fs
   merge-one fs gs h =
-      sym (map-twice (λ x. x.item) (map_clocked (λ t. t.one)) (merged (λ t. time t.one) (map opened (twin_files fs gs h))))
-      ∙ ap (map (λ x. x.item)) (sym (merged-mapped (λ t. time t.one) time (λ t. t.one) (λ t. refl) (map opened (twin_files fs gs h)))
+      sym (map-twice (λ x. x.item) (map_clocked (λ t. t.one))
+      (merged (λ t. time t.one) (map opened (twin_files fs gs h))))
+      ∙ ap (map (λ x. x.item))
+      (sym (merged-mapped (λ t. time t.one) time (λ t. t.one) (λ t. refl) (map opened (twin_files fs gs h)))
       ∙ ap (merged time) (files-one fs gs h))
 
   merge-other : (fs gs : List (List A)) (h : AllZip (AllZip P) fs gs)
       → map (λ x. x.item.other) (merged (λ t. time t.one) (map opened (twin_files fs gs h))) ≡ merge_of time gs
   merge-other fs gs h =
-      sym (map-twice (λ x. x.item) (map_clocked (λ t. t.other)) (merged (λ t. time t.one) (map opened (twin_files fs gs h))))
-      ∙ ap (map (λ x. x.item)) (sym (merged-mapped (λ t. time t.one) time (λ t. t.other) (λ t. same t.one t.other t.alike) (map opened (twin_files fs gs h)))
+      sym (map-twice (λ x. x.item) (map_clocked (λ t. t.other))
+      (merged (λ t. time t.one) (map opened (twin_files fs gs h))))
+      ∙ ap (map (λ x. x.item))
+      (sym (merged-mapped (λ t. time t.one) time (λ t. t.other) (λ t. same t.one t.other t.alike)
+      (map opened (twin_files fs gs h)))
       ∙ ap (merged time) (files-other fs gs h))
 
   -- Files that are alike, merged, give lists that are alike.
   pub merge-alike : (fs gs : List (List A)) → AllZip (AllZip P) fs gs → AllZip P (merge_of time fs) (merge_of time gs)
   merge-alike fs gs h =
       subst (λ (xs : List A). AllZip P xs (merge_of time gs)) (merge-one fs gs h)
-      (subst (λ (ys : List A). AllZip P (map (λ x. x.item.one) (merged (λ t. time t.one) (map opened (twin_files fs gs h)))) ys) (merge-other fs gs h)
+      (subst (λ (ys : List A). AllZip P (map (λ x. x.item.one)
+      (merged (λ t. time t.one) (map opened (twin_files fs gs h)))) ys) (merge-other fs gs h)
       (all-alike (merged (λ t. time t.one) (map opened (twin_files fs gs h)))))
 
 -- ---- what is true of all items stays true of them merged
@@ -84,7 +92,8 @@ module _ {A : Type 0} (Q : A → Type 0) (time : A → Option Stamp) where
   both [] h = tt
   both (x ∷ xs) h = ((h.0, refl), both xs h.1)
 
-  files_both : (fs : List (List A)) → AllByRecursion (AllByRecursion Q) fs → AllZip (AllZip (λ x y. Q x × (y ≡ x))) fs fs
+  files_both : (fs : List (List A)) → AllByRecursion (AllByRecursion Q) fs
+      → AllZip (AllZip (λ x y. Q x × (y ≡ x))) fs fs
   files_both [] h = tt
   files_both (f ∷ fs) h = (both f h.0, files_both fs h.1)
 

@@ -1,5 +1,6 @@
 -- Whole written pcapng files, read again.
-use Rattle.std.proofs.Common.{◌≡◌, ℕ, ◌+◌, ◌≤◌, ◌<◌, ◌^◌, List, [], ◌∷◌, ◌++◌, length, true, Some, None, Ok, ap, ◌∙◌, arith, append_assoc, length-append, if◌then◌else◌}
+use Rattle.std.proofs.Common.{◌≡◌, ℕ, ◌+◌, ◌≤◌, ◌<◌, ◌^◌, List, [], ◌∷◌, ◌++◌, length, true, Some, None, Ok, ap, ◌∙◌}
+use Rattle.std.proofs.Common.{arith, append_assoc, length-append, if◌then◌else◌}
 use Rattle.std.proofs.lemmas.Bool.{eq-eqb}
 use Rattle.std.proofs.lemmas.Bool.Decides.{nat_tests}
 use Rattle.cap_blocks.proofs.Again.{section_again-law}
@@ -13,7 +14,8 @@ use Rattle.cap_bytes.specs.Number.{number, bytes_of}
 use Rattle.cap_bytes.specs.declared.faults.Tail.{Tail}
 use Rattle.cap_bytes.specs.declared.numbers.Order.{Order}
 use Rattle.cap_bytes.specs.declared.numbers.Order.TheVariants.{Big}
-use Rattle.cap_source.specs.Items.{fresh, is_pcapng, items_in, first_in, items_from, file_items, first_from, file_first, interface_of, unless_refused}
+use Rattle.cap_source.specs.Items.{fresh, is_pcapng, items_in, first_in, items_from, file_items, first_from, file_first}
+use Rattle.cap_source.specs.Items.{interface_of, unless_refused}
 use Rattle.cap_pcap.specs.Split as records
 use Rattle.cap_source.specs.declared.contents.Content.TheVariants as contents
 use Rattle.cap_time.specs.declared.resolutions.Interface.{Interface}
@@ -21,7 +23,8 @@ use Rattle.cap_write.specs.Numbering.{Numbered}
 use Rattle.cap_write.specs.Texts.{front_bytes, packets_bytes}
 use Rattle.std.specs.Prelude.{FitsSigned}
 use Rattle.std.specs.Int.{w64}
-use Rattle.cap_laws.proofs.again.Again.{reached, items_in-given, first_in-given, items_in-interface, first_in-interface, items_in-written, first_in-written}
+use Rattle.cap_laws.proofs.again.Again.{reached, items_in-given, first_in-given, items_in-interface, first_in-interface}
+use Rattle.cap_laws.proofs.again.Again.{items_in-written, first_in-written}
 use Rattle.cap_laws.proofs.again.Back.{content_in-section}
 use Rattle.cap_laws.specs.again.Laws.{AllFit, IsNumbered, all_described, read_items}
 
@@ -51,7 +54,8 @@ behind_section : (order : Order) (tail : Tail) (file : ℕ) (rest : List ℕ)
     ≡ items_in file (reached [] None) (blocks.items_from (Some order) tail file (0 + length (section_bytes order)) rest)
 behind_section order tail file rest =
     let piece : Piece = record { order = order; kind = section_kind; body = section_body order } in
-    ap (items_in file fresh) ((section_again-law None order).items tail file 0 rest (omega (arith, length-section_bytes order)))
+    ap (items_in file fresh) ((section_again-law None order).items tail file 0 rest
+    (omega (arith, length-section_bytes order)))
     ∙ items_in-given file fresh (block_of 0 piece) (section_body order)
     (blocks.items_from (Some order) tail file (0 + length (section_bytes order)) rest) (Ok contents.Section)
     (content_in-section [] order (section_body order))
@@ -60,7 +64,8 @@ pub items-behind_section : (order : Order) (tail : Tail) (file : ℕ) (rest : Li
     → file_items tail file (section_bytes order ++ rest)
     ≡ items_in file (reached [] None) (blocks.items_from (Some order) tail file 28 rest)
 unfolding items_from
-items-behind_section order tail file rest = search (items_in, fresh, is_pcapng-text, behind_section, reached, length-section_bytes)
+items-behind_section order tail file rest = search
+    (items_in, fresh, is_pcapng-text, behind_section, reached, length-section_bytes)
 
 pub first-behind_section : (order : Order) (tail : Tail) (file : ℕ) (rest : List ℕ)
     → file_first tail file (section_bytes order ++ rest)
@@ -70,23 +75,43 @@ first-behind_section order tail file rest =
     let bytes = section_bytes order ++ rest in
     let piece : Piece = record { order = order; kind = section_kind; body = section_body order } in
     ap (λ b. if b then first_in fresh (blocks.items_from None tail file 0 bytes)
-    else unless_refused (records.header_fault 0 bytes) (interface_of (records.header_at bytes))) (is_pcapng-text order rest)
-    ∙ (ap (first_in fresh) ((section_again-law None order).items tail file 0 rest (omega (arith, length-section_bytes order)))
+    else unless_refused (records.header_fault 0 bytes) (interface_of (records.header_at bytes)))
+    (is_pcapng-text order rest)
+    ∙ (ap (first_in fresh) ((section_again-law None order).items tail file 0 rest
+    (omega (arith, length-section_bytes order)))
     ∙ (first_in-given fresh (block_of 0 piece) (section_body order)
     (blocks.items_from (Some order) tail file (0 + length (section_bytes order)) rest) (Ok contents.Section)
     (content_in-section [] order (section_body order))
-    ∙ ap (λ n. first_in (reached [] None) (blocks.items_from (Some order) tail file n rest)) (omega (arith, length-section_bytes order))))
+    ∙ ap (λ n. first_in (reached [] None) (blocks.items_from (Some order) tail file n rest))
+    (omega (arith, length-section_bytes order))))
 
 -- A merged file is read again: its packets are those that are written.
-pub merged-again : (order : Order) (tail : Tail) (file : ℕ) (ns : List Numbered) → IsNumbered [] ns → AllFit ns → length (all_described [] ns) ≤ 1024
+pub merged-again : (order : Order) (tail : Tail) (file : ℕ) (ns : List Numbered) → IsNumbered [] ns → AllFit ns
+    → length (all_described [] ns) ≤ 1024
     → length (section_bytes order ++ packets_bytes order 0 ns) ≤ 2 ^ 40
     → file_items tail file (section_bytes order ++ packets_bytes order 0 ns) ≡ read_items order file 28 0 ns
-merged-again order tail file ns numbered fit few limit = grind (arith, items-behind_section, items_in-written, length-append, length-section_bytes)
+merged-again order tail file ns numbered fit few limit =
+    grind (arith, items-behind_section, items_in-written, length-append, length-section_bytes)
 
 -- A file that is written after its first interface is read again, and so is that interface.
-pub pcapng-again : (order : Order) (tail : Tail) (file : ℕ) (i : Interface) (ns : List Numbered) → i.link < 2 ^ 16 → i.snaplen < 2 ^ 32 → FitsSigned w64 i.offset
+pub pcapng-again : (order : Order) (tail : Tail) (file : ℕ) (i : Interface) (ns : List Numbered) → i.link < 2 ^ 16
+    → i.snaplen < 2 ^ 32 → FitsSigned w64 i.offset
     → IsNumbered (i ∷ []) ns → AllFit ns → length (all_described (i ∷ []) ns) ≤ 1024
     → length (front_bytes order (Some i) ++ packets_bytes order 1 ns) ≤ 2 ^ 40
-    → (file_items tail file (front_bytes order (Some i) ++ packets_bytes order 1 ns) ≡ read_items order file (28 + length (interface_bytes order i)) 1 ns)
+    → (file_items tail file (front_bytes order (Some i) ++ packets_bytes order 1 ns)
+    ≡ read_items order file (28 + length (interface_bytes order i)) 1 ns)
     × (file_first tail file (front_bytes order (Some i) ++ packets_bytes order 1 ns) ≡ Some i)
-pcapng-again order tail file i ns link snaplen fits numbered fit few limit = grind (arith, append_assoc, length-append, length-section_bytes, items-behind_section, items_in-interface, reached, items_in-written, first-behind_section, first_in-interface, first_in-written)
+pcapng-again order tail file i ns link snaplen fits numbered fit few limit =
+    grind (
+      arith,
+      append_assoc,
+      length-append,
+      length-section_bytes,
+      items-behind_section,
+      items_in-interface,
+      reached,
+      items_in-written,
+      first-behind_section,
+      first_in-interface,
+      first_in-written,
+    )

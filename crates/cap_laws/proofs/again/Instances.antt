@@ -1,5 +1,7 @@
 -- The packets of one instance of a file have one interface.
-use Rattle.std.proofs.Common.{◌≡◌, ℕ, ◌+◌, slice_get, get_or, List, [], ◌∷◌, ◌++◌, length, Bool, true, false, Some, None, Result, Ok, Err, IfOk, refl, arith, append_assoc, append-nil, length-append, if◌then◌else◌}
+use Rattle.std.proofs.Common.{◌≡◌, ℕ, ◌+◌, slice_get, get_or, List, [], ◌∷◌, ◌++◌, length, Bool, true, false, Some}
+use Rattle.std.proofs.Common.{None, Result, Ok, Err, IfOk, refl, arith, append_assoc, append-nil, length-append}
+use Rattle.std.proofs.Common.{if◌then◌else◌}
 use Rattle.std.proofs.Math.ListN.{get_or-append}
 use Rattle.std.proofs.lemmas.List.{get_or-append-add}
 use Rattle.std.proofs.lemmas.Option.{get_or_from_slice_get, slice_get_within}
@@ -13,7 +15,8 @@ use Rattle.cap_pcap.specs.declared.records.Record.{Record}
 use Rattle.cap_source.proofs.Saying.{OfContent, content-holds}
 use Rattle.cap_source.specs.Contents.{content_in}
 use Rattle.cap_source.specs.Feed.{Item}
-use Rattle.cap_source.specs.Items.{Progress, fresh, behind, items_at, items_in, items_from, is_pcapng, pcap_items, interface_of}
+use Rattle.cap_source.specs.Items.{Progress, fresh, behind, items_at, items_in, items_from, is_pcapng, pcap_items}
+use Rattle.cap_source.specs.Items.{interface_of}
 use Rattle.cap_source.specs.declared.contents.Content.{Content}
 use Rattle.cap_source.specs.declared.contents.Content.TheVariants as contents
 use Rattle.cap_source.specs.declared.contents.Packet.{Packet}
@@ -38,7 +41,7 @@ content-of interfaces kind order body = search (content-holds, is_any)
 -- the interfaces that are still to come of a file
 abbrev added : Result Content Rule → List Interface → List Interface
 added (Ok contents.Section) later = later
-added (Ok (contents.Interface i)) later = i ∷ later
+added (Ok (contents.Interface described)) later = described.interface ∷ later
 added (Ok (contents.Packet p)) later = later
 added (Ok contents.Other) later = later
 added (Err rule) later = []
@@ -53,28 +56,37 @@ future progress (pieces.given block body ∷ rest) =
 abbrev nth : List Interface → ℕ → Interface
 nth all k = get_or all k (interface_of (records.header_at []))
 
-nth-of : (past interfaces later all : List Interface) (k : ℕ) (i : Interface) → slice_get interfaces k ≡ Some i → (past ++ interfaces) ++ later ≡ all
+nth-of : (past interfaces later all : List Interface) (k : ℕ) (i : Interface) → slice_get interfaces k ≡ Some i
+    → (past ++ interfaces) ++ later ≡ all
     → i ≡ nth all (length past + k)
-nth-of past interfaces later all k i is whole = grind (arith, slice_get_within, get_or_from_slice_get, get_or-append-add, get_or-append, length-append, get_or)
+nth-of past interfaces later all k i is whole =
+    grind (arith, slice_get_within, get_or_from_slice_get, get_or-append-add, get_or-append, length-append, get_or)
 
-block-alike : (file : ℕ) (all past : List Interface) (progress : Progress) (block : Block) (body : List ℕ) (content : Result Content Rule) (later : List Interface) (items : List Item)
+block-alike : (file : ℕ) (all past : List Interface) (progress : Progress) (block : Block) (body : List ℕ)
+    (content : Result Content Rule) (later : List Interface) (items : List Item)
     → IfOk content (OfContent IsAny (HasNumber progress.interfaces)) → length past ≡ progress.base
     → (past ++ progress.interfaces) ++ added content later ≡ all
-    → ((past : List Interface) → length past ≡ (behind progress content).base → (past ++ (behind progress content).interfaces) ++ later ≡ all → AllAlike file (nth all) items)
+    → ((past : List Interface) → length past ≡ (behind progress content).base
+    → (past ++ (behind progress content).interfaces) ++ later ≡ all → AllAlike file (nth all) items)
     → AllAlike file (nth all) (items_at file progress block body content items)
-block-alike file all past progress block body content later items of base whole rest = grind (arith, length-append, append-nil, append_assoc, nth-of)
+block-alike file all past progress block body content later items of base whole rest =
+    grind (arith, length-append, append-nil, append_assoc, nth-of)
 
-blocks-alike : (file : ℕ) (all past : List Interface) (progress : Progress) (items : List (pieces.Item Block)) → length past ≡ progress.base
-    → (past ++ progress.interfaces) ++ future progress items ≡ all → AllAlike file (nth all) (items_in file progress items)
+blocks-alike : (file : ℕ) (all past : List Interface) (progress : Progress) (items : List (pieces.Item Block))
+    → length past ≡ progress.base
+    → (past ++ progress.interfaces) ++ future progress items ≡ all
+    → AllAlike file (nth all) (items_in file progress items)
 unfolding items_in
 blocks-alike file all past progress (pieces.given block body ∷ rest) base whole =
     let content = content_in progress.interfaces block.kind block.order body in
-    block-alike file all past progress block body content (future (behind progress content) rest) (items_in file (behind progress content) rest)
+    block-alike file all past progress block body content (future (behind progress content) rest)
+    (items_in file (behind progress content) rest)
     (content-of progress.interfaces block.kind block.order body) base whole
     (λ past base whole. blocks-alike file all past (behind progress content) rest base whole)
 blocks-alike file all past progress items base whole = grind arith
 
-records-alike : (file : ℕ) (i : Interface) (items : List (pieces.Item Record)) → AllAlike file (λ k. i) (pcap_items file i items)
+records-alike : (file : ℕ) (i : Interface) (items : List (pieces.Item Record))
+    → AllAlike file (λ k. i) (pcap_items file i items)
 unfolding pcap_items
 records-alike file i (pieces.given r frame ∷ rest) = (refl, refl, records-alike file i rest)
 records-alike file i items = grind arith
@@ -84,10 +96,13 @@ unfolding items_from
 one_interface-law tail file bytes = by (is_pcapng bytes)
   where
     by : (pcapng : Bool)
-        → (given : ℕ → Interface) × AllAlike file given (if pcapng then items_in file fresh (blocks.items_from None tail file 0 bytes)
+        → (given : ℕ → Interface) × AllAlike file given
+        (if pcapng then items_in file fresh (blocks.items_from None tail file 0 bytes)
         else pcap_items file (interface_of (records.header_at bytes)) (records.file_items tail file 0 bytes))
     by true =
         let items = blocks.items_from None tail file 0 bytes in
         (nth (future fresh items), blocks-alike file (future fresh items) [] fresh items refl refl)
-    by false =
-        ((λ k. interface_of (records.header_at bytes)), records-alike file (interface_of (records.header_at bytes)) (records.file_items tail file 0 bytes))
+    by false = (
+      (λ k. interface_of (records.header_at bytes)),
+      records-alike file (interface_of (records.header_at bytes)) (records.file_items tail file 0 bytes),
+    )

@@ -8,7 +8,9 @@ use Rattle.cap_write.specs.Numbering.{Origin, with_origin, numbered}
 use Rattle.cap_laws.specs.again.Laws.{measured}
 
 -- a packet with its captured bytes is read again as it was
-pub numbered-measured : (origins : List Origin) (items : List Item) → AllByRecursion HasFrame items → map measured (numbered origins items) ≡ numbered origins items
+pub numbered-measured : (origins : List Origin) (items : List Item) → AllByRecursion HasFrame items
+    → map measured (numbered origins items) ≡ numbered origins items
 unfolding numbered
-numbered-measured origins (packet meta frame ∷ items) are = grind (arith, numbered-measured (with_origin origins meta) items are.1)
+numbered-measured origins (packet meta frame ∷ items) are =
+    grind (arith, numbered-measured (with_origin origins meta) items are.1)
 numbered-measured origins items are = cc

@@ -26,7 +26,7 @@ IsOfFile least given (packet meta frame) = (least ≤ meta.file) × HasFields gi
 IsOfFile least given (refused refusal) = Unit {0}
 
 -- the interfaces of some files by their origins
-given_from : Tail → ℕ → List (List ℕ) → Origin → Interface
+pub given_from : Tail → ℕ → List (List ℕ) → Origin → Interface
 given_from tail file [] origin = (one_interface-law tail 0 []).0 0
 given_from tail file (bytes ∷ files) origin =
     if origin.0 == file then (one_interface-law tail file bytes).0 origin.1 else given_from tail (file + 1) files origin
@@ -38,7 +38,8 @@ of_one : (tail : Tail) (file : ℕ) (bytes : List ℕ) (files : List (List ℕ))
 unfolding given_from
 of_one tail file bytes files [] alike fit = tt
 of_one tail file bytes files (refused refusal ∷ items) alike fit = (tt, of_one tail file bytes files items alike fit.1)
-of_one tail file bytes files (packet meta frame ∷ items) alike fit = grind (arith, of_one tail file bytes files items alike.2 fit.1)
+of_one tail file bytes files (packet meta frame ∷ items) alike fit =
+    grind (arith, of_one tail file bytes files items alike.2 fit.1)
 
 -- and those after it
 raised : (tail : Tail) (file : ℕ) (bytes : List ℕ) (files : List (List ℕ)) (x : Item)
@@ -46,7 +47,8 @@ raised : (tail : Tail) (file : ℕ) (bytes : List ℕ) (files : List (List ℕ))
 unfolding given_from
 raised tail file bytes files x is = grind arith
 
-each : {A : Type 0} (P Q : A → Type 0) → ((x : A) → P x → Q x) → (xs : List A) → AllByRecursion P xs → AllByRecursion Q xs
+each : {A : Type 0} (P Q : A → Type 0) → ((x : A) → P x → Q x) → (xs : List A) → AllByRecursion P xs
+    → AllByRecursion Q xs
 each P Q f [] h = tt
 each P Q f (x ∷ xs) h = (f x h.0, each P Q f xs h.1)
 
@@ -54,25 +56,43 @@ of_all : (tail : Tail) (file : ℕ) (files : List (List ℕ)) → AllByRecursion
     → AllByRecursion (AllByRecursion (IsOfFile file (given_from tail file files))) (items_of_files tail file files)
 of_all tail file [] are = tt
 of_all tail file (bytes ∷ files) are = (
-  of_one tail file bytes files (file_items tail file bytes) (one_interface-law tail file bytes).1 (fields_fit-law tail file bytes are.0),
-  each (AllByRecursion (IsOfFile (file + 1) (given_from tail (file + 1) files))) (AllByRecursion (IsOfFile file (given_from tail file (bytes ∷ files))))
-      (λ xs h. each (IsOfFile (file + 1) (given_from tail (file + 1) files)) (IsOfFile file (given_from tail file (bytes ∷ files))) (raised tail file bytes files) xs h)
+  of_one tail file bytes files (file_items tail file bytes) (one_interface-law tail file bytes).1
+      (fields_fit-law tail file bytes are.0),
+  each (AllByRecursion (IsOfFile (file + 1) (given_from tail (file + 1) files)))
+      (AllByRecursion (IsOfFile file (given_from tail file (bytes ∷ files))))
+      (λ xs h. each (IsOfFile (file + 1) (given_from tail (file + 1) files))
+      (IsOfFile file (given_from tail file (bytes ∷ files))) (raised tail file bytes files) xs h)
       (items_of_files tail (file + 1) files) (of_all tail (file + 1) files are.1),
 )
 
 -- what is true of all merged items is true of those of the run
-front : (Q : Item → Type 0) (ends : Clocked Item → Bool) (xs : List (Clocked Item)) → AllByRecursion Q (map (λ x. x.item) xs)
+front : (Q : Item → Type 0) (ends : Clocked Item → Bool) (xs : List (Clocked Item))
+    → AllByRecursion Q (map (λ x. x.item) xs)
     → AllByRecursion Q (map (λ x. x.item) (through_first ends xs))
 front Q ends [] h = tt
 front Q ends (x ∷ xs) h = grind (arith, front Q ends xs h.1)
 
-all_have : (least : ℕ) (given : Origin → Interface) (items : List Item) → AllByRecursion (IsOfFile least given) items → AllHave given items
+all_have : (least : ℕ) (given : Origin → Interface) (items : List Item) → AllByRecursion (IsOfFile least given) items
+    → AllHave given items
 all_have least given (packet meta frame ∷ items) h = (h.0.1, all_have least given items h.1)
 all_have least given items h = cc
 
-all_frames : (tail : Tail) (file : ℕ) (files : List (List ℕ)) → AllByRecursion (AllByRecursion HasFrame) (items_of_files tail file files)
+all_frames : (tail : Tail) (file : ℕ) (files : List (List ℕ))
+    → AllByRecursion (AllByRecursion HasFrame) (items_of_files tail file files)
 all_frames tail file [] = tt
 all_frames tail file (bytes ∷ files) = (frames_fit-law tail file bytes, all_frames tail (file + 1) files)
+
+-- the packets of a run have the interfaces of their origins, and their fields fit
+pub run-has : (tail : Tail) (files : List (List ℕ)) → AllByRecursion AreBytes files
+    → AllHave (given_from tail 1 files) (run_of_files tail files)
+unfolding run_of_files
+run-has tail files are =
+    let given = given_from tail 1 files in
+    let lists = items_of_files tail 1 files in
+    let ends : Clocked Item → Bool = λ x. is_refusal x.item in
+    let all = merged item_time (map opened lists) in
+    all_have 1 given (run_of_files tail files) (front (IsOfFile 1 given) ends all
+    (merge-all (IsOfFile 1 given) item_time lists (of_all tail 1 files are)))
 
 pub merge-law : MergeLaw
 unfolding run_of_files
@@ -82,7 +102,6 @@ merge-law order tail tail_again file_again files are limit =
     let items = run_of_files tail files in
     let ends : Clocked Item → Bool = λ x. is_refusal x.item in
     let all = merged item_time (map opened lists) in
-    let law = merged_again-law order tail_again file_again given items
-    (all_have 1 given items (front (IsOfFile 1 given) ends all (merge-all (IsOfFile 1 given) item_time lists (of_all tail 1 files are)))) limit in
+    let law = merged_again-law order tail_again file_again given items (run-has tail files are) limit in
     let frames = front HasFrame ends all (merge-all HasFrame item_time lists (all_frames tail 1 files)) in
     (law.0 ∙ numbered-measured [] items frames, law.1, law.2, law.3)

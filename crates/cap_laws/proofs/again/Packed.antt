@@ -15,14 +15,29 @@ use Rattle.cap_laws.specs.again.Laws.{Kept, kept, read_items, IsNumbered, all_de
 
 -- the packets of a pcap file as they are numbered after its one interface, and as they are kept
 abbrev pub number_one : Interface → Packet → Numbered
-number_one i p = record { number = 0; interface = i; units = p.units; captured = length p.frame; original = p.original; frame = p.frame }
+number_one i p = record {
+  number = 0;
+  interface = i;
+  units = p.units;
+  captured = length p.frame;
+  original =
+      p.original;
+  frame = p.frame;
+}
 
 abbrev pub number_all : Interface → List Packet → List Numbered
 number_all i [] = []
 number_all i (p ∷ ps) = number_one i p ∷ number_all i ps
 
 abbrev pub keep_one : Interface → Packet → Kept
-keep_one i p = record { interface = i; units = Some p.units; captured = length p.frame; original = p.original; frame = p.frame }
+keep_one i p = record {
+  interface = i;
+  units = Some p.units;
+  captured = length p.frame;
+  original =
+      p.original;
+  frame = p.frame;
+}
 
 abbrev pub keep_all : Interface → List Packet → List Kept
 keep_all i [] = []
@@ -59,7 +74,8 @@ refusal_of-packets file i offset ps stop = grind arith
 pub kept-packets : (file : ℕ) (i : Interface) (offset : ℕ) (ps : List Packet) (stop : Stop)
     → kept (pcap_items file i (records.items_with offset ps stop)) ≡ keep_all i ps
 unfolding kept pcap_items
-kept-packets file i offset (p ∷ ps) stop = ap (λ l. keep_one i p ∷ l) (kept-packets file i (offset + packet_size p) ps stop)
+kept-packets file i offset (p ∷ ps) stop = ap (λ l. keep_one i p ∷ l)
+    (kept-packets file i (offset + packet_size p) ps stop)
 kept-packets file i offset ps stop = grind arith
 
 -- and as they are read again
@@ -67,7 +83,12 @@ pub kept-read : (order : Order) (file offset count : ℕ) (i : Interface) (ps : 
     → kept (read_items order file offset count (number_all i ps)) ≡ keep_all i ps
 unfolding kept read_items
 kept-read order file offset count i [] = refl
-kept-read order file offset count i (p ∷ ps) = grind (arith, kept-read order file (offset + length (interface_part order count (number_one i p)) + length (packet_part order (number_one i p))) (count_after count (number_one i p)) i ps)
+kept-read order file offset count i (p ∷ ps) =
+    grind (
+      arith,
+      kept-read order file (offset + length (interface_part order count (number_one i p)) + length
+          (packet_part order (number_one i p))) (count_after count (number_one i p)) i ps,
+    )
 
 -- they are numbered after their interface
 pub IsNumbered-packets : (i : Interface) (ps : List Packet) → IsNumbered (i ∷ []) (number_all i ps)

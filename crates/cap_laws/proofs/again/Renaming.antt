@@ -5,7 +5,8 @@ use Rattle.std.specs.List.{AllZip, list_any, position_or_len}
 use Rattle.std.specs.Option.{option_map}
 use Rattle.cap_source.specs.Feed.{Item, packet, refused}
 use Rattle.cap_source.specs.declared.packets.Meta.{Meta}
-use Rattle.cap_write.specs.Numbering.{Origin, origin_of, is_origin, with_origin, write_fault, numbered_of, numbered_or, numbered, refusal_in}
+use Rattle.cap_write.specs.Numbering.{Origin, origin_of, is_origin, with_origin, write_fault, numbered_of, numbered_or}
+use Rattle.cap_write.specs.Numbering.{numbered, refusal_in}
 
 -- Equal origins on one side belong to equal origins on the other, and only these.
 abbrev pub IsOneToOne : (Origin → Origin → Type 0) → Type 0
@@ -26,12 +27,15 @@ Renamed R (refused r) (packet n g) = ⊥
 Renamed R (refused r) (refused s) = s.rule ≡ r.rule
 
 module _ (R : Origin → Origin → Type 0) (one : IsOneToOne R) where
-  any-renamed : (ns ms : List Origin) (a b : Origin) → AllZip R ns ms → R a b → list_any (is_origin b) ms ≡ list_any (is_origin a) ns
+  any-renamed : (ns ms : List Origin) (a b : Origin) → AllZip R ns ms → R a b
+      → list_any (is_origin b) ms ≡ list_any (is_origin a) ns
   any-renamed (n ∷ ns) (m ∷ ms) a b h r = λ i. one a b n m r h.0 i || any-renamed ns ms a b h.1 r i
   any-renamed ns ms a b h r = grind arith
 
-  position-renamed : (ns ms : List Origin) (a b : Origin) → AllZip R ns ms → R a b → position_or_len (is_origin b) ms ≡ position_or_len (is_origin a) ns
-  position-renamed (n ∷ ns) (m ∷ ms) a b h r = λ i. cond (not (one a b n m r h.0 i)) (1 + position-renamed ns ms a b h.1 r i) 0
+  position-renamed : (ns ms : List Origin) (a b : Origin) → AllZip R ns ms → R a b
+      → position_or_len (is_origin b) ms ≡ position_or_len (is_origin a) ns
+  position-renamed (n ∷ ns) (m ∷ ms) a b h r = λ i. cond (not (one a b n m r h.0 i))
+      (1 + position-renamed ns ms a b h.1 r i) 0
   position-renamed ns ms a b h r = grind arith
 
   length-renamed : (ns ms : List Origin) → AllZip R ns ms → length ms ≡ length ns
@@ -42,18 +46,22 @@ module _ (R : Origin → Origin → Type 0) (one : IsOneToOne R) where
   one-more (n ∷ ns) (m ∷ ms) a b h r = (h.0, one-more ns ms a b h.1 r)
   one-more ns ms a b h r = grind arith
 
-  fault-renamed : (ns ms : List Origin) (m n : Meta) → AllZip R ns ms → IsRenamed R m n → write_fault ms n ≡ write_fault ns m
+  fault-renamed : (ns ms : List Origin) (m n : Meta) → AllZip R ns ms → IsRenamed R m n
+      → write_fault ms n ≡ write_fault ns m
   unfolding write_fault
   fault-renamed ns ms m n h r = grind (arith, is_none, length-renamed, any-renamed)
 
-  numbered_of-renamed : (ns ms : List Origin) (m n : Meta) (f g : List ℕ) → AllZip R ns ms → IsRenamed R m n → g ≡ f → numbered_of ms n g ≡ numbered_of ns m f
+  numbered_of-renamed : (ns ms : List Origin) (m n : Meta) (f g : List ℕ) → AllZip R ns ms → IsRenamed R m n → g ≡ f
+      → numbered_of ms n g ≡ numbered_of ns m f
   numbered_of-renamed ns ms m n f g h r e = grind (arith, position-renamed)
 
-  origins-renamed : (ns ms : List Origin) (m n : Meta) → AllZip R ns ms → IsRenamed R m n → AllZip R (with_origin ns m) (with_origin ms n)
+  origins-renamed : (ns ms : List Origin) (m n : Meta) → AllZip R ns ms → IsRenamed R m n
+      → AllZip R (with_origin ns m) (with_origin ms n)
   origins-renamed ns ms m n h r = grind (arith, one-more, any-renamed)
 
   -- the same packets are written
-  pub numbered-renamed : (ns ms : List Origin) → AllZip R ns ms → (xs ys : List Item) → AllZip (Renamed R) xs ys → numbered ms ys ≡ numbered ns xs
+  pub numbered-renamed : (ns ms : List Origin) → AllZip R ns ms → (xs ys : List Item) → AllZip (Renamed R) xs ys
+      → numbered ms ys ≡ numbered ns xs
   unfolding numbered
   numbered-renamed ns ms h (packet m f ∷ xs) (packet n g ∷ ys) a =
       λ i. numbered_or (fault-renamed ns ms m n h a.0.0 i) (numbered_of-renamed ns ms m n f g h a.0.0 a.0.1 i)
@@ -64,5 +72,11 @@ module _ (R : Origin → Origin → Type 0) (one : IsOneToOne R) where
   pub refusal-renamed : (ns ms : List Origin) → AllZip R ns ms → (xs ys : List Item) → AllZip (Renamed R) xs ys
       → option_map (λ f. f.rule) (refusal_in ms ys) ≡ option_map (λ f. f.rule) (refusal_in ns xs)
   unfolding refusal_in
-  refusal-renamed ns ms h (packet m f ∷ xs) (packet n g ∷ ys) a = grind (arith, refusal-renamed (with_origin ns m) (with_origin ms n) (origins-renamed ns ms m n h a.0.0) xs ys a.1, fault-renamed, origins-renamed)
+  refusal-renamed ns ms h (packet m f ∷ xs) (packet n g ∷ ys) a =
+      grind (
+        arith,
+        refusal-renamed (with_origin ns m) (with_origin ms n) (origins-renamed ns ms m n h a.0.0) xs ys a.1,
+        fault-renamed,
+        origins-renamed,
+      )
   refusal-renamed ns ms h xs ys a = grind arith

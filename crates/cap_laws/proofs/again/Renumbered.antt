@@ -1,5 +1,7 @@
 -- The packets of a written file, numbered again.
-use Rattle.std.proofs.Common.{rules, subst, Option, ◌≡◌, ◌==◌, ◌&&◌, ℕ, zero, suc, ◌+◌, ◌≤◌, ◌<◌, map, min, nat_le, nat_lt, not, List, [], ◌∷◌, ◌++◌, length, Bool, true, false, Some, None, refl, sym, ap, ◌∙◌, arith, length-append, if◌then◌else◌}
+use Rattle.std.proofs.Common.{rules, subst, Option, ◌≡◌, ◌==◌, ◌&&◌, ℕ, zero, suc, ◌+◌, ◌≤◌, ◌<◌, map, min, nat_le}
+use Rattle.std.proofs.Common.{nat_lt, not, List, [], ◌∷◌, ◌++◌, length, Bool, true, false, Some, None, refl, sym, ap}
+use Rattle.std.proofs.Common.{◌∙◌, arith, length-append, if◌then◌else◌}
 use Rattle.std.proofs.lemmas.Bool.{eq-eqb, ne_eqb, false≢true, lt-ltb, ltb-true, ltb-false}
 use Rattle.std.proofs.lemmas.Bool.Decides.{nat_tests}
 use Rattle.std.proofs.lemmas.List.Folds.{position_or_len_push}
@@ -14,7 +16,8 @@ use Rattle.cap_source.specs.declared.packets.Meta.{Meta}
 use Rattle.cap_write.proofs.Feeding.{count_after-is}
 use Rattle.cap_write.proofs.Places.{position_or_len-none, position_or_len-some}
 use Rattle.cap_source.specs.Feed.{refusal_of}
-use Rattle.cap_write.specs.Numbering.{Origin, origin_of, is_origin, is_used, number_of, with_origin, write_fault, Numbered, numbered_of, numbered_or, numbered, refusal_or, refusal_in}
+use Rattle.cap_write.specs.Numbering.{Origin, origin_of, is_origin, is_used, number_of, with_origin, write_fault}
+use Rattle.cap_write.specs.Numbering.{Numbered, numbered_of, numbered_or, numbered, refusal_or, refusal_in}
 use Rattle.cap_write.specs.Texts.{interface_part, packet_part, count_after, merged_bytes}
 use Rattle.cap_laws.proofs.again.Files.{merged-again}
 use Rattle.cap_laws.proofs.again.MergedAgain.{room_left, IsNumbered-given, AllFit-given, all_described-given}
@@ -27,7 +30,8 @@ file_origins file (suc k) = file_origins file k ++ (file, k) ∷ []
 
 length-file_origins : (file count : ℕ) → length (file_origins file count) ≡ count
 length-file_origins file zero = refl
-length-file_origins file (suc k) = length-append (file_origins file k) ((file, k) ∷ []) ∙ omega (arith, length-file_origins file k)
+length-file_origins file (suc k) = length-append (file_origins file k) ((file, k) ∷ [])
+    ∙ omega (arith, length-file_origins file k)
 
 -- where one of them stands
 place_of : (file k count : ℕ) → position_or_len (is_origin (file, k)) (file_origins file count) ≡ min k count
@@ -35,10 +39,16 @@ place_of file k zero = omega arith
 place_of file k (suc m) = grind (arith, place_of file k m, position_or_len_push, length-file_origins, min, eq-eqb)
 
 -- whether it stands there
-used_of : (file k count : ℕ) (used : Bool) → list_any (is_origin (file, k)) (file_origins file count) ≡ used → nat_lt k count ≡ used
+used_of : (file k count : ℕ) (used : Bool) → list_any (is_origin (file, k)) (file_origins file count) ≡ used
+    → nat_lt k count ≡ used
 used_of file k count true is = search (rules, lt-ltb, position_or_len-some, place_of, length-file_origins)
 used_of file k count false is =
-    not_below k count (omega (arith, position_or_len-none (is_origin (file, k)) (file_origins file count) is, place_of file k count, length-file_origins file count))
+    not_below k count (omega (
+      arith,
+      position_or_len-none (is_origin (file, k)) (file_origins file count) is,
+      place_of file k count,
+      length-file_origins file count,
+    ))
   where
     not_below : (a b : ℕ) → b ≤ a → nat_lt a b ≡ false
     not_below a b h = grind (arith, nat_tests)
@@ -46,7 +56,8 @@ used_of file k count false is =
 -- The packets have the numbers of a file's interfaces in their order of first use.
 abbrev pub InOrder : ℕ → List Numbered → Type 0
 InOrder count [] = Unit {0}
-InOrder count (n ∷ rest) = (n.number ≤ count) × ((n.number == count) ≡ true → count < 1024) × InOrder (count_after count n) rest
+InOrder count (n ∷ rest) = (n.number ≤ count) × ((n.number == count) ≡ true → count < 1024)
+    × InOrder (count_after count n) rest
 
 one_more : (k : ℕ) → suc k ≡ k + 1
 one_more k = omega arith
@@ -57,14 +68,18 @@ origins_behind : (file count : ℕ) (n : Numbered) → n.number ≤ count
 origins_behind file count n few = by (list_any (is_origin (file, n.number)) (file_origins file count)) refl
   where
     by : (used : Bool) → list_any (is_origin (file, n.number)) (file_origins file count) ≡ used
-        → (if used then file_origins file count else file_origins file count ++ (file, n.number) ∷ []) ≡ file_origins file (count_after count n)
+        → (if used then file_origins file count else file_origins file count ++ (file, n.number) ∷ [])
+        ≡ file_origins file (count_after count n)
     by true is =
         let below = ltb-true n.number count (used_of file n.number count true is) in
-        ap (λ b. file_origins file (if b then count + 1 else count)) (sym (ne_eqb n.number count (λ e. absurd (omega (arith, below, e)))))
+        ap (λ b. file_origins file (if b then count + 1 else count))
+        (sym (ne_eqb n.number count (λ e. absurd (omega (arith, below, e)))))
     by false is =
-        let same : n.number ≡ count = omega (arith, ltb-false n.number count (used_of file n.number count false is), few) in
+        let same : n.number ≡ count =
+        omega (arith, ltb-false n.number count (used_of file n.number count false is), few) in
         ap (λ k. file_origins file count ++ (file, k) ∷ []) same
-        ∙ (ap (file_origins file) (one_more count) ∙ ap (λ b. file_origins file (if b then count + 1 else count)) (sym (eq-eqb n.number count same)))
+        ∙ (ap (file_origins file) (one_more count) ∙ ap (λ b. file_origins file (if b then count + 1 else count))
+        (sym (eq-eqb n.number count same)))
 
 never : (b : Bool) → (if b && false then Some InterfaceLimit else None) ≡ None
 never b = grind arith
@@ -79,15 +94,21 @@ unfolding write_fault
 unrefused file place count n few room = by (list_any (is_origin (file, n.number)) (file_origins file count)) refl
   where
     by : (used : Bool) → list_any (is_origin (file, n.number)) (file_origins file count) ≡ used
-        → (if nat_le 1024 (length (file_origins file count)) && not (list_any (is_origin (file, n.number)) (file_origins file count)) then Some InterfaceLimit else None) ≡ None
-    by true is = ap (λ u. if nat_le 1024 (length (file_origins file count)) && not u then Some InterfaceLimit else None) is ∙ never (nat_le 1024 (length (file_origins file count)))
+        → (if nat_le 1024 (length (file_origins file count))
+        && not (list_any (is_origin (file, n.number)) (file_origins file count)) then Some InterfaceLimit
+        else None) ≡ None
+    by true is = ap (λ u. if nat_le 1024 (length (file_origins file count)) && not u then Some InterfaceLimit else None)
+        is ∙ never (nat_le 1024 (length (file_origins file count)))
     by false is =
-        let same : n.number ≡ count = omega (arith, ltb-false n.number count (used_of file n.number count false is), few) in
+        let same : n.number ≡ count =
+        omega (arith, ltb-false n.number count (used_of file n.number count false is), few) in
         let left = room (eq-eqb n.number count same) in
-        ap (λ b. if b && not (list_any (is_origin (file, n.number)) (file_origins file count)) then Some InterfaceLimit else None)
+        ap (λ b. if b && not (list_any (is_origin (file, n.number)) (file_origins file count)) then Some
+        InterfaceLimit else None)
         (few_left (length (file_origins file count)) (omega (arith, left, length-file_origins file count)))
 
--- Packets that are read again have the numbers that they had, and as many captured bytes as they have, and none is refused.
+-- Packets that are read again have the numbers that they had, and as many captured bytes as they have, and none is
+-- refused.
 pub numbered-again : (order : Order) (file offset count : ℕ) (ns : List Numbered) → InOrder count ns
     → numbered (file_origins file count) (read_items order file offset count ns) ≡ map measured ns
 unfolding numbered read_items
@@ -98,9 +119,17 @@ numbered-again order file offset count (n ∷ rest) in_order =
     let items = read_items order file next (count_after count n) rest in
     let number : position_or_len (is_origin (file, n.number)) (file_origins file count) ≡ n.number =
     place_of file n.number count ∙ omega (arith, in_order.0) in
-    ap (λ f. numbered_or f (numbered_of (file_origins file count) (meta_again file place n) n.frame) (numbered (with_origin (file_origins file count) (meta_again file place n)) items))
+    ap (λ f. numbered_or f (numbered_of (file_origins file count) (meta_again file place n) n.frame)
+    (numbered (with_origin (file_origins file count) (meta_again file place n)) items))
     (unrefused file place count n in_order.0 in_order.1)
-    ∙ (ap (λ k. record { number = k; interface = n.interface; units = n.units; captured = length n.frame; original = n.original; frame = n.frame }
+    ∙ (ap (λ k. record {
+      number = k;
+      interface = n.interface;
+      units = n.units;
+      captured = length n.frame;
+      original = n.original;
+      frame = n.frame;
+    }
     ∷ numbered (with_origin (file_origins file count) (meta_again file place n)) items) number
     ∙ (ap (λ origins. measured n ∷ numbered origins items) (origins_behind file count n in_order.0)
     ∙ ap (λ l. measured n ∷ l) (numbered-again order file next (count_after count n) rest in_order.2)))
@@ -113,36 +142,46 @@ refusal-again order file offset count (n ∷ rest) in_order =
     let place = offset + length (interface_part order count n) in
     let next = place + length (packet_part order n) in
     let items = read_items order file next (count_after count n) rest in
-    ap (λ f. refusal_or f (meta_again file place n) (refusal_in (with_origin (file_origins file count) (meta_again file place n)) items))
+    ap (λ f. refusal_or f (meta_again file place n)
+    (refusal_in (with_origin (file_origins file count) (meta_again file place n)) items))
     (unrefused file place count n in_order.0 in_order.1)
     ∙ (ap (λ origins. refusal_in origins items) (origins_behind file count n in_order.0)
     ∙ refusal-again order file next (count_after count n) rest in_order.2)
 
-pub refusal_of-again : (order : Order) (file offset count : ℕ) (ns : List Numbered) → refusal_of (read_items order file offset count ns) ≡ None
+pub refusal_of-again : (order : Order) (file offset count : ℕ) (ns : List Numbered)
+    → refusal_of (read_items order file offset count ns) ≡ None
 unfolding refusal_of read_items
 refusal_of-again order file offset count [] = refl
-refusal_of-again order file offset count (n ∷ rest) = cc (refusal_of-again order file (offset + length (interface_part order count n) + length (packet_part order n)) (count_after count n) rest)
+refusal_of-again order file offset count (n ∷ rest) =
+    cc (refusal_of-again order file (offset + length (interface_part order count n) + length (packet_part order n))
+    (count_after count n) rest)
 
 -- and their instances are those numbers
-pub instances-again : (order : Order) (file offset count : ℕ) (ns : List Numbered) → instances (read_items order file offset count ns) ≡ numbers ns
+pub instances-again : (order : Order) (file offset count : ℕ) (ns : List Numbered)
+    → instances (read_items order file offset count ns) ≡ numbers ns
 unfolding instances read_items
 instances-again order file offset count [] = refl
-instances-again order file offset count (n ∷ rest) = cc (instances-again order file (offset + length (interface_part order count n) + length (packet_part order n)) (count_after count n) rest)
+instances-again order file offset count (n ∷ rest) =
+    cc (instances-again order file (offset + length (interface_part order count n) + length (packet_part order n))
+    (count_after count n) rest)
 
 numbers-measured : (ns : List Numbered) → numbers (map measured ns) ≡ numbers ns
 numbers-measured [] = refl
 numbers-measured (n ∷ rest) = ap (λ l. n.number ∷ l) (numbers-measured rest)
 
 -- a packet's number is one that is used, or the next one, and then there is room for it
-number-within : (origins : List Origin) (meta : Meta) (used : Bool) → is_used origins meta ≡ used → number_of origins meta ≤ length origins
+number-within : (origins : List Origin) (meta : Meta) (used : Bool) → is_used origins meta ≡ used
+    → number_of origins meta ≤ length origins
 number-within origins meta true is = omega (arith, position_or_len-some (is_origin (origin_of meta)) origins is)
 number-within origins meta false is = omega (arith, position_or_len-none (is_origin (origin_of meta)) origins is)
 
-number-room : (origins : List Origin) (meta : Meta) (used : Bool) → is_used origins meta ≡ used → write_fault origins meta ≡ None
+number-room : (origins : List Origin) (meta : Meta) (used : Bool) → is_used origins meta ≡ used
+    → write_fault origins meta ≡ None
     → (number_of origins meta == length origins) ≡ true → length origins < 1024
 number-room origins meta true is none next =
     let below = position_or_len-some (is_origin (origin_of meta)) origins is in
-    absurd (false≢true (sym (ne_eqb (number_of origins meta) (length origins) (λ e. absurd (omega (arith, below, e)))) ∙ next))
+    absurd (false≢true (sym (ne_eqb (number_of origins meta) (length origins)
+    (λ e. absurd (omega (arith, below, e)))) ∙ next))
 number-room origins meta false is none next = room_left origins meta none is
 
 -- what is numbered is in order
@@ -150,16 +189,19 @@ pub InOrder-numbered : (origins : List Origin) (items : List Item) → InOrder (
 unfolding numbered
 InOrder-numbered origins [] = tt
 InOrder-numbered origins (refused refusal ∷ items) = tt
-InOrder-numbered origins (packet meta frame ∷ items) = by (write_fault origins meta) refl (InOrder-numbered (with_origin origins meta) items)
+InOrder-numbered origins (packet meta frame ∷ items) =
+    by (write_fault origins meta) refl (InOrder-numbered (with_origin origins meta) items)
   where
     by : (fault : Option Rule) → write_fault origins meta ≡ fault
         → InOrder (length (with_origin origins meta)) (numbered (with_origin origins meta) items)
-        → InOrder (length origins) (numbered_or fault (numbered_of origins meta frame) (numbered (with_origin origins meta) items))
+        → InOrder (length origins) (numbered_or fault (numbered_of origins meta frame)
+        (numbered (with_origin origins meta) items))
     by (Some rule) is behind = tt
     by None is behind = (
       number-within origins meta (is_used origins meta) refl,
       number-room origins meta (is_used origins meta) refl is,
-      subst (λ count. InOrder count (numbered (with_origin origins meta) items)) (sym (count_after-is origins meta frame)) behind,
+      subst (λ count. InOrder count (numbered (with_origin origins meta) items))
+          (sym (count_after-is origins meta frame)) behind,
     )
 
 -- What is written of a list is read again as what was numbered of it.
@@ -167,9 +209,11 @@ pub merged_again-law : MergedAgain
 merged_again-law order tail file given items have limit =
     let ns = numbered [] items in
     let read : file_items tail file (merged_bytes order items) ≡ read_items order file 28 0 ns =
-    merged-again order tail file ns (IsNumbered-given given [] items have) (AllFit-given given [] items have) (all_described-given given [] items have (omega arith)) limit in
+    merged-again order tail file ns (IsNumbered-given given [] items have) (AllFit-given given [] items have)
+    (all_described-given given [] items have (omega arith)) limit in
     let in_order = InOrder-numbered [] items in
-    let same : numbered [] (file_items tail file (merged_bytes order items)) ≡ map measured ns = ap (numbered []) read ∙ numbered-again order file 28 0 ns in_order in (
+    let same : numbered [] (file_items tail file (merged_bytes order items)) ≡ map measured ns = ap (numbered []) read
+    ∙ numbered-again order file 28 0 ns in_order in (
       same,
       ap (refusal_in []) read ∙ refusal-again order file 28 0 ns in_order,
       ap refusal_of read ∙ refusal_of-again order file 28 0 ns,

@@ -26,7 +26,8 @@ timed s a = Some (pos s, a)
 
 -- so each of its times is whole in it
 pub whole_time-header : (header : PcapHeader) (units : ℕ)
-    → whole_time header.unit (interface_of header) units ≡ Some (pos (units / in_second header.unit), units % in_second header.unit)
+    → whole_time header.unit (interface_of header) units
+    ≡ Some (pos (units / in_second header.unit), units % in_second header.unit)
 whole_time-header header units =
     whole_of-stamp_in (in_second header.unit) units (interface_of header)
     ∙ grind (arith, units_of-unit, eq-eqb, mul-mod_left, mul-div_cancel, common_steps, nat_tests)

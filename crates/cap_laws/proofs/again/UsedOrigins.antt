@@ -1,5 +1,6 @@
 -- The numbers of origins by their first use, in one list and in the lists of several groups.
-use Rattle.std.proofs.Common.{◌≡◌, ℕ, zero, suc, ◌+◌, ◌<◌, ◌≤◌, Bool, true, false, cond, List, [], ◌∷◌, ◌++◌, refl, sym, arith, inl, inr}
+use Rattle.std.proofs.Common.{◌≡◌, ℕ, zero, suc, ◌+◌, ◌<◌, ◌≤◌, Bool, true, false, cond, List, [], ◌∷◌, ◌++◌, refl, sym}
+use Rattle.std.proofs.Common.{arith, inl, inr}
 use Rattle.std.specs.Prelude.{◌==◌, ◌⊎◌}
 use Rattle.std.specs.List.{list_any, position_or_len}
 use Rattle.std.proofs.lemmas.Bool.{true≢false}
@@ -27,7 +28,8 @@ number-more (x ∷ xs) ys a (suc n) h = (h.0, number-more xs ys a n h.1)
 number-more xs ys a n h = grind arith
 
 -- origins with a number are equal if their numbers are
-pub numbers-decide : (xs : List Origin) (a c : Origin) (m n : ℕ) → IsNumberIn xs a m → IsNumberIn xs c n → (m == n) ≡ is_origin a c
+pub numbers-decide : (xs : List Origin) (a c : Origin) (m n : ℕ) → IsNumberIn xs a m → IsNumberIn xs c n
+    → (m == n) ≡ is_origin a c
 numbers-decide (x ∷ xs) a c (suc m) (suc n) h k = grind (arith, numbers-decide xs a c m n h.1 k.1, nat_tests)
 numbers-decide xs a c m n h k = grind arith
 
@@ -39,20 +41,24 @@ all_origins origins [] = origins
 all_origins origins (packet meta frame ∷ items) = all_origins (with_origin origins meta) items
 all_origins origins (refused refusal ∷ items) = all_origins origins items
 
-kept_origin : (ns : List Origin) (m : Meta) (a : Origin) (n : ℕ) (b : Bool) → IsNumberIn ns a n → IsNumberIn (cond b ns (ns ++ (origin_of m ∷ []))) a n
+kept_origin : (ns : List Origin) (m : Meta) (a : Origin) (n : ℕ) (b : Bool) → IsNumberIn ns a n
+    → IsNumberIn (cond b ns (ns ++ (origin_of m ∷ []))) a n
 kept_origin ns m a n b h = grind (arith, number-more)
 
-pub number-kept : (ns : List Origin) (xs : List Item) (a : Origin) (n : ℕ) → IsNumberIn ns a n → IsNumberIn (all_origins ns xs) a n
+pub number-kept : (ns : List Origin) (xs : List Item) (a : Origin) (n : ℕ) → IsNumberIn ns a n
+    → IsNumberIn (all_origins ns xs) a n
 number-kept ns [] a n h = h
 number-kept ns (packet m f ∷ xs) a n h = number-kept (with_origin ns m) xs a n (kept_origin ns m a n (is_used ns m) h)
 number-kept ns (refused r ∷ xs) a n h = number-kept ns xs a n h
 
 -- an origin that stands in the list has the first place, and another the next one
-found : (ns : List Origin) (a : Origin) → list_any (is_origin a) ns ≡ true → IsNumberIn ns a (position_or_len (is_origin a) ns)
+found : (ns : List Origin) (a : Origin) → list_any (is_origin a) ns ≡ true
+    → IsNumberIn ns a (position_or_len (is_origin a) ns)
 found [] a e = absurd (true≢false (sym e))
 found (n ∷ ns) a e = grind (arith, found ns a)
 
-lacking : (ns : List Origin) (a : Origin) → list_any (is_origin a) ns ≡ false → IsNumberIn (ns ++ (a ∷ [])) a (position_or_len (is_origin a) ns)
+lacking : (ns : List Origin) (a : Origin) → list_any (is_origin a) ns ≡ false
+    → IsNumberIn (ns ++ (a ∷ [])) a (position_or_len (is_origin a) ns)
 lacking [] a e = grind (arith, same_number)
 lacking (n ∷ ns) a e = grind (arith, lacking ns a)
 
@@ -60,7 +66,8 @@ lacking (n ∷ ns) a e = grind (arith, lacking ns a)
 pub number-given : (ns : List Origin) (m : Meta) → IsNumberIn (with_origin ns m) (origin_of m) (number_of ns m)
 number-given ns m = by (is_used ns m) refl
   where
-    by : (b : Bool) → is_used ns m ≡ b → IsNumberIn (cond b ns (ns ++ (origin_of m ∷ []))) (origin_of m) (number_of ns m)
+    by : (b : Bool) → is_used ns m ≡ b → IsNumberIn (cond b ns (ns ++ (origin_of m ∷ []))) (origin_of m)
+        (number_of ns m)
     by b e = grind (arith, found, lacking)
 
 -- ---- groups
@@ -70,7 +77,8 @@ pub record GroupOrigins : Type 0 where
   pub count : ℕ
   pub origins : List Origin
 
--- Files from a number on are a group, which is the file of another number: an origin of one of them, and its number there.
+-- Files from a number on are a group, which is the file of another number: an origin of one of them, and its number
+-- there.
 pub record IsOfGroup (file place : ℕ) (g : GroupOrigins) (a b : Origin) : Type 0 where
   pub from : file ≤ a.0
   pub below : a.0 < file + g.count
@@ -82,7 +90,8 @@ abbrev pub IsOfGroups : ℕ → ℕ → List GroupOrigins → Origin → Origin 
 IsOfGroups file place [] a b = ⊥
 IsOfGroups file place (g ∷ gs) a b = IsOfGroup file place g a b ⊎ IsOfGroups (file + g.count) (suc place) gs a b
 
-bounds : (file place : ℕ) (gs : List GroupOrigins) (a b : Origin) → IsOfGroups file place gs a b → (file ≤ a.0) × (place ≤ b.0)
+bounds : (file place : ℕ) (gs : List GroupOrigins) (a b : Origin) → IsOfGroups file place gs a b → (file ≤ a.0)
+    × (place ≤ b.0)
 bounds file place [] a b h = absurd h
 bounds file place (g ∷ gs) a b (inl h) = (h.from, omega (arith, h.group))
 bounds file place (g ∷ gs) a b (inr h) = grind (arith, bounds (file + g.count) (suc place) gs a b h)

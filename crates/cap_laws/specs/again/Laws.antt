@@ -1,5 +1,7 @@
 -- What is true of written files, whatever writes or reads them.
-use Rattle.std.specs.Prelude.{◌≡◌, ℕ, ◌+◌, ◌/◌, ◌%◌, ◌^◌, ◌≤◌, ◌<◌, ◌==◌, FitsSigned, List, [], ◌∷◌, ◌++◌, length, map, slice_get, Option, Some, None, option_map, not, pos, int_lt, Bool, ⊤, false, if◌then◌else◌}
+use Rattle.std.specs.Prelude.{◌≡◌, ℕ, ◌+◌, ◌/◌, ◌%◌, ◌^◌, ◌≤◌, ◌<◌, ◌==◌, FitsSigned, List, [], ◌∷◌, ◌++◌, length, map}
+use Rattle.std.specs.Prelude.{slice_get, Option, Some, None, option_map, not, pos, int_lt, Bool, ⊤, false}
+use Rattle.std.specs.Prelude.{if◌then◌else◌}
 use Rattle.std.specs.Int.{w64}
 use Rattle.cap_bytes.specs.declared.numbers.Order.{Order}
 use Rattle.cap_bytes.specs.declared.faults.Refusal.{Refusal}
@@ -22,7 +24,8 @@ use Rattle.cap_write.specs.Numbering.{Origin, origin_of, Numbered, numbered_of, 
 use Rattle.cap_write.specs.Pcap.{fraction_of, pcap_bytes, pcap_refusal}
 use Rattle.cap_time.specs.Clock.{clock_cmp}
 use Rattle.cap_source.specs.Times.{meta_time}
-use Rattle.cap_write.specs.Texts.{interface_part, packet_part, count_after, first_origins, pcapng_bytes, pcapng_refusal, merged_bytes}
+use Rattle.cap_write.specs.Texts.{interface_part, packet_part, count_after, first_origins, pcapng_bytes, pcapng_refusal}
+use Rattle.cap_write.specs.Texts.{merged_bytes}
 
 -- The fields of a packet and of its interface fit in their widths, and that many bytes may be captured.
 pub record Fits (n : Numbered) : Type 0 where
@@ -90,7 +93,13 @@ pub record Kept : Type 0 where
 
 abbrev pub kept_of : Meta → List ℕ → Kept
 kept_of meta frame =
-    record { interface = meta.interface; units = meta.units; captured = meta.captured; original = meta.original; frame = frame }
+    record {
+      interface = meta.interface;
+      units = meta.units;
+      captured = meta.captured;
+      original = meta.original;
+      frame = frame;
+    }
 
 -- the same of the packets of a list
 unfoldable pub kept : List Item → List Kept
@@ -111,7 +120,8 @@ timely (refused refusal ∷ items) = refused refusal ∷ []
 
 unfoldable pub late_in : List Item → Option Refusal
 late_in [] = None
-late_in (packet meta frame ∷ items) = if is_late meta.interface meta.units then Some (refusal_at meta TimeRange) else late_in items
+late_in (packet meta frame ∷ items) = if is_late meta.interface meta.units then Some
+    (refusal_at meta TimeRange) else late_in items
 late_in (refused refusal ∷ items) = Some refusal
 
 -- Every accepted pcap file whose pcapng text is at most 2^40 bytes long comes back: that text has its first
@@ -119,7 +129,8 @@ late_in (refused refusal ∷ items) = Some refusal
 -- is too late, which is refused.
 abbrev pub RoundTrip : Type 0
 RoundTrip =
-    (bytes : List ℕ) (tail : Tail) (file : ℕ) → AreBytes bytes → is_pcapng bytes ≡ false → refusal_of (file_items tail file bytes) ≡ None
+    (bytes : List ℕ) (tail : Tail) (file : ℕ) → AreBytes bytes → is_pcapng bytes ≡ false
+    → refusal_of (file_items tail file bytes) ≡ None
     → (order back : Order) (tail_again tail_last : Tail) (file_again file_last : ℕ)
     → (let items = file_items tail file bytes in
     let first = file_first tail file bytes in
@@ -204,17 +215,19 @@ MergedAgain =
 -- The packets of a file have the interface that the file's instance of theirs is.
 abbrev pub AllAlike : ℕ → (ℕ → Interface) → List Item → Type 0
 AllAlike file given [] = ⊤
-AllAlike file given (packet meta frame ∷ items) = (meta.file ≡ file) × (meta.interface ≡ given meta.instance) × AllAlike file given items
+AllAlike file given (packet meta frame ∷ items) = (meta.file ≡ file) × (meta.interface ≡ given meta.instance)
+    × AllAlike file given items
 AllAlike file given (refused refusal ∷ items) = AllAlike file given items
 
 -- In every file the packets of one instance have one interface.
 abbrev pub OneInterface : Type 0
 OneInterface =
-    (tail : Tail) (file : ℕ) (bytes : List ℕ) → (given : ℕ → Interface) × AllAlike file given (file_items tail file bytes)
+    (tail : Tail) (file : ℕ) (bytes : List ℕ) → (given : ℕ → Interface)
+    × AllAlike file given (file_items tail file bytes)
 
 -- What is written of any file as pcapng, if it is at most 2^40 bytes long, has the file's first interface, or none if
--- the file has none, and the file's packets, those before a refusal, in order: both have the same numbered packets after the
--- first interface, and nothing is refused there.
+-- the file has none, and the file's packets, those before a refusal, in order: both have the same numbered packets
+-- after the first interface, and nothing is refused there.
 abbrev pub PcapngAgain : Type 0
 PcapngAgain =
     (order : Order) (tail tail_again : Tail) (file file_again : ℕ) (bytes : List ℕ) → AreBytes bytes
@@ -228,7 +241,8 @@ PcapngAgain =
     × (refusal_of again ≡ None)
     × (file_first tail_again file_again text ≡ first))
 
--- A packet of a file and one that was written for it have the same link, lengths and bytes, and the same time, maybe in another form.
+-- A packet of a file and one that was written for it have the same link, lengths and bytes, and the same time, maybe in
+-- another form.
 pub record IsSamePacket (meta again : Meta) (bytes bytes_again : List ℕ) : Type 0 where
   pub link : meta.interface.link ≡ again.interface.link
   pub time : clock_cmp (meta_time meta) (meta_time again) ≡ Equal
@@ -241,14 +255,19 @@ SamePackets (packet meta frame) (packet again frame_again) = IsSamePacket meta a
 SamePackets (packet meta frame) (refused refusal) = ⊥
 SamePackets (refused refusal) again = ⊥
 
--- The one interface of what is written as pcap of a file with that first interface: its link and snaplen, and the units in which
--- times are written, counted from 1970 (draft-ietf-opsawg-pcap, 4).
+-- The one interface of what is written as pcap of a file with that first interface: its link and snaplen, and the units
+-- in which times are written, counted from 1970 (draft-ietf-opsawg-pcap, 4).
 abbrev pub written_first : Interface → Interface
 written_first first =
-    record { link = first.link; snaplen = first.snaplen; resolution = resolution_of_unit (fraction_of first); offset = pos 0 }
+    record {
+      link = first.link;
+      snaplen = first.snaplen;
+      resolution = resolution_of_unit (fraction_of first);
+      offset = pos 0;
+    }
 
--- What is written of any file as pcap has that interface, or none if the file has none. If nothing is refused and it is at most
--- 2^40 bytes long, it has the file's packets, in order.
+-- What is written of any file as pcap has that interface, or none if the file has none. If nothing is refused and it is
+-- at most 2^40 bytes long, it has the file's packets, in order.
 abbrev pub PcapAgain : Type 0
 PcapAgain =
     (order : Order) (tail tail_again : Tail) (file file_again : ℕ) (bytes : List ℕ) → AreBytes bytes

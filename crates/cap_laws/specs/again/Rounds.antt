@@ -1,4 +1,5 @@
--- Laws of merging: what is written of a merge is read again, a packet's clock in the merged list, and merging in rounds.
+-- Laws of merging: what is written of a merge is read again, a packet's clock in the merged list, and merging in
+-- rounds.
 use Rattle.std.specs.Prelude.{◌≡◌, ℕ, suc, ◌≤◌, ◌^◌, List, [], ◌∷◌, ◌++◌, length, map, Option, Some, None}
 use Rattle.std.specs.List.{AllByRecursion, AllZip, flat_map}
 use Rattle.std.specs.Option.{option_map}
@@ -8,12 +9,15 @@ use Rattle.cap_bytes.specs.declared.faults.Rule.{Rule}
 use Rattle.cap_bytes.specs.declared.faults.Tail.{Tail}
 use Rattle.cap_bytes.specs.declared.numbers.Order.{Order}
 use Rattle.cap_source.specs.Feed.{Item, packet, refused, refusal_of}
-use Rattle.cap_source.specs.Items.{file_items}
+use Rattle.cap_bytes.specs.declared.faults.Refusal.{Refusal}
+use Rattle.cap_source.specs.Items.{file_first, file_items}
 use Rattle.cap_source.specs.declared.packets.Format.TheVariants.{Pcapng}
 use Rattle.cap_source.specs.declared.packets.Meta.{Meta}
 use Rattle.cap_time.specs.Clock.{clock_cmp, greatest}
 use Rattle.cap_write.specs.Numbering.{Numbered, numbered, refusal_in}
-use Rattle.cap_write.specs.Texts.{merged_bytes}
+use Rattle.cap_write.specs.Pcap.{pcap_bytes, pcap_refusal}
+use Rattle.cap_write.specs.PcapRun.{run_bytes, run_refusal}
+use Rattle.cap_write.specs.Texts.{merged_bytes, merged_refusal}
 use Rattle.cap_merge.specs.Files.{run_of_files, run_of_lists}
 use Rattle.cap_merge.specs.Run.{Clocked, opened, run}
 use Rattle.cap_merge.specs.Parts.{item_time, is_refusal}
@@ -35,6 +39,27 @@ MergeLaw =
     × (refusal_in [] again ≡ None)
     × (refusal_of again ≡ None)
     × (instances again ≡ numbers (numbered [] again)))
+
+-- ---- the merge as pcap
+
+-- the rule of a refusal
+abbrev pub rule_of : Option Refusal → Option Rule
+rule_of refusal = option_map (λ r. r.rule) refusal
+
+-- What is written of the run of any files as one pcap file is what is written as pcap of the pcapng file that is
+-- written of the run, if nothing is refused there and that is at most 2^40 bytes long; one of the two is refused if the
+-- other is, by the same rule.
+abbrev pub MergedPcap : Type 0
+MergedPcap =
+    (order back : Order) (tail tail_again : Tail) (file_again : ℕ) (files : List (List ℕ))
+    → AllByRecursion AreBytes files
+    → (let items = run_of_files tail files in
+    let text = merged_bytes order items in
+    let first = file_first tail_again file_again text in
+    let again = file_items tail_again file_again text in
+    length text ≤ 2 ^ 40 → merged_refusal items ≡ None
+    → (pcap_bytes back first again ≡ run_bytes back items)
+    × (rule_of (pcap_refusal file_again first again) ≡ rule_of (run_refusal items)))
 
 -- ---- the clock law
 
@@ -87,15 +112,16 @@ pub record IsMergeOf (files : List (List Item)) (items : List Item) : Type 0 whe
   pub accepted : refusal_in [] (run_of files) ≡ None
   pub packets : AllZip IsItemOf (merged_packets files) items
 
--- Files are split, in their order, into neighbouring groups, and each group is merged. Then the merge of files that hold
--- what these merges write, in the groups' order, writes what the merge of all files writes.
+-- Files are split, in their order, into neighbouring groups, and each group is merged. Then the merge of files that
+-- hold what these merges write, in the groups' order, writes what the merge of all files writes.
 abbrev pub FileRoundsLaw : Type 0
 FileRoundsLaw =
     (groups : List (List (List Item))) (files : List (List Item)) → AllZip IsMergeOf groups files
     → (merged_packets files ≡ merged_packets (flat_map (λ group. group) groups))
     × (merged_rule files ≡ merged_rule (flat_map (λ group. group) groups))
 
--- Some written packets as the items of a file, in which their numbers are the instances; where their blocks begin isn't told.
+-- Some written packets as the items of a file, in which their numbers are the instances; where their blocks begin isn't
+-- told.
 abbrev pub item_of : Numbered → Item
 item_of n =
     packet (record {
@@ -117,5 +143,7 @@ file_of packets = map item_of packets
 abbrev pub RoundsLaw : Type 0
 RoundsLaw =
     (groups : List (List (List Item))) → AllByRecursion (λ group. refusal_in [] (run_of group) ≡ None) groups
-    → (merged_packets (map (λ group. file_of (merged_packets group)) groups) ≡ merged_packets (flat_map (λ group. group) groups))
-    × (merged_rule (map (λ group. file_of (merged_packets group)) groups) ≡ merged_rule (flat_map (λ group. group) groups))
+    → (merged_packets (map (λ group. file_of (merged_packets group)) groups)
+    ≡ merged_packets (flat_map (λ group. group) groups))
+    × (merged_rule (map (λ group. file_of (merged_packets group)) groups)
+    ≡ merged_rule (flat_map (λ group. group) groups))

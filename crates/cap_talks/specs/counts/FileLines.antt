@@ -1,7 +1,9 @@
 -- The lines of files that were counted.
-use Rattle.std.specs.Prelude.{ℕ, ◌+◌, Bool, true, false, List, [], ◌∷◌, ◌++◌, codes, decimal, Option, Some, None, option_map}
+use Rattle.std.specs.Prelude.{ℕ, ◌+◌, Bool, true, false, List, [], ◌∷◌, ◌++◌, codes, decimal, Option, Some, None}
+use Rattle.std.specs.Prelude.{option_map}
 use Rattle.cap_print.specs.Lines.{time_text}
 use Rattle.cap_source.specs.declared.feeds.Ending.{Ending}
+use Rattle.cap_source.specs.declared.feeds.FileEnd.{FileEnd}
 use Rattle.cap_source.specs.declared.packets.Format.{Format}
 use Rattle.cap_source.specs.declared.packets.Format.TheVariants.{Pcap, Pcapng}
 use Rattle.cap_time.specs.Stamp.{printed_of}
@@ -33,18 +35,19 @@ file_text file counts None = line_text file counts.format counts counts.skipped 
 file_text file counts (Some ending) = line_text file (Some ending.format) counts ending.skipped ending.was_cut
 
 -- how the file of that number has ended, if that is told
-abbrev pub ending_at : Option (ℕ → Ending) → ℕ → Option Ending
+abbrev pub ending_at : Option (ℕ → FileEnd) → ℕ → Option Ending
 ending_at None file = None
-ending_at (Some endings) file = Some (endings file)
+ending_at (Some endings) file = Some (endings file).ending
 
 -- the line that says how many files there are
 abbrev pub files_text : ℕ → List ℕ
 files_text count = codes "files " ++ decimal count ++ codes "\n"
 
 -- what is counted of files, with how each has ended, if that is told, from that number on
-abbrev pub ended_from : Option (ℕ → Ending) → ℕ → List Counts → List Counted
+abbrev pub ended_from : Option (ℕ → FileEnd) → ℕ → List Counts → List Counted
 ended_from endings file [] = []
-ended_from endings file (counts ∷ rest) = record { counts = counts; ending = ending_at endings file } ∷ ended_from endings (file + 1) rest
+ended_from endings file (counts ∷ rest) = record { counts = counts; ending = ending_at endings file }
+    ∷ ended_from endings (file + 1) rest
 
 -- the lines of files that were counted, from that number on
 abbrev pub counted_texts : ℕ → List Counted → List ℕ

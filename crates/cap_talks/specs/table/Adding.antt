@@ -15,7 +15,8 @@ use Rattle.cap_talks.specs.declared.table.classes.Class.{Class}
 unfoldable pub datagram_unit : Datagram → Option CountedUnit
 datagram_unit d =
     option_map (unit_of d.header.key.protocol d.frames d.bytes (timed_frame d.first) (timed_frame d.last))
-    (ends_of d.header.key.source d.header.key.destination (transport_of d.header.key.protocol d.payload.items (length d.payload.items)))
+    (ends_of d.header.key.source d.header.key.destination
+    (transport_of d.header.key.protocol d.payload.items (length d.payload.items)))
 
 unfoldable pub datagram_class : Datagram → Class
 datagram_class d = class_of (transport_of d.header.key.protocol d.payload.items (length d.payload.items))

@@ -1,5 +1,5 @@
 -- The class of each packet of a run, and how many packets of each class there are. Lists have the latest first.
-use Rattle.std.specs.Prelude.{◌≡◌, ℕ, List, [], ◌∷◌, Bool, ◌+◌, ◌==◌, length, if◌then◌else◌}
+use Rattle.std.specs.Prelude.{◌≡◌, ℕ, List, [], ◌∷◌, None, Bool, ◌+◌, ◌==◌, length, if◌then◌else◌}
 use Rattle.std.specs.List.{find, list_any}
 use Rattle.std.specs.Option.{option_map_or}
 use Rattle.cap_ip.specs.Transport.{transport_of}
@@ -9,6 +9,7 @@ use Rattle.cap_join.specs.ByteMap.{header_of, data_of}
 use Rattle.cap_join.specs.Fragments.{Piece}
 use Rattle.cap_join.specs.Joiners.{open_limit}
 use Rattle.cap_join.specs.Completed.{completed_of}
+use Rattle.cap_source.specs.declared.packets.Meta.{Meta}
 use Rattle.cap_talks.specs.table.Taken.{Taken, Look, plain, datagram, fragment, look, events_of}
 use Rattle.cap_talks.specs.declared.table.classes.Class.{Class}
 use Rattle.cap_talks.specs.declared.table.classes.Class.TheVariants as class
@@ -24,7 +25,8 @@ class_of transport.Cut = class.Cut
 -- what the data of a joined datagram says of its ports: its header is that of the latest fragment that begins at 0
 abbrev pub joined_transport : List Piece → Transport
 joined_transport pieces =
-    option_map_or (λ h. transport_of h.key.protocol (data_of pieces) (length (data_of pieces))) (header_of pieces) transport.Bad
+    option_map_or (λ h. transport_of h.key.protocol (data_of pieces) (length (data_of pieces)))
+    (header_of pieces) transport.Bad
 
 unfoldable pub group_class : List Piece → Class
 group_class pieces = class_of (joined_transport pieces)
@@ -45,6 +47,10 @@ class_by groups (fragment p) = class_in groups p.stamped.place
 abbrev pub classes_in : List (List Piece) → List Taken → List Class
 classes_in groups [] = []
 classes_in groups (x ∷ xs) = class_by groups (look (length xs) x) ∷ classes_in groups xs
+
+-- the class of a packet in a run of it alone, where no group is completed
+unfoldable pub lone_class : Meta → List ℕ → Class
+lone_class meta frame = class_by [] (look 0 (record { clock = None; meta = meta; frame = frame }))
 
 -- the groups that were completed among some packets
 abbrev pub groups_of : List Taken → List (List Piece)

@@ -1,6 +1,7 @@
--- The counted units of a run: whole datagrams, and groups of fragments that were completed, each at the place of the packet that
--- completes it. Lists of packets have the latest first, units stand in their order.
-use Rattle.std.specs.Prelude.{ℕ, List, [], ◌∷◌, ◌++◌, Bool, false, ◌+◌, length, if◌then◌else◌, Option, Some, None, option_and_then}
+-- The counted units of a run: whole datagrams, and groups of fragments that were completed, each at the place of the
+-- packet that completes it. Lists of packets have the latest first, units stand in their order.
+use Rattle.std.specs.Prelude.{ℕ, List, [], ◌∷◌, ◌++◌, Bool, false, ◌+◌, length, if◌then◌else◌, Option, Some, None}
+use Rattle.std.specs.Prelude.{option_and_then}
 use Rattle.std.specs.Option.{option_map, option_map_or}
 use Rattle.cap_bytes.specs.declared.faults.Refusal.{Refusal}
 use Rattle.cap_bytes.specs.declared.faults.Rule.TheVariants.{TalkLimit}
@@ -30,21 +31,32 @@ abbrev pub timed_frame : Option Stamped → Option TimedFrame
 timed_frame None = None
 timed_frame (Some frame) = option_map (λ time. record { time = time; place = frame.place }) frame.time
 
--- a unit between two ends, with the number of its frames, their bytes, and the first and the last of those that have a time
+-- a unit between two ends, with the number of its frames, their bytes, and the first and the last of those that have a
+-- time
 abbrev pub unit_of : ℕ → ℕ → ℕ → Option TimedFrame → Option TimedFrame → End × End → CountedUnit
 unit_of protocol frames bytes first last ends =
-    record { protocol = protocol; source = ends.0; destination = ends.1; frames = frames; bytes = bytes; first = first; last = last }
+    record {
+      protocol = protocol;
+      source = ends.0;
+      destination = ends.1;
+      frames = frames;
+      bytes = bytes;
+      first = first;
+      last = last;
+    }
 
 -- a whole datagram, which came in one frame
 abbrev pub whole_unit : HeaderFields → List ℕ → Stamped → Option CountedUnit
 whole_unit header captured stamped =
-    option_map (unit_of header.key.protocol 1 stamped.original (timed_frame (Some stamped)) (timed_frame (Some stamped)))
+    option_map (unit_of header.key.protocol 1 stamped.original (timed_frame (Some stamped))
+    (timed_frame (Some stamped)))
     (ends_of header.key.source header.key.destination (transport_of header.key.protocol captured header.data_length))
 
 -- a joined datagram
 unfoldable pub group_unit : List Piece → Option CountedUnit
 group_unit pieces =
-    option_and_then (λ h. option_map (unit_of h.key.protocol (length pieces) (original_bytes pieces) (timed_frame (first_frame pieces)) (timed_frame (last_frame pieces)))
+    option_and_then (λ h. option_map (unit_of h.key.protocol (length pieces) (original_bytes pieces)
+    (timed_frame (first_frame pieces)) (timed_frame (last_frame pieces)))
     (ends_of h.key.source h.key.destination (transport_of h.key.protocol (data_of pieces) (length (data_of pieces)))))
     (header_of pieces)
 
@@ -56,7 +68,8 @@ first_unit (pieces ∷ groups) = group_unit pieces
 abbrev pub unit_by : Look → Stamped → Option Stamp → List Event → Option CountedUnit
 unit_by (plain c) stamped clock events = None
 unit_by (datagram header captured) stamped clock events = whole_unit header captured stamped
-unit_by (fragment p) stamped clock events = first_unit (if_complete (joined_pieces clock p (state_of open_limit events)))
+unit_by (fragment p) stamped clock events = first_unit
+    (if_complete (joined_pieces clock p (state_of open_limit events)))
 
 unfoldable pub unit_at : List Taken → Taken → Option CountedUnit
 unit_at xs x = unit_by (look (length xs) x) (stamped_of (length xs) x.meta) x.clock (events_of xs)

@@ -6,8 +6,8 @@ use Rattle.cap_talks.specs.table.Stepping.{TableState}
 use Rattle.cap_talks.specs.table.Tallies.{one_if, waiting_bytes}
 use Rattle.cap_talks.specs.declared.table.tables.Held.{Held}
 
--- The largest window, and the most interfaces, of any file; the open groups with a joined datagram that waits, the largest of these
--- and the conversations.
+-- The largest window, and the most interfaces, of any file; the open groups with a joined datagram that waits, the
+-- largest of these and the conversations.
 abbrev pub held_of : TableState → Held
 held_of t =
     record {

@@ -29,8 +29,11 @@ same_end-is a b h =
 
 pub same_talk-is : (a b : TalkKey) → same_talk a b ≡ true → a ≡ b
 same_talk-is a b h =
-    let protocol = eqb-true a.protocol b.protocol (and_left (a.protocol == b.protocol) (same_end a.lesser b.lesser && same_end a.greater b.greater) h) in
+    let protocol = eqb-true a.protocol b.protocol (and_left (a.protocol == b.protocol)
+    (same_end a.lesser b.lesser && same_end a.greater b.greater) h) in
     let ends = and_right (a.protocol == b.protocol) (same_end a.lesser b.lesser && same_end a.greater b.greater) h in
-    let lesser = same_end-is a.lesser b.lesser (and_left (same_end a.lesser b.lesser) (same_end a.greater b.greater) ends) in
-    let greater = same_end-is a.greater b.greater (and_right (same_end a.lesser b.lesser) (same_end a.greater b.greater) ends) in
+    let lesser = same_end-is a.lesser b.lesser (and_left (same_end a.lesser b.lesser)
+    (same_end a.greater b.greater) ends) in
+    let greater = same_end-is a.greater b.greater (and_right (same_end a.lesser b.lesser)
+    (same_end a.greater b.greater) ends) in
     λ i. record { protocol = protocol i; lesser = lesser i; greater = greater i }

@@ -5,7 +5,8 @@ use Rattle.std.specs.Ordering.{is_lt}
 use Rattle.std.specs.declared.cmp.Ordering.{Ordering}
 use Rattle.cap_talks.specs.declared.table.units.TimedFrame.{TimedFrame}
 use Rattle.cap_talks.specs.table.Rows.{frames_in, bytes_in}
-use Rattle.cap_talks.specs.table.Talks.{key_of, same_end, same_talk, by_time, by_time_down, least_frame, greatest_frame, frames_of, bytes_of, rows_of}
+use Rattle.cap_talks.specs.table.Talks.{key_of, same_end, same_talk, by_time, by_time_down, least_frame, greatest_frame}
+use Rattle.cap_talks.specs.table.Talks.{frames_of, bytes_of, rows_of}
 use Rattle.cap_talks.specs.declared.table.units.CountedUnit.{CountedUnit}
 
 -- two units go the same way between two ends, or one of them goes back
@@ -17,7 +18,8 @@ goes_back a b = same_end a.source b.destination && same_end a.destination b.sour
 
 -- Units are of one conversation if they have one protocol and the same two ends, whichever is the source.
 abbrev pub KeyLaw : Type 0
-KeyLaw = (a b : CountedUnit) → same_talk (key_of a) (key_of b) ≡ ((a.protocol == b.protocol) && (goes_along a b || goes_back a b))
+KeyLaw = (a b : CountedUnit) → same_talk (key_of a) (key_of b)
+    ≡ ((a.protocol == b.protocol) && (goes_along a b || goes_back a b))
 
 -- the frames of some units that have the least times of each, and those that have the greatest
 abbrev pub with_frame : Option TimedFrame → List TimedFrame → List TimedFrame
@@ -35,7 +37,8 @@ lasts (unit ∷ units) = with_frame unit.last (lasts units)
 -- It is one of the frames, and none of them stands before it in the order; if there is none they are none.
 abbrev pub IsFirstIn : (TimedFrame → TimedFrame → Ordering) → List TimedFrame → Option TimedFrame → Type 0
 IsFirstIn cmp frames None = frames ≡ []
-IsFirstIn cmp frames (Some frame) = Contains frames frame × AllByRecursion (λ other. is_lt (cmp other frame) ≡ false) frames
+IsFirstIn cmp frames (Some frame) = Contains frames frame
+    × AllByRecursion (λ other. is_lt (cmp other frame) ≡ false) frames
 
 -- The frames that give the printed times are the first by time, and by time from the greatest down, and then by place.
 pub record FrameLaw (units : List CountedUnit) : Type 0 where

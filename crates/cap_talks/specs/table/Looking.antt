@@ -7,7 +7,7 @@ use Rattle.cap_time.specs.declared.stamps.Stamp.{Stamp}
 use Rattle.cap_talks.specs.table.Taken.{Taken, Look, plain, datagram, fragment}
 use Rattle.cap_talks.specs.declared.table.looks.Seen.{Seen}
 use Rattle.cap_talks.specs.declared.table.looks.Seen.TheVariants as seen
-use Rattle.cap_talks.specs.declared.table.run_packets.RunPacket.{RunPacket}
+use Rattle.cap_merge.specs.declared.merging.RunPacket.{RunPacket}
 
 -- the same at a place in the run
 abbrev pub look_of : Seen → Stamped → Look
@@ -20,6 +20,12 @@ abbrev pub is_plain : Look → Bool
 is_plain (plain c) = true
 is_plain (datagram header captured) = false
 is_plain (fragment p) = false
+
+-- a whole datagram
+abbrev pub is_datagram : Look → Bool
+is_datagram (plain c) = false
+is_datagram (datagram header captured) = true
+is_datagram (fragment p) = false
 
 -- A fragment comes with all of its data.
 abbrev pub IsAll : Seen → Type 0

@@ -1,5 +1,6 @@
 -- A conversation's key as two numbers, by which it is looked up.
-use Rattle.std.specs.Prelude.{ℕ, zero, suc, ◌+◌, ◌*◌, ◌/◌, ◌%◌, ◌<◌, ◌^◌, List, map, Bool, nat_lt, ◌==◌, ◌&&◌, Option, Some, None, IfSome}
+use Rattle.std.specs.Prelude.{ℕ, zero, suc, ◌+◌, ◌*◌, ◌/◌, ◌%◌, ◌<◌, ◌^◌, List, map, Bool, nat_lt, ◌==◌, ◌&&◌, Option}
+use Rattle.std.specs.Prelude.{Some, None, IfSome}
 use Rattle.std.specs.List.{list_all}
 use Rattle.cap_talks.specs.declared.table.keys.PackedKey.{PackedKey}
 use Rattle.cap_talks.specs.declared.table.rows.TalkKey.{TalkKey}

@@ -1,10 +1,12 @@
 -- A row, and a table of rows, with one unit more.
-use Rattle.std.specs.Prelude.{◌≡◌, ℕ, List, [], ◌∷◌, Bool, true, false, ◌+◌, ◌&&◌, not, length, nat_lt, is_some, if◌then◌else◌, slice_get, Option, Some, None, Result, Ok, Err}
+use Rattle.std.specs.Prelude.{◌≡◌, ℕ, List, [], ◌∷◌, Bool, true, false, ◌+◌, ◌&&◌, not, length, nat_lt, is_some}
+use Rattle.std.specs.Prelude.{if◌then◌else◌, slice_get, Option, Some, None, Result, Ok, Err}
 use Rattle.std.specs.List.{list_all}
 use Rattle.std.specs.Map.{lookup, values_of}
 use Rattle.std.specs.Ordering.{is_lt}
 use Rattle.indexmap.specs.IndexMap.{insert_entry}
-use Rattle.cap_talks.specs.table.Talks.{Talk, row_of, is_forward, key_of, by_time, earlier_frame, later_frame, frame_time, place_or, same_talk, rows_of}
+use Rattle.cap_talks.specs.table.Talks.{Talk, row_of, is_forward, key_of, by_time, earlier_frame, later_frame}
+use Rattle.cap_talks.specs.table.Talks.{frame_time, place_or, same_talk, rows_of}
 use Rattle.cap_talks.specs.declared.table.rows.TalkKey.{TalkKey}
 use Rattle.cap_talks.specs.declared.table.rows.Share.{Share}
 use Rattle.cap_talks.specs.declared.table.rows.TalkRow.{TalkRow}
@@ -104,7 +106,13 @@ with_frames row first last =
 -- what a unit adds to the row of its conversation
 abbrev pub share_of : CountedUnit → Share
 share_of unit =
-    record { is_forward = is_forward unit; frames = unit.frames; bytes = unit.bytes; first = unit.first; last = unit.last }
+    record {
+      is_forward = is_forward unit;
+      frames = unit.frames;
+      bytes = unit.bytes;
+      first = unit.first;
+      last = unit.last;
+    }
 
 -- a row with that added
 abbrev pub with_share : TalkRow → Share → TalkRow

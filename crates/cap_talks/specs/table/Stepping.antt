@@ -1,12 +1,13 @@
 -- What one step of a table answers, and what it leaves.
-use Rattle.std.specs.Prelude.{◌≡◌, ℕ, List, [], ◌∷◌, ◌+◌, ◌<◌, ◌≤◌, Bool, true, false, IsTrue, Option, Some, None, IfSome, ◌⊎◌, Result, Ok, Err, drop, length, ⊤, if◌then◌else◌}
+use Rattle.std.specs.Prelude.{◌≡◌, ℕ, List, [], ◌∷◌, ◌+◌, ◌<◌, ◌≤◌, Bool, true, false, IsTrue, Option, Some, None}
+use Rattle.std.specs.Prelude.{IfSome, ◌⊎◌, Result, Ok, Err, drop, length, ⊤, if◌then◌else◌}
 use Rattle.cap_bytes.specs.declared.faults.Fault.{Fault}
 use Rattle.cap_bytes.specs.declared.faults.Fault.TheVariants.{Refused, Read, Write, Memory}
 use Rattle.cap_bytes.specs.declared.faults.Refusal.{Refusal}
 use Rattle.cap_merge.specs.Parts.{Part, feed_of, run_of, clock_of}
 use Rattle.cap_merge.specs.Run.{Clocked}
 use Rattle.cap_source.specs.Feed.{Item, packet, refused, Keeps, Breaks, Waits, Goes}
-use Rattle.cap_source.specs.declared.feeds.Ending.{Ending}
+use Rattle.cap_source.specs.declared.feeds.FileEnd.{FileEnd}
 use Rattle.cap_source.specs.declared.feeds.Head.{Head}
 use Rattle.cap_source.specs.declared.feeds.Head.TheVariants as heads
 use Rattle.cap_time.specs.declared.stamps.Stamp.{Stamp}
@@ -32,8 +33,8 @@ next_taken ps = next_by (feed_of ps).known (clock_of ps) (feed_of ps).frame
 abbrev pub clocked : Taken → Clocked Item
 clocked x = record { clock = x.clock; item = packet x.meta x.frame }
 
--- A table at one moment: its feeds, what is counted of files and in all, what is counted of datagrams, and whether the feeds are at
--- their end.
+-- A table at one moment: its feeds, what is counted of files and in all, what is counted of datagrams, and whether the
+-- feeds are at their end.
 pub record TableState : Type 0 where
   pub parts : List Part
   pub totals : TotalsState
@@ -46,7 +47,7 @@ pub record TableStands (t : TableState) (xs : List Taken) : Type 0 where
   pub tally : Stands t.tally xs (next_taken t.parts)
 
 -- how the files end, once they have
-abbrev pub endings_so_far : TableState → Option (ℕ → Ending)
+abbrev pub endings_so_far : TableState → Option (ℕ → FileEnd)
 endings_so_far t = if t.done then Some (feed_of t.parts).endings else None
 
 -- what every answer keeps
@@ -65,14 +66,15 @@ pub record Stays (old new : TableState) : Type 0 where
   pub stands : (xs : List Taken) → TableStands old xs → TableStands new xs
   pub going : new.done ≡ old.done
 
--- The packet that comes first was taken, the one that was known to come if one was: the table stands for it too, and the feed has
--- dropped it.
+-- The packet that comes first was taken, the one that was known to come if one was: the table stands for it too, and
+-- the feed has dropped it.
 pub record Takes (old new : TableState) : Type 0 where
   pub item : Taken
   pub first : IfSome (next_taken old.parts) (λ x. x ≡ item)
   pub left : (feed_of new.parts).left < (feed_of old.parts).left
   pub run : IsTrue (feed_of old.parts).told → run_of old.parts ≡ clocked item ∷ run_of new.parts
-  pub endings : IsTrue (feed_of old.parts).told → (file : ℕ) → (feed_of new.parts).endings file ≡ (feed_of old.parts).endings file
+  pub endings : IsTrue (feed_of old.parts).told → (file : ℕ)
+      → (feed_of new.parts).endings file ≡ (feed_of old.parts).endings file
   pub goes : Goes (feed_of old.parts) (feed_of new.parts)
   pub stands : (xs : List Taken) → TableStands old xs → (is_limit_at xs item ≡ false) × TableStands new (item ∷ xs)
   pub going : new.done ≡ old.done
@@ -89,12 +91,14 @@ pub record Ends (old new : TableState) : Type 0 where
 -- The run begins with a refusal, which comes again.
 pub record RefusedNext (refusal : Refusal) (old new : TableState) : Type 0 where
   pub known : (feed_of new.parts).known ≡ Some (heads.Refused refusal)
-  pub run : IsTrue (feed_of old.parts).told → (clock : Option Stamp) × (run_of old.parts ≡ record { clock = clock; item = refused refusal } ∷ [])
+  pub run : IsTrue (feed_of old.parts).told → (clock : Option Stamp)
+      × (run_of old.parts ≡ record { clock = clock; item = refused refusal } ∷ [])
   pub same : IsTrue (feed_of old.parts).told → SameRun old new
   pub goes : Goes (feed_of old.parts) (feed_of new.parts)
   pub stays : Stays old new
 
--- The packet that comes first, the one that was known to come if one was, would open a conversation too many, as it will again.
+-- The packet that comes first, the one that was known to come if one was, would open a conversation too many, as it
+-- will again.
 pub record RefusedHere (refusal : Refusal) (old new : TableState) : Type 0 where
   pub item : Taken
   pub is : refusal ≡ refusal_at item.meta
@@ -117,7 +121,8 @@ pub record KeepsNext (old new : TableState) : Type 0 where
   pub next : next_taken new.parts ≡ Some item
   pub kept : (xs : List Taken) → TableStands old xs → is_plain (look (length xs) item) ≡ false
 
--- A growth was refused, of the feed or of what is kept of the packet that comes first: the packets to come are the same.
+-- A growth was refused, of the feed or of what is kept of the packet that comes first: the packets to come are the
+-- same.
 pub record WaitsAgain (old new : TableState) : Type 0 where
   pub cause : Waits (feed_of old.parts) (feed_of new.parts) ⊎ KeepsNext old new
   pub same : IsTrue (feed_of old.parts).told → SameRun old new

@@ -1,5 +1,5 @@
--- The packets of a run that were taken, and what each is by itself (RFC 791, 3.1 and 3.2). Lists have the latest first, so the place of a
--- packet in the run is the number of packets that follow it in the list.
+-- The packets of a run that were taken, and what each is by itself (RFC 791, 3.1 and 3.2). Lists have the latest first,
+-- so the place of a packet in the run is the number of packets that follow it in the list.
 use Rattle.std.specs.Prelude.{ℕ, List, [], ◌∷◌, Bool, length, Option, None, Some}
 use Rattle.cap_ip.specs.Header.{HeaderFields}
 use Rattle.cap_ip.specs.Read.{Reading, found, bad, cut, read_of}
@@ -49,7 +49,8 @@ stamped_of place meta = record { time = meta_time meta; place = place; original 
 
 unfoldable pub look : ℕ → Taken → Look
 look place x =
-    look_at (network_of x.meta.interface.link x.frame x.meta.original) (is_whole x.frame x.meta.original) (stamped_of place x.meta)
+    look_at (network_of x.meta.interface.link x.frame x.meta.original) (is_whole x.frame x.meta.original)
+    (stamped_of place x.meta)
 
 -- what a packet of that clock does to the groups of fragments: one comes, or a whole datagram of a key
 abbrev pub events_with : Look → Option Stamp → List Event → List Event

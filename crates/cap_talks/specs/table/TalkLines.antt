@@ -1,5 +1,6 @@
 -- The lines of conversations, as `report` prints them.
-use Rattle.std.specs.Prelude.{ℕ, ◌/◌, ◌%◌, ◌^◌, ◌==◌, List, [], ◌∷◌, ◌++◌, codes, decimal, Option, Some, None, option_map, slice_get, if◌then◌else◌}
+use Rattle.std.specs.Prelude.{ℕ, ◌/◌, ◌%◌, ◌^◌, ◌==◌, List, [], ◌∷◌, ◌++◌, codes, decimal, Option, Some, None}
+use Rattle.std.specs.Prelude.{option_map, slice_get, if◌then◌else◌}
 use Rattle.std.specs.Option.{option_map_or}
 use Rattle.cap_print.specs.Lines.{time_text}
 use Rattle.cap_time.specs.Stamp.{printed_of}
@@ -18,7 +19,8 @@ protocol_text protocol =
 -- an address as its four bytes, the highest first
 abbrev pub address_text : ℕ → List ℕ
 address_text address =
-    decimal (address / 2 ^ 24) ++ codes "." ++ decimal (address / 2 ^ 16 % 256) ++ codes "." ++ decimal (address / 2 ^ 8 % 256)
+    decimal (address / 2 ^ 24) ++ codes "." ++ decimal (address / 2 ^ 16 % 256) ++ codes "."
+    ++ decimal (address / 2 ^ 8 % 256)
     ++ codes "." ++ decimal (address % 256)
 
 -- a port after a colon, if there is one
@@ -38,7 +40,8 @@ traffic_text frames bytes = decimal frames ++ codes " " ++ decimal bytes
 abbrev pub talk_text : TalkKey → TalkRow → List ℕ
 talk_text key row =
     codes "talk " ++ protocol_text key.protocol ++ codes " " ++ end_text key.lesser ++ codes " " ++ end_text key.greater
-    ++ codes " forward " ++ traffic_text row.forward_frames row.forward_bytes ++ codes " backward " ++ traffic_text row.backward_frames row.backward_bytes
+    ++ codes " forward " ++ traffic_text row.forward_frames row.forward_bytes ++ codes " backward "
+    ++ traffic_text row.backward_frames row.backward_bytes
     ++ codes " first " ++ time_text (option_map printed_of row.first)
     ++ codes " last " ++ time_text (option_map printed_of row.last) ++ codes "\n"
 

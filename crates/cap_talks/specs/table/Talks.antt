@@ -1,5 +1,6 @@
 -- The conversations of some counted units, which are listed by the places of the frames that completed them.
-use Rattle.std.specs.Prelude.{ℕ, List, [], ◌∷◌, Bool, ◌+◌, ◌==◌, ◌&&◌, not, nat_eq, filter, map, Option, Some, None, if◌then◌else◌}
+use Rattle.std.specs.Prelude.{ℕ, List, [], ◌∷◌, Bool, ◌+◌, ◌==◌, ◌&&◌, not, nat_eq, filter, map, Option, Some, None}
+use Rattle.std.specs.Prelude.{if◌then◌else◌}
 use Rattle.std.specs.Ordering.{nat_cmp, ordering_then, is_lt, is_gt}
 use Rattle.std.specs.Option.{option_eq}
 use Rattle.std.specs.declared.cmp.Ordering.{Ordering}
@@ -41,7 +42,8 @@ later_frame None b = b
 later_frame (Some a) None = Some a
 later_frame (Some a) (Some b) = if is_lt (by_time_down b a) then Some b else Some a
 
--- the frame of the least time among those of some units, and that of the greatest: of equal times that of the lowest place
+-- the frame of the least time among those of some units, and that of the greatest: of equal times that of the lowest
+-- place
 abbrev pub least_frame : List CountedUnit → Option TimedFrame
 least_frame [] = None
 least_frame (unit ∷ units) = earlier_frame unit.first (least_frame units)
@@ -75,7 +77,8 @@ forward units = filter is_forward units
 abbrev pub backward : List CountedUnit → List CountedUnit
 backward units = filter (λ unit. not (is_forward unit)) units
 
--- what is counted of the units of one conversation: those that went forward, the others, and their least and greatest time
+-- what is counted of the units of one conversation: those that went forward, the others, and their least and greatest
+-- time
 abbrev pub row_of : List CountedUnit → TalkRow
 row_of units =
     record {

@@ -1,5 +1,6 @@
 -- What a tally keeps, and what it stands for.
-use Rattle.std.specs.Prelude.{◌≡◌, ℕ, List, ◌∷◌, ◌++◌, ◌+◌, ◌-◌, ◌*◌, ◌≤◌, ◌^◌, Bool, true, false, length, Option, Some, None, Result, Ok, Err, ⊤, if◌then◌else◌}
+use Rattle.std.specs.Prelude.{◌≡◌, ℕ, List, ◌∷◌, ◌++◌, ◌+◌, ◌-◌, ◌*◌, ◌≤◌, ◌^◌, Bool, true, false, length, Option, Some}
+use Rattle.std.specs.Prelude.{None, Result, Ok, Err, ⊤, if◌then◌else◌}
 use Rattle.cap_join.specs.ByteMap.{completes}
 use Rattle.cap_join.specs.Fragments.{Piece}
 use Rattle.cap_join.specs.Groups.{IsDatagramOf}
@@ -21,8 +22,8 @@ use Rattle.cap_talks.specs.declared.table.classes.ClassCounts.{ClassCounts}
 use Rattle.cap_talks.specs.declared.table.talks.TalksFault.{TalksFault}
 use Rattle.cap_talks.specs.declared.table.talks.TalksFault.TheVariants as faults
 
--- How many packets were taken, how many of each class there are, how many joined datagrams count, the conversations, the joiner, and
--- a joined datagram that waits for its conversation.
+-- How many packets were taken, how many of each class there are, how many joined datagrams count, the conversations,
+-- the joiner, and a joined datagram that waits for its conversation.
 pub record TallyState : Type 0 where
   pub place : ℕ
   pub classes : ClassCounts
@@ -45,7 +46,8 @@ abbrev pub Joins : Option Datagram → JoinerState → List Taken → Option Tak
 Joins None joiner xs next = joiners.StandsFor joiner (events_of xs)
 Joins (Some d) joiner xs next = WaitsFor d joiner xs next
 
--- A tally stands for some packets that were taken, the latest first. `next` is the packet that is known to come next, if one is.
+-- A tally stands for some packets that were taken, the latest first. `next` is the packet that is known to come next,
+-- if one is.
 pub record Stands (t : TallyState) (xs : List Taken) (next : Option Taken) : Type 0 where
   pub place : t.place ≡ length xs
   pub classes : t.classes ≡ counts_of (classes xs)
@@ -79,7 +81,8 @@ waiting_bytes (Some d) = length d.payload.items
 -- the lines of a tally
 unfoldable pub tally_text : TallyState → List ℕ
 tally_text t =
-    frames_text t.classes ++ joined_text t.joined t.joiner.given_up ++ (talks_text (length t.talks.rows) ++ talk_texts t.talks.rows)
+    frames_text t.classes ++ joined_text t.joined t.joiner.given_up
+    ++ (talks_text (length t.talks.rows) ++ talk_texts t.talks.rows)
 
 -- n more packets of a class
 abbrev pub with_frames : Class → ℕ → ClassCounts → ClassCounts
@@ -91,7 +94,8 @@ with_frames class.Bad n counts = record counts { bad = counts.bad + n }
 with_frames class.Unjoined n counts = record counts { unjoined = counts.unjoined + n }
 with_frames class.Counted n counts = record counts { counted = counts.counted + n }
 
--- the counts after a packet completes a group of n fragments, itself one of them: they move from the unjoined ones to a class
+-- the counts after a packet completes a group of n fragments, itself one of them: they move from the unjoined ones to a
+-- class
 abbrev pub with_group : Class → ℕ → ClassCounts → ClassCounts
 with_group c n counts = with_frames c n (record counts { unjoined = counts.unjoined + 1 - n })
 
@@ -103,7 +107,8 @@ counted_one c = if is_class class.Counted c then 1 else 0
 abbrev pub Looks : TallyState → Taken → Bool → TallyState → Type 0
 Looks old x true new = (xs : List Taken) → Stands old xs (Some x) → Stands new xs (Some x)
 Looks old x false new =
-    (xs : List Taken) → Stands old xs (Some x) → (is_limit_at xs x ≡ false) × ((next : Option Taken) → Stands new (x ∷ xs) next)
+    (xs : List Taken) → Stands old xs (Some x) → (is_limit_at xs x ≡ false)
+    × ((next : Option Taken) → Stands new (x ∷ xs) next)
 
 -- a datagram waits, if that is answered
 abbrev pub WaitsIf : Option Datagram → Bool → Type 0

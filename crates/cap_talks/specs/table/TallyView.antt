@@ -4,7 +4,14 @@ use Rattle.cap_talks.specs.table.Tallies.{TallyState, IsSoundTally}
 
 abbrev pub tally_view : Inside → TallyState
 tally_view t =
-    record { place = t.place; classes = t.classes; joined = t.joined; talks = t.talks; joiner = t.joiner; waiting = t.waiting }
+    record {
+      place = t.place;
+      classes = t.classes;
+      joined = t.joined;
+      talks = t.talks;
+      joiner = t.joiner;
+      waiting = t.waiting;
+    }
 
 abbrev pub IsSoundInside : Inside → Type 0
 IsSoundInside t = IsSoundTally (tally_view t)

@@ -33,7 +33,15 @@ two port = end_at 167772162 (Some port)
 -- a UDP datagram of that many frames and bytes
 abbrev pub unit_of : End → End → ℕ → ℕ → Option TimedFrame → Option TimedFrame → CountedUnit
 unit_of source destination frames bytes first last =
-    record { protocol = 17; source = source; destination = destination; frames = frames; bytes = bytes; first = first; last = last }
+    record {
+      protocol = 17;
+      source = source;
+      destination = destination;
+      frames = frames;
+      bytes = bytes;
+      first = first;
+      last = last;
+    }
 
 -- a datagram and its answer, at 1 and 2 seconds
 abbrev pub answered : List CountedUnit

@@ -11,7 +11,7 @@ use Rattle.cap_source.specs.Items.{file_items, file_ending}
 abbrev pub file_texts : Tail → ℕ → List (List ℕ) → List ℕ
 file_texts tail file [] = []
 file_texts tail file (bytes ∷ files) =
-    file_text file (counted (packets_of (file_items tail file bytes))) (Some (file_ending tail file bytes))
+    file_text file (counted (packets_of (file_items tail file bytes))) (Some (file_ending tail file bytes).ending)
     ++ file_texts tail (file + 1) files
 
 -- what is printed of all files
@@ -26,4 +26,5 @@ or_else (Some refusal) later = Some refusal
 -- the refusal of the first of the files that is refused, from that number on
 abbrev pub first_refusal : Tail → ℕ → List (List ℕ) → Option Refusal
 first_refusal tail file [] = None
-first_refusal tail file (bytes ∷ files) = or_else (refusal_of (file_items tail file bytes)) (first_refusal tail (file + 1) files)
+first_refusal tail file (bytes ∷ files) = or_else (refusal_of (file_items tail file bytes))
+    (first_refusal tail (file + 1) files)

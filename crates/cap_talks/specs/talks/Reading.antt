@@ -14,7 +14,8 @@ use Rattle.cap_talks.specs.talks.InfoText.{first_refusal}
 -- all packets that a feed gave are counted, or what refused it is answered
 abbrev pub CountsAll : Feed → Result Counts Fault → Feed → Type 0
 CountsAll old (Ok counts) new =
-    (refusal_of old.items ≡ None) × (counts ≡ counted (packets_of old.items)) × ((file : ℕ) → new.endings file ≡ old.endings file)
+    (refusal_of old.items ≡ None) × (counts ≡ counted (packets_of old.items))
+    × ((file : ℕ) → new.endings file ≡ old.endings file)
 CountsAll old (Err (Refused refusal)) new = refusal_of old.items ≡ Some refusal
 CountsAll old (Err (Read file offset)) new = ⊤
 CountsAll old (Err Write) new = ⊥
@@ -23,10 +24,14 @@ CountsAll old (Err Memory) new = ⊤
 -- the same of the file of that number with those bytes
 abbrev pub counted_of : Tail → ℕ → List ℕ → Counted
 counted_of tail file bytes =
-    record { counts = counted (packets_of (file_items tail file bytes)); ending = Some (file_ending tail file bytes) }
+    record {
+      counts = counted (packets_of (file_items tail file bytes));
+      ending = Some (file_ending tail file bytes).ending;
+    }
 
 abbrev pub CountsFile : Tail → ℕ → List ℕ → Result Counted Fault → Type 0
-CountsFile tail file bytes (Ok it) = (refusal_of (file_items tail file bytes) ≡ None) × (it ≡ counted_of tail file bytes)
+CountsFile tail file bytes (Ok it) = (refusal_of (file_items tail file bytes) ≡ None)
+    × (it ≡ counted_of tail file bytes)
 CountsFile tail file bytes (Err (Refused refusal)) = refusal_of (file_items tail file bytes) ≡ Some refusal
 CountsFile tail file bytes (Err (Read f offset)) = f ≡ file
 CountsFile tail file bytes (Err Write) = ⊥

@@ -3,7 +3,7 @@ use Rattle.std.specs.Prelude.{ℕ, List, [], ◌∷◌, Option, Some, None, if�
 use Rattle.cap_bytes.specs.declared.faults.Refusal.{Refusal}
 use Rattle.cap_merge.specs.Run.{Clocked}
 use Rattle.cap_source.specs.Feed.{Item, packet, refused}
-use Rattle.cap_source.specs.declared.feeds.Ending.{Ending}
+use Rattle.cap_source.specs.declared.feeds.FileEnd.{FileEnd}
 use Rattle.cap_time.specs.declared.stamps.Stamp.{Stamp}
 use Rattle.cap_talks.specs.table.Taken.{Taken}
 use Rattle.cap_talks.specs.table.CountedUnits.{is_limit_at, refusal_at}
@@ -31,7 +31,7 @@ refusal_after xs [] = None
 refusal_after xs (x ∷ run) = or_else (refusal_here xs x.clock x.item) (refusal_after (with_item x.clock x.item xs) run)
 
 -- The report of a run of `count` files with those endings, and the refusal that is answered instead, if there is one.
-abbrev pub report_text : ℕ → (ℕ → Ending) → List (Clocked Item) → List ℕ
+abbrev pub report_text : ℕ → (ℕ → FileEnd) → List (Clocked Item) → List ℕ
 report_text count endings run = text_of count (Some endings) (taken_after [] run)
 
 abbrev pub report_refusal : List (Clocked Item) → Option Refusal

@@ -15,8 +15,10 @@ pub record TookAll (old new : TableState) : Type 0 where
   pub done : new.done ≡ true
   pub files : length new.totals.files ≡ length old.totals.files
   pub free : IsTrue (feed_of old.parts).told → TableStands old [] → refusal_after [] (run_of old.parts) ≡ None
-  pub stands : IsTrue (feed_of old.parts).told → TableStands old [] → TableStands new (taken_after [] (run_of old.parts))
-  pub endings : IsTrue (feed_of old.parts).told → (file : ℕ) → (feed_of new.parts).endings file ≡ (feed_of old.parts).endings file
+  pub stands : IsTrue (feed_of old.parts).told → TableStands old []
+      → TableStands new (taken_after [] (run_of old.parts))
+  pub endings : IsTrue (feed_of old.parts).told → (file : ℕ)
+      → (feed_of new.parts).endings file ≡ (feed_of old.parts).endings file
 
 abbrev pub TakesAll : TableState → Result (Unit {0}) Fault → TableState → Type 0
 TakesAll old (Ok _) new = TookAll old new

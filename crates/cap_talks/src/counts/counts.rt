@@ -77,8 +77,8 @@ fn count(counts: &mut Counts, time: Option<Stamp>, meta: &Meta)
     take_time(&mut counts.first, &mut counts.last, time);
 }
 
-// Takes a time, if there is one, into the least and the greatest one so far. Most packets are later than all before them: they aren't
-// compared with the least.
+// Takes a time, if there is one, into the least and the greatest one so far. Most packets are later than all before
+// them: they aren't compared with the least.
 #[inline(always)]
 fn take_time(first: &mut Option<Stamp>, last: &mut Option<Stamp>, time: Option<Stamp>)
     requires order { are_in_order first.old last.old ≡ true }

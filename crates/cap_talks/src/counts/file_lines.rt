@@ -8,27 +8,27 @@ use cap_print::Line;
 use cap_source::{Ending, Format};
 
 // Puts a label and a format, or `-` if it isn't known.
-fn put_format(line: &mut Line, label: &[u8], format: Option<Format>)
+fn prepend_format(line: &mut Line, label: &[u8], format: Option<Format>)
     requires { length label.now + 6 ≤ room_in line.old }
     ensures text { text_in line.new ≡ label.now ++ format_text format ++ text_in line.old }
     ensures room { room_in line.old ≤ room_in line.new + length label.now + 6 }
 {
     match format {
-        None => line.put_text(b"-"),
-        Some(Format::Pcap) => line.put_text(b"pcap"),
-        Some(Format::Pcapng) => line.put_text(b"pcapng"),
+        None => line.prepend_text(b"-"),
+        Some(Format::Pcap) => line.prepend_text(b"pcap"),
+        Some(Format::Pcapng) => line.prepend_text(b"pcapng"),
     }
-    line.put_text(label);
+    line.prepend_text(label);
 }
 
 // Puts ` cut` if a rest was dropped.
-fn put_cut(line: &mut Line, was_cut: bool)
+fn prepend_cut(line: &mut Line, was_cut: bool)
     requires { 4 ≤ room_in line.old }
     ensures text { text_in line.new ≡ cut_text was_cut ++ text_in line.old }
     ensures room { room_in line.old ≤ room_in line.new + 4 }
 {
     if was_cut {
-        line.put_text(b" cut");
+        line.prepend_text(b" cut");
     }
 }
 
@@ -37,8 +37,8 @@ pub fn files_line(count: u32) -> Line
     ensures { text_in result ≡ files_text count }
 {
     let mut line = Line::new();
-    line.put_text(b"\n");
-    line.put_field(b"files ", u64::from(count));
+    line.prepend_text(b"\n");
+    line.prepend_field(b"files ", u64::from(count));
     line
 }
 
@@ -47,16 +47,16 @@ fn line_of(file: u32, format: Option<Format>, counts: &Counts, skipped: u64, was
     ensures { text_in result ≡ line_text file format counts.now skipped was_cut }
 {
     let mut line = Line::new();
-    line.put_text(b"\n");
-    put_cut(&mut line, was_cut);
-    line.put_time(b" last ", counts.last);
-    line.put_time(b" first ", counts.first);
-    line.put_field(b" skipped ", skipped);
-    line.put_field(b" truncated ", counts.truncated);
-    line.put_integer(b" bytes ", counts.bytes);
-    line.put_field(b" packets ", counts.packets);
-    put_format(&mut line, b" ", format);
-    line.put_field(b"file ", u64::from(file));
+    line.prepend_text(b"\n");
+    prepend_cut(&mut line, was_cut);
+    line.prepend_time(b" last ", counts.last);
+    line.prepend_time(b" first ", counts.first);
+    line.prepend_field(b" skipped ", skipped);
+    line.prepend_field(b" truncated ", counts.truncated);
+    line.prepend_integer(b" bytes ", counts.bytes);
+    line.prepend_field(b" packets ", counts.packets);
+    prepend_format(&mut line, b" ", format);
+    line.prepend_field(b"file ", u64::from(file));
     line
 }
 

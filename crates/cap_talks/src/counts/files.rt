@@ -33,12 +33,13 @@ fn put_each<W: Sink>(writer: &mut W, counted: &[Counted]) -> Result<(), Fault>
     Ok(())
 }
 
-/// Writes a line that says how many files there are, at most 32, and the lines of these, which have the numbers from 1 on. Answers
-/// `Fault::Write`, and no other fault, if the writer failed: a prefix of the lines is written then.
+/// Writes a line that says how many files there are, at most 32, and the lines of these, which have the numbers from 1
+/// on. Answers `Fault::Write`, and no other fault, if the writer failed: a prefix of the lines is written then.
 pub fn put_files<W: Sink>(writer: &mut W, counted: &[Counted]) -> Result<(), Fault>
     requires most { length counted.now ≤ 32 }
     ensures text { IsTrue (W.tells_held writer.old)
-        → Prints (files_text (length counted.now) ++ counted_texts 1 counted.now) None (W.held writer.old) result (W.held writer.new) }
+        → Prints (files_text (length counted.now) ++ counted_texts 1 counted.now) None (W.held writer.old) result
+        (W.held writer.new) }
     ensures writer { WriterKeeps (writer_of W.Sink writer.old) (is_write result) (writer_of W.Sink writer.new) }
     ensures fault { IsOkUnless result Fault.Write }
 {

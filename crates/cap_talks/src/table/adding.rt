@@ -116,7 +116,8 @@ pub(crate) fn add_unit(talks: &mut Talks, unit: &Option<CountedUnit>) -> Result<
     requires frames { frames_in talks.old.rows + frames_of (listed unit.now) < 2 ^ 64 }
     requires bytes { bytes_in talks.old.rows + bytes_of (listed unit.now) < 2 ^ 128 }
     requires unit { IfSome unit.now IsUnitInOrder }
-    ensures stands { OnOk result ((units : List CountedUnit) → StandsFor talks.old units → StandsFor talks.new (units ++ listed unit.now)) }
+    ensures stands { OnOk result ((units : List CountedUnit) → StandsFor talks.old units
+        → StandsFor talks.new (units ++ listed unit.now)) }
     ensures frames { OnOk result (frames_in talks.new.rows ≡ frames_in talks.old.rows + frames_of (listed unit.now)) }
     ensures bytes { OnOk result (bytes_in talks.new.rows ≡ bytes_in talks.old.rows + bytes_of (listed unit.now)) }
     ensures limit { LimitBy result (is_over talks.old.rows unit.now) }

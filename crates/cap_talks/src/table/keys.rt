@@ -4,7 +4,8 @@ ghost use Rattle.std.proofs.Common.{rules};
 ghost use Rattle.std.specs.Cmp.Rules.{hashing};
 ghost use Rattle.std.specs.Hash as fed;
 ghost use Rattle.cap_talks.specs.table.Talks.{key_of, is_forward};
-ghost use Rattle.cap_talks.specs.table.Packed.{both_numbers, port_number, port_of, end_number, end_of, packed, unpacked, IsNarrow, IsNarrowEnd, is_end, is_packed};
+ghost use Rattle.cap_talks.specs.table.Packed.{both_numbers, port_number, port_of, end_number, end_of, packed};
+ghost use Rattle.cap_talks.specs.table.Packed.{unpacked, IsNarrow, IsNarrowEnd, is_end, is_packed};
 
 use crate::table::rows::TalkKey;
 use crate::table::units::{CountedUnit, End};
@@ -89,7 +90,8 @@ fn protocol_number(protocol: u8) -> u64
 }
 
 impl PackedKey {
-    /// The key of the conversation that a unit belongs to, and whether it goes from the lesser of its ends, or from an end to itself.
+    /// The key of the conversation that a unit belongs to, and whether it goes from the lesser of its ends, or from an
+    /// end to itself.
     #[inline(always)]
     pub(crate) fn of(unit: &CountedUnit) -> (PackedKey, bool)
         ensures value { result.0 ≡ packed (key_of unit.now) }

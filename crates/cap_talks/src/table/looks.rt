@@ -3,11 +3,13 @@ ghost use Rattle.std.specs.Prelude.{◌≡◌, ℕ, Option};
 ghost use Rattle.cap_ip.specs.Read.{read_of};
 ghost use Rattle.cap_join.specs.declared.datagrams.Stamped.{Stamped};
 ghost use Rattle.cap_time.specs.declared.stamps.Stamp.{Stamp};
+ghost use Rattle.cap_talks.specs.table.Classes.{lone_class};
 ghost use Rattle.cap_talks.specs.table.Looking.{look_of, IsAll, taken};
 ghost use Rattle.cap_talks.specs.table.Taken.{look_in, look, stamped_of};
 
+use crate::table::adding::class_of;
 use crate::table::classes::Class;
-use cap_ip::{Header, HeaderOr};
+use cap_ip::{Header, HeaderOr, transport};
 use cap_link::{Network, network};
 use cap_source::Meta;
 
@@ -45,7 +47,8 @@ fn look_into(bytes: &[u8], whole: bool) -> Seen<'_>
 #[tactic(auto, unfolding(crate::specs::table::Taken::look))]
 #[inline(always)]
 pub(crate) fn look<'a>(meta: &Meta, frame: &'a [u8]) -> Seen<'a>
-    ensures value { (clock : Option Stamp) (place : ℕ) → look_of result (stamped_of place meta.now) ≡ look place (taken clock meta.now frame.entry.now) }
+    ensures value { (clock : Option Stamp) (place : ℕ)
+        → look_of result (stamped_of place meta.now) ≡ look place (taken clock meta.now frame.entry.now) }
     ensures all { IsAll result }
 {
     let whole = frame.len() >= meta.original as usize;
@@ -55,5 +58,20 @@ pub(crate) fn look<'a>(meta: &Meta, frame: &'a [u8]) -> Seen<'a>
         Network::NotIpv4 => Seen::Plain(Class::NotIpv4),
         Network::Short => Seen::Plain(Class::Short),
         Network::Cut => Seen::Plain(Class::Cut),
+    }
+}
+
+/// The class of a packet in a report of it alone, by what is told of it and its captured bytes: `Unjoined` of a
+/// fragment, since only with others it makes a datagram. RFC 791, 3.1 and 3.2; RFC 768; RFC 9293, 3.1.
+#[tactic(auto, unfolding(crate::specs::table::Classes::lone_class))]
+pub fn packet_class(meta: &Meta, frame: &[u8]) -> Class
+    ensures { result ≡ lone_class meta.now frame.now }
+{
+    match look(meta, frame) {
+        Seen::Plain(class) => class,
+        Seen::Datagram(header, captured) => {
+            class_of(transport(header.key().protocol, captured, header.data_length()))
+        }
+        Seen::Fragment(_, _) => Class::Unjoined,
     }
 }

@@ -11,10 +11,10 @@ pub(crate) fn total_line(packets: u64, bytes: u128, truncated: u64) -> Line
     ensures { text_in result ≡ total_text packets bytes truncated }
 {
     let mut line = Line::new();
-    line.put_text(b"\n");
-    line.put_field(b" truncated ", truncated);
-    line.put_integer(b" bytes ", bytes);
-    line.put_field(b"total packets ", packets);
+    line.prepend_text(b"\n");
+    line.prepend_field(b" truncated ", truncated);
+    line.prepend_integer(b" bytes ", bytes);
+    line.prepend_field(b"total packets ", packets);
     line
 }
 
@@ -23,14 +23,14 @@ pub(crate) fn frames_line(counts: &ClassCounts) -> Line
     ensures { text_in result ≡ frames_text counts.now }
 {
     let mut line = Line::new();
-    line.put_text(b"\n");
-    line.put_field(b" counted ", counts.counted);
-    line.put_field(b" unjoined ", counts.unjoined);
-    line.put_field(b" bad ", counts.bad);
-    line.put_field(b" cut ", counts.cut);
-    line.put_field(b" short ", counts.short);
-    line.put_field(b" not-ipv4 ", counts.not_ipv4);
-    line.put_field(b"frames other-link ", counts.other_link);
+    line.prepend_text(b"\n");
+    line.prepend_field(b" counted ", counts.counted);
+    line.prepend_field(b" unjoined ", counts.unjoined);
+    line.prepend_field(b" bad ", counts.bad);
+    line.prepend_field(b" cut ", counts.cut);
+    line.prepend_field(b" short ", counts.short);
+    line.prepend_field(b" not-ipv4 ", counts.not_ipv4);
+    line.prepend_field(b"frames other-link ", counts.other_link);
     line
 }
 
@@ -39,8 +39,8 @@ pub(crate) fn joined_line(joined: u64, given_up: u64) -> Line
     ensures { text_in result ≡ joined_text joined given_up }
 {
     let mut line = Line::new();
-    line.put_text(b"\n");
-    line.put_field(b" given-up ", given_up);
-    line.put_field(b"joined ", joined);
+    line.prepend_text(b"\n");
+    line.prepend_field(b" given-up ", given_up);
+    line.prepend_field(b"joined ", joined);
     line
 }

@@ -1,7 +1,8 @@
 //! The row of a conversation: what is counted of its units.
 ghost use Rattle.std.specs.Prelude.{◌≡◌, ◌+◌, ◌<◌, ◌^◌, [], true, if◌then◌else◌};
 ghost use Rattle.cap_talks.specs.table.Talks.{is_forward, earlier_frame, later_frame, frame_time, place_or, row_of};
-ghost use Rattle.cap_talks.specs.table.Rows.{share_of, with_share, with_frames, frames_of_row, bytes_of_row, frame_of, is_earlier, is_after, is_in_order};
+ghost use Rattle.cap_talks.specs.table.Rows.{share_of, with_share, with_frames, frames_of_row, bytes_of_row, frame_of};
+ghost use Rattle.cap_talks.specs.table.Rows.{is_earlier, is_after, is_in_order};
 
 use crate::table::units::{CountedUnit, End, TimedFrame};
 use cap_time::Stamp;
@@ -18,12 +19,12 @@ pub struct TalkKey {
     pub greater: End,
 }
 
-/// What is counted of the units of a conversation. What a unit changes stands side by side, whichever way it goes, so that a packet
-/// touches as few lines of the processor's memory as it can.
+/// What is counted of the units of a conversation. What a unit changes stands side by side, whichever way it goes, so
+/// that a packet touches as few lines of the processor's memory as it can.
 #[derive(Clone, Copy)]
 pub struct TalkRow {
-    /// The sum of the original lengths, in bytes, of the frames of units from the lesser end, so also of those from an end to
-    /// itself.
+    /// The sum of the original lengths, in bytes, of the frames of units from the lesser end, so also of those from an
+    /// end to itself.
     pub forward_bytes: u128,
     /// In how many frames the units from the lesser end came.
     pub forward_frames: u64,
@@ -41,7 +42,8 @@ pub struct TalkRow {
     pub first_place: u64,
 }
 
-/// What a unit adds to the row of its conversation: all of it but its ends, which need not be kept once the row is found.
+/// What a unit adds to the row of its conversation: all of it but its ends, which need not be kept once the row is
+/// found.
 #[derive(Clone, Copy)]
 pub(crate) struct Share {
     // whether the unit goes from the lesser of its ends, or from an end to itself
@@ -106,7 +108,8 @@ impl TalkRow {
     }
 }
 
-// Whether a frame comes before the first one so far: it has the lesser time, of equal times the lower place, or is the only one.
+// Whether a frame comes before the first one so far: it has the lesser time, of equal times the lower place, or is the
+// only one.
 #[inline(always)]
 fn is_earlier(frame: &TimedFrame, first: &Option<Stamp>, place: u64) -> bool
     ensures { result ≡ is_earlier frame.now (frame_of first.now place) }
@@ -121,8 +124,8 @@ fn is_earlier(frame: &TimedFrame, first: &Option<Stamp>, place: u64) -> bool
     }
 }
 
-// Takes the first and the last frame of a unit into the least and the greatest time so far. Most units came in one frame, which is
-// later than all before it: it isn't compared with the first of those.
+// Takes the first and the last frame of a unit into the least and the greatest time so far. Most units came in one
+// frame, which is later than all before it: it isn't compared with the first of those.
 #[inline(always)]
 fn take_frames(row: &mut TalkRow, share: Share)
     requires order { is_in_order row.old ≡ true }
@@ -135,8 +138,8 @@ fn take_frames(row: &mut TalkRow, share: Share)
     take_both(row, share.first, share.last);
 }
 
-// Takes a first and a last frame, whatever times they have. It takes copies, and isn't inlined, so that where a frame is later than all
-// before it, nothing of it need be in memory.
+// Takes a first and a last frame, whatever times they have. It takes copies, and isn't inlined, so that where a frame
+// is later than all before it, nothing of it need be in memory.
 #[inline(never)]
 fn take_both(row: &mut TalkRow, first: Option<TimedFrame>, last: Option<TimedFrame>)
     ensures { row.new ≡ with_frames row.old first last }

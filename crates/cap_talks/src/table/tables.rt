@@ -1,5 +1,6 @@
 //! The table of a report, step by step.
-ghost use Rattle.std.specs.Prelude.{◌≡◌, ◌+◌, ◌≤◌, ◌^◌, ◌||◌, List, [], not, false, length, IsTrue, IsOkUnless, Some, None, if◌then◌else◌};
+ghost use Rattle.std.specs.Prelude.{◌≡◌, ◌+◌, ◌≤◌, ◌^◌, ◌||◌, List, [], not, false, length, IsTrue, IsOkUnless, Some};
+ghost use Rattle.std.specs.Prelude.{None, if◌then◌else◌};
 ghost use Rattle.std.specs.List.{range_with_len};
 ghost use Rattle.cap_bytes.specs.Device.{WriterKeeps, writer_of};
 ghost use Rattle.cap_bytes.specs.Printing.{Prints, is_write};
@@ -16,7 +17,6 @@ ghost use Rattle.cap_talks.specs.table.Taken.{Taken};
 
 use crate::counts::{Counted, Counts, put_files};
 use crate::table::report_lines::total_line;
-use crate::table::run_packets::RunPacket;
 use crate::table::talks::TalksFault;
 use crate::table::tallies::Tally;
 use crate::table::totals::Totals;
@@ -58,7 +58,7 @@ pub struct Table<F: PacketFeed> {
     tally: Tally,
     // whether the files are at their end
     done: bool,
-    ghost numbered: { (feed_of (parts_of merged)).files ≡ range_with_len 1 (length totals.files) } by { IsNumbered-prop (feed_of (parts_of merged)).files (length totals.files) },
+    ghost numbered: { (feed_of (parts_of merged)).files ≡ range_with_len 1 (length totals.files) } by { IsNumbered-prop _ _ },
     ghost finished: { IsTrue (not done || is_end (feed_of (parts_of merged)).known) },
     ghost counted: { totals.packets ≡ tally.place },
     ghost places: { tally.place + (feed_of (parts_of merged)).left ≤ 2 ^ 45 },
@@ -98,8 +98,8 @@ impl<F: PacketFeed> Table<F> {
     ///
     /// `Refused` comes exactly if what comes next is a refusal, or a packet that would open the 1,048,577th
     /// conversation (rule 16, talk-limit); each later call answers it again. `Read` comes if a device failed, and
-    /// `Memory` if a growth was refused. A step that answers a fault has taken nothing: the table is as it was, and so are the
-    /// packets to come, unless it was `Read`.
+    /// `Memory` if a growth was refused. A step that answers a fault has taken nothing: the table is as it was, and so
+    /// are the packets to come, unless it was `Read`.
     pub fn step(&mut self) -> Result<Step, Fault>
         ensures step { Steps (table_of self.old) result (table_of self.new) }
         ensures keeps { StepKeeps (table_of self.old) (table_of self.new) }
@@ -109,21 +109,15 @@ impl<F: PacketFeed> Table<F> {
             self.done = true;
             return Ok(Step::Done);
         }
-        let next = self.merged.next_packet();
-        let (meta, frame) = (next.meta, next.frame);
-        let time = meta.time();
-        let packet = RunPacket {
-            clock: next.clock,
-            meta,
-            frame,
-        };
+        let packet = self.merged.next_packet();
+        let time = packet.meta.time();
         match self.tally.take(packet, time) {
             Ok(()) => {
-                self.totals.take(time, meta, frame);
+                self.totals.take(time, packet.meta, packet.frame);
                 self.merged.pass();
                 Ok(Step::Took)
             }
-            Err(TalksFault::Limit) => Err(Fault::Refused(talk_limit(meta))),
+            Err(TalksFault::Limit) => Err(Fault::Refused(talk_limit(packet.meta))),
             Err(TalksFault::Memory) => Err(Fault::Memory),
         }
     }
@@ -190,7 +184,8 @@ fn with_endings<F: PacketFeed>(
     requires end { IsTrue (not done || is_end (feed_of (parts_of merged.now)).known) }
     requires numbered { (feed_of (parts_of merged.now)).files ≡ range_with_len 1 (length counts.now) }
     requires few { length counts.now ≤ 32 }
-    ensures { result.items ≡ ended_from (if done then Some (feed_of (parts_of merged.now)).endings else None) 1 counts.now }
+    ensures { result.items ≡ ended_from (if done then Some (feed_of (parts_of merged.now)).endings else None) 1
+        counts.now }
 {
     let mut counted = ArrayVec::new();
     for (place, each) in counts.iter().enumerate() {

@@ -3,7 +3,8 @@ ghost use Rattle.std.specs.Prelude.{◌≡◌, ◌+◌, ◌≤◌, ◌<◌, ◌+
 ghost use Rattle.cap_bytes.specs.Device.{WriterKeeps, writer_of};
 ghost use Rattle.cap_bytes.specs.Printing.{Prints, is_write};
 ghost use Rattle.cap_print.specs.Lines.{room_in, text_in};
-ghost use Rattle.cap_talks.specs.table.TalkLines.{protocol_text, address_text, end_text, traffic_text, talk_text, talk_texts, talks_text, line_at};
+ghost use Rattle.cap_talks.specs.table.TalkLines.{protocol_text, address_text, end_text, traffic_text, talk_text};
+ghost use Rattle.cap_talks.specs.table.TalkLines.{talk_texts, talks_text, line_at};
 
 use crate::table::rows::{TalkKey, TalkRow};
 use crate::table::talks::Talks;
@@ -17,50 +18,50 @@ const TCP: u8 = 6;
 const UDP: u8 = 17;
 
 // Puts a protocol, by name or by number.
-fn put_protocol(line: &mut Line, protocol: u8)
+fn prepend_protocol(line: &mut Line, protocol: u8)
     requires { 4 ≤ room_in line.old }
     ensures text { text_in line.new ≡ protocol_text protocol ++ text_in line.old }
     ensures room { room_in line.old ≤ room_in line.new + 4 }
 {
     match protocol {
-        UDP => line.put_text(b"udp"),
-        TCP => line.put_text(b"tcp"),
-        _ => line.put_integer(b"p", protocol),
+        UDP => line.prepend_text(b"udp"),
+        TCP => line.prepend_text(b"tcp"),
+        _ => line.prepend_integer(b"p", protocol),
     }
 }
 
 // Puts an address, as its four bytes.
-fn put_address(line: &mut Line, address: u32)
+fn prepend_address(line: &mut Line, address: u32)
     requires { 15 ≤ room_in line.old }
     ensures text { text_in line.new ≡ address_text address ++ text_in line.old }
     ensures room { room_in line.old ≤ room_in line.new + 15 }
 {
-    line.put_integer(b".", (address % 256) as u8);
-    line.put_integer(b".", (address / 0x100 % 256) as u8);
-    line.put_integer(b".", (address / 0x1_0000 % 256) as u8);
-    line.put_integer(b"", (address / 0x100_0000) as u8);
+    line.prepend_integer(b".", (address % 256) as u8);
+    line.prepend_integer(b".", (address / 0x100 % 256) as u8);
+    line.prepend_integer(b".", (address / 0x1_0000 % 256) as u8);
+    line.prepend_integer(b"", (address / 0x100_0000) as u8);
 }
 
 // Puts an end: its address, and its port if it has one.
-fn put_end(line: &mut Line, end: End)
+fn prepend_end(line: &mut Line, end: End)
     requires { 21 ≤ room_in line.old }
     ensures text { text_in line.new ≡ end_text end ++ text_in line.old }
     ensures room { room_in line.old ≤ room_in line.new + 21 }
 {
     if let Some(port) = end.port {
-        line.put_integer(b":", port);
+        line.prepend_integer(b":", port);
     }
-    put_address(line, end.address);
+    prepend_address(line, end.address);
 }
 
 // Puts a label, and what went one way.
-fn put_traffic(line: &mut Line, label: &[u8], frames: u64, bytes: u128)
+fn prepend_traffic(line: &mut Line, label: &[u8], frames: u64, bytes: u128)
     requires { length label.now + 61 ≤ room_in line.old }
     ensures text { text_in line.new ≡ label.now ++ traffic_text frames bytes ++ text_in line.old }
     ensures room { room_in line.old ≤ room_in line.new + length label.now + 61 }
 {
-    line.put_integer(b" ", bytes);
-    line.put_field(label, frames);
+    line.prepend_integer(b" ", bytes);
+    line.prepend_field(label, frames);
 }
 
 /// The line of a conversation: `talk PROTO A B forward P BYTES backward P BYTES first T last T`. The protocol
@@ -70,27 +71,27 @@ pub fn talk_line(key: &TalkKey, row: &TalkRow) -> Line
     ensures { text_in result ≡ talk_text key.now row.now }
 {
     let mut line = Line::new();
-    line.put_text(b"\n");
-    line.put_time(b" last ", row.last);
-    line.put_time(b" first ", row.first);
-    put_traffic(
+    line.prepend_text(b"\n");
+    line.prepend_time(b" last ", row.last);
+    line.prepend_time(b" first ", row.first);
+    prepend_traffic(
         &mut line,
         b" backward ",
         row.backward_frames,
         row.backward_bytes,
     );
-    put_traffic(
+    prepend_traffic(
         &mut line,
         b" forward ",
         row.forward_frames,
         row.forward_bytes,
     );
-    put_end(&mut line, key.greater);
-    line.put_text(b" ");
-    put_end(&mut line, key.lesser);
-    line.put_text(b" ");
-    put_protocol(&mut line, key.protocol);
-    line.put_text(b"talk ");
+    prepend_end(&mut line, key.greater);
+    line.prepend_text(b" ");
+    prepend_end(&mut line, key.lesser);
+    line.prepend_text(b" ");
+    prepend_protocol(&mut line, key.protocol);
+    line.prepend_text(b"talk ");
     line
 }
 
@@ -99,8 +100,8 @@ pub fn talks_line(count: usize) -> Line
     ensures { text_in result ≡ talks_text count }
 {
     let mut line = Line::new();
-    line.put_text(b"\n");
-    line.put_field(b"talks ", count as u64);
+    line.prepend_text(b"\n");
+    line.prepend_field(b"talks ", count as u64);
     line
 }
 
@@ -133,7 +134,8 @@ fn put_each<W: Sink>(writer: &mut W, talks: &Talks) -> Result<(), Fault>
 /// units. Answers `Fault::Write`, and no other fault, if the writer failed: a prefix of the lines is written then.
 pub fn put_talks<W: Sink>(writer: &mut W, talks: &Talks) -> Result<(), Fault>
     ensures text { IsTrue (W.tells_held writer.old)
-        → Prints (talks_text (length talks.now.rows) ++ talk_texts talks.now.rows) None (W.held writer.old) result (W.held writer.new) }
+        → Prints (talks_text (length talks.now.rows) ++ talk_texts talks.now.rows) None (W.held writer.old) result
+        (W.held writer.new) }
     ensures writer { WriterKeeps (writer_of W.Sink writer.old) (is_write result) (writer_of W.Sink writer.new) }
     ensures fault { IsOkUnless result Fault.Write }
 {

@@ -1,10 +1,13 @@
 //! The table of conversations.
-ghost use Rattle.std.specs.Prelude.{◌≡◌, ◌+◌, ◌≤◌, ◌<◌, ◌^◌, ◌++◌, List, [], ◌∷◌, length, slice_get, true, nat_lt, not, OnOk, OnErr};
+ghost use Rattle.std.specs.Prelude.{◌≡◌, ◌+◌, ◌≤◌, ◌<◌, ◌^◌, ◌++◌, List, [], ◌∷◌, length, slice_get, true, nat_lt, not};
+ghost use Rattle.std.specs.Prelude.{OnOk, OnErr};
 ghost use Rattle.indexmap.specs.IndexMap.{insert_entry};
 ghost use Rattle.indexmap.specs.Layout.{set_value_at};
 ghost use Rattle.cap_talks.specs.table.Packed.{unpacked, IsNarrow, unpacked_talks, are_packed};
 ghost use Rattle.cap_talks.specs.table.Talks.{key_of, row_of, same_talk};
-ghost use Rattle.cap_talks.specs.table.Rows.{StandsFor, is_refused, is_limit, talk_limit, frames_in, bytes_in, frames_of_row, bytes_of_row, row_in, with_share, with_talk, IsUnitInOrder, is_in_order, are_all_in_order};
+ghost use Rattle.cap_talks.specs.table.Rows.{StandsFor, is_refused, is_limit, talk_limit, frames_in, bytes_in};
+ghost use Rattle.cap_talks.specs.table.Rows.{frames_of_row, bytes_of_row, row_in, with_share, with_talk, IsUnitInOrder};
+ghost use Rattle.cap_talks.specs.table.Rows.{is_in_order, are_all_in_order};
 ghost use Rattle.cap_talks.specs.declared.table.units.CountedUnit.{CountedUnit};
 
 use crate::table::keys::PackedKey;
@@ -69,7 +72,8 @@ impl Talks {
         requires frames { frames_in self.old.rows + unit.now.frames < 2 ^ 64 }
         requires bytes { bytes_in self.old.rows + unit.now.bytes < 2 ^ 128 }
         requires unit { IsUnitInOrder unit.now }
-        ensures stands { OnOk result ((units : List CountedUnit) → StandsFor self.old units → StandsFor self.new (units ++ unit.now ∷ [])) }
+        ensures stands { OnOk result ((units : List CountedUnit) → StandsFor self.old units
+            → StandsFor self.new (units ++ unit.now ∷ [])) }
         ensures frames { OnOk result (frames_in self.new.rows ≡ frames_in self.old.rows + unit.now.frames) }
         ensures bytes { OnOk result (bytes_in self.new.rows ≡ bytes_in self.old.rows + unit.now.bytes) }
         ensures limit { is_limit result ≡ is_refused talk_limit self.old.rows (key_of unit.now) }
@@ -106,7 +110,8 @@ fn add_at(rows: &mut IndexMap<PackedKey, TalkRow>, place: usize, share: Share)
     requires bytes { bytes_of_row (row_in rows.old.entries place) + share.bytes < 2 ^ 128 }
     requires order { is_in_order (row_in rows.old.entries place) ≡ true }
     requires one { share.frames ≡ 1 → share.first ≡ share.last }
-    ensures { rows.new.entries ≡ set_value_at rows.old.entries place (with_share (row_in rows.old.entries place) share) }
+    ensures { rows.new.entries ≡ set_value_at rows.old.entries place
+        (with_share (row_in rows.old.entries place) share) }
 {
     let Some(row) = rows.get_index_mut(place) else {
         unreachable!();
@@ -126,7 +131,8 @@ fn add_row(
     requires frames { share.frames < 2 ^ 64 }
     requires bytes { share.bytes < 2 ^ 128 }
     requires one { share.frames ≡ 1 → share.first ≡ share.last }
-    ensures entries { OnOk result (unpacked_talks rows.new.entries ≡ insert_entry same_talk (unpacked_talks rows.old.entries) (unpacked key) (with_share (row_of []) share)) }
+    ensures entries { OnOk result (unpacked_talks rows.new.entries
+        ≡ insert_entry same_talk (unpacked_talks rows.old.entries) (unpacked key) (with_share (row_of []) share)) }
     ensures keys { are_packed rows.new.entries ≡ true }
     ensures limit { is_limit result ≡ not (nat_lt (length rows.old.entries) talk_limit) }
     ensures err { OnErr result (rows.new.entries ≡ rows.old.entries) }
@@ -150,7 +156,8 @@ fn add_unit(rows: &mut IndexMap<PackedKey, TalkRow>, unit: &CountedUnit) -> Resu
     requires bytes { bytes_in (unpacked_talks rows.old.entries) + unit.now.bytes < 2 ^ 128 }
     requires order { are_all_in_order (unpacked_talks rows.old.entries) ≡ true }
     requires one { unit.now.frames ≡ 1 → unit.now.first ≡ unit.now.last }
-    ensures entries { OnOk result (unpacked_talks rows.new.entries ≡ with_talk (unpacked_talks rows.old.entries) unit.now) }
+    ensures entries { OnOk result (unpacked_talks rows.new.entries
+        ≡ with_talk (unpacked_talks rows.old.entries) unit.now) }
     ensures keys { are_packed rows.new.entries ≡ true }
     ensures limit { is_limit result ≡ is_refused talk_limit (unpacked_talks rows.old.entries) (key_of unit.now) }
     ensures err { OnErr result (unpacked_talks rows.new.entries ≡ unpacked_talks rows.old.entries) }

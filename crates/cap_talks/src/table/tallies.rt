@@ -1,16 +1,16 @@
 //! What is counted of packets, besides what is told of files.
-ghost use Rattle.std.specs.Prelude.{◌≡◌, ℕ, false, ◌+◌, ◌*◌, ◌++◌, IsOkUnless, max, ◌≤◌, ◌<◌, ◌<ℤ◌, ◌^◌, pos, List, [], ◌∷◌, length, IsTrue, IfSome, IsSome, OnOk, OnErr, IfOk, IfErr, Option, Some, None, Err, if◌then◌else◌};
+ghost use Rattle.std.specs.Prelude.{◌≡◌, ℕ, false, ◌+◌, ◌++◌, IsOkUnless, max, ◌≤◌, ◌<◌, ◌^◌, List, []};
+ghost use Rattle.std.specs.Prelude.{◌∷◌, length, IsTrue, IsSome, OnOk, OnErr, IfOk, IfErr, Option, Some, None};
+ghost use Rattle.std.specs.Prelude.{Err, if◌then◌else◌};
 ghost use Rattle.cap_bytes.specs.Device.{WriterKeeps, writer_of};
 ghost use Rattle.cap_bytes.specs.Printing.{Prints, is_write};
-ghost use Rattle.cap_join.specs.Fitting.{FitsPut};
 ghost use Rattle.cap_join.specs.Fragments.{piece_of};
-ghost use Rattle.cap_join.specs.History.{Event, arrives, state_of, joined_pieces};
-ghost use Rattle.cap_join.specs.Joiners.{StandsFor, IsAnswer, most_bytes, open_limit};
-ghost use Rattle.cap_time.specs.Stamp.{seconds_of};
-ghost use Rattle.cap_talks.specs.table.Looking.{is_plain, taken_of};
+ghost use Rattle.cap_join.specs.Joiners.{most_bytes};
+ghost use Rattle.cap_talks.specs.table.Looking.{is_datagram, is_plain, taken_of};
 ghost use Rattle.cap_talks.specs.table.TakenText.{frames_text, joined_text};
 ghost use Rattle.cap_talks.specs.table.Taken.{Taken, datagram, fragment, look, stamped_of};
-ghost use Rattle.cap_talks.specs.table.Tallies.{Stands, LimitBy, one_if, tally_text, waiting_bytes, counted_one, Looks, WaitsIf, with_frames, with_group};
+ghost use Rattle.cap_talks.specs.table.Tallies.{Stands, LimitBy, one_if, tally_text, waiting_bytes, counted_one, Looks};
+ghost use Rattle.cap_talks.specs.table.Tallies.{WaitsIf, with_frames, with_group};
 ghost use Rattle.cap_source.specs.Times.{meta_time};
 ghost use Rattle.cap_talks.specs.declared.table.talks.TalksFault.TheVariants.{Memory};
 ghost use Rattle.cap_talks.specs.table.Classes.{sum_of};
@@ -20,12 +20,12 @@ use crate::table::adding::{add_unit, class_of, joined_class, joined_unit, stampe
 use crate::table::classes::{Class, ClassCounts};
 use crate::table::looks::{Seen, look};
 use crate::table::report_lines::{frames_line, joined_line};
-use crate::table::run_packets::RunPacket;
 use crate::table::talk_lines::put_talks;
 use crate::table::talks::{Talks, TalksFault};
 use cap_bytes::{Fault, Sink, put_all};
 use cap_ip::{Header, transport};
 use cap_join::{Datagram, Joiner, Put, Stamped};
+use cap_merge::RunPacket;
 use cap_time::Stamp;
 use std::alloc::Global;
 use std::cmp::max;
@@ -82,7 +82,8 @@ fn with_frames(counts: ClassCounts, class: Class, frames: u64) -> ClassCounts
     counts
 }
 
-// The counts after a packet completes a group of `frames` fragments, itself one of them: they move from the unjoined ones to a class.
+// The counts after a packet completes a group of `frames` fragments, itself one of them: they move from the unjoined
+// ones to a class.
 fn with_group(counts: ClassCounts, class: Class, frames: u64) -> ClassCounts
     requires unjoined { frames ≤ counts.unjoined + 1 }
     requires few { sum_of counts + 1 < 2 ^ 64 }
@@ -100,34 +101,6 @@ fn counted_one(class: Class) -> u64
     match class {
         Class::Counted => 1,
         _ => 0,
-    }
-}
-
-// Puts a fragment into the joiner.
-fn put_fragment(
-    joiner: &mut Joiner,
-    clock: Option<Stamp>,
-    header: &Header,
-    bytes: &[u8],
-    stamped: Stamped,
-) -> Result<Put, TalksFault>
-    requires fragment { IsSome header.now.fragment }
-    requires whole { length bytes.now ≡ header.now.data_length }
-    requires clock { IfSome clock (λ c. seconds_of c <ℤ pos (2 ^ 65)) }
-    requires place { joiner.old.next ≤ stamped.place }
-    requires last { stamped.place < 2 ^ 63 }
-    ensures answer { IfOk result (λ put. (events : List Event) → StandsFor joiner.old events →
-        IsAnswer put (joined_pieces clock (piece_of header.now bytes.now stamped) (state_of open_limit events))) }
-    ensures stands { OnOk result ((events : List Event) → StandsFor joiner.old events →
-        StandsFor joiner.new (arrives clock (piece_of header.now bytes.now stamped) ∷ events)) }
-    ensures next { OnOk result (joiner.new.next ≡ stamped.place + 1) }
-    ensures fits { IfOk result FitsPut }
-    ensures fault { IfErr result (λ e. e ≡ Memory) }
-    ensures err { OnErr result (joiner.new ≡ joiner.old) }
-{
-    match joiner.put(clock, header, bytes, stamped) {
-        Ok(put) => Ok(put),
-        Err(_) => Err(TalksFault::Memory),
     }
 }
 
@@ -154,8 +127,9 @@ impl Tally {
         }
     }
 
-    // Takes a packet that is a fragment, while no datagram waits. It is counted, or it completes a datagram, which waits from then on;
-    // the answer is whether one does. It isn't inlined, so that what it answers takes no room where whole datagrams are taken.
+    // Takes a packet that is a fragment, while no datagram waits. It is counted, or it completes a datagram, which
+    // waits from then on; the answer is whether one does. It isn't inlined, so that what it answers takes no room where
+    // whole datagrams are taken.
     #[inline(never)]
     fn take_fragment(
         &mut self,
@@ -167,7 +141,8 @@ impl Tally {
         requires few { self.old.place < 2 ^ 62 }
         requires fragment { IsSome header.fragment }
         requires whole { length bytes.now ≡ header.data_length }
-        requires look { (place : ℕ) → look place (taken_of packet) ≡ fragment (piece_of header bytes.now (stamped_of place packet.meta.now)) }
+        requires look { (place : ℕ) → look place (taken_of packet)
+            ≡ fragment (piece_of header bytes.now (stamped_of place packet.meta.now)) }
         ensures looks { IfOk result (λ waits. Looks self.old (taken_of packet.entry) waits self.new) }
         ensures waits { IfOk result (λ waits. WaitsIf self.new.waiting waits) }
         ensures place { IfOk result (λ waits. self.new.place ≡ (if waits then self.old.place else self.old.place + 1)) }
@@ -177,16 +152,17 @@ impl Tally {
         ensures err { OnErr result (self.new ≡ self.old) }
     {
         let stamped = stamped_of(self.place, packet.meta.time(), packet.meta);
-        match put_fragment(&mut self.joiner, *packet.clock, &header, bytes, stamped)? {
-            Put::Kept => {
+        match self.joiner.put(*packet.clock, &header, bytes, stamped) {
+            Ok(Put::Kept) => {
                 self.classes = with_frames(self.classes, Class::Unjoined, 1);
                 self.place += 1;
                 Ok(false)
             }
-            Put::Joined(datagram) => {
+            Ok(Put::Joined(datagram)) => {
                 self.waiting = Some(datagram);
                 Ok(true)
             }
+            Err(_) => Err(TalksFault::Memory),
         }
     }
 
@@ -224,18 +200,18 @@ impl Tally {
         Ok(())
     }
 
-    // Looks at any packet, while no datagram waits. It is counted, or it completes a datagram, which waits from then on; the answer is
-    // whether one does. It isn't inlined, so that what a fragment takes, and a packet that is none of IPv4, has no room where whole
-    // datagrams are taken.
+    // Takes a packet that is no whole datagram, while none is pending: counts it, or completes a datagram, which
+    // becomes pending. Returns whether one is. It isn't inlined, and looks at the packet once more, so that what it
+    // takes has no room where whole datagrams are taken.
     #[inline(never)]
-    fn look_again(&mut self, packet: RunPacket<'_>) -> Result<bool, TalksFault>
+    fn take_other(&mut self, packet: RunPacket<'_>) -> Result<bool, TalksFault>
         requires none { self.old.waiting ≡ None }
+        requires other { is_datagram (look 0 (taken_of packet)) ≡ false }
         requires few { self.old.place < 2 ^ 62 }
         ensures looks { IfOk result (λ waits. Looks self.old (taken_of packet.entry) waits self.new) }
         ensures waits { IfOk result (λ waits. WaitsIf self.new.waiting waits) }
         ensures place { IfOk result (λ waits. self.new.place ≡ (if waits then self.old.place else self.old.place + 1)) }
-        ensures limit { IfErr result (λ e. (xs : List Taken) → Stands self.old xs (Some (taken_of packet.entry))
-            → LimitBy (Err e) (is_limit_at xs (taken_of packet.entry))) }
+        ensures fault { IfErr result (λ e. e ≡ Memory) }
         ensures grows { OnErr result ((xs : List Taken) → Stands self.old xs (Some (taken_of packet.entry))
             → is_plain (look (length xs) (taken_of packet.entry)) ≡ false) }
         ensures err { OnErr result (self.new ≡ self.old) }
@@ -246,10 +222,7 @@ impl Tally {
                 self.place += 1;
                 Ok(false)
             }
-            Seen::Datagram(header, captured) => {
-                self.take_datagram(packet, packet.meta.time(), header, captured)?;
-                Ok(false)
-            }
+            Seen::Datagram(_, _) => unreachable!(),
             Seen::Fragment(header, bytes) => self.take_fragment(packet, header, bytes),
         }
     }
@@ -260,8 +233,10 @@ impl Tally {
         requires few { self.old.place < 2 ^ 62 }
         ensures stands { OnOk result ((xs : List Taken) (x : Taken) → Stands self.old xs (Some x)
             → (is_limit_at xs x ≡ false) × ((next : Option Taken) → Stands self.new (x ∷ xs) next)) }
-        ensures limit { IfErr result (λ e. (xs : List Taken) (x : Taken) → Stands self.old xs (Some x) → LimitBy (Err e) (is_limit_at xs x)) }
-        ensures grows { OnErr result ((xs : List Taken) (x : Taken) → Stands self.old xs (Some x) → is_plain (look (length xs) x) ≡ false) }
+        ensures limit { IfErr result (λ e. (xs : List Taken) (x : Taken) → Stands self.old xs (Some x)
+            → LimitBy (Err e) (is_limit_at xs x)) }
+        ensures grows { OnErr result ((xs : List Taken) (x : Taken) → Stands self.old xs (Some x)
+            → is_plain (look (length xs) x) ≡ false) }
         ensures none { OnOk result (self.new.waiting ≡ None) }
         ensures place { OnOk result (self.new.place ≡ self.old.place + 1) }
         ensures err { OnErr result (self.new ≡ self.old) }
@@ -281,9 +256,9 @@ impl Tally {
 
     /// Takes the packet that comes next, which has that time.
     ///
-    /// `Limit` comes exactly if it completes a unit of a new conversation and there are 1,048,576 already, `Memory` if a
-    /// growth was refused; a packet that is no datagram and no fragment needs none. Both leave the counts as they were,
-    /// and the same call may be made again; a datagram that the packet joined is kept for it.
+    /// `Limit` comes exactly if it completes a unit of a new conversation and there are 1,048,576 already, `Memory` if
+    /// a growth was refused; a packet that is no datagram and no fragment needs none. Both leave the counts as they
+    /// were, and the same call may be made again; a datagram that the packet joined is kept for it.
     #[inline(always)]
     pub(crate) fn take(
         &mut self,
@@ -309,7 +284,7 @@ impl Tally {
         if let Seen::Datagram(header, captured) = look(packet.meta, packet.frame) {
             return self.take_datagram(packet, time, header, captured);
         }
-        if self.look_again(packet)? {
+        if self.take_other(packet)? {
             return self.take_waiting();
         }
         Ok(())
@@ -370,7 +345,8 @@ fn put_counts<W: Sink>(
     given_up: u64,
 ) -> Result<(), Fault>
     ensures text { IsTrue (W.tells_held writer.old)
-        → Prints (frames_text classes.now ++ joined_text joined given_up) None (W.held writer.old) result (W.held writer.new) }
+        → Prints (frames_text classes.now ++ joined_text joined given_up) None (W.held writer.old) result
+        (W.held writer.new) }
     ensures writer { WriterKeeps (writer_of W.Sink writer.old) (is_write result) (writer_of W.Sink writer.new) }
     ensures fault { IsOkUnless result Fault.Write }
 {

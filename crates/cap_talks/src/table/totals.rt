@@ -1,5 +1,6 @@
 //! What is counted of the packets that were taken: of each file, and of all.
-ghost use Rattle.std.specs.Prelude.{◌≡◌, ◌+◌, ◌-◌, ◌≤◌, ◌<◌, ◌^◌, List, [], ◌∷◌, Option, true, length, replicate, slice_index_or, slice_set, if◌then◌else◌};
+ghost use Rattle.std.specs.Prelude.{◌≡◌, ◌+◌, ◌-◌, ◌≤◌, ◌<◌, ◌^◌, List, [], ◌∷◌, Option, true, length, replicate};
+ghost use Rattle.std.specs.Prelude.{slice_index_or, slice_set, if◌then◌else◌};
 ghost use Rattle.cap_source.specs.Times.{meta_time};
 ghost use Rattle.cap_talks.specs.counts.Counting.{counted, with_packet};
 ghost use Rattle.cap_talks.specs.table.Looking.{taken};
@@ -52,7 +53,8 @@ fn take_at(files: &mut [Counts], place: usize, time: Option<Stamp>, meta: &Meta)
     requires time { time ≡ meta_time meta.now }
     requires place { place < length files.old }
     requires room { is_room (slice_index_or files.old place (counted [])) ≡ true }
-    ensures { files.new ≡ slice_set files.old place (with_packet (slice_index_or files.old place (counted [])) meta.now) }
+    ensures { files.new ≡ slice_set files.old place
+        (with_packet (slice_index_or files.old place (counted [])) meta.now) }
 {
     files[place].take(time, meta);
 }
@@ -86,7 +88,8 @@ impl Totals {
         requires first { 1 ≤ meta.now.file }
         requires last { meta.now.file ≤ length self.old.files }
         requires few { self.old.packets < 2 ^ 45 }
-        ensures stands { (clock : Option Stamp) (xs : List Taken) → TotalsStand self.old xs → TotalsStand self.new (taken clock meta.now frame.now ∷ xs) }
+        ensures stands { (clock : Option Stamp) (xs : List Taken) → TotalsStand self.old xs
+            → TotalsStand self.new (taken clock meta.now frame.now ∷ xs) }
         ensures files { length self.new.files ≡ length self.old.files }
         ensures packets { self.new.packets ≡ self.old.packets + 1 }
     {

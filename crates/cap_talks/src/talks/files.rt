@@ -54,7 +54,8 @@ fn count_file<R: Source>(alloc: Global, source: R, file: u32, tail: Tail) -> Res
 // Reads files whole, one after another, which have the numbers from 1 on.
 fn count_files<R: Source>(alloc: Global, sources: Vec<R>, tail: Tail) -> Result<Vec<Counted>, Fault>
     requires most { vec_len sources ≤ 32 }
-    ensures counts { IsTrue (list_all R.tells_coming sources.items) → CountsFiles tail (map R.coming sources.items) result }
+    ensures counts { IsTrue (list_all R.tells_coming sources.items)
+        → CountsFiles tail (map R.coming sources.items) result }
     ensures len { IfOk result (λ counted. length counted.items ≡ length sources.items) }
     ensures read { FailsOf (map R.can_fail sources.items) result }
     ensures write { is_write result ≡ false }
@@ -86,7 +87,8 @@ pub fn file_lines<R: Source, W: Sink>(
         (W.held writer.old) result (W.held writer.new) }
     ensures writer { WriterKeeps (writer_of W.Sink writer.old) (is_write result) (writer_of W.Sink writer.new) }
     ensures read { FailsOf (map R.can_fail sources.items) result }
-    ensures first { IsTrue (list_all R.tells_coming sources.items) → FailsFirst tail (map R.coming sources.items) result }
+    ensures first { IsTrue (list_all R.tells_coming sources.items)
+        → FailsFirst tail (map R.coming sources.items) result }
 {
     let counted = count_files(alloc, sources, tail)?;
     put_files(writer, counted.as_slice())

@@ -45,7 +45,8 @@ fn take_all<F: PacketFeed>(table: &mut Table<F>) -> Result<(), Fault>
 fn report_table<F: PacketFeed, W: Sink>(table: &mut Table<F>, writer: &mut W) -> Result<(), Fault>
     requires stands { TableStands (table_of table.old) [] }
     ensures text { IsTrue (feed_of (table_of table.old).parts).told → IsTrue (W.tells_held writer.old)
-        → TellsReport (length (table_of table.old).totals.files) (table_of table.old).parts (W.held writer.old) result (W.held writer.new) }
+        → TellsReport (length (table_of table.old).totals.files) (table_of table.old).parts (W.held writer.old) result
+        (W.held writer.new) }
     ensures writer { WriterKeeps (writer_of W.Sink writer.old) (is_write result) (writer_of W.Sink writer.new) }
     ensures walks { Walks (feed_of (table_of table.old).parts) result (feed_of (table_of table.new).parts) }
     ensures memory { IfMemory result (IsAtPacket (feed_of (table_of table.new).parts).known) }
@@ -61,7 +62,8 @@ fn report_merged<F: PacketFeed, W: Sink>(
     writer: &mut W,
 ) -> Result<(), Fault>
     ensures text { IsTrue (feed_of (parts_of merged)).told → IsTrue (W.tells_held writer.old)
-        → TellsReport (length (feed_of (parts_of merged)).files) (parts_of merged) (W.held writer.old) result (W.held writer.new) }
+        → TellsReport (length (feed_of (parts_of merged)).files) (parts_of merged) (W.held writer.old) result
+        (W.held writer.new) }
     ensures writer { WriterKeeps (writer_of W.Sink writer.old) (is_write result) (writer_of W.Sink writer.new) }
     ensures walks { (new : Feed) × Walks (feed_of (parts_of merged)) result new }
 {
@@ -87,7 +89,8 @@ pub fn report<R: Source, W: Sink>(
     requires some { 1 ≤ vec_len sources }
     requires most { vec_len sources ≤ 32 }
     ensures text { IsTrue (list_all R.tells_coming sources.items) → IsTrue (W.tells_held writer.old)
-        → Tells (report_text (length sources.items) (endings_of_files tail (map R.coming sources.items)) (clocked_run tail (map R.coming sources.items)))
+        → Tells (report_text (length sources.items) (endings_of_files tail (map R.coming sources.items))
+        (clocked_run tail (map R.coming sources.items)))
         (report_refusal (clocked_run tail (map R.coming sources.items)))
         (W.held writer.old) result (W.held writer.new) }
     ensures writer { WriterKeeps (writer_of W.Sink writer.old) (is_write result) (writer_of W.Sink writer.new) }

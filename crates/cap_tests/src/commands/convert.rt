@@ -51,8 +51,8 @@ const WRITTEN: [Row; 13] = [
         CARRIED_PCAP,
         Ok(()),
     ),
-    // No interface; a second link; a time below 0; a packet without a time, in both formats; 1/1024 of a second; a packet
-    // that is cut; an empty file.
+    // No interface; a second link; a time below 0; a packet without a time, in both formats; 1/1024 of a second; a
+    // packet that is cut; an empty file.
     (
         "0a0d0d0a1c0000004d3c2b1a01000000ffffffffffffffff1c000000",
         Order::Little,

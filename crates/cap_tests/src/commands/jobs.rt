@@ -43,8 +43,8 @@ const PRINTED: [Printed; 5] = [
     (Task::Report, false, CARRY_PCAP, REPORT),
 ];
 
-// A task, the order and the format that it writes, the captures, and what is written, in hex. A join writes no datagram of
-// frames of 4 bytes.
+// A task, the order and the format that it writes, the captures, and what is written, in hex. A join writes no datagram
+// of frames of 4 bytes.
 type Written = (
     Task,
     Order,
@@ -189,6 +189,7 @@ fn leaves(rt: &impl Abort, alloc: Global, task: Task, skipped: u128) {
     job.out = if skipped == 0 { None } else { Some("c") };
     let mut left = Left {
         skipped: 7,
+        named: 7,
         ran_back: 7,
     };
     let mut writer = room_of(rt, alloc, 1024);
@@ -200,8 +201,12 @@ fn leaves(rt: &impl Abort, alloc: Global, task: Task, skipped: u128) {
         &mut writer,
         &mut left,
     );
-    let ran_back = 0;
-    same!(rt; (answer, left), (Ok(()), Left { skipped, ran_back }), task);
+    let wanted = Left {
+        skipped,
+        named: 0,
+        ran_back: 0,
+    };
+    same!(rt; (answer, left), (Ok(()), wanted), task);
 }
 
 #[test]

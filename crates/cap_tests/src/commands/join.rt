@@ -5,7 +5,7 @@ use crate::checks::same;
 use crate::commands::{ask_front, reader_again, room_again};
 use crate::files::{ask_written, readers_of, room_of, roomy};
 use cap_bytes::{Fault, Order, Sink, Source, Tail};
-use cap_tool::join_to;
+use cap_tool::{join_to, join_to_pcap};
 use std::alloc::Global;
 use std::process::Abort;
 
@@ -36,6 +36,17 @@ fn join<R: Source, W: Sink>(
     join_to(alloc, sources, Tail::Refuse, Order::Little, writer)
 }
 
+// The same as pcap.
+fn join_as_pcap<R: Source, W: Sink>(
+    rt: &impl Abort,
+    alloc: Global,
+    sources: Vec<R>,
+    writer: &mut W,
+) -> Result<(), Fault> {
+    same!(rt; sources.len(), 1);
+    join_to_pcap(alloc, sources, Tail::Refuse, Order::Big, writer)
+}
+
 // What is written of the fragments, by `piece` bytes at a time.
 fn joins(rt: &impl Abort, alloc: Global, piece: usize)
     requires { 1 ≤ piece }
@@ -51,6 +62,20 @@ fn always_memory_fragments_are_joined(rt: HostRuntime) {
     for piece in [1, 4096] {
         joins(&rt, rt.alloc(), piece);
     }
+}
+
+// The datagram as pcap, in the other order.
+const JOINED_AS_PCAP: &str = "a1b2c3d40002000400000000000000000000000000000065\
+    00000004000000000000002c0000002c4500002c00070000401166b80a0000010a000002\
+    03e907d100180000a0a1a2a3a4a5a6a7b0b1b2b3b4b5b6b7";
+
+#[test]
+fn always_memory_fragments_are_joined_as_pcap(rt: HostRuntime) {
+    let sources = readers_of(&rt, rt.alloc(), &[FRAGMENTS], 1);
+    let mut writer = room_of(&rt, rt.alloc(), 512);
+    let answer = join_as_pcap(&rt, rt.alloc(), sources, &mut writer);
+    let found = (answer, writer.bytes());
+    ask_written(&rt, rt.alloc(), found, Ok(()), &[JOINED_AS_PCAP]);
 }
 
 // The answer is as with memory, or `Memory` after a prefix, whichever growth is refused.

@@ -6,7 +6,7 @@ use crate::commands::captures::{CARRY_PCAP, SECTION, TWICE};
 use crate::commands::{ask_front, reader_again, room_again};
 use crate::files::{answer_of_files, ask_written, pair_of, readers_of, room_of};
 use cap_bytes::{Fault, Order, Rule, Sink, Source, Tail};
-use cap_tool::merge_to;
+use cap_tool::{merge_to, merge_to_pcap};
 use std::alloc::Global;
 use std::process::Abort;
 
@@ -84,6 +84,18 @@ fn merge<R: Source, W: Sink>(
     merge_to(alloc, sources, Tail::Refuse, Order::Little, writer)
 }
 
+// The same as pcap.
+fn merge_as_pcap<R: Source, W: Sink>(
+    rt: &impl Abort,
+    alloc: Global,
+    sources: Vec<R>,
+    writer: &mut W,
+) -> Result<(), Fault> {
+    holds!(rt; !sources.is_empty());
+    holds!(rt; sources.len() <= 32);
+    merge_to_pcap(alloc, sources, Tail::Refuse, Order::Big, writer)
+}
+
 // What is written and answered of files that are given by `piece` bytes at a time.
 fn merges(rt: &impl Abort, alloc: Global, row: &Row, piece: usize)
     requires { 1 ≤ piece }
@@ -103,6 +115,20 @@ fn always_memory_files_are_merged_by_time(rt: HostRuntime) {
             merges(&rt, rt.alloc(), row, piece);
         }
     }
+}
+
+// The packets at 2, 5, 1 and 5 seconds as pcap, in the other order.
+const BY_CLOCK_AS_PCAP: &str = "a1b2c3d4000200040000000000000000000400000000000100000002\
+    000000000000000100000001b200000005000000000000000100000001a5\
+    00000001000000000000000100000001a100000005000000000000000100000001b5";
+
+#[test]
+fn always_memory_files_are_merged_as_pcap(rt: HostRuntime) {
+    let sources = readers_of(&rt, rt.alloc(), &[RUNS_BACK, RUNS_ON], 1);
+    let mut writer = room_of(&rt, rt.alloc(), 512);
+    let answer = merge_as_pcap(&rt, rt.alloc(), sources, &mut writer);
+    let found = (answer, writer.bytes());
+    ask_written(&rt, rt.alloc(), found, Ok(()), &[BY_CLOCK_AS_PCAP]);
 }
 
 // The answer is as with memory, or `Memory` after a prefix, whichever growth is refused.

@@ -36,8 +36,8 @@ pub const JOINED_HEADER: [u8; 20] = [
     0x0a, 0x00, 0x00, 0x02,
 ];
 
-/// Headers with a checksum of 0, and their checksums: that of a datagram of 44 bytes that was joined of fragments, those of the
-/// padded packet and of its answer, and two that are no headers.
+/// Headers with a checksum of 0, and their checksums: that of a datagram of 44 bytes that was joined of fragments,
+/// those of the padded packet and of its answer, and two that are no headers.
 pub const CHECKSUMS: [([u8; 20], u16); 5] = [
     (
         [

@@ -1,6 +1,7 @@
 use Rattle.std.proofs.Common.{arith}
 use Rattle.cap_blocks.specs.Split.{block_at}
-use Rattle.cap_blocks.proofs.Faults.{header_fault-fields, fields_fault-short, fields_fault-unordered, fields_fault-length, fields_fault-limit, fields_fault-fits}
+use Rattle.cap_blocks.proofs.Faults.{header_fault-fields, fields_fault-short, fields_fault-unordered}
+use Rattle.cap_blocks.proofs.Faults.{fields_fault-length, fields_fault-limit, fields_fault-fits}
 use Rattle.cap_blocks.proofs.headers.header_of.Goals as goal
 
 pub returns-then-bytes-lt-FRAME_SIZE : goal.returns-then-bytes-lt-FRAME_SIZE

@@ -1,7 +1,8 @@
 use Rattle.cap_blocks.proofs.Again.{section_again-law, interface_again-law, packet_again-law}
 use Rattle.cap_blocks.proofs.Items.{items_from-none}
 use Rattle.cap_blocks.proofs.OptionSplits.{every_options-law, options_read-law}
-use Rattle.cap_blocks.proofs.Splitting.{one_block-law, one_split-law, every_split-law, split_items-law, items_at_fault-law, items_at_block-law, block_read-law, block_there-law}
+use Rattle.cap_blocks.proofs.Splitting.{one_block-law, one_split-law, every_split-law, split_items-law}
+use Rattle.cap_blocks.proofs.Splitting.{items_at_fault-law, items_at_block-law, block_read-law, block_there-law}
 use Rattle.cap_blocks.proofs.laws.grammar_laws.Goals as goal
 
 pub returns-clause-block : goal.returns-clause-block

@@ -31,4 +31,5 @@ returns-clause-bytes g c =
     (rw (c.bytes.ensures, c.packet_head.ensures.bytes) at (c.in_ok-put_all.ensures.bytes t))
     (Puts-second (Unit {0}) _ (g.W.Sink.held c.put_all-2.new.writer) _ _ _ c.put_all-3.result
     (c.in_ok-put_all-2.ensures.bytes (c.in_ok-put_all.ensures.writer.told t))
-    (rw (c.bytes-2.ensures, c.packet_tail.ensures) at (c.put_all-3.ensures.bytes (c.in_ok-put_all-2.ensures.writer.told (c.in_ok-put_all.ensures.writer.told t))))))
+    (rw (c.bytes-2.ensures, c.packet_tail.ensures) at
+    (c.put_all-3.ensures.bytes (c.in_ok-put_all-2.ensures.writer.told (c.in_ok-put_all.ensures.writer.told t))))))

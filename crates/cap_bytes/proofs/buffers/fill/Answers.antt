@@ -6,4 +6,5 @@ loop-count-init g c = Filled-none _ c.args.buffer.now c.args.end c.args.n c.requ
 
 pub loop-count-preserved : goal.loop-count-preserved
 loop-count-preserved g c =
-    Filled-more _ _ _ _ _ _ c.args.end c.loop-count.count c.in-Ok.more _ _ c.args.n c.loop-count.invariant c.loop-count-test.true c.in-Ok.ensures.few c.in-Ok.ensures.reads c.in-Ok.ensures.failed
+    Filled-more _ _ _ _ _ _ c.args.end c.loop-count.count c.in-Ok.more _ _ c.args.n c.loop-count.invariant
+    c.loop-count-test.true c.in-Ok.ensures.few c.in-Ok.ensures.reads c.in-Ok.ensures.failed

@@ -7,8 +7,18 @@ abbrev pub invariant-loop-rest : goal.invariant-loop-rest
 invariant-loop-rest g l =
     let old = l.fn.writer in
     let new = l.writer in
-    Putting (record { told = g.W.Sink.tells_held old; held = g.W.Sink.held old; failed = g.W.Device.has_failed old; can_fail = g.W.Device.can_fail old })
-    (record { told = g.W.Sink.tells_held new; held = g.W.Sink.held new; failed = g.W.Device.has_failed new; can_fail = g.W.Device.can_fail new })
+    Putting (record {
+      told = g.W.Sink.tells_held old;
+      held = g.W.Sink.held old;
+      failed = g.W.Device.has_failed old;
+      can_fail = g.W.Device.can_fail old;
+    })
+    (record {
+      told = g.W.Sink.tells_held new;
+      held = g.W.Sink.held new;
+      failed = g.W.Device.has_failed new;
+      can_fail = g.W.Device.can_fail new;
+    })
     l.fn.bytes l.rest
     × (g.W.Device.has_failed new ≡ g.W.Device.has_failed old)
 

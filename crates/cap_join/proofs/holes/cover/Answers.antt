@@ -10,7 +10,8 @@ loop-end-init c = (c.requires.holes, refl, omega arith, λ p. (refl, refl), λ r
 pub covered_end-requires : goal.covered_end-requires
 covered_end-requires c = λ lt.
     let h = c.loop-end.invariant in
-    let first = HasHoles-first c.loop-end.bytes (length c.loop-end.bytes) c.loop-end.first h.0 (omega (arith, lt, c.requires.within, c.requires.short)) in
+    let first = HasHoles-first c.loop-end.bytes (length c.loop-end.bytes) c.loop-end.first h.0
+    (omega (arith, lt, c.requires.within, c.requires.short)) in
     omega (arith, first.block, first.within)
 
 pub loop-end-preserved : goal.loop-end-preserved
@@ -24,11 +25,13 @@ loop-end-preserved c =
     let size : length c.clear.new.bytes ≡ length c.loop-end.bytes = c.clear.ensures.within.length_is in
     let low : c.args.at ≤ c.loop-end.first = h.2 in (
       subst (λ (n : ℕ). HasHoles c.clear.new.bytes n c.word_at-next.result) (sym size)
-          (HasHoles-cleared c.loop-end.bytes c.clear.new.bytes c.loop-end.first c.in-Some.end c.word_at-next.result (length c.loop-end.bytes) first h.0 near e.0 c.word_at-next.ensures c.clear.ensures.within),
+          (HasHoles-cleared c.loop-end.bytes c.clear.new.bytes c.loop-end.first c.in-Some.end c.word_at-next.result
+          (length c.loop-end.bytes) first h.0 near e.0 c.word_at-next.ensures c.clear.ensures.within),
       size ∙ h.1,
       omega (arith, first.rises, c.word_at-next.ensures),
       λ p. let same : c.loop-end.first ≡ c.args.at = (h.3 p).0 in absurd (omega arith),
-      Continues-more c.args.from c.args.to c.args.at c.loop-end.first c.in-Some.end c.word_at-next.result c.args.bytes.now c.loop-end.bytes c.clear.new.bytes h.4 near e.0 e.1 e.3
+      Continues-more c.args.from c.args.to c.args.at c.loop-end.first c.in-Some.end c.word_at-next.result
+          c.args.bytes.now c.loop-end.bytes c.clear.new.bytes h.4 near e.0 e.1 e.3
           c.word_at-next.ensures c.clear.ensures.within c.clear.ensures.zeros,
     )
 
@@ -37,7 +40,8 @@ loop-end-smaller c =
     let h = c.loop-end.invariant in
     let e = c.in-Some.ensures in
     let lt : c.loop-end.first < c.args.to = e.2 in
-    let first = HasHoles-first c.loop-end.bytes (length c.loop-end.bytes) c.loop-end.first h.0 (omega (arith, c.requires.within, c.requires.short)) in
+    let first = HasHoles-first c.loop-end.bytes (length c.loop-end.bytes) c.loop-end.first h.0
+    (omega (arith, c.requires.within, c.requires.short)) in
     omega (arith, first.rises, c.word_at-next.ensures)
 
 pub word_at-next-requires : goal.word_at-next-requires
@@ -45,5 +49,6 @@ word_at-next-requires c =
     let h = c.loop-end.invariant in
     let e = c.in-Some.ensures in
     let lt : c.loop-end.first < c.args.to = e.2 in
-    let first = HasHoles-first c.loop-end.bytes (length c.loop-end.bytes) c.loop-end.first h.0 (omega (arith, c.requires.within, c.requires.short)) in
+    let first = HasHoles-first c.loop-end.bytes (length c.loop-end.bytes) c.loop-end.first h.0
+    (omega (arith, c.requires.within, c.requires.short)) in
     omega (arith, first.block, first.within)

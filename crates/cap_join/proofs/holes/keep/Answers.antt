@@ -13,10 +13,13 @@ returns-then-from-to-clause-chain c = λ low middle high ss after lower le withi
     let second = c.put_word-then-from-to.ensures.within in
     let some : c.args.from < c.args.to = c.if-from-to.true in
     let block : c.args.from + 8 ≤ c.args.to = omega (arith, c.requires.begins, c.requires.ends) in
-    let end_is : word_at ys c.args.from ≡ c.args.to = word_at-same mid ys c.args.from (λ k p q. second.below k (omega arith)) ∙ c.put_word.ensures.word in
-    let same : (k : ℕ) → c.args.to ≤ k → slice_index ys k ≡ slice_index xs k = λ k p. second.above k (omega arith) ∙ first.above k (omega arith) in
+    let end_is : word_at ys c.args.from ≡ c.args.to =
+    word_at-same mid ys c.args.from (λ k p q. second.below k (omega arith)) ∙ c.put_word.ensures.word in
+    let same : (k : ℕ) → c.args.to ≤ k → slice_index ys k ≡ slice_index xs k = λ k p. second.above k (omega arith)
+    ∙ first.above k (omega arith) in
     subst (λ (spans : List Span). IsChain ys low high c.args.from spans) (sym (kept-some c.args.from c.args.to ss some))
-    (kept-chain c.args.from c.args.to c.args.next low middle high xs ys ss some c.requires.begins c.requires.ends end_is c.put_word-then-from-to.ensures.word same after le within chain)
+    (kept-chain c.args.from c.args.to c.args.next low middle high xs ys ss some c.requires.begins c.requires.ends end_is
+    c.put_word-then-from-to.ensures.word same after le within chain)
 
 pub returns-else-from-to-clause-chain : goal.returns-else-from-to-clause-chain
 returns-else-from-to-clause-chain c = grind (arith, IsChain-lower)

@@ -1,6 +1,7 @@
 use Rattle.cap_laws.proofs.again.Grouped as grouped
 use Rattle.cap_laws.proofs.again.Instances.{one_interface-law}
 use Rattle.cap_laws.proofs.again.MergedFiles.{merge-law}
+use Rattle.cap_laws.proofs.again.MergedPcap.{merged-pcap}
 use Rattle.cap_laws.proofs.again.Renumbered.{merged_again-law}
 use Rattle.cap_laws.proofs.again.merged_again.Goals as goal
 
@@ -15,3 +16,6 @@ returns-clause-interfaces c = one_interface-law
 
 pub returns-clause-clocks : goal.returns-clause-clocks
 returns-clause-clocks c = grouped.clock-law
+
+pub returns-clause-pcap : goal.returns-clause-pcap
+returns-clause-pcap c = merged-pcap

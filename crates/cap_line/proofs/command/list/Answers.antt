@@ -5,5 +5,6 @@ use Rattle.cap_line.proofs.command.list.Goals as goal
 
 pub returns-clause-app : goal.returns-clause-app
 returns-clause-app c =
-    AddsRule-is c.reading.result c.with_argument.result _ file_rule (reading_app (codes "list")) c.reading.ensures.app c.file.ensures.rule
+    AddsRule-is c.reading.result c.with_argument.result _ file_rule
+    (reading_app (codes "list")) c.reading.ensures.app c.file.ensures.rule
     c.with_argument.ensures.app

@@ -5,6 +5,8 @@ use Rattle.cap_line.proofs.command.listing.Goals as goal
 
 pub returns : goal.returns
 returns c =
-    let first = AddsMade-is (Ok c.capt_itself.result) c.list.result c.with_subcommand-capt.result capt_alone list_app c.capt_itself.ensures c.list.ensures.app
+    let first = AddsMade-is (Ok c.capt_itself.result) c.list.result c.with_subcommand-capt.result capt_alone list_app
+    c.capt_itself.ensures c.list.ensures.app
     c.with_subcommand-capt.ensures in
-    AddsMade-is c.with_subcommand-capt.result c.blocks-2.result c.with_subcommand.result _ blocks_app first c.blocks-2.ensures.app c.with_subcommand.ensures
+    AddsMade-is c.with_subcommand-capt.result c.blocks-2.result c.with_subcommand.result _ blocks_app first
+    c.blocks-2.ensures.app c.with_subcommand.ensures

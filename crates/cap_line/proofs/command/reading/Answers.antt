@@ -5,5 +5,6 @@ use Rattle.cap_line.proofs.command.reading.Goals as goal
 
 pub returns-clause-app : goal.returns-clause-app
 returns-clause-app c =
-    AddsRule-is c.cutting.result c.with_argument.result _ (flag_rule (codes "explain")) (cutting_app c.args.name.now) c.cutting.ensures.app
+    AddsRule-is c.cutting.result c.with_argument.result _ (flag_rule (codes "explain"))
+    (cutting_app c.args.name.now) c.cutting.ensures.app
     c.explain.ensures.rule c.with_argument.ensures.app

@@ -5,5 +5,6 @@ use Rattle.cap_line.proofs.command.report.Goals as goal
 
 pub returns-clause-app : goal.returns-clause-app
 returns-clause-app c =
-    AddsRule-is c.reading.result c.with_argument.result _ files_rule (reading_app (codes "report")) c.reading.ensures.app c.files.ensures.rule
+    AddsRule-is c.reading.result c.with_argument.result _ files_rule
+    (reading_app (codes "report")) c.reading.ensures.app c.files.ensures.rule
     c.with_argument.ensures.app

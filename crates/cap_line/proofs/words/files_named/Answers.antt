@@ -11,7 +11,8 @@ texts files = map (λ f. f.now) files
 pub returns-in-Some : goal.returns-in-Some
 returns-in-Some c =
     IfOk-weaker c.from_slice.result _ _
-    (λ v same. ap texts same ∙ values_given (Some (texts c.in-Some.files.now)) (found_of c.args.matches.now) (codes "FILE") c.in-Some.ensures)
+    (λ v same. ap texts same ∙ values_given (Some (texts c.in-Some.files.now)) (found_of c.args.matches.now)
+    (codes "FILE") c.in-Some.ensures)
     c.from_slice.ensures.items
 
 pub returns-in-None : goal.returns-in-None

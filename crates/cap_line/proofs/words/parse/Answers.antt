@@ -1,7 +1,8 @@
 use Rattle.std.proofs.Common.{◌∙◌, ap, map, subst}
 use Rattle.clap.specs.Words.{app_of, kind_of, subcommand_of}
 use Rattle.cap_line.specs.CommandLine.{IsJobOf, fault_by}
-use Rattle.cap_line.proofs.Parsing.{IsCapt-simple, IsCapt-simple_and_free, IsJobOf-no_help, Parses-answered, Parses-refused, whole-of}
+use Rattle.cap_line.proofs.Parsing.{IsCapt-simple, IsCapt-simple_and_free, IsJobOf-no_help, Parses-answered}
+use Rattle.cap_line.proofs.Parsing.{Parses-refused, whole-of}
 use Rattle.cap_line.proofs.words.parse.Goals as goal
 
 pub returns-in-Ok-try_get_matches_from-clause-parses : goal.returns-in-Ok-try_get_matches_from-clause-parses
@@ -11,7 +12,8 @@ returns-in-Ok-try_get_matches_from-clause-parses g c =
     let e = c.in-Ok-try_get_matches_from.ensures in
     let entered = (e.matches (IsCapt-simple app c.in-Ok.ensures)).1 in
     let job = subst (λ p. IsJobOf p c.job_entered.result) entered c.job_entered.ensures in
-    Parses-answered words app c.job_entered.result c.in-Ok.ensures (e.kinds (IsCapt-simple_and_free app c.in-Ok.ensures)) job
+    Parses-answered words app c.job_entered.result c.in-Ok.ensures
+    (e.kinds (IsCapt-simple_and_free app c.in-Ok.ensures)) job
     (IsJobOf-no_help (subcommand_of app words) c.job_entered.result job)
 
 pub returns-in-Err-clause-parses : goal.returns-in-Err-clause-parses

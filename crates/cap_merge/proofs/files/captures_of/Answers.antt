@@ -1,4 +1,5 @@
-use Rattle.std.proofs.Common.{◌≡◌, ◌+◌, ◌++◌, [], ◌∷◌, ◌<◌, ◌≤◌, ◌^◌, ℕ, length, map, sym, ◌∙◌, subst, arith, rules, map-id, length-append}
+use Rattle.std.proofs.Common.{◌≡◌, ◌+◌, ◌++◌, [], ◌∷◌, ◌<◌, ◌≤◌, ◌^◌, ℕ, length, map, sym, ◌∙◌, subst, arith, rules}
+use Rattle.std.proofs.Common.{map-id, length-append}
 use Rattle.std.proofs.lemmas.List.{map-append, length-map}
 use Rattle.std.proofs.lemmas.Iterator.Adapters.{YieldsList-from_vec}
 use Rattle.std.proofs.lemmas.Iterator.Consumers.{YieldsList-end, YieldsList-turn}
@@ -23,13 +24,26 @@ loop-source-preserved g c =
     let place : c.loop-source.file ≡ 1 + length (map reader seen) = omega (arith, i.number, length-map seen reader) in
     let is : IsUnread c.args.tail (1 + length (map reader seen)) (reader x) (feed_of c.new-capture.result) =
     subst (λ n. IsUnread c.args.tail n (reader x) (feed_of c.new-capture.result)) place
-    (record { files = e.files; told = e.told; items = e.items; endings = e.endings; broken = e.whole; can_fail = e.can_fail }) in
-    let more = AreUnread-more c.args.tail 1 (map reader seen) (map feed_of c.loop-source.captures.items) (reader x) (feed_of c.new-capture.result) i.unread is in
+    (record {
+      files = e.files;
+      told = e.told;
+      items = e.items;
+      endings = e.endings;
+      broken = e.whole;
+      can_fail = e.can_fail;
+    }) in
+    let more = AreUnread-more c.args.tail 1 (map reader seen) (map feed_of c.loop-source.captures.items) (reader x)
+    (feed_of c.new-capture.result) i.unread is in
     let pushed : c.push.new.self.items ≡ c.loop-source.captures.items ++ c.new-capture.result ∷ [] = search rules in
     record {
       number = next_number _ _ _ i.number (length-append seen (x ∷ []));
       unread =
-          rw (map-append reader seen (x ∷ []), pushed, map-append feed_of c.loop-source.captures.items (c.new-capture.result ∷ [])) more;
+          rw (
+            map-append reader seen (x ∷ []),
+            pushed,
+            map-append feed_of c.loop-source.captures.items
+                (c.new-capture.result ∷ []),
+          ) more;
     }
 
 pub returns-clause-unread : goal.returns-clause-unread
@@ -39,14 +53,21 @@ returns-clause-unread g c =
     let given = it.ensures.into_iter_gives in
     let end =
     YieldsList-end (YieldsList-from_vec {s = it.result} c.args.sources.items given.0 (given.1 ∙ c.args.sources.ok.0))
-    c.loop-source.yielded c.loop-source.source-iterator c.loop-source.yielded_by c.next.result c.next.new.self c.in-None.is c.next.ensures.steps in
+    c.loop-source.yielded c.loop-source.source-iterator c.loop-source.yielded_by c.next.result c.next.new.self
+    c.in-None.is c.next.ensures.steps in
     let all : c.loop-source.yielded ≡ c.args.sources.items = sym (map-id c.loop-source.yielded) ∙ end.0 in
-    subst (λ l. AreUnread c.args.tail 1 (map reader l) (map feed_of c.loop-source.captures.items)) all c.loop-source.invariant.unread
+    subst (λ l. AreUnread c.args.tail 1 (map reader l) (map feed_of c.loop-source.captures.items)) all
+    c.loop-source.invariant.unread
 
 pub overflow_add-file : goal.overflow_add-file
 overflow_add-file g c =
     let it = c.into_iter-source-iterator in
     let given = it.ensures.into_iter_gives in
-    let turn = YieldsList-turn (YieldsList-from_vec {s = it.result} c.args.sources.items given.0 (given.1 ∙ c.args.sources.ok.0))
-    c.loop-source.yielded c.loop-source.source-iterator c.loop-source.yielded_by c.next.result c.next.new.self c.in-Some.source c.in-Some.is c.next.ensures.steps in
-    record { fits = in_range c.loop-source.file _ _ _ c.loop-source.invariant.number turn.0 c.args.sources.ok.0 c.requires.most }
+    let turn = YieldsList-turn (YieldsList-from_vec {s = it.result} c.args.sources.items given.0 (given.1
+    ∙ c.args.sources.ok.0))
+    c.loop-source.yielded c.loop-source.source-iterator c.loop-source.yielded_by c.next.result c.next.new.self
+    c.in-Some.source c.in-Some.is c.next.ensures.steps in
+    record {
+      fits = in_range c.loop-source.file _ _ _ c.loop-source.invariant.number turn.0 c.args.sources.ok.0
+          c.requires.most;
+    }

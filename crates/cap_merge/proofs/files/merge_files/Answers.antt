@@ -10,25 +10,45 @@ new-requires-clause-some g c =
     let reader = reader_of g.R.Source.tells_coming g.R.Device.can_fail g.R.Source.coming in
     let v = c.in_ok-captures.captures in
     let sources = c.args.sources in
-    let same = AreUnread-length c.args.tail 1 (map reader sources.items) (map feed_of v.items) c.in_ok-captures.ensures.unread in
-    omega (arith, same, length-map v.items feed_of, length-map sources.items reader, v.ok.0, sources.ok.0, c.requires.some)
+    let same = AreUnread-length c.args.tail 1 (map reader sources.items)
+    (map feed_of v.items) c.in_ok-captures.ensures.unread in
+    omega (
+      arith,
+      same,
+      length-map v.items feed_of,
+      length-map sources.items reader,
+      v.ok.0,
+      sources.ok.0,
+      c.requires.some,
+    )
 
 pub new-requires-clause-most : goal.new-requires-clause-most
 new-requires-clause-most g c =
     let reader = reader_of g.R.Source.tells_coming g.R.Device.can_fail g.R.Source.coming in
     let v = c.in_ok-captures.captures in
     let sources = c.args.sources in
-    let same = AreUnread-length c.args.tail 1 (map reader sources.items) (map feed_of v.items) c.in_ok-captures.ensures.unread in
-    omega (arith, same, length-map v.items feed_of, length-map sources.items reader, v.ok.0, sources.ok.0, c.requires.most)
+    let same = AreUnread-length c.args.tail 1 (map reader sources.items)
+    (map feed_of v.items) c.in_ok-captures.ensures.unread in
+    omega (
+      arith,
+      same,
+      length-map v.items feed_of,
+      length-map sources.items reader,
+      v.ok.0,
+      sources.ok.0,
+      c.requires.most,
+    )
 
 pub new-requires-clause-numbered : goal.new-requires-clause-numbered
 new-requires-clause-numbered g c =
     let reader = reader_of g.R.Source.tells_coming g.R.Device.can_fail g.R.Source.coming in
-    AreUnread-numbered c.args.tail (map reader c.args.sources.items) (map feed_of c.in_ok-captures.captures.items) c.in_ok-captures.ensures.unread
+    AreUnread-numbered c.args.tail (map reader c.args.sources.items)
+    (map feed_of c.in_ok-captures.captures.items) c.in_ok-captures.ensures.unread
 
 pub returns-clause-unread : goal.returns-clause-unread
 returns-clause-unread g c =
     let reader = reader_of g.R.Source.tells_coming g.R.Device.can_fail g.R.Source.coming in
     let sources = c.args.sources in
     IsUnreadRun-feeds c.args.tail (map reader sources.items) (map feed_of c.in_ok-captures.captures.items) _
-    (omega (arith, length-map sources.items reader, sources.ok.0, c.requires.some)) c.in_ok-captures.ensures.unread c.new.ensures.parts c.new.ensures.run
+    (omega (arith, length-map sources.items reader, sources.ok.0, c.requires.some)) c.in_ok-captures.ensures.unread
+    c.new.ensures.parts c.new.ensures.run

@@ -7,5 +7,6 @@ abbrev pub invariant-loop-i : goal.invariant-loop-i
 invariant-loop-i g l = record {
   same_length : length l.feeds ≡ length l.lanes;
   agrees : Agrees l.lanes (map g.F.PacketFeed.feed l.feeds);
-  asked : AskedUpTo l.i (parts l.fn.lanes (map g.F.PacketFeed.feed l.fn.feeds)) (parts l.lanes (map g.F.PacketFeed.feed l.feeds));
+  asked : AskedUpTo l.i (parts l.fn.lanes (map g.F.PacketFeed.feed l.fn.feeds))
+      (parts l.lanes (map g.F.PacketFeed.feed l.feeds));
 }

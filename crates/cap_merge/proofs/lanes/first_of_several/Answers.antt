@@ -7,10 +7,12 @@ pub loop-place-init : goal.loop-place-init
 loop-place-init c = among-none (lane_turns c.args.lanes.now)
 
 pub sooner-first-requires-clause-first : goal.sooner-first-requires-clause-first
-sooner-first-requires-clause-first c = lanes-within c.args.lanes.now c.loop-place.first c.loop-place.place (omega arith) c.loop-place.invariant
+sooner-first-requires-clause-first c = lanes-within c.args.lanes.now c.loop-place.first c.loop-place.place
+    (omega arith) c.loop-place.invariant
 
 pub loop-place-preserved : goal.loop-place-preserved
-loop-place-preserved c = rw add-one (c.sooner-first.ensures ∙ among-more (lane_turns c.args.lanes.now) c.loop-place.first c.loop-place.place c.loop-place.invariant)
+loop-place-preserved c = rw add-one (c.sooner-first.ensures
+    ∙ among-more (lane_turns c.args.lanes.now) c.loop-place.first c.loop-place.place c.loop-place.invariant)
 
 pub returns : goal.returns
 returns c = record {

@@ -12,10 +12,17 @@ returns g c =
     let f = g.F.PacketFeed.feed in
     let place = c.args.place in
     let answer = c.show_at.result in
-    let kept = kept-written (λ ls fs ms ys. ShowsAt (parts ls (map f fs)) place answer (parts ms (map f ys)) × Agrees ms (map f ys)
+    let kept = kept-written (λ ls fs ms ys. ShowsAt (parts ls (map f fs)) place answer (parts ms (map f ys))
+    × Agrees ms (map f ys)
     × (answer ≡ true → (lane_at ms place).next ≡ Some Packet) × (length ms ≡ length ls) × (length ys ≡ length fs))
-    c.args.lanes.now.items c.as_mut_slice.result.now c.show_at.new.lanes c.args.feeds.now.items c.as_mut_slice-2.result.now c.show_at.new.feeds c.args.feeds.now.len
+    c.args.lanes.now.items c.as_mut_slice.result.now c.show_at.new.lanes c.args.feeds.now.items
+    c.as_mut_slice-2.result.now c.show_at.new.feeds c.args.feeds.now.len
     c.as_mut_slice.ensures.value c.as_mut_slice-2.ensures.value c.show_at.auto.lanes c.show_at.auto.feeds
-    (sym c.as_mut_slice-2.ensures.len ∙ ap length c.as_mut_slice-2.ensures.value)
-    (c.show_at.ensures.shows, c.show_at.ensures.agrees, c.show_at.ensures.packet, c.show_at.auto.lanes, c.show_at.auto.feeds) in
+    (sym c.as_mut_slice-2.ensures.len ∙ ap length c.as_mut_slice-2.ensures.value) (
+      c.show_at.ensures.shows,
+      c.show_at.ensures.agrees,
+      c.show_at.ensures.packet,
+      c.show_at.auto.lanes,
+      c.show_at.auto.feeds,
+    ) in
     record { shows = kept.0; agrees = kept.1; packet = kept.2; lanes = kept.3; feeds = kept.4 }

@@ -11,7 +11,8 @@ returns-in_err-has_packet-clause-items g c = λ t.
     let law = merged-is-feed m g.met.F.PacketFeed.lawful in
     let p = err_from_is_err_and c.from_residual.result c.from_residual.ensures.1 in
     rw (p.1, p.2)
-    (shows-fault (feed_of (parts_of c.args.merged.now)) (feed_of (parts_of m)) c.in_err-has_packet.field-0.0 law (c.has_packet.ensures.keeps.told t)
+    (shows-fault (feed_of (parts_of c.args.merged.now)) (feed_of (parts_of m)) c.in_err-has_packet.field-0.0 law
+    (c.has_packet.ensures.keeps.told t)
     c.in_err-has_packet.ensures.answer (c.in_err-has_packet.ensures.items t))
 
 pub returns-then-branch-clause-answer : goal.returns-then-branch-clause-answer
@@ -23,7 +24,8 @@ pub returns-then-branch-clause-items : goal.returns-then-branch-clause-items
 returns-then-branch-clause-items g c = λ t.
     let m = c.has_packet.new.self in
     let law = merged-is-feed m g.met.F.PacketFeed.lawful in
-    shows-packet (feed_of (parts_of c.args.merged.now)) (feed_of (parts_of m)) c.packet.result.now law (c.has_packet.ensures.keeps.told t) c.packet.ensures.packet
+    shows-packet (feed_of (parts_of c.args.merged.now)) (feed_of (parts_of m)) c.packet.result.now law
+    (c.has_packet.ensures.keeps.told t) c.packet.ensures.packet
     (c.in_ok-has_packet.ensures.items t)
 
 pub returns-else-branch-clause-items : goal.returns-else-branch-clause-items

@@ -11,15 +11,18 @@ pub returns-in-Err-clause-answer : goal.returns-in-Err-clause-answer
 returns-in-Err-clause-answer g c =
     let parsed = rw (c.in-Err.is, c.bytes.ensures, c.offset-offset.ensures.value) at c.header_of.ensures.parses in
     rw (c.file-file.ensures, c.offset-offset.ensures.value)
-    (λ tail. SeesStop-header c.in_ok-need.field-0 tail c.args.window.now c.need.new.self c.in-Err.rule c.in_ok-need.ensures.answer parsed)
+    (λ tail. SeesStop-header c.in_ok-need.field-0 tail c.args.window.now c.need.new.self c.in-Err.rule
+    c.in_ok-need.ensures.answer parsed)
 
 pub returns-in_err-need-clause-reaches : goal.returns-in_err-need-clause-reaches
 returns-in_err-need-clause-reaches g c = grind (arith, err_from_is_err_and, Reaches-need)
 
 pub returns-in-Ok-clause-reaches : goal.returns-in-Ok-clause-reaches
 returns-in-Ok-clause-reaches g c =
-    ReachesTo-need 24 c.in_ok-need.field-0 c.args.window.now c.need.new.self c.in_ok-need.ensures.answer c.in_ok-need.ensures.same c.in_ok-need.ensures.asked
+    ReachesTo-need 24 c.in_ok-need.field-0 c.args.window.now c.need.new.self c.in_ok-need.ensures.answer
+    c.in_ok-need.ensures.same c.in_ok-need.ensures.asked
 
 pub returns-in-Err-clause-reaches : goal.returns-in-Err-clause-reaches
 returns-in-Err-clause-reaches g c =
-    ReachesTo-need 24 c.in_ok-need.field-0 c.args.window.now c.need.new.self c.in_ok-need.ensures.answer c.in_ok-need.ensures.same c.in_ok-need.ensures.asked
+    ReachesTo-need 24 c.in_ok-need.field-0 c.args.window.now c.need.new.self c.in_ok-need.ensures.answer
+    c.in_ok-need.ensures.same c.in_ok-need.ensures.asked

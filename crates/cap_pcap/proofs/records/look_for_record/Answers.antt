@@ -2,7 +2,8 @@ use Rattle.std.proofs.Common.{true, arith}
 use Rattle.std.proofs.lemmas.Result.{err_from_is_err_and}
 use Rattle.cap_pcap.proofs.Faults.{record_fault-short}
 use Rattle.cap_bytes.proofs.Reach.{Reaches-need, ReachesTo-need}
-use Rattle.cap_pcap.proofs.Looking.{SeesStop-none, SeesStop-cut, SeesStop-broken, SeesStop-second, SeesRecord-second, FailsBy-second, Reaches-second, ReachesTo-second}
+use Rattle.cap_pcap.proofs.Looking.{SeesStop-none, SeesStop-cut, SeesStop-broken, SeesStop-second, SeesRecord-second}
+use Rattle.cap_pcap.proofs.Looking.{FailsBy-second, Reaches-second, ReachesTo-second}
 use Rattle.cap_pcap.proofs.records.look_for_record.Goals as goal
 
 pub returns-then-is_empty-clause-answer : goal.returns-then-is_empty-clause-answer
@@ -16,7 +17,8 @@ returns-in-Err-clause-answer g c =
     let n = rw c.if-not-branch.false at c.in_ok-need.ensures.answer in
     let e = rw (c.bytes-2.ensures, c.offset-offset.ensures.value) at c.in-Err.ensures in
     rw (c.by-in-Err.ensures, c.file-file.ensures, c.offset-offset.ensures.value)
-    (SeesStop-broken c.args.header c.args.tail c.args.window.now c.need.new.self c.in-Err.rule n.0 (omega (arith, n.1)) e.0 e.1)
+    (SeesStop-broken c.args.header c.args.tail c.args.window.now c.need.new.self c.in-Err.rule n.0
+    (omega (arith, n.1)) e.0 e.1)
 
 pub returns-in_err-need-2-clause-answer : goal.returns-in_err-need-2-clause-answer
 returns-in_err-need-2-clause-answer g c = grind (arith, err_from_is_err_and, FailsBy-second)
@@ -54,4 +56,5 @@ returns-clause-reaches g c =
     (ReachesTo-second c.args.header c.args.tail c.args.window.now c.need.new.self c.need-2.new.self c.in-Ok.size
     n.0 c.in_ok-need.ensures.keeps n.1 e.0 e.1 m
     (ReachesTo-need 16 true c.args.window.now c.need.new.self n c.in_ok-need.ensures.same c.in_ok-need.ensures.asked)
-    (ReachesTo-need c.in-Ok.size true c.need.new.self c.need-2.new.self m c.in_ok-need-2.ensures.same c.in_ok-need-2.ensures.asked))
+    (ReachesTo-need c.in-Ok.size true c.need.new.self c.need-2.new.self m c.in_ok-need-2.ensures.same
+    c.in_ok-need-2.ensures.asked))

@@ -6,4 +6,5 @@ pub returns-then-before-ge-INTERFACE_LIMIT : goal.returns-then-before-ge-INTERFA
 returns-then-before-ge-INTERFACE_LIMIT c = search (interface_refused)
 
 pub returns : goal.returns
-returns c = c.read_interface.ensures ∙ interface_read c.args.before c.args.order c.args.body.now c.if-before-ge-INTERFACE_LIMIT.false
+returns c = c.read_interface.ensures
+    ∙ interface_read c.args.before c.args.order c.args.body.now c.if-before-ge-INTERFACE_LIMIT.false

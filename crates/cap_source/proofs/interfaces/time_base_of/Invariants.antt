@@ -9,4 +9,5 @@ abbrev pub invariant-loop-option : goal.invariant-loop-option
 invariant-loop-option l =
     (goal.iterator-loop-option).can_next l.option-iterator ×
     (goal.iterator-loop-option).is_finite l.option-iterator ×
-    (options_read l.order l.base (items_of l.option-iterator) ≡ options_read l.order no_base (options_of l.order l.options))
+    (options_read l.order l.base (items_of l.option-iterator)
+    ≡ options_read l.order no_base (options_of l.order l.options))

@@ -15,12 +15,15 @@ returns-in_err-need-clause-reaches g c = grind (arith, err_from_is_err_and, Reac
 
 pub returns-then-not-branch-clause-reaches : goal.returns-then-not-branch-clause-reaches
 returns-then-not-branch-clause-reaches g c =
-    ReachesTo-need 4 c.in_ok-need.field-0 c.args.window.now c.need.new.self c.in_ok-need.ensures.answer c.in_ok-need.ensures.same c.in_ok-need.ensures.asked
+    ReachesTo-need 4 c.in_ok-need.field-0 c.args.window.now c.need.new.self c.in_ok-need.ensures.answer
+    c.in_ok-need.ensures.same c.in_ok-need.ensures.asked
 
 pub returns-then-is_section-clause-reaches : goal.returns-then-is_section-clause-reaches
 returns-then-is_section-clause-reaches g c =
-    ReachesTo-need 4 c.in_ok-need.field-0 c.args.window.now c.need.new.self c.in_ok-need.ensures.answer c.in_ok-need.ensures.same c.in_ok-need.ensures.asked
+    ReachesTo-need 4 c.in_ok-need.field-0 c.args.window.now c.need.new.self c.in_ok-need.ensures.answer
+    c.in_ok-need.ensures.same c.in_ok-need.ensures.asked
 
 pub returns-else-is_section-clause-reaches : goal.returns-else-is_section-clause-reaches
 returns-else-is_section-clause-reaches g c =
-    ReachesTo-need 4 c.in_ok-need.field-0 c.args.window.now c.need.new.self c.in_ok-need.ensures.answer c.in_ok-need.ensures.same c.in_ok-need.ensures.asked
+    ReachesTo-need 4 c.in_ok-need.field-0 c.args.window.now c.need.new.self c.in_ok-need.ensures.answer
+    c.in_ok-need.ensures.same c.in_ok-need.ensures.asked

@@ -6,14 +6,17 @@ use Rattle.cap_source.proofs.pcap.next_of_pcap.Goals as goal
 
 pub returns-in-Ok-clause-answer : goal.returns-in-Ok-clause-answer
 returns-in-Ok-clause-answer g c = λ p.
-    Answers-behind (pcap_state c.args.reader.now p) (pcap_state c.header.new.self p) (pcap_state c.next_record_of.new.reader p) c.next_record_of.result c.next_record_of.new.known
-    (header_waits c.in-Ok.header c.args.reader.now c.header.new.self p c.requires.free c.in-Ok.ensures.answer c.in-Ok.ensures.keeps c.in-Ok.ensures.items)
+    Answers-behind (pcap_state c.args.reader.now p) (pcap_state c.header.new.self p)
+    (pcap_state c.next_record_of.new.reader p) c.next_record_of.result c.next_record_of.new.known
+    (header_waits c.in-Ok.header c.args.reader.now c.header.new.self p c.requires.free c.in-Ok.ensures.answer
+    c.in-Ok.ensures.keeps c.in-Ok.ensures.items)
     (pcap_keeps c.args.reader.now c.header.new.self p c.in-Ok.ensures.keeps)
     (c.next_record_of.ensures.answer p)
 
 pub returns-in-Ok-clause-keeps : goal.returns-in-Ok-clause-keeps
 returns-in-Ok-clause-keeps g c = λ p.
-    FileKeeps-trans (pcap_state c.args.reader.now p) (pcap_state c.header.new.self p) (pcap_state c.next_record_of.new.reader p)
+    FileKeeps-trans (pcap_state c.args.reader.now p) (pcap_state c.header.new.self p)
+    (pcap_state c.next_record_of.new.reader p)
     (pcap_keeps c.args.reader.now c.header.new.self p c.in-Ok.ensures.keeps)
     (c.next_record_of.ensures.keeps p)
 
@@ -21,17 +24,19 @@ pub returns-in-Err-Refused-clause-answer : goal.returns-in-Err-Refused-clause-an
 returns-in-Err-Refused-clause-answer g c = λ p.
     let e = rw c.in-Err-Refused.field-0-is at c.in-Err-Refused.ensures in (
       nexts.Refused c.in-Err-Refused.refusal c.ending_of_pcap.result,
-      c.put_refused.ensures,
+      c.set_refused.ensures,
       rw c.ending_of_pcap.ensures
-          (header_refused c.in-Err-Refused.refusal c.args.reader.now c.header.new.self p c.requires.free e.answer e.keeps (λ t. (e.items t).0)),
+          (header_refused c.in-Err-Refused.refusal c.args.reader.now c.header.new.self p c.requires.free e.answer
+          e.keeps (λ t. (e.items t).0)),
     )
 
 pub returns-in-Ok-clause-reaches : goal.returns-in-Ok-clause-reaches
 returns-in-Ok-clause-reaches g c = λ p.
-    taken_behind (pcap_state c.args.reader.now p) (pcap_state c.header.new.self p) (pcap_state c.next_record_of.new.reader p) c.next_record_of.result c.next_record_of.new.known
+    taken_behind (pcap_state c.args.reader.now p) (pcap_state c.header.new.self p)
+    (pcap_state c.next_record_of.new.reader p) c.next_record_of.result c.next_record_of.new.known
     (pcap_keeps c.args.reader.now c.header.new.self p c.in-Ok.ensures.keeps)
     (header_reads c.in-Ok.header c.args.reader.now c.header.new.self p c.in-Ok.ensures.answer c.in-Ok.ensures.reaches)
     (c.next_record_of.ensures.reaches p)
 
 pub returns-in-Err-Refused-clause-reaches : goal.returns-in-Err-Refused-clause-reaches
-returns-in-Err-Refused-clause-reaches g c = λ p. rw c.put_refused.ensures tt
+returns-in-Err-Refused-clause-reaches g c = λ p. rw c.set_refused.ensures tt

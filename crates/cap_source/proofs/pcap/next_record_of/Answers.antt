@@ -8,9 +8,10 @@ pub returns-in-Ok-Some-clause-answer : goal.returns-in-Ok-Some-clause-answer
 returns-in-Ok-Some-clause-answer g c = λ progress.
     let e = rw c.in-Ok-Some.field-0-is at c.in-Ok-Some.ensures in (
       nexts.Packet c.meta_of_record.result 0,
-      c.put_packet.ensures,
+      c.set_packet.ensures,
       rw c.meta_of_record.ensures
-          (record_learned c.args.header c.file-file.result c.in-Ok-Some.record c.args.reader.now c.next_record.new.self progress
+          (record_learned c.args.header c.file-file.result c.in-Ok-Some.record c.args.reader.now
+          c.next_record.new.self progress
           (c.file-file.ensures ∙ c.window.ensures.file) c.requires.header
           (from_some _ _ _ c.requires.header e.answer) e.keeps e.items),
     )
@@ -20,7 +21,7 @@ returns-in-Ok-None-clause-answer g c = λ progress.
     let e = rw c.in-Ok-None.field-0-is at c.in-Ok-None.ensures in
     let answer = from_some _ _ _ c.requires.header e.answer in (
       nexts.End c.ending_of_pcap.result,
-      c.put_end.ensures,
+      c.set_end.ensures,
       rw c.ending_of_pcap.ensures
           (end_learned c.args.header c.was_cut.result answer.0 c.args.reader.now c.next_record.new.self progress
           c.requires.header c.requires.free answer.1 answer.2 c.was_cut.ensures e.keeps (λ t. (e.items t).3)),
@@ -31,37 +32,45 @@ returns-in-Err-Refused-clause-answer g c = λ progress.
     let e = rw c.in-Err-Refused.field-0-is at c.in-Err-Refused.ensures in
     let answer = from_some _ _ _ c.requires.header e.answer in (
       nexts.Refused c.in-Err-Refused.refusal c.ending_of_pcap-in-Err-Refused.result,
-      rw c.in-Err-Refused.field-0-is at c.put_refused.ensures,
+      rw c.in-Err-Refused.field-0-is at c.set_refused.ensures,
       rw c.ending_of_pcap-in-Err-Refused.ensures
           (refusal_learned c.args.header c.in-Err-Refused.refusal c.args.reader.now c.next_record.new.self progress
           c.requires.header c.requires.free answer e.keeps (λ t. (e.items t).0)),
     )
 
 pub returns-in-Ok-Some-clause-keeps : goal.returns-in-Ok-Some-clause-keeps
-returns-in-Ok-Some-clause-keeps g c = λ p. pcap_keeps c.args.reader.now c.next_record.new.self p c.in-Ok-Some.ensures.keeps
+returns-in-Ok-Some-clause-keeps g c =
+    λ p. pcap_keeps c.args.reader.now c.next_record.new.self p c.in-Ok-Some.ensures.keeps
 
 pub returns-in-Ok-None-clause-keeps : goal.returns-in-Ok-None-clause-keeps
-returns-in-Ok-None-clause-keeps g c = λ p. pcap_keeps c.args.reader.now c.next_record.new.self p c.in-Ok-None.ensures.keeps
+returns-in-Ok-None-clause-keeps g c =
+    λ p. pcap_keeps c.args.reader.now c.next_record.new.self p c.in-Ok-None.ensures.keeps
 
 pub returns-in-Err-Refused-clause-keeps : goal.returns-in-Err-Refused-clause-keeps
-returns-in-Err-Refused-clause-keeps g c = λ p. pcap_keeps c.args.reader.now c.next_record.new.self p c.in-Err-Refused.ensures.keeps
+returns-in-Err-Refused-clause-keeps g c =
+    λ p. pcap_keeps c.args.reader.now c.next_record.new.self p c.in-Err-Refused.ensures.keeps
 
 pub returns-in-Err-Read-clause-keeps : goal.returns-in-Err-Read-clause-keeps
-returns-in-Err-Read-clause-keeps g c = λ p. pcap_keeps c.args.reader.now c.next_record.new.self p c.in-Err-Read.ensures.keeps
+returns-in-Err-Read-clause-keeps g c =
+    λ p. pcap_keeps c.args.reader.now c.next_record.new.self p c.in-Err-Read.ensures.keeps
 
 pub returns-in-Err-Write-clause-keeps : goal.returns-in-Err-Write-clause-keeps
-returns-in-Err-Write-clause-keeps g c = λ p. pcap_keeps c.args.reader.now c.next_record.new.self p c.in-Err-Write.ensures.keeps
+returns-in-Err-Write-clause-keeps g c =
+    λ p. pcap_keeps c.args.reader.now c.next_record.new.self p c.in-Err-Write.ensures.keeps
 
 pub returns-in-Err-Memory-clause-keeps : goal.returns-in-Err-Memory-clause-keeps
-returns-in-Err-Memory-clause-keeps g c = λ p. pcap_keeps c.args.reader.now c.next_record.new.self p c.in-Err-Memory.ensures.keeps
+returns-in-Err-Memory-clause-keeps g c =
+    λ p. pcap_keeps c.args.reader.now c.next_record.new.self p c.in-Err-Memory.ensures.keeps
 
 pub returns-in-Ok-Some-clause-reaches : goal.returns-in-Ok-Some-clause-reaches
 returns-in-Ok-Some-clause-reaches g c = λ progress.
     let e = rw c.in-Ok-Some.field-0-is at c.in-Ok-Some.ensures in
-    rw c.put_packet.ensures (record_taken c.args.header c.args.reader.now c.next_record.new.self c.in-Ok-Some.record progress (from_some _ _ _ c.requires.header e.reaches) e.place)
+    rw c.set_packet.ensures
+    (record_taken c.args.header c.args.reader.now c.next_record.new.self c.in-Ok-Some.record progress
+    (from_some _ _ _ c.requires.header e.reaches) e.place)
 
 pub returns-in-Ok-None-clause-reaches : goal.returns-in-Ok-None-clause-reaches
-returns-in-Ok-None-clause-reaches g c = λ progress. rw c.put_end.ensures tt
+returns-in-Ok-None-clause-reaches g c = λ progress. rw c.set_end.ensures tt
 
 pub returns-in-Err-Refused-clause-reaches : goal.returns-in-Err-Refused-clause-reaches
-returns-in-Err-Refused-clause-reaches g c = λ progress. rw c.put_refused.ensures tt
+returns-in-Err-Refused-clause-reaches g c = λ progress. rw c.set_refused.ensures tt

@@ -7,9 +7,10 @@ pub returns-in-Some-take_shown-clause-answer : goal.returns-in-Some-take_shown-c
 returns-in-Some-take_shown-clause-answer g c = λ progress.
     let e = c.in-Some-take_shown.ensures in (
       nexts.Packet c.meta_of_record-meta.result 0,
-      c.put_packet.ensures,
+      c.set_packet.ensures,
       rw c.meta_of_record-meta.ensures
-          (record_learned c.in-Some.header c.file-file.result c.in-Some-take_shown.record c.args.reader.now c.take_shown.new.self progress
+          (record_learned c.in-Some.header c.file-file.result c.in-Some-take_shown.record c.args.reader.now
+          c.take_shown.new.self progress
           (c.file-file.ensures ∙ c.window.ensures.file) (sym c.known.ensures ∙ c.in-Some.is) e.answer e.keeps e.items),
     )
 

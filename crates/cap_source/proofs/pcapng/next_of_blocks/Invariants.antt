@@ -6,9 +6,12 @@ use Rattle.cap_source.proofs.pcapng.next_of_blocks.Given as goal
 abbrev pub invariant-loop-known : goal.invariant-loop-known
 invariant-loop-known g l = record {
   unknown : l.known ≡ None;
-  waits : Waits (pcapng_state l.initial.reader (progress_of l.initial.reached)) (pcapng_state l.reader (progress_of l.reached));
-  keeps : FileKeeps (pcapng_state l.initial.reader (progress_of l.initial.reached)) (pcapng_state l.reader (progress_of l.reached));
-  reads : ReadsTo (pcapng_state l.initial.reader (progress_of l.initial.reached)) (pcapng_state l.reader (progress_of l.reached));
+  waits : Waits (pcapng_state l.initial.reader (progress_of l.initial.reached))
+      (pcapng_state l.reader (progress_of l.reached));
+  keeps : FileKeeps (pcapng_state l.initial.reader (progress_of l.initial.reached))
+      (pcapng_state l.reader (progress_of l.reached));
+  reads : ReadsTo (pcapng_state l.initial.reader (progress_of l.initial.reached))
+      (pcapng_state l.reader (progress_of l.reached));
   room : IsTrue (has_room l.reader.broken l.reached);
   counted : counted (progress_of l.reached) ≤ l.reader.offset;
   free : l.reader.stop ≡ None;

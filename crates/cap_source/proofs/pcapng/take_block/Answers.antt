@@ -9,43 +9,49 @@ pub returns-in-Ok-Some-clause-answer : goal.returns-in-Ok-Some-clause-answer
 returns-in-Ok-Some-clause-answer g c =
     let e = rw c.in-Ok-Some.field-0-is at c.in-Ok-Some.ensures in
     let block = c.in-Ok-Some.block in
-    block_stepped c.file-file.result c.args.reader.now c.next_block.new.self (progress_of c.args.reached.now) (progress_of c.take_content.new.reached)
+    block_stepped c.file-file.result c.args.reader.now c.next_block.new.self (progress_of c.args.reached.now)
+    (progress_of c.take_content.new.reached)
     block c.read_content-content.result c.take_content.new.known
     c.take_content.ensures.next c.take_content.ensures.behind
     (c.file-file.ensures ∙ c.window.ensures.window.file) e.answer e.keeps e.items
-    (c.read_content-content.ensures ∙ ap (λ l. content_in l block.kind block.order (unwrap_or c.next_block.new.self.lent [])) c.deref.ensures.value)
+    (c.read_content-content.ensures
+    ∙ ap (λ l. content_in l block.kind block.order (unwrap_or c.next_block.new.self.lent [])) c.deref.ensures.value)
 
 pub returns-in-Ok-Some-clause-keeps : goal.returns-in-Ok-Some-clause-keeps
 returns-in-Ok-Some-clause-keeps g c =
     let e = rw c.in-Ok-Some.field-0-is at c.in-Ok-Some.ensures in
     let block = c.in-Ok-Some.block in
-    block_kept c.args.reader.now c.next_block.new.self (progress_of c.args.reached.now) (progress_of c.take_content.new.reached)
+    block_kept c.args.reader.now c.next_block.new.self (progress_of c.args.reached.now)
+    (progress_of c.take_content.new.reached)
     block c.read_content-content.result c.take_content.ensures.behind
     e.answer e.keeps
-    (c.read_content-content.ensures ∙ ap (λ l. content_in l block.kind block.order (unwrap_or c.next_block.new.self.lent [])) c.deref.ensures.value)
+    (c.read_content-content.ensures
+    ∙ ap (λ l. content_in l block.kind block.order (unwrap_or c.next_block.new.self.lent [])) c.deref.ensures.value)
 
 pub returns-in-Ok-None-clause-answer : goal.returns-in-Ok-None-clause-answer
 returns-in-Ok-None-clause-answer g c =
     let e = rw c.in-Ok-None.field-0-is at c.in-Ok-None.ensures in
-    rw (c.put_end.ensures, c.ending_of_blocks.ensures)
+    rw (c.set_end.ensures, c.ending_of_blocks.ensures)
     (end_learned c.was_cut.result e.answer.0 c.args.reader.now c.next_block.new.self (progress_of c.args.reached.now)
     c.requires.free e.answer.1 e.answer.2 c.was_cut.ensures.cut e.keeps (λ t. (e.items t).3))
 
 pub returns-in-Err-Refused-clause-answer : goal.returns-in-Err-Refused-clause-answer
 returns-in-Err-Refused-clause-answer g c =
     let e = rw c.in-Err-Refused.field-0-is at c.in-Err-Refused.ensures in
-    rw c.put_refused.ensures
-    (refusal_kept c.in-Err-Refused.refusal c.ending_of_blocks-in-Err-Refused.result c.args.reader.now c.next_block.new.self (progress_of c.args.reached.now)
+    rw c.set_refused.ensures
+    (refusal_kept c.in-Err-Refused.refusal c.ending_of_blocks-in-Err-Refused.result c.args.reader.now
+    c.next_block.new.self (progress_of c.args.reached.now)
     c.ending_of_blocks-in-Err-Refused.ensures c.requires.free e.answer e.keeps (λ t. (e.items t).0))
 
 pub returns-in-Ok-Some-clause-reaches : goal.returns-in-Ok-Some-clause-reaches
 returns-in-Ok-Some-clause-reaches g c =
     let e = rw c.in-Ok-Some.field-0-is at c.in-Ok-Some.ensures in
     IfTaken-so c.take_content.new.known _
-    (block_taken c.args.reader.now c.next_block.new.self c.in-Ok-Some.block (progress_of c.args.reached.now) (progress_of c.take_content.new.reached) e.answer e.reaches)
+    (block_taken c.args.reader.now c.next_block.new.self c.in-Ok-Some.block (progress_of c.args.reached.now)
+    (progress_of c.take_content.new.reached) e.answer e.reaches)
 
 pub returns-in-Ok-None-clause-reaches : goal.returns-in-Ok-None-clause-reaches
-returns-in-Ok-None-clause-reaches g c = rw c.put_end.ensures tt
+returns-in-Ok-None-clause-reaches g c = rw c.set_end.ensures tt
 
 pub returns-in-Err-Refused-clause-reaches : goal.returns-in-Err-Refused-clause-reaches
-returns-in-Err-Refused-clause-reaches g c = rw c.put_refused.ensures tt
+returns-in-Err-Refused-clause-reaches g c = rw c.set_refused.ensures tt

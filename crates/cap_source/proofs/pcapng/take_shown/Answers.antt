@@ -3,7 +3,8 @@ use Rattle.cap_bytes.proofs.Parsing.{from_some}
 use Rattle.cap_source.specs.Contents.{of_body}
 use Rattle.cap_source.specs.Reached.{progress_of}
 use Rattle.cap_source.specs.declared.contents.Content.TheVariants as contents
-use Rattle.cap_source.proofs.Blocks.{behind-packet, block_taken, block_stepped, block_kept, content_lent, enhanced_size, packet_shown}
+use Rattle.cap_source.proofs.Blocks.{behind-packet, block_taken, block_stepped, block_kept, content_lent, enhanced_size}
+use Rattle.cap_source.proofs.Blocks.{packet_shown}
 use Rattle.cap_source.proofs.pcapng.take_shown.Goals as goal
 
 pub enhanced_packet-said-requires : goal.enhanced_packet-said-requires
@@ -15,22 +16,29 @@ pub returns-in-Some-clause-answer : goal.returns-in-Some-clause-answer
 returns-in-Some-clause-answer g c =
     let e = c.in-Some.ensures in
     let p = progress_of c.args.reached.now in
-    packet_shown _ _ c.file-file.result p c.in-Some.block c.enhanced_packet-said.result c.put_packet.new.known c.put_packet.ensures
-    (block_stepped c.file-file.result c.args.reader.now c.take_packet.new.self p p c.in-Some.block (of_body contents.Packet c.enhanced_packet-said.result)
-    c.put_packet.new.known c.put_packet.ensures (behind-packet p c.enhanced_packet-said.result) (c.file-file.ensures ∙ c.window.ensures.window.file) e.answer e.keeps e.items
-    (content_lent _ c.deref.result.now p.interfaces c.in-Some.block.kind c.in-Some.block.order c.take_packet.new.self.lent c.body.result.now
+    packet_shown _ _ c.file-file.result p c.in-Some.block c.enhanced_packet-said.result c.set_packet.new.known
+    c.set_packet.ensures
+    (block_stepped c.file-file.result c.args.reader.now c.take_packet.new.self p p c.in-Some.block
+    (of_body contents.Packet c.enhanced_packet-said.result)
+    c.set_packet.new.known c.set_packet.ensures (behind-packet p c.enhanced_packet-said.result) (c.file-file.ensures
+    ∙ c.window.ensures.window.file) e.answer e.keeps e.items
+    (content_lent _ c.deref.result.now p.interfaces c.in-Some.block.kind c.in-Some.block.order
+    c.take_packet.new.self.lent c.body.result.now
     c.enhanced_packet-said.ensures c.deref.ensures.value e.kind c.body.ensures.body))
 
 pub returns-in-Some-clause-keeps : goal.returns-in-Some-clause-keeps
 returns-in-Some-clause-keeps g c =
     let e = c.in-Some.ensures in
     let p = progress_of c.args.reached.now in
-    block_kept c.args.reader.now c.take_packet.new.self p p c.in-Some.block (of_body contents.Packet c.enhanced_packet-said.result)
+    block_kept c.args.reader.now c.take_packet.new.self p p c.in-Some.block
+    (of_body contents.Packet c.enhanced_packet-said.result)
     (behind-packet p c.enhanced_packet-said.result) e.answer e.keeps
-    (content_lent _ c.deref.result.now p.interfaces c.in-Some.block.kind c.in-Some.block.order c.take_packet.new.self.lent c.body.result.now
+    (content_lent _ c.deref.result.now p.interfaces c.in-Some.block.kind c.in-Some.block.order
+    c.take_packet.new.self.lent c.body.result.now
     c.enhanced_packet-said.ensures c.deref.ensures.value e.kind c.body.ensures.body)
 
 pub returns-in-Some-clause-reaches : goal.returns-in-Some-clause-reaches
 returns-in-Some-clause-reaches g c = λ taken.
     let p = progress_of c.args.reached.now in
-    block_taken c.args.reader.now c.take_packet.new.self c.in-Some.block p p c.in-Some.ensures.answer c.in-Some.ensures.reaches
+    block_taken c.args.reader.now c.take_packet.new.self c.in-Some.block p p c.in-Some.ensures.answer
+    c.in-Some.ensures.reaches

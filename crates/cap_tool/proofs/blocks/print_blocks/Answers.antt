@@ -1,7 +1,8 @@
 use Rattle.std.proofs.Common.{◌≡◌, ◌+◌, ◌++◌, Some, None, Ok, sym, ◌∙◌, ap, rules}
 use Rattle.std.proofs.lemmas.Result.{err_from_is_err_and}
 use Rattle.cap_blocks.specs.Reader.{GivesBlock, TakesItem, items_of}
-use Rattle.cap_tool.proofs.BlockListing.{Printing-more, Printing-none, Prints-block_fault, Prints-block_end, block_lines-given}
+use Rattle.cap_tool.proofs.BlockListing.{Printing-more, Printing-none, Prints-block_fault, Prints-block_end}
+use Rattle.cap_tool.proofs.BlockListing.{block_lines-given}
 use Rattle.cap_tool.proofs.BlockWalking.{lasts-given, walks-end, walks-fault}
 use Rattle.cap_bytes.proofs.Putting.{Putting-front}
 use Rattle.cap_tool.specs.BlockText.{block_lines, block_text}
@@ -13,7 +14,8 @@ returns-in_err-block-clause-text g c = λ t w.
     let i = c.loop-block.invariant in
     let old = c.loop-block.reader in
     let new = c.take_block.new.reader in
-    rw (p.1, p.2) (Prints-block_fault c.in_err-block.field-0.0 _ _ _ _ c.loop-block.n old new (i.lines t) w (i.refusal_same t)
+    rw (p.1, p.2) (Prints-block_fault c.in_err-block.field-0.0 _ _ _ _ c.loop-block.n old new (i.lines t) w
+    (i.refusal_same t)
     (c.in_err-block.ensures.items (i.told t)))
 
 pub returns-in_err-put_all-clause-text : goal.returns-in_err-put_all-clause-text
@@ -22,8 +24,10 @@ returns-in_err-put_all-clause-text g c = λ t w.
     let i = c.loop-block.invariant in
     let old = c.loop-block.reader in
     let new = c.take_block.new.reader in
-    let line_is : c.as_slice.result.now ≡ block_text c.loop-block.n c.in-Some.block = c.as_slice.ensures.value ∙ c.write_block.ensures in
-    let items : TakesItem old (Ok (Some c.in-Some.block)) new = rw c.in-Some.is at (c.in_ok-block.ensures.items (i.told t)) in
+    let line_is : c.as_slice.result.now ≡ block_text c.loop-block.n c.in-Some.block = c.as_slice.ensures.value
+    ∙ c.write_block.ensures in
+    let items : TakesItem old (Ok (Some c.in-Some.block)) new =
+    rw c.in-Some.is at (c.in_ok-block.ensures.items (i.told t)) in
     let behind = block_lines (c.loop-block.n + 1) (items_of new) in
     let split : block_lines c.loop-block.n (items_of old) ≡ c.as_slice.result.now ++ behind =
     block_lines-given c.loop-block.n c.in-Some.block _ (items_of old) (items_of new) items
@@ -60,14 +64,17 @@ pub returns-in_err-block-clause-walks : goal.returns-in_err-block-clause-walks
 returns-in_err-block-clause-walks g c =
     let p = err_from_is_err_and c.from_residual.result c.from_residual.ensures.1 in
     rw (p.1, p.2)
-    (walks-fault _ c.loop-block.reader c.take_block.new.reader _ _ _ _ c.loop-block.n c.loop-block.invariant c.in_err-block.field-0.0 c.in_err-block.ensures.answer)
+    (walks-fault _ c.loop-block.reader c.take_block.new.reader _ _ _ _ c.loop-block.n c.loop-block.invariant
+    c.in_err-block.field-0.0 c.in_err-block.ensures.answer)
 
 pub returns-in_err-put_all-clause-walks : goal.returns-in_err-put_all-clause-walks
 returns-in_err-put_all-clause-walks g c =
     let p = err_from_is_err_and c.from_residual-in_err-put_all.result c.from_residual-in_err-put_all.ensures.1 in
     rw (p.1, p.2, c.in_err-put_all.ensures.fault)
-    (lasts-given _ c.loop-block.reader c.take_block.new.reader _ _ _ _ c.loop-block.n c.loop-block.invariant c.in-Some.block (rw c.in-Some.is at c.in_ok-block.ensures.answer))
+    (lasts-given _ c.loop-block.reader c.take_block.new.reader _ _ _ _ c.loop-block.n c.loop-block.invariant
+    c.in-Some.block (rw c.in-Some.is at c.in_ok-block.ensures.answer))
 
 pub returns-clause-walks : goal.returns-clause-walks
 returns-clause-walks g c =
-    walks-end _ c.loop-block.reader c.take_block.new.reader _ _ _ _ c.loop-block.n c.loop-block.invariant (rw c.in_default.is at c.in_ok-block.ensures.answer)
+    walks-end _ c.loop-block.reader c.take_block.new.reader _ _ _ _ c.loop-block.n c.loop-block.invariant
+    (rw c.in_default.is at c.in_ok-block.ensures.answer)

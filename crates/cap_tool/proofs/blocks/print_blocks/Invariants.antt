@@ -6,8 +6,18 @@ use Rattle.cap_tool.proofs.blocks.print_blocks.Given as goal
 abbrev pub invariant-loop-block : goal.invariant-loop-block
 invariant-loop-block g l =
     Printing l.fn.reader l.reader (g.W.Device.has_failed l.fn.writer) (g.W.Device.has_failed l.writer)
-    (record { told = g.W.Sink.tells_held l.fn.writer; held = g.W.Sink.held l.fn.writer; failed = g.W.Device.has_failed l.fn.writer; can_fail = g.W.Device.can_fail l.fn.writer })
-    (record { told = g.W.Sink.tells_held l.writer; held = g.W.Sink.held l.writer; failed = g.W.Device.has_failed l.writer; can_fail = g.W.Device.can_fail l.writer })
+    (record {
+      told = g.W.Sink.tells_held l.fn.writer;
+      held = g.W.Sink.held l.fn.writer;
+      failed = g.W.Device.has_failed l.fn.writer;
+      can_fail = g.W.Device.can_fail l.fn.writer;
+    })
+    (record {
+      told = g.W.Sink.tells_held l.writer;
+      held = g.W.Sink.held l.writer;
+      failed = g.W.Device.has_failed l.writer;
+      can_fail = g.W.Device.can_fail l.writer;
+    })
     l.n
 
 abbrev pub decreases-loop-block : goal.decreases-loop-block

@@ -7,7 +7,8 @@ use Rattle.cap_tool.proofs.counting.convert_and_count.Goals as goal
 pub returns-clause-text : goal.returns-clause-text
 returns-clause-text g c = λ t w.
     let e = c.new-capture.ensures in
-    Prints-file c.args.format c.args.order c.args.tail _ _ _ _ (g.W.Sink.held c.args.writer.now) (g.W.Sink.held c.write_file-answer.new.writer) c.write_file-answer.result e.number e.first e.items
+    Prints-file c.args.format c.args.order c.args.tail _ _ _ _ (g.W.Sink.held c.args.writer.now)
+    (g.W.Sink.held c.write_file-answer.new.writer) c.write_file-answer.result e.number e.first e.items
     (c.write_file-answer.ensures.text (subst (λ (b : Bool). IsTrue b) (sym e.told) t) w)
 
 pub returns-clause-read : goal.returns-clause-read
@@ -21,5 +22,6 @@ left_of_one-requires-clause-end g c = Walks-done _ _ c.write_file-answer.result 
 pub returns-clause-left : goal.returns-clause-left
 returns-clause-left g c =
     let e = c.new-capture.ensures in
-    Left-one (feed_of c.new-capture.result) (feed_of c.write_file-answer.new.capture) _ _ c.write_file-answer.result c.left_of_one.result e.told e.endings
+    Left-one (feed_of c.new-capture.result) (feed_of c.write_file-answer.new.capture) _ _ c.write_file-answer.result
+    c.left_of_one.result e.told e.endings
     c.write_file-answer.ensures.endings c.left_of_one.ensures.left

@@ -11,25 +11,46 @@ new-requires-clause-some g c =
     let reader = reader_of g.R.Source.tells_coming g.R.Device.can_fail g.R.Source.coming in
     let v = c.in_ok-feeds.feeds in
     let sources = c.args.sources in
-    let same = AreUnread-length c.args.tail 1 (map reader sources.items) (map (λ w. feed_of (inner_of w)) v.items) c.in_ok-feeds.ensures.unread in
-    omega (arith, same, length-map v.items (λ w. feed_of (inner_of w)), length-map sources.items reader, v.ok.0, sources.ok.0, c.requires.some)
+    let same = AreUnread-length c.args.tail 1 (map reader sources.items)
+    (map (λ w. feed_of (inner_of w)) v.items) c.in_ok-feeds.ensures.unread in
+    omega (
+      arith,
+      same,
+      length-map v.items (λ w. feed_of (inner_of w)),
+      length-map sources.items reader,
+      v.ok.0,
+      sources.ok.0,
+      c.requires.some,
+    )
 
 pub new-requires-clause-most : goal.new-requires-clause-most
 new-requires-clause-most g c =
     let reader = reader_of g.R.Source.tells_coming g.R.Device.can_fail g.R.Source.coming in
     let v = c.in_ok-feeds.feeds in
     let sources = c.args.sources in
-    let same = AreUnread-length c.args.tail 1 (map reader sources.items) (map (λ w. feed_of (inner_of w)) v.items) c.in_ok-feeds.ensures.unread in
-    omega (arith, same, length-map v.items (λ w. feed_of (inner_of w)), length-map sources.items reader, v.ok.0, sources.ok.0, c.requires.most)
+    let same = AreUnread-length c.args.tail 1 (map reader sources.items)
+    (map (λ w. feed_of (inner_of w)) v.items) c.in_ok-feeds.ensures.unread in
+    omega (
+      arith,
+      same,
+      length-map v.items (λ w. feed_of (inner_of w)),
+      length-map sources.items reader,
+      v.ok.0,
+      sources.ok.0,
+      c.requires.most,
+    )
 
 pub new-requires-clause-numbered : goal.new-requires-clause-numbered
 new-requires-clause-numbered g c =
     let reader = reader_of g.R.Source.tells_coming g.R.Device.can_fail g.R.Source.coming in
-    AreUnread-numbered c.args.tail (map reader c.args.sources.items) (map (λ w. feed_of (inner_of w)) c.in_ok-feeds.feeds.items) c.in_ok-feeds.ensures.unread
+    AreUnread-numbered c.args.tail (map reader c.args.sources.items)
+    (map (λ w. feed_of (inner_of w)) c.in_ok-feeds.feeds.items) c.in_ok-feeds.ensures.unread
 
 pub returns-clause-unread : goal.returns-clause-unread
 returns-clause-unread g c =
     let reader = reader_of g.R.Source.tells_coming g.R.Device.can_fail g.R.Source.coming in
     let sources = c.args.sources in
-    IsUnreadRun-feeds c.args.tail (map reader sources.items) (map (λ w. feed_of (inner_of w)) c.in_ok-feeds.feeds.items) _
-    (omega (arith, length-map sources.items reader, sources.ok.0, c.requires.some)) c.in_ok-feeds.ensures.unread c.new.ensures.parts c.new.ensures.run
+    IsUnreadRun-feeds c.args.tail (map reader sources.items)
+    (map (λ w. feed_of (inner_of w)) c.in_ok-feeds.feeds.items) _
+    (omega (arith, length-map sources.items reader, sources.ok.0, c.requires.some)) c.in_ok-feeds.ensures.unread
+    c.new.ensures.parts c.new.ensures.run

@@ -4,7 +4,7 @@ use Rattle.cap_merge.proofs.Unread.{Fails-merged}
 use Rattle.cap_merge.specs.Parts.{feed_of}
 use Rattle.cap_merge.specs.Readers.{reader_of}
 use Rattle.cap_merge.specs.View.{parts_of}
-use Rattle.cap_tool.proofs.Leaving.{Walks-done, Skipped-merged}
+use Rattle.cap_tool.proofs.Leaving.{Walks-done, Drops-merged}
 use Rattle.cap_tool.proofs.Merging.{Prints-merged, Prints-nothing}
 use Rattle.cap_tool.proofs.counting.merge_with.Goals as goal
 
@@ -14,21 +14,25 @@ returns-in_err-merged-clause-text g c = grind (arith, err_from_is_err_and, Print
 pub returns-clause-text : goal.returns-clause-text
 returns-clause-text g c = λ t w.
     let reader = reader_of g.R.Source.tells_coming g.R.Device.can_fail g.R.Source.coming in
-    Prints-merged reader c.args.tail c.args.order c.args.sources.items _
-    (g.W.Sink.held c.args.writer.now) (g.W.Sink.held c.write_merged-answer.new.writer) c.write_merged-answer.result c.in_ok-merged.ensures.unread
-    (λ told. c.write_merged-answer.ensures.text told w) t
+    Prints-merged reader c.args.tail c.args.target.format c.args.target.order c.args.sources.items _
+    (g.W.Sink.held c.args.writer.now) (g.W.Sink.held c.write_run-answer.new.writer) c.write_run-answer.result
+    c.in_ok-merged.ensures.unread
+    (λ told. c.write_run-answer.ensures.text told w) t
 
 pub returns-clause-read : goal.returns-clause-read
 returns-clause-read g c =
     let reader = reader_of g.R.Source.tells_coming g.R.Device.can_fail g.R.Source.coming in
-    Fails-merged reader c.args.tail c.args.sources.items _ (feed_of (parts_of c.write_merged-answer.new.feed)) c.write_merged-answer.result
-    c.in_ok-merged.ensures.unread c.write_merged-answer.ensures.walks
+    Fails-merged reader c.args.tail c.args.sources.items _
+    (feed_of (parts_of c.write_run-answer.new.merged)) c.write_run-answer.result
+    c.in_ok-merged.ensures.unread c.write_run-answer.ensures.walks
 
 pub left_after-requires : goal.left_after-requires
-left_after-requires g c = record { end = Walks-done _ _ c.write_merged-answer.result c.write_merged-answer.ensures.walks }
+left_after-requires g c = record { end = Walks-done _ _ c.write_run-answer.result c.write_run-answer.ensures.walks }
 
-pub returns-clause-skipped : goal.returns-clause-skipped
-returns-clause-skipped g c =
+pub returns-clause-dropped : goal.returns-clause-dropped
+returns-clause-dropped g c =
     let reader = reader_of g.R.Source.tells_coming g.R.Device.can_fail g.R.Source.coming in
-    Skipped-merged reader c.args.tail c.args.sources.items _ (feed_of (parts_of c.write_merged-answer.new.feed)) c.write_merged-answer.result c.left_after.result.skipped
-    c.in_ok-merged.ensures.unread c.write_merged-answer.ensures.keeps c.write_merged-answer.ensures.endings c.left_after.ensures.skipped
+    Drops-merged reader c.args.tail c.args.sources.items _
+    (feed_of (parts_of c.write_run-answer.new.merged)) c.write_run-answer.result c.left_after.result
+    c.in_ok-merged.ensures.unread c.write_run-answer.ensures.keeps c.write_run-answer.ensures.endings
+    c.left_after.ensures.dropped

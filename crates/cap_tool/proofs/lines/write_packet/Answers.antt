@@ -4,15 +4,15 @@ use Rattle.cap_tool.proofs.lines.write_packet.Goals as goal
 pub returns : goal.returns
 returns c =
     simp (
-      c.put_field-5.ensures.text,
-      c.put_field-4.ensures.text,
-      c.put_time.ensures.text,
+      c.prepend_field-5.ensures.text,
+      c.prepend_field-4.ensures.text,
+      c.prepend_time.ensures.text,
       c.stamp_of.ensures,
-      c.put_field-3.ensures.text,
-      c.put_field-2.ensures.text,
-      c.put_field.ensures.text,
-      c.put_data.ensures.text,
-      c.put_text.ensures.text,
+      c.prepend_field-3.ensures.text,
+      c.prepend_field-2.ensures.text,
+      c.prepend_field.ensures.text,
+      c.prepend_data.ensures.text,
+      c.prepend_text.ensures.text,
       c.clear.ensures.text,
       c.from.ensures,
       c.from-2.ensures,

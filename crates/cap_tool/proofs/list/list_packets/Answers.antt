@@ -14,7 +14,8 @@ returns-in_err-meta-clause-text g c = λ t w.
     let p = err_from_is_err_and c.from_residual.result c.from_residual.ensures.1 in
     let i = c.loop-meta.invariant.walk in
     rw (p.1, p.2) (Prints-fault (plan_of c.loop-meta.n) c.in_err-meta.field-0.0 _ _ _ _
-    (g.F.PacketFeed.feed c.loop-meta.feed) (g.F.PacketFeed.feed c.next_packet.new.feed) (plan_of-is c.loop-meta.n) (i.text t) w (i.refusal_same t)
+    (g.F.PacketFeed.feed c.loop-meta.feed) (g.F.PacketFeed.feed c.next_packet.new.feed) (plan_of-is c.loop-meta.n)
+    (i.text t) w (i.refusal_same t)
     (c.in_err-meta.ensures.items (i.told t)))
 
 pub returns-in_err-put_all-clause-text : goal.returns-in_err-put_all-clause-text
@@ -30,7 +31,8 @@ returns-in_err-put_all-clause-text g c = λ t w.
     c.as_slice.ensures.value ∙ (c.write_packet.ensures ∙ ap (packet_text n meta) c.frame.ensures.frame) in
     let behind = list_lines (n + 1) (drop 1 mid.items) in
     let split : list_lines n mid.items ≡ c.as_slice.result.now ++ behind =
-    ap (list_lines n) shows.1 ∙ ((plan_of-next n meta shown.frame).text (drop 1 mid.items) ∙ ap (λ l. l ++ behind) (sym line_is)) in
+    ap (list_lines n) shows.1 ∙ ((plan_of-next n meta shown.frame).text (drop 1 mid.items)
+    ∙ ap (λ l. l ++ behind) (sym line_is)) in
     let wrote = c.in_err-put_all.ensures.bytes (i.writer_told w) in
     rw (p.1, p.2, c.in_err-put_all.ensures.fault)
     (Putting-front _ _ _ _ c.as_slice.result.now behind wrote.0 (rw split at (i.text t)) w wrote.1)
@@ -49,7 +51,8 @@ loop-meta-preserved g c =
     record {
       number = omega (arith, i.number, c.in_ok-meta.ensures.keeps.left, c.pass.ensures.passes.left);
       went =
-          Went-more (g.F.PacketFeed.feed c.args.feed.now) mid shown new meta i.went (rw c.in-Some.is at c.in_ok-meta.ensures.answer)
+          Went-more (g.F.PacketFeed.feed c.args.feed.now) mid shown new meta i.went
+          (rw c.in-Some.is at c.in_ok-meta.ensures.answer)
           c.in_ok-meta.ensures.keeps c.pass.ensures.passes c.pass.ensures.keeps;
       walk =
           Walking-more _ _ _ _ mid shown new _ _ _ _ _ _ meta (packet_text n meta shown.frame)

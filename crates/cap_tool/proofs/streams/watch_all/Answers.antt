@@ -11,10 +11,17 @@ returns-clause-same g c =
     let given = it.ensures.into_iter_gives in
     let end =
     YieldsList-end (YieldsList-from_vec {s = it.result} c.args.sources.items given.0 (given.1 ∙ c.args.sources.ok.0))
-    c.loop-source.yielded c.loop-source.source-iterator c.loop-source.yielded_by c.next.result c.next.new.self c.in-None.is c.next.ensures.steps in
+    c.loop-source.yielded c.loop-source.source-iterator c.loop-source.yielded_by c.next.result c.next.new.self
+    c.in-None.is c.next.ensures.steps in
     c.loop-source.invariant ∙ sym (map-id c.loop-source.yielded) ∙ end.0
 
 pub returns-clause-len : goal.returns-clause-len
 returns-clause-len g c =
     let same = ap length (returns-clause-same g c) in
-    omega (arith, same, length-map c.loop-source.watched.items inner_of, c.loop-source.watched.ok.0, c.args.sources.ok.0)
+    omega (
+      arith,
+      same,
+      length-map c.loop-source.watched.items inner_of,
+      c.loop-source.watched.ok.0,
+      c.args.sources.ok.0,
+    )

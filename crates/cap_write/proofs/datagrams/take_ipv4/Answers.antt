@@ -7,4 +7,5 @@ pub fill_answered-requires : goal.fill_answered-requires
 fill_answered-requires c = grind (arith, arrived-short)
 
 pub returns-in-Ok-clause-filled : goal.returns-in-Ok-clause-filled
-returns-in-Ok-clause-filled c = grind (arith, filled-all, answered-is, c.stamped_of.ensures, c.in-Ok.ensures.answer, c.fill_answered.ensures.filled)
+returns-in-Ok-clause-filled c =
+    grind (arith, filled-all, answered-is, c.stamped_of.ensures, c.in-Ok.ensures.answer, c.fill_answered.ensures.filled)

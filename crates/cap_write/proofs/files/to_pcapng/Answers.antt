@@ -4,7 +4,8 @@ use Rattle.cap_source.proofs.Onward.{Keeps-trans}
 use Rattle.std.proofs.lemmas.Result.{err_from_is_err_and}
 use Rattle.cap_source.specs.Captures.{feed_of, number_of, first_of}
 use Rattle.cap_write.specs.Texts.{pcapng_bytes}
-use Rattle.cap_write.proofs.Starting.{Prints-unread, Writer-unread, Walks-unread, Walks-first, Ends-first, memory-unread, memory-wider}
+use Rattle.cap_write.proofs.Starting.{Prints-unread, Writer-unread, Walks-unread, Walks-first, Ends-first}
+use Rattle.cap_write.proofs.Starting.{memory-unread, memory-wider}
 use Rattle.cap_write.proofs.files.to_pcapng.Goals as goal
 
 pub returns-clause-walks : goal.returns-clause-walks
@@ -14,7 +15,9 @@ returns-clause-walks g c =
 
 pub returns-clause-endings : goal.returns-clause-endings
 returns-clause-endings g c =
-    Ends-first (feed_of c.args.capture.now) (feed_of c.first.new.self) (feed_of c.put_pcapng.new.feed) c.put_pcapng.result c.in_ok-first.ensures.keeps (λ t. (c.in_ok-first.ensures.items t).0) c.put_pcapng.ensures.endings
+    Ends-first (feed_of c.args.capture.now) (feed_of c.first.new.self)
+    (feed_of c.put_pcapng.new.feed) c.put_pcapng.result c.in_ok-first.ensures.keeps
+    (λ t. (c.in_ok-first.ensures.items t).0) c.put_pcapng.ensures.endings
 
 pub returns-clause-keeps : goal.returns-clause-keeps
 returns-clause-keeps g c = search (Keeps-trans, c.in_ok-first.ensures.keeps, c.put_pcapng.ensures.keeps)
@@ -25,7 +28,9 @@ returns-clause-text g c = search rules
 pub returns-in_err-first-clause-text : goal.returns-in_err-first-clause-text
 returns-in_err-first-clause-text g c =
     let p = err_from_is_err_and c.from_residual.result c.from_residual.ensures.1 in
-    λ t w. Prints-unread _ _ _ _ (pcapng_bytes c.args.order (number_of c.args.capture.now) (first_of c.args.capture.now) (feed_of c.args.capture.now).items) _ (g.W.Sink.held c.args.writer.now) c.in_err-first.ensures.answer (p.1 ∙ ap Err p.2)
+    λ t w. Prints-unread _ _ _ _ (pcapng_bytes c.args.order (number_of c.args.capture.now) (first_of c.args.capture.now)
+    (feed_of c.args.capture.now).items) _ (g.W.Sink.held c.args.writer.now) c.in_err-first.ensures.answer (p.1
+    ∙ ap Err p.2)
 
 pub returns-in_err-first-clause-writer : goal.returns-in_err-first-clause-writer
 returns-in_err-first-clause-writer g c =
@@ -41,7 +46,8 @@ pub returns-in_err-first-clause-memory : goal.returns-in_err-first-clause-memory
 returns-in_err-first-clause-memory g c =
     let p = err_from_is_err_and c.from_residual.result c.from_residual.ensures.1 in
     rw (p.1, p.2)
-    (memory-more c.in_err-first.field-0.0 _ _ (λ none. inl (at-unknown _ none)) (memory-unread _ _ _ c.in_err-first.ensures.answer))
+    (memory-more c.in_err-first.field-0.0 _ _ (λ none. inl (at-unknown _ none))
+    (memory-unread _ _ _ c.in_err-first.ensures.answer))
 
 pub returns-clause-memory : goal.returns-clause-memory
 returns-clause-memory g c = memory-wider c.put_pcapng.result _ _ (λ at. grind arith) c.put_pcapng.ensures.memory

@@ -1,15 +1,27 @@
 use Rattle.cap_merge.specs.Parts.{feed_of}
 use Rattle.cap_merge.specs.View.{parts_of}
 use Rattle.cap_write.proofs.Joining.{Joining}
+use Rattle.cap_write.specs.Forms.{state_of}
 use Rattle.cap_write.proofs.joined.put_joined.Given as goal
 
 -- the datagrams of the packets that were given are written, and the others are to be
 abbrev pub invariant-loop-joining : goal.invariant-loop-joining
 invariant-loop-joining g l =
-    Joining l.order (parts_of l.fn.merged) (parts_of l.merged) l.fn.origins.keys l.origins.keys l.joining.joiner l.place
+    Joining l.order (parts_of l.fn.merged) (parts_of l.merged) (state_of l.fn.form)
+    (state_of l.form) l.joining.joiner l.place
     (g.W.Device.has_failed l.fn.writer) (g.W.Device.has_failed l.writer)
-    (record { told = g.W.Sink.tells_held l.fn.writer; held = g.W.Sink.held l.fn.writer; failed = g.W.Device.has_failed l.fn.writer; can_fail = g.W.Device.can_fail l.fn.writer })
-    (record { told = g.W.Sink.tells_held l.writer; held = g.W.Sink.held l.writer; failed = g.W.Device.has_failed l.writer; can_fail = g.W.Device.can_fail l.writer })
+    (record {
+      told = g.W.Sink.tells_held l.fn.writer;
+      held = g.W.Sink.held l.fn.writer;
+      failed = g.W.Device.has_failed l.fn.writer;
+      can_fail = g.W.Device.can_fail l.fn.writer;
+    })
+    (record {
+      told = g.W.Sink.tells_held l.writer;
+      held = g.W.Sink.held l.writer;
+      failed = g.W.Device.has_failed l.writer;
+      can_fail = g.W.Device.can_fail l.writer;
+    })
 
 abbrev pub decreases-loop-joining : goal.decreases-loop-joining
 decreases-loop-joining g l = (feed_of (parts_of l.merged)).left

@@ -7,7 +7,8 @@ pub returns-in_err-units-clause-text : goal.returns-in_err-units-clause-text
 returns-in_err-units-clause-text g c =
     let p = err_from_is_err_and c.from_residual.result c.from_residual.ensures.1 in
     rw (p.1, p.2)
-    (λ t. Prints-untimed c.args.order c.args.origins.now.keys c.args.meta.now c.args.frame.now _ c.in_err-units.field-0.0 c.in_err-units.ensures.answer)
+    (λ t. Prints-untimed c.args.order c.args.origins.now.keys c.args.meta.now c.args.frame.now _
+    c.in_err-units.field-0.0 c.in_err-units.ensures.answer)
 
 pub returns-clause-text : goal.returns-clause-text
 returns-clause-text g c = search rules

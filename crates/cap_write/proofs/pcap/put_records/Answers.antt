@@ -18,23 +18,28 @@ returns-in_err-meta-clause-text g c = λ t w.
     let i = c.loop-meta.invariant.walk in
     let first = c.args.first.now in
     rw (p.1, p.2) (Prints-fault (plan_of c.args.order first) c.in_err-meta.field-0.0 _ _ _ _
-    (g.F.PacketFeed.feed c.loop-meta.feed) (g.F.PacketFeed.feed c.next_packet.new.feed) (plan_of-is c.args.order first) (i.text t) w (i.refusal_same t)
+    (g.F.PacketFeed.feed c.loop-meta.feed) (g.F.PacketFeed.feed c.next_packet.new.feed) (plan_of-is c.args.order first)
+    (i.text t) w (i.refusal_same t)
     (c.in_err-meta.ensures.items (i.told t)))
 
-pub returns-in_err-put_one-clause-text : goal.returns-in_err-put_one-clause-text
-returns-in_err-put_one-clause-text g c = λ t w.
-    let p = err_from_is_err_and c.from_residual-in_err-put_one.result c.from_residual-in_err-put_one.ensures.1 in
+pub returns-in_err-put_after_header-clause-text : goal.returns-in_err-put_after_header-clause-text
+returns-in_err-put_after_header-clause-text g c = λ t w.
+    let p = err_from_is_err_and c.from_residual-in_err-put_after_header.result
+    c.from_residual-in_err-put_after_header.ensures.1 in
     let i = c.loop-meta.invariant.walk in
     let mid = g.F.PacketFeed.feed c.loop-meta.feed in
     let shown = g.F.PacketFeed.feed c.next_packet.new.feed in
-    let shows : ShowsItem mid (Ok (Some c.in-Some.meta)) shown = rw c.in-Some.is at (c.in_ok-meta.ensures.items (i.told t)) in
+    let shows : ShowsItem mid (Ok (Some c.in-Some.meta)) shown =
+    rw c.in-Some.is at (c.in_ok-meta.ensures.items (i.told t)) in
     let meta = c.in-Some.meta in
     let first = c.args.first.now in
     rw (p.1, p.2)
-    (Prints-one (plan_of c.args.order first) (plan_of c.args.order first) c.in_err-put_one.field-0.0 _ _ _ _ _
-    meta shown.frame c.frame.result.now (packet_record c.args.order first meta) (record_fault first meta) mid.items (drop 1 mid.items)
-    (plan_of-refused c.args.order first meta shown.frame) (plan_of-next c.args.order first meta shown.frame) shows.1 c.frame.ensures.frame
-    (i.text t) w (i.refusal_same t) (c.in_err-put_one.ensures.text (i.writer_told w)))
+    (Prints-one (plan_of c.args.order first) (plan_of c.args.order first) c.in_err-put_after_header.field-0.0 _ _ _ _ _
+    meta shown.frame c.frame.result.now (packet_record c.args.order first meta) (record_fault first meta) mid.items
+    (drop 1 mid.items)
+    (plan_of-refused c.args.order first meta shown.frame)
+    (plan_of-next c.args.order first meta shown.frame) shows.1 c.frame.ensures.frame
+    (i.text t) w (i.refusal_same t) (c.in_err-put_after_header.ensures.text (i.writer_told w)))
 
 pub loop-meta-preserved : goal.loop-meta-preserved
 loop-meta-preserved g c =
@@ -44,14 +49,16 @@ loop-meta-preserved g c =
     let shown = g.F.PacketFeed.feed c.next_packet.new.feed in
     let first = c.args.first.now in
     let meta = c.in-Some.meta in
-    let e = c.in_ok-put_one.ensures in
+    let e = c.in_ok-put_after_header.ensures in
     let line = text_or (record_fault first meta) (packet_record c.args.order first meta shown.frame) in
     record {
       went =
           Went-more (g.F.PacketFeed.feed c.args.feed.now) mid shown (g.F.PacketFeed.feed c.pass.new.self) meta j.went
-          (rw c.in-Some.is at c.in_ok-meta.ensures.answer) c.in_ok-meta.ensures.keeps c.pass.ensures.passes c.pass.ensures.keeps;
+          (rw c.in-Some.is at c.in_ok-meta.ensures.answer) c.in_ok-meta.ensures.keeps c.pass.ensures.passes
+          c.pass.ensures.keeps;
       ends =
-          Ends-more (g.F.PacketFeed.feed c.args.feed.now) mid shown (g.F.PacketFeed.feed c.pass.new.self) meta j.ends j.went.keeps
+          Ends-more (g.F.PacketFeed.feed c.args.feed.now) mid shown
+          (g.F.PacketFeed.feed c.pass.new.self) meta j.ends j.went.keeps
           c.in_ok-meta.ensures.keeps (λ t. rw c.in-Some.is at (c.in_ok-meta.ensures.items t)) c.pass.ensures.passes;
       walk =
           Walking-more _ _ _ _ mid shown (g.F.PacketFeed.feed c.pass.new.self) _ _ _ _ _ _ meta line
@@ -68,7 +75,8 @@ returns-clause-text g c = λ t w.
     let shown = g.F.PacketFeed.feed c.next_packet.new.feed in
     let first = c.args.first.now in
     let shows : ShowsItem mid (Ok None) shown = rw c.in_default.is at (c.in_ok-meta.ensures.items (i.told t)) in
-    Prints-end (plan_of c.args.order first) _ _ _ _ mid shown (plan_of-is c.args.order first) (i.text t) w (i.refusal_same t) shows
+    Prints-end (plan_of c.args.order first) _ _ _ _ mid shown (plan_of-is c.args.order first) (i.text t) w
+    (i.refusal_same t) shows
 
 pub returns-clause-endings : goal.returns-clause-endings
 returns-clause-endings g c =
@@ -81,11 +89,11 @@ returns-in_err-meta-clause-walks g c = grind arith
 pub returns-in_err-meta-clause-keeps : goal.returns-in_err-meta-clause-keeps
 returns-in_err-meta-clause-keeps g c = grind arith
 
-pub returns-in_err-put_one-clause-walks : goal.returns-in_err-put_one-clause-walks
-returns-in_err-put_one-clause-walks g c = grind arith
+pub returns-in_err-put_after_header-clause-walks : goal.returns-in_err-put_after_header-clause-walks
+returns-in_err-put_after_header-clause-walks g c = grind arith
 
-pub returns-in_err-put_one-clause-keeps : goal.returns-in_err-put_one-clause-keeps
-returns-in_err-put_one-clause-keeps g c = grind arith
+pub returns-in_err-put_after_header-clause-keeps : goal.returns-in_err-put_after_header-clause-keeps
+returns-in_err-put_after_header-clause-keeps g c = grind arith
 
 pub returns-clause-walks : goal.returns-clause-walks
 returns-clause-walks g c = grind arith
@@ -94,31 +102,44 @@ pub returns-clause-keeps : goal.returns-clause-keeps
 returns-clause-keeps g c = grind arith
 
 pub loop-meta-init : goal.loop-meta-init
-loop-meta-init g c = record { went = Went-none _; ends = Ends-none (g.F.PacketFeed.feed c.args.feed.now); walk = Walking-none _ _ _ _ }
+loop-meta-init g c = record {
+  went = Went-none _;
+  ends = Ends-none (g.F.PacketFeed.feed c.args.feed.now);
+  walk =
+      Walking-none _ _ _ _;
+}
 
 pub returns-in_err-meta-clause-writer : goal.returns-in_err-meta-clause-writer
 returns-in_err-meta-clause-writer g c =
     let p = err_from_is_err_and c.from_residual.result c.from_residual.ensures.1 in
-    rw (p.1, p.2) (Walking-writer _ _ _ _ _ _ _ (unwritten _ _ c.in_err-meta.field-0.0 c.in_err-meta.ensures.answer) c.loop-meta.invariant.walk)
+    rw (p.1, p.2) (Walking-writer _ _ _ _ _ _ _ (unwritten _ _ c.in_err-meta.field-0.0 c.in_err-meta.ensures.answer)
+    c.loop-meta.invariant.walk)
 
-pub returns-in_err-put_one-clause-writer : goal.returns-in_err-put_one-clause-writer
-returns-in_err-put_one-clause-writer g c =
-    let p = err_from_is_err_and c.from_residual-in_err-put_one.result c.from_residual-in_err-put_one.ensures.1 in
-    rw (p.1, p.2) (WriterKeeps-behind _ _ _ _ (Walking-writer _ _ _ _ _ _ _ refl c.loop-meta.invariant.walk) c.in_err-put_one.ensures.writer)
+pub returns-in_err-put_after_header-clause-writer : goal.returns-in_err-put_after_header-clause-writer
+returns-in_err-put_after_header-clause-writer g c =
+    let p = err_from_is_err_and c.from_residual-in_err-put_after_header.result
+    c.from_residual-in_err-put_after_header.ensures.1 in
+    rw (p.1, p.2) (WriterKeeps-behind _ _ _ _ (Walking-writer _ _ _ _ _ _ _ refl c.loop-meta.invariant.walk)
+    c.in_err-put_after_header.ensures.writer)
 
 pub returns-clause-writer : goal.returns-clause-writer
 returns-clause-writer g c = Walking-writer _ _ _ _ _ _ _ refl c.loop-meta.invariant.walk
 
-pub put_one-requires : goal.put_one-requires
-put_one-requires g c =
-    record { captured = captured-few (g.F.PacketFeed.feed c.next_packet.new.feed) c.in-Some.meta _ (g.met.F.PacketFeed.lawful _) (rw c.in-Some.is at c.in_ok-meta.ensures.answer).known c.frame.ensures.frame }
+pub put_after_header-requires : goal.put_after_header-requires
+put_after_header-requires g c =
+    record {
+      captured = captured-few (g.F.PacketFeed.feed c.next_packet.new.feed) c.in-Some.meta _
+          (g.met.F.PacketFeed.lawful _) (rw c.in-Some.is at c.in_ok-meta.ensures.answer).known c.frame.ensures.frame;
+    }
 
 pub returns-in_err-meta-clause-memory : goal.returns-in_err-meta-clause-memory
 returns-in_err-meta-clause-memory g c =
     let p = err_from_is_err_and c.from_residual.result c.from_residual.ensures.1 in
     rw (p.1, p.2) (memory-asked c.in_err-meta.field-0.0 _ _ c.in_err-meta.ensures.answer)
 
-pub returns-in_err-put_one-clause-memory : goal.returns-in_err-put_one-clause-memory
-returns-in_err-put_one-clause-memory g c =
-    let p = err_from_is_err_and c.from_residual-in_err-put_one.result c.from_residual-in_err-put_one.ensures.1 in
-    rw (p.1, p.2) (memory-more c.in_err-put_one.field-0.0 _ _ (λ no. absurd no) c.in_err-put_one.ensures.memory)
+pub returns-in_err-put_after_header-clause-memory : goal.returns-in_err-put_after_header-clause-memory
+returns-in_err-put_after_header-clause-memory g c =
+    let p = err_from_is_err_and c.from_residual-in_err-put_after_header.result
+    c.from_residual-in_err-put_after_header.ensures.1 in
+    rw (p.1, p.2) (memory-more c.in_err-put_after_header.field-0.0 _ _
+    (λ no. absurd no) c.in_err-put_after_header.ensures.memory)

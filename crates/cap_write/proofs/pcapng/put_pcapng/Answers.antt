@@ -13,8 +13,10 @@ returns-in_err-put_front-clause-text g c = λ t w.
     let items = (g.F.PacketFeed.feed c.args.feed.now).items in
     let origins = first_origins c.args.start.file c.args.start.first in
     rw (p.1, p.2)
-    (Prints-head (refusal_in origins items) (g.W.Sink.held c.args.writer.now) (g.W.Sink.held c.put_front.new.writer) (front_bytes c.args.order c.args.start.first)
-    (text_behind c.args.order origins items) c.in_err-put_front.field-0.0 c.in_err-put_front.ensures.fault (c.in_err-put_front.ensures.bytes w))
+    (Prints-head (refusal_in origins items) (g.W.Sink.held c.args.writer.now) (g.W.Sink.held c.put_front.new.writer)
+    (front_bytes c.args.order c.args.start.first)
+    (text_behind c.args.order origins items) c.in_err-put_front.field-0.0 c.in_err-put_front.ensures.fault
+    (c.in_err-put_front.ensures.bytes w))
 
 pub returns-clause-text : goal.returns-clause-text
 returns-clause-text g c = grind (arith, Prints-behind)

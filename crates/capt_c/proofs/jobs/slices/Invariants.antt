@@ -6,4 +6,5 @@ use Rattle.capt_c.proofs.jobs.slices.Given as goal
 -- the files so far have a reader each
 abbrev pub invariant-loop-file : goal.invariant-loop-file
 invariant-loop-file l =
-    (map rest_of l.slices.items ≡ map bytes_of (take l.file-index l.fn.files)) × (l.file-index ≤ length l.fn.files) × (length l.slices.items ≡ l.file-index)
+    (map rest_of l.slices.items ≡ map bytes_of (take l.file-index l.fn.files)) × (l.file-index ≤ length l.fn.files)
+    × (length l.slices.items ≡ l.file-index)

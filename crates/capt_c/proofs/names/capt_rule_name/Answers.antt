@@ -4,7 +4,11 @@ use Rattle.capt_c.proofs.names.capt_rule_name.Goals as goal
 
 pub returns-in-Some : goal.returns-in-Some
 returns-in-Some c = record {
-  name = λ rule is. rw (one_of_a_number rule c.in-Some.rule (is ∙ sym c.in-Some.ensures.some), sym c.name.ensures, sym c.as_bytes.ensures.value) c.put.ensures;
+  name = λ rule is. rw (
+    one_of_a_number rule c.in-Some.rule (is ∙ sym c.in-Some.ensures.some),
+    sym c.name.ensures,
+    sym c.as_bytes.ensures.value,
+  ) c.put.ensures;
   none = λ no. absurd (no c.in-Some.rule c.in-Some.ensures.some);
 }
 

@@ -15,7 +15,8 @@ returns-in-Some-clause-answer g c =
         c.in-Some.meta,
         c.packet_of.ensures,
         λ told.
-            let shown : ShowsItem old (Ok (Some c.in-Some.meta)) mid = rw c.in-Some.is at (c.in_ok-meta.ensures.items told) in
+            let shown : ShowsItem old (Ok (Some c.in-Some.meta)) mid =
+            rw c.in-Some.is at (c.in_ok-meta.ensures.items told) in
             let passed = c.pass.ensures.passes.items (c.in_ok-meta.ensures.keeps.told told) in
             let rest = sym (passed ∙ ap (λ (xs : List Item). drop 1 xs) shown.0.items) in
             (mid.frame, shown.1 ∙ ap (λ (xs : List Item). packet c.in-Some.meta mid.frame ∷ xs) rest),

@@ -30,7 +30,8 @@ returns-clause-steps c =
     let some : code_at order bytes ≢ 0 = λ zero. c.if-code-eq0.false (c.u16_at-code.ensures ∙ zero) in
     let size : c.from-length.result ≡ length_at order bytes = cc in
     let value : c.split_at-2.result.0.now ≡ take (length_at order bytes) (drop 4 bytes) =
-    c.split_at-2.ensures.front ∙ (ap (λ n. take n c.split_at.result.1.now) size ∙ ap (take (length_at order bytes)) c.split_at.ensures.back) in
+    c.split_at-2.ensures.front ∙ (ap (λ n. take n c.split_at.result.1.now) size
+    ∙ ap (take (length_at order bytes)) c.split_at.ensures.back) in
     let rest : c.behind_padding-self.result.now ≡ drop (4 + padded (length_at order bytes)) bytes =
     c.behind_padding-self.ensures
     ∙ (ap (λ n. drop (padded n) c.split_at.result.1.now) size

@@ -6,7 +6,8 @@ use Rattle.cap_bytes.proofs.windows.Window.skip.Goals as goal
 pub returns-then-n-here-clause-answer : goal.returns-then-n-here-clause-answer
 returns-then-n-here-clause-answer g c =
     let i = c.self.inside in
-    let longer : vec_len i.buffer ≤ length c.make_room.new.buffer.items = omega (arith, c.make_room.new.buffer.ok.0, c.in_ok-make_room.ensures.grows) in
+    let longer : vec_len i.buffer ≤ length c.make_room.new.buffer.items =
+    omega (arith, c.make_room.new.buffer.ok.0, c.in_ok-make_room.ensures.grows) in
     let d = dropped_here i.buffer.items c.make_room.new.buffer.items (g.R.Source.coming i.reader) (vec_len i.buffer)
     i.start i.end c.args.n c.in_ok-make_room.ensures.front longer c.self.invariant.order c.self.invariant.within
     c.if-n-here.true in

@@ -5,4 +5,5 @@ use Rattle.cap_ip.proofs.headers.Header.to_bytes.Goals as goal
 
 pub returns : goal.returns
 unfolding header_bytes
-returns c = c.header_with-2.ensures ∙ ap (header_with c.args.self.now c.args.size) (c.header_checksum-checksum.ensures ∙ ap checksum_of c.header_with.ensures)
+returns c = c.header_with-2.ensures ∙ ap (header_with c.args.self.now c.args.size) (c.header_checksum-checksum.ensures
+    ∙ ap checksum_of c.header_with.ensures)

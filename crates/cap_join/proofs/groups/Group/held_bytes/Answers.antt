@@ -1,6 +1,12 @@
-use Rattle.std.proofs.Common.{arith}
-use Rattle.cap_join.proofs.Grouping.{Maps-short}
+use Rattle.std.proofs.Common.{ap, arith, length, length-take}
+use Rattle.cap_join.specs.Groups.{GroupState}
 use Rattle.cap_join.proofs.groups.Group.held_bytes.Goals as goal
 
-pub returns-clause-bound : goal.returns-clause-bound
-returns-clause-bound c = grind (arith, c.len.ensures, c.self.inside.buffer.ok.0, Maps-short c.self.inside.buffer.items c.self.inside.holes.first c.self.invariant.sound.pieces c.self.invariant.sound.group.maps)
+pub returns-clause-value : goal.returns-clause-value
+returns-clause-value c =
+    omega (
+      arith,
+      c.self.invariant.held,
+      ap (λ (s : GroupState). length s.buffer) c.self.view_is,
+      length-take c.self.inside.part.held c.self.inside.buffer.items,
+    )

@@ -3,18 +3,16 @@ use Rattle.cap_join.specs.Incoming.{piece_in}
 use Rattle.cap_join.specs.Frames.{earlier, later}
 use Rattle.cap_join.specs.Groups.{GroupState, IsGroupOf}
 use Rattle.cap_join.specs.GroupView.{group_view}
-use Rattle.cap_join.proofs.Grouping.{Maps-short, IsGroupOf-put}
+use Rattle.cap_join.proofs.Grouping.{IsGroupOf-put}
 use Rattle.cap_join.proofs.groups.Group.put.Goals as goal
-
-pub put_data-requires-clause-bounded : goal.put_data-requires-clause-bounded
-put_data-requires-clause-bounded c = grind (arith, c.self.inside.buffer.ok.0, Maps-short c.self.inside.buffer.items c.self.inside.holes.first c.self.invariant.sound.pieces c.self.invariant.sound.group.maps)
 
 pub invariant_of-self-2 : goal.invariant_of-self-2
 invariant_of-self-2 c = record {
   sound = record {
     pieces = piece_in c.args.incoming.now ∷ c.self.invariant.sound.pieces;
-    group = IsGroupOf-put (group_view c.self.inside) _ c.args.incoming.now.header.now c.args.incoming.now.data.now c.args.incoming.now.stamped c.args.incoming.now.fragment c.args.incoming.now.found c.args.incoming.now.shape
-        c.in_ok-self-inside.ensures.ok c.total_after-self-inside.ensures c.header_after-self-inside.ensures refl
+    group = IsGroupOf-put (group_view c.self.inside) _ c.args.incoming.now.header.now c.args.incoming.now.data.now
+        c.args.incoming.now.stamped c.args.incoming.now.fragment c.args.incoming.now.found c.args.incoming.now.shape
+        c.in_ok-self-inside.ensures.maps c.total_after-self-inside.ensures c.header_after-self-inside.ensures refl
         (ap (λ (n : ℕ). c.self.inside.bytes + n) c.from.ensures)
         (c.earlier-self-inside.ensures ∙ ap (earlier c.self.inside.first) c.timed.ensures)
         (c.later-self-inside.ensures ∙ ap (later c.self.inside.last) c.timed-2.ensures)
@@ -23,13 +21,16 @@ invariant_of-self-2 c = record {
     bounded = omega (arith, c.args.incoming.now.fits, c.from.ensures, c.self.invariant.sound.bounded);
     clock = c.self.invariant.sound.clock;
   };
+  held = c.in_ok-self-inside.ensures.held;
+  short = c.put_data.ensures.bounded;
   cursor = c.in_ok-self-inside.ensures.cursor;
 }
 
 pub returns-clause-ok : goal.returns-clause-ok
 returns-clause-ok c = λ ps group.
-    IsGroupOf-put (group_view c.self.inside) _ c.args.incoming.now.header.now c.args.incoming.now.data.now c.args.incoming.now.stamped c.args.incoming.now.fragment c.args.incoming.now.found c.args.incoming.now.shape
-    c.in_ok-self-inside.ensures.ok c.total_after-self-inside.ensures c.header_after-self-inside.ensures refl
+    IsGroupOf-put (group_view c.self.inside) _ c.args.incoming.now.header.now c.args.incoming.now.data.now
+    c.args.incoming.now.stamped c.args.incoming.now.fragment c.args.incoming.now.found c.args.incoming.now.shape
+    c.in_ok-self-inside.ensures.maps c.total_after-self-inside.ensures c.header_after-self-inside.ensures refl
     (ap (λ (n : ℕ). c.self.inside.bytes + n) c.from.ensures)
     (c.earlier-self-inside.ensures ∙ ap (earlier c.self.inside.first) c.timed.ensures)
     (c.later-self-inside.ensures ∙ ap (later c.self.inside.last) c.timed-2.ensures)

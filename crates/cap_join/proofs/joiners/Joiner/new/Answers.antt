@@ -5,7 +5,12 @@ use Rattle.cap_join.proofs.joiners.Joiner.new.Goals as goal
 
 pub invariant_of-result : goal.invariant_of-result
 unfolding IsDistinct
-invariant_of-result c = record { table = record { unique = tt; few = omega arith; rises = tt }; given_up = omega arith; next = omega arith }
+invariant_of-result c = record {
+  table = record { unique = tt; few = omega arith; rises = tt };
+  given_up =
+      omega arith;
+  next = omega arith;
+}
 
 pub returns-clause-stands : goal.returns-clause-stands
 unfolding state_of

@@ -16,8 +16,15 @@ put_fragment-requires-clause-table c = grind (arith, IsTable-wider, c.requires.p
 
 pub returns-in-Ok-clause-answer : goal.returns-in-Ok-clause-answer
 unfolding joined_pieces
-returns-in-Ok-clause-answer c = λ events stands. grind (arith, subst (λ (j : JoinerState). StandsFor j events) (sym c.self.view_is) stands, c.in-Ok.ensures.ok)
+returns-in-Ok-clause-answer c = λ events stands. grind
+    (arith, subst (λ (j : JoinerState). StandsFor j events) (sym c.self.view_is) stands, c.in-Ok.ensures.ok)
 
 pub returns-in-Ok-clause-stands : goal.returns-in-Ok-clause-stands
 unfolding state_of step
-returns-in-Ok-clause-stands c = λ events stands. grind (arith, subst (λ (j : JoinerState). StandsFor j events) (sym c.self.view_is) stands, number, c.in-Ok.ensures.ok, c.from.ensures)
+returns-in-Ok-clause-stands c = λ events stands. grind (
+  arith,
+  subst (λ (j : JoinerState). StandsFor j events) (sym c.self.view_is) stands,
+  number,
+  c.in-Ok.ensures.ok,
+  c.from.ensures,
+)

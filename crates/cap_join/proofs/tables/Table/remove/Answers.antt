@@ -1,11 +1,8 @@
-use Rattle.std.proofs.Common.{◌≡◌, ◌<◌, ℕ, List, sym, ap, subst, arith}
+use Rattle.std.proofs.Common.{List, sym, subst, arith}
 use Rattle.std.specs.List.{IsDistinct}
-use Rattle.std.specs.Map.{keys_of, remove_entry}
-use Rattle.lru.specs.LruCache.{LruCache}
-use Rattle.cap_ip.specs.declared.headers.Key.{Key}
-use Rattle.cap_join.specs.Groups.{GroupState}
+use Rattle.std.specs.Map.{keys_of}
 use Rattle.cap_join.specs.History.{same_key}
-use Rattle.cap_join.specs.Joiners.{Entry, open_limit}
+use Rattle.cap_join.specs.Joiners.{Entry}
 use Rattle.cap_join.specs.Ages.{IsDeadline, AreInTurn, AreUpTo}
 use Rattle.cap_join.proofs.Aging.{IsDeadline-remove_entry, AreInTurn-remove_entry, AreUpTo-remove_entry}
 use Rattle.cap_join.proofs.Tabling.{IsDistinct-remove_entry}
@@ -15,13 +12,15 @@ pub invariant_of-self : goal.invariant_of-self
 invariant_of-self c =
     let t = c.self.inside in
     let test = same_key c.args.key.now in
-    let is : c.pop.new.self.entries ≡ remove_entry test t.groups.entries = ap (λ (x : LruCache Key GroupState). x.entries) c.pop.ensures.entries in
+    let is = c.pop.ensures.entries in
     record {
-      room = subst (λ (n : ℕ). open_limit < n) (sym (ap (λ (x : LruCache Key GroupState). x.cap) c.pop.ensures.entries)) c.self.invariant.room;
-      unique = subst (λ (l : List Entry). IsDistinct same_key (keys_of l)) (sym is) (IsDistinct-remove_entry test t.groups.entries c.self.invariant.unique);
-      deadline = subst (IsDeadline t.deadline) (sym is) (IsDeadline-remove_entry test t.deadline t.groups.entries c.self.invariant.deadline);
-      in_turn = λ o. subst AreInTurn (sym is) (AreInTurn-remove_entry test t.groups.entries (c.self.invariant.in_turn o));
-      latest = λ o. subst (AreUpTo t.latest) (sym is) (AreUpTo-remove_entry test t.latest t.groups.entries (c.self.invariant.latest o));
+      unique = subst (λ (l : List Entry). IsDistinct same_key (keys_of l)) (sym is)
+          (IsDistinct-remove_entry test t.groups c.self.invariant.unique);
+      deadline = subst (IsDeadline t.deadline) (sym is)
+          (IsDeadline-remove_entry test t.deadline t.groups c.self.invariant.deadline);
+      in_turn = λ o. subst AreInTurn (sym is) (AreInTurn-remove_entry test t.groups (c.self.invariant.in_turn o));
+      latest = λ o. subst (AreUpTo t.latest) (sym is)
+          (AreUpTo-remove_entry test t.latest t.groups (c.self.invariant.latest o));
     }
 
 pub returns-clause-unique : goal.returns-clause-unique

@@ -8,7 +8,8 @@ use Rattle.cap_merge.proofs.merging.Merged.clock.Goals as goal
 pub clock_at-requires : goal.clock_at-requires
 clock_at-requires g c =
     let m = c.args.self.now in
-    rw c.as_slice.ensures.value (place_within g.F.PacketFeed.feed m.lanes.items m.feeds.items c.in-Some.place m.alike (sym c.first_place.ensures.place ∙ c.in-Some.is))
+    rw c.as_slice.ensures.value (place_within g.F.PacketFeed.feed m.lanes.items m.feeds.items c.in-Some.place m.alike
+    (sym c.first_place.ensures.place ∙ c.in-Some.is))
 
 pub returns : goal.returns
 returns g c =
@@ -16,9 +17,16 @@ returns g c =
     let ls = m.lanes.items in
     let fs = m.feeds.items in
     let at = sym c.first_place.ensures.place ∙ c.in-Some.is in
-    let clock = first-clock g.F.PacketFeed.feed g.met.F.PacketFeed.lawful ls fs c.in-Some.place m.some m.alike at c.requires m.bounded m.reached
+    let clock = first-clock g.F.PacketFeed.feed g.met.F.PacketFeed.lawful ls fs c.in-Some.place m.some m.alike at
+    c.requires m.bounded m.reached
     c.clock_at.result.now (sym (rw c.as_slice.ensures.value at c.clock_at.ensures)) in
-    record { clock = clock.value; bounded = clock.bounded; from = clock.from; not_below = clock.not_below; run = clock.run }
+    record {
+      clock = clock.value;
+      bounded = clock.bounded;
+      from = clock.from;
+      not_below = clock.not_below;
+      run = clock.run;
+    }
 
 pub unreachable-requires : goal.unreachable-requires
 unreachable-requires g c =

@@ -9,14 +9,17 @@ use Rattle.cap_merge.proofs.merging.Merged.next_packet.Goals as goal
 pub clock_at-requires : goal.clock_at-requires
 clock_at-requires g c =
     let m = c.args.self.now in
-    rw c.as_slice.ensures.value (place_within g.F.PacketFeed.feed m.lanes.items m.feeds.items c.in-Some.place m.alike (sym c.first_place.ensures.place ∙ c.in-Some.is))
+    rw c.as_slice.ensures.value (place_within g.F.PacketFeed.feed m.lanes.items m.feeds.items c.in-Some.place m.alike
+    (sym c.first_place.ensures.place ∙ c.in-Some.is))
 
 pub packet-requires : goal.packet-requires
 packet-requires g c =
     let m = c.args.self.now in
     let at = sym c.first_place.ensures.place ∙ c.in-Some.is in
     record {
-      packet = subst IsPacket (known-there g.F.PacketFeed.feed m.lanes.items m.feeds.items c.in-Some.place c.index.result.now c.index.ensures m.alike at c.requires) c.requires;
+      packet = subst IsPacket
+          (known-there g.F.PacketFeed.feed m.lanes.items m.feeds.items c.in-Some.place c.index.result.now
+          c.index.ensures m.alike at c.requires) c.requires;
     }
 
 pub frame-requires : goal.frame-requires
@@ -24,8 +27,22 @@ frame-requires g c =
     let m = c.args.self.now in
     let at = sym c.first_place.ensures.place ∙ c.in-Some.is in
     record {
-      packet = subst IsPacket (known-there g.F.PacketFeed.feed m.lanes.items m.feeds.items c.in-Some.place c.index-in-Some.result.now c.index-in-Some.ensures m.alike at c.requires) c.requires;
+      packet = subst IsPacket
+          (known-there g.F.PacketFeed.feed m.lanes.items m.feeds.items c.in-Some.place c.index-in-Some.result.now
+          c.index-in-Some.ensures m.alike at c.requires) c.requires;
     }
+
+pub invariant_of-result : goal.invariant_of-result
+invariant_of-result g c =
+    let m = c.args.self.now in
+    let ls = m.lanes.items in
+    let fs = m.feeds.items in
+    let f = g.F.PacketFeed.feed in
+    let at = sym c.first_place.ensures.place ∙ c.in-Some.is in
+    let next = packet-next (feed_of (parts ls (map f fs))).known c.requires in
+    let clock = first-clock f g.met.F.PacketFeed.lawful ls fs c.in-Some.place m.some m.alike at next m.bounded m.reached
+    c.clock_at.result.now (sym (rw c.as_slice.ensures.value at c.clock_at.ensures)) in
+    record { bounded = clock.bounded }
 
 pub returns : goal.returns
 returns g c =
@@ -40,12 +57,13 @@ returns g c =
     c.clock_at.result.now (sym (rw c.as_slice.ensures.value at c.clock_at.ensures)) in
     record {
       clock = clock.value;
-      bounded = clock.bounded;
       from = clock.from;
       not_below = clock.not_below;
       run = clock.run;
-      packet = known-there f ls fs place c.index.result.now c.index.ensures m.alike at c.requires ∙ c.packet.ensures.packet;
-      frame = c.frame.ensures.frame ∙ frame-here f ls fs place c.index-in-Some.result.now c.index-in-Some.ensures m.alike at;
+      packet = known-there f ls fs place c.index.result.now c.index.ensures m.alike at c.requires
+          ∙ c.packet.ensures.packet;
+      frame = c.frame.ensures.frame
+          ∙ frame-here f ls fs place c.index-in-Some.result.now c.index-in-Some.ensures m.alike at;
     }
 
 pub unreachable-requires : goal.unreachable-requires

@@ -28,7 +28,8 @@ invariant_of-self g c =
       alike = c.show_next.ensures.lanes ∙ m.alike ∙ sym c.show_next.ensures.feeds;
       some = rw c.show_next.ensures.feeds m.some;
       most = rw c.show_next.ensures.feeds m.most;
-      numbered = numbered-kept f m.lanes.items c.show_next.new.lanes.items m.feeds.items c.show_next.new.feeds.items m.alike c.show_next.ensures.lanes c.show_next.ensures.feeds
+      numbered = numbered-kept f m.lanes.items c.show_next.new.lanes.items m.feeds.items c.show_next.new.feeds.items
+          m.alike c.show_next.ensures.lanes c.show_next.ensures.feeds
           (peeked-kept c.in-Some.place ps qs peeks) m.numbered;
       agrees = c.show_next.ensures.agrees;
       reached = peeked-reached c.in-Some.place ps qs peeks m.reached;
@@ -62,11 +63,13 @@ invariant_of-self-then-len-eq1 g c =
       alike = c.show_next.ensures.lanes ∙ m.alike ∙ sym c.show_next.ensures.feeds;
       some = rw c.show_next.ensures.feeds m.some;
       most = rw c.show_next.ensures.feeds m.most;
-      numbered = asked-numbered f law m.lanes.items ls m.feeds.items fs r m.alike c.show_next.ensures.lanes c.show_next.ensures.feeds learns m.numbered;
+      numbered = asked-numbered f law m.lanes.items ls m.feeds.items fs r m.alike c.show_next.ensures.lanes
+          c.show_next.ensures.feeds learns m.numbered;
       agrees = c.show_next.ensures.agrees;
       reached = each-reached qs (asked-sound-each f law m.lanes.items ls m.feeds.items fs r learns m.reached);
       bounded = asked-bounded ps qs r learns m.bounded;
-      found = packet-alone ls c.in-Some.place (sym c.len.ensures.value ∙ c.if-len-eq1.true) (c.show_next.ensures.packet c.if-not-show_next.false);
+      found = packet-alone ls c.in-Some.place (sym c.len.ensures.value ∙ c.if-len-eq1.true)
+          (c.show_next.ensures.packet c.if-not-show_next.false);
       others = refl;
     }
 
@@ -80,9 +83,11 @@ returns-then-len-eq1 g c =
     let learns = rw c.if-not-show_next.false at c.show_next.ensures.shows in
     let packet = c.show_next.ensures.packet c.if-not-show_next.false in
     let first = packet-alone ls c.in-Some.place (sym c.len.ensures.value ∙ c.if-len-eq1.true) packet in
-    let alike = length-map c.show_next.new.feeds.items f ∙ c.show_next.ensures.feeds ∙ sym m.alike ∙ sym c.show_next.ensures.lanes in
+    let alike = length-map c.show_next.new.feeds.items f ∙ c.show_next.ensures.feeds ∙ sym m.alike
+    ∙ sym c.show_next.ensures.lanes in
     let agrees = c.show_next.ensures.agrees in
-    shows-first ps (parts ls fs) true learns (λ t. coming-first ls fs _ _ _ (asked-known ps ls fs agrees learns) alike agrees first packet)
+    shows-first ps (parts ls fs) true learns (λ t. coming-first ls fs _ _ _
+    (asked-known ps ls fs agrees learns) alike agrees first packet)
 
 pub invariant_of-self-2 : goal.invariant_of-self-2
 invariant_of-self-2 g c =
@@ -99,11 +104,13 @@ invariant_of-self-2 g c =
       alike = c.show_next.ensures.lanes ∙ m.alike ∙ sym c.show_next.ensures.feeds;
       some = rw c.show_next.ensures.feeds m.some;
       most = rw c.show_next.ensures.feeds m.most;
-      numbered = asked-numbered f law m.lanes.items ls m.feeds.items fs r m.alike c.show_next.ensures.lanes c.show_next.ensures.feeds learns m.numbered;
+      numbered = asked-numbered f law m.lanes.items ls m.feeds.items fs r m.alike c.show_next.ensures.lanes
+          c.show_next.ensures.feeds learns m.numbered;
       agrees = c.show_next.ensures.agrees;
       reached = each-reached qs (asked-sound-each f law m.lanes.items ls m.feeds.items fs r learns m.reached);
       bounded = asked-bounded ps qs r learns m.bounded;
-      found = found-here ls c.first_lane-first.result c.at-self.result (rw c.as_slice.ensures.value at c.first_lane-first.ensures.place) c.at-self.ensures;
+      found = found-here ls c.first_lane-first.result c.at-self.result
+          (rw c.as_slice.ensures.value at c.first_lane-first.ensures.place) c.at-self.ensures;
       others = ap (others_known qs) (none-passed c.first_lane-first.result c.at-self.result c.at-self.ensures);
     }
 
@@ -113,7 +120,8 @@ is_packet_at-requires-clause-known g c =
     let f = g.F.PacketFeed.feed in
     let learns = rw c.if-not-show_next.false at c.show_next.ensures.shows in
     rw c.as_slice-2.ensures.value
-    (asked-known (parts m.lanes.items (map f m.feeds.items)) c.show_next.new.lanes.items (map f c.show_next.new.feeds.items) c.show_next.ensures.agrees learns)
+    (asked-known (parts m.lanes.items (map f m.feeds.items)) c.show_next.new.lanes.items
+    (map f c.show_next.new.feeds.items) c.show_next.ensures.agrees learns)
 
 pub returns : goal.returns
 returns g c =
@@ -121,6 +129,8 @@ returns g c =
     let f = g.F.PacketFeed.feed in
     let fs = c.show_next.new.feeds.items in
     let learns = rw c.if-not-show_next.false at c.show_next.ensures.shows in
-    shows-first (parts m.lanes.items (map f m.feeds.items)) (parts c.show_next.new.lanes.items (map f fs)) c.is_packet_at.result learns
+    shows-first (parts m.lanes.items (map f m.feeds.items))
+    (parts c.show_next.new.lanes.items (map f fs)) c.is_packet_at.result learns
     ((rw c.as_slice-2.ensures.value at c.is_packet_at.ensures) (map f fs)
-    (length-map fs f ∙ c.show_next.ensures.feeds ∙ sym m.alike ∙ sym c.show_next.ensures.lanes) c.show_next.ensures.agrees)
+    (length-map fs f ∙ c.show_next.ensures.feeds ∙ sym m.alike
+    ∙ sym c.show_next.ensures.lanes) c.show_next.ensures.agrees)

@@ -8,7 +8,9 @@ frame-requires g c =
     let m = c.args.self.now in
     let at = sym c.first_place.ensures.place ∙ c.in-Some.is in
     record {
-      packet = subst IsPacket (known-there g.F.PacketFeed.feed m.lanes.items m.feeds.items c.in-Some.place c.index.result.now c.index.ensures m.alike at c.requires.packet) c.requires.packet;
+      packet = subst IsPacket
+          (known-there g.F.PacketFeed.feed m.lanes.items m.feeds.items c.in-Some.place c.index.result.now
+          c.index.ensures m.alike at c.requires.packet) c.requires.packet;
     }
 
 pub returns-in-Some : goal.returns-in-Some
@@ -16,10 +18,15 @@ returns-in-Some g c =
     let m = c.args.self.now in
     let at = sym c.first_place.ensures.place ∙ c.in-Some.is in
     record {
-      frame = c.frame.ensures.frame ∙ frame-here g.F.PacketFeed.feed m.lanes.items m.feeds.items c.in-Some.place c.index.result.now c.index.ensures m.alike at;
+      frame = c.frame.ensures.frame
+          ∙ frame-here g.F.PacketFeed.feed m.lanes.items m.feeds.items c.in-Some.place c.index.result.now
+          c.index.ensures m.alike at;
     }
 
 pub returns-in-None : goal.returns-in-None
 returns-in-None g c =
     let m = c.args.self.now in
-    record { frame = frame-none g.F.PacketFeed.feed m.lanes.items m.feeds.items (sym c.first_place.ensures.place ∙ c.in-None.is) }
+    record {
+      frame = frame-none g.F.PacketFeed.feed m.lanes.items m.feeds.items (sym c.first_place.ensures.place
+          ∙ c.in-None.is);
+    }

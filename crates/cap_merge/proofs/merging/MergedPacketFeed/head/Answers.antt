@@ -14,13 +14,25 @@ returns-in_err-look g c =
     let qs = parts n.lanes.items (map g.F.PacketFeed.feed n.feeds.items) in
     let lawful = lawful-each g.F.PacketFeed.feed g.met.F.PacketFeed.lawful n.lanes.items n.feeds.items in
     let p = err_from_is_err_and c.from_residual.result c.from_residual.ensures.1 in
-    let h = heads-stopped ps qs c.in_err-look.field-0.0 (numbered-from g.F.PacketFeed.feed m.lanes.items m.feeds.items m.alike m.numbered) c.in_err-look.ensures.asks lawful in
-    rw (p.1, p.2) (record { answer = h.answer; keeps = h.keeps; items = h.items; asks = h.asks; run = h.run; clocks = h.clocks })
+    let h = heads-stopped ps qs c.in_err-look.field-0.0
+    (numbered-from g.F.PacketFeed.feed m.lanes.items m.feeds.items m.alike m.numbered)
+    c.in_err-look.ensures.asks lawful in
+    rw (p.1, p.2) (record {
+      answer = h.answer;
+      keeps = h.keeps;
+      items = h.items;
+      asks = h.asks;
+      run = h.run;
+      clocks = h.clocks;
+    })
 
 pub packet-requires : goal.packet-requires
 packet-requires g c =
     let n = c.look.new.self in
-    record { packet = is-packet (feed_of (parts n.lanes.items (map g.F.PacketFeed.feed n.feeds.items))).known (rw c.in-Packet.is at c.in_ok-look.ensures.next) }
+    record {
+      packet = is-packet (feed_of (parts n.lanes.items (map g.F.PacketFeed.feed n.feeds.items))).known
+          (rw c.in-Packet.is at c.in_ok-look.ensures.next);
+    }
 
 pub returns-in-Packet : goal.returns-in-Packet
 returns-in-Packet g c =
@@ -39,7 +51,8 @@ returns-in-Refused g c =
     let ps = parts m.lanes.items (map g.F.PacketFeed.feed m.feeds.items) in
     let qs = parts n.lanes.items (map g.F.PacketFeed.feed n.feeds.items) in
     let lawful = lawful-each g.F.PacketFeed.feed g.met.F.PacketFeed.lawful n.lanes.items n.feeds.items in
-    let known = refusal-comes (feed_of qs).known c.in-Refused.refusal (rw c.in-Refused.is at c.in_ok-look.ensures.next) in
+    let known = refusal-comes (feed_of qs).known c.in-Refused.refusal
+    (rw c.in-Refused.is at c.in_ok-look.ensures.next) in
     let h = heads-known ps qs (Refused c.in-Refused.refusal) c.in_ok-look.ensures.asks known lawful in
     record { answer = h.answer; keeps = h.keeps; items = h.items; asks = h.asks; run = h.run; clocks = h.clocks }
 
@@ -50,5 +63,6 @@ returns-in-End g c =
     let ps = parts m.lanes.items (map g.F.PacketFeed.feed m.feeds.items) in
     let qs = parts n.lanes.items (map g.F.PacketFeed.feed n.feeds.items) in
     let lawful = lawful-each g.F.PacketFeed.feed g.met.F.PacketFeed.lawful n.lanes.items n.feeds.items in
-    let h = heads-known ps qs End c.in_ok-look.ensures.asks (end-comes (feed_of qs).known (rw c.in-End.is at c.in_ok-look.ensures.next)) lawful in
+    let h = heads-known ps qs End c.in_ok-look.ensures.asks
+    (end-comes (feed_of qs).known (rw c.in-End.is at c.in_ok-look.ensures.next)) lawful in
     record { answer = h.answer; keeps = h.keeps; items = h.items; asks = h.asks; run = h.run; clocks = h.clocks }

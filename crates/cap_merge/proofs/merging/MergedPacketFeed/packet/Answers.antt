@@ -10,7 +10,9 @@ packet-requires g c =
     let m = c.args.self.now in
     let at = sym c.first_place.ensures.place ∙ c.in-Some.is in
     record {
-      packet = subst IsPacket (known-there g.F.PacketFeed.feed m.lanes.items m.feeds.items c.in-Some.place c.index.result.now c.index.ensures m.alike at c.requires.packet) c.requires.packet;
+      packet = subst IsPacket
+          (known-there g.F.PacketFeed.feed m.lanes.items m.feeds.items c.in-Some.place c.index.result.now
+          c.index.ensures m.alike at c.requires.packet) c.requires.packet;
     }
 
 pub returns : goal.returns
@@ -18,7 +20,8 @@ returns g c =
     let m = c.args.self.now in
     let at = sym c.first_place.ensures.place ∙ c.in-Some.is in
     record {
-      packet = known-there g.F.PacketFeed.feed m.lanes.items m.feeds.items c.in-Some.place c.index.result.now c.index.ensures m.alike at c.requires.packet ∙ c.packet.ensures.packet;
+      packet = known-there g.F.PacketFeed.feed m.lanes.items m.feeds.items c.in-Some.place c.index.result.now
+          c.index.ensures m.alike at c.requires.packet ∙ c.packet.ensures.packet;
     }
 
 pub unreachable-requires : goal.unreachable-requires

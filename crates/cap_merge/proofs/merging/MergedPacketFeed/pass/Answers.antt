@@ -16,7 +16,8 @@ pass_first-requires g c =
       alike = m.alike;
       agrees = m.agrees;
       place = place_within g.F.PacketFeed.feed m.lanes.items m.feeds.items c.in-Some.place m.alike at;
-      packet = packet-at-first g.F.PacketFeed.feed m.lanes.items m.feeds.items c.in-Some.place m.some m.alike at c.requires.packet;
+      packet = packet-at-first g.F.PacketFeed.feed m.lanes.items m.feeds.items c.in-Some.place m.some m.alike at
+          c.requires.packet;
     }
 
 pub invariant_of-self : goal.invariant_of-self
@@ -25,13 +26,15 @@ invariant_of-self g c =
     let at = sym c.first_place.ensures.place ∙ c.in-Some.is in
     let ps = parts m.lanes.items (map g.F.PacketFeed.feed m.feeds.items) in
     let qs = parts c.pass_first.new.lanes.items (map g.F.PacketFeed.feed c.pass_first.new.feeds.items) in
-    let passed = passed-of g.F.PacketFeed.feed g.met.F.PacketFeed.lawful m.lanes.items c.pass_first.new.lanes.items m.feeds.items c.pass_first.new.feeds.items c.in-Some.place m.some m.alike at
+    let passed = passed-of g.F.PacketFeed.feed g.met.F.PacketFeed.lawful m.lanes.items c.pass_first.new.lanes.items
+    m.feeds.items c.pass_first.new.feeds.items c.in-Some.place m.some m.alike at
     m.numbered m.reached c.requires.packet c.pass_first.ensures.passes in
     record {
       alike = c.pass_first.ensures.lanes ∙ m.alike ∙ sym c.pass_first.ensures.feeds;
       some = rw c.pass_first.ensures.feeds m.some;
       most = rw c.pass_first.ensures.feeds m.most;
-      numbered = numbered-kept g.F.PacketFeed.feed m.lanes.items c.pass_first.new.lanes.items m.feeds.items c.pass_first.new.feeds.items m.alike c.pass_first.ensures.lanes c.pass_first.ensures.feeds
+      numbered = numbered-kept g.F.PacketFeed.feed m.lanes.items c.pass_first.new.lanes.items m.feeds.items
+          c.pass_first.new.feeds.items m.alike c.pass_first.ensures.lanes c.pass_first.ensures.feeds
           (passes-each c.in-Some.place ps qs c.pass_first.ensures.passes) m.numbered;
       agrees = c.pass_first.ensures.agrees;
       reached = each-reached qs passed.sound;
@@ -44,7 +47,8 @@ pub returns-in-Some : goal.returns-in-Some
 returns-in-Some g c =
     let m = c.args.self.now in
     let at = sym c.first_place.ensures.place ∙ c.in-Some.is in
-    let passed = passed-of g.F.PacketFeed.feed g.met.F.PacketFeed.lawful m.lanes.items c.pass_first.new.lanes.items m.feeds.items c.pass_first.new.feeds.items c.in-Some.place m.some m.alike at
+    let passed = passed-of g.F.PacketFeed.feed g.met.F.PacketFeed.lawful m.lanes.items c.pass_first.new.lanes.items
+    m.feeds.items c.pass_first.new.feeds.items c.in-Some.place m.some m.alike at
     m.numbered m.reached c.requires.packet c.pass_first.ensures.passes in
     record { passes = passed.passes; keeps = passed.keeps; run = passed.run; clocks = passed.clocks }
 

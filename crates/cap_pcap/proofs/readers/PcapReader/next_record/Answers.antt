@@ -7,4 +7,5 @@ use Rattle.cap_pcap.proofs.readers.PcapReader.next_record.Goals as goal
 pub returns-clause-items : goal.returns-clause-items
 returns-clause-items g c =
     TakesItem_next c.unwrap-header.result c.args.self.now c.read_record.new.self c.read_record.result
-    (ap (λ (s : State PcapHeader). s.known) (sym c.self.view_is) ∙ c.unwrap-header.ensures) c.read_record.ensures.answer c.read_record.ensures.keeps
+    (ap (λ (s : State PcapHeader). s.known) (sym c.self.view_is)
+    ∙ c.unwrap-header.ensures) c.read_record.ensures.answer c.read_record.ensures.keeps

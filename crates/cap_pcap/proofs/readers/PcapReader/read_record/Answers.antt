@@ -1,6 +1,7 @@
 use Rattle.std.proofs.Common.{◌+◌, ◌<◌, true, None, option_map}
 use Rattle.std.proofs.lemmas.Result.{err_from_is_err_and}
-use Rattle.cap_bytes.proofs.Readers.{Stands-passed, GivesNext-stopped, GivesNext-failed, Reaches-given, Reaches-failed, Reaches-stopped}
+use Rattle.cap_bytes.proofs.Readers.{Stands-passed, GivesNext-stopped, GivesNext-failed, Reaches-given, Reaches-failed}
+use Rattle.cap_bytes.proofs.Readers.{Reaches-stopped}
 use Rattle.cap_bytes.proofs.Parsing.{none_from}
 use Rattle.cap_bytes.specs.Reach.{size_found}
 use Rattle.cap_bytes.specs.declared.stops.Stop.{Stop}
@@ -15,18 +16,22 @@ returns-in_err-record-clause-answer g c =
     let i = c.self.inside in
     let order = c.args.header.order in
     let old = state_of i.window i.tail i.header i.captured i.stop in
-    let at = Stands-passed i.window c.pass.new.self i.tail i.header (size_of i.captured) (frame_of i.captured i.window.shown) i.stop
-    (none_from i.stop c.in_default.not-Some) c.self.invariant.within (rw c.size_given.ensures at c.pass.ensures.passes) in
+    let at = Stands-passed i.window c.pass.new.self i.tail i.header (size_of i.captured)
+    (frame_of i.captured i.window.shown) i.stop
+    (none_from i.stop c.in_default.not-Some) c.self.invariant.within
+    (rw c.size_given.ensures at c.pass.ensures.passes) in
     rw (← c.self.view_is, p.1, p.2)
     (GivesNext-failed old c.pass.new.self c.look_for_record.new.window at
-    (λ r. GivesRecord c.args.header old r (state_of c.look_for_record.new.window i.tail i.header None i.stop)) true (record_fault order) 262160
+    (λ r. GivesRecord c.args.header old r (state_of c.look_for_record.new.window i.tail i.header None i.stop)) true
+    (record_fault order) 262160
     (λ offset bytes room. room < 16 + captured_at order bytes) c.in_err-record.field-0.0 c.in_err-record.ensures.answer)
 
 pub returns-in-Ok-clause-answer : goal.returns-in-Ok-clause-answer
 returns-in-Ok-clause-answer g c =
     let i = c.self.inside in
     rw (← c.self.view_is)
-    (GivesRecord-seen c.args.header i.window c.pass.new.self c.look_for_record.new.window i.tail i.header i.captured i.stop c.in-Ok.record
+    (GivesRecord-seen c.args.header i.window c.pass.new.self c.look_for_record.new.window i.tail i.header i.captured
+    i.stop c.in-Ok.record
     (none_from i.stop c.in_default.not-Some) c.self.invariant.within (rw c.size_given.ensures at c.pass.ensures.passes)
     (rw c.in-Ok.is at c.in_ok-record.ensures.answer))
 
@@ -35,27 +40,38 @@ returns-in-Err-clause-answer g c =
     let i = c.self.inside in
     let order = c.args.header.order in
     let old = state_of i.window i.tail i.header i.captured i.stop in
-    let at = Stands-passed i.window c.pass.new.self i.tail i.header (size_of i.captured) (frame_of i.captured i.window.shown) i.stop
-    (none_from i.stop c.in_default.not-Some) c.self.invariant.within (rw c.size_given.ensures at c.pass.ensures.passes) in
+    let at = Stands-passed i.window c.pass.new.self i.tail i.header (size_of i.captured)
+    (frame_of i.captured i.window.shown) i.stop
+    (none_from i.stop c.in_default.not-Some) c.self.invariant.within
+    (rw c.size_given.ensures at c.pass.ensures.passes) in
     rw (← c.self.view_is, c.answer-in-Err.ensures)
-    (GivesNext-stopped old c.pass.new.self c.look_for_record.new.window at (λ r. GivesRecord c.args.header old r _) true (record_fault order) 262160
-    (λ offset bytes room. room < 16 + captured_at order bytes) c.in-Err.stop (rw c.in-Err.is at c.in_ok-record.ensures.answer))
+    (GivesNext-stopped old c.pass.new.self c.look_for_record.new.window at (λ r. GivesRecord c.args.header old r _) true
+    (record_fault order) 262160
+    (λ offset bytes room. room < 16 + captured_at order bytes) c.in-Err.stop
+    (rw c.in-Err.is at c.in_ok-record.ensures.answer))
 
 pub returns-in_err-record-clause-reaches : goal.returns-in_err-record-clause-reaches
 returns-in_err-record-clause-reaches g c =
     let p = err_from_is_err_and c.from_residual.result c.from_residual.ensures.1 in
     let i = c.self.inside in
-    let at = Stands-passed i.window c.pass.new.self i.tail i.header (size_of i.captured) (frame_of i.captured i.window.shown) i.stop
-    (none_from i.stop c.in_default.not-Some) c.self.invariant.within (rw c.size_given.ensures at c.pass.ensures.passes) in
+    let at = Stands-passed i.window c.pass.new.self i.tail i.header (size_of i.captured)
+    (frame_of i.captured i.window.shown) i.stop
+    (none_from i.stop c.in_default.not-Some) c.self.invariant.within
+    (rw c.size_given.ensures at c.pass.ensures.passes) in
     rw (← c.self.view_is, p.1, p.2)
-    (Reaches-failed (state_of i.window i.tail i.header i.captured i.stop) c.pass.new.self c.look_for_record.new.window at
-    (option_map record_size) (size_found {E = Stop} record_size) (λ offset bytes. 16 + captured_at c.args.header.order bytes) c.in_err-record.field-0.0 c.in_err-record.ensures.reaches)
+    (Reaches-failed (state_of i.window i.tail i.header i.captured i.stop) c.pass.new.self
+    c.look_for_record.new.window at
+    (option_map record_size) (size_found {E = Stop} record_size)
+    (λ offset bytes. 16 + captured_at c.args.header.order bytes) c.in_err-record.field-0.0
+    c.in_err-record.ensures.reaches)
 
 pub returns-in-Ok-clause-reaches : goal.returns-in-Ok-clause-reaches
 returns-in-Ok-clause-reaches g c =
     let i = c.self.inside in
-    let at = Stands-passed i.window c.pass.new.self i.tail i.header (size_of i.captured) (frame_of i.captured i.window.shown) i.stop
-    (none_from i.stop c.in_default.not-Some) c.self.invariant.within (rw c.size_given.ensures at c.pass.ensures.passes) in
+    let at = Stands-passed i.window c.pass.new.self i.tail i.header (size_of i.captured)
+    (frame_of i.captured i.window.shown) i.stop
+    (none_from i.stop c.in_default.not-Some) c.self.invariant.within
+    (rw c.size_given.ensures at c.pass.ensures.passes) in
     rw (← c.self.view_is)
     (Reaches-given (state_of i.window i.tail i.header i.captured i.stop) c.pass.new.self c.look_for_record.new.window at
     (record_size c.in-Ok.record) (rw c.in-Ok.is at c.in_ok-record.ensures.reaches))

@@ -7,25 +7,31 @@ use Rattle.cap_pcap.proofs.readers.PcapReader.read_shown.Goals as goal
 
 pub invariant_of-self : goal.invariant_of-self
 invariant_of-self g c =
-    let s : SeesRecord c.args.header c.self.inside.tail c.in-Some.record c.take_shown.new.window c.take_shown.new.window = c.in-Some.ensures.sees c.self.inside.tail in
+    let s : SeesRecord c.args.header c.self.inside.tail c.in-Some.record c.take_shown.new.window
+    c.take_shown.new.window = c.in-Some.ensures.sees c.self.inside.tail in
     search rules
 
 pub returns-in-Some-clause-answer : goal.returns-in-Some-clause-answer
 returns-in-Some-clause-answer g c =
     let i = c.self.inside in
     rw (← c.self.view_is)
-    (GivesRecord-seen c.args.header i.window c.take_shown.new.window c.take_shown.new.window i.tail i.header i.captured i.stop c.in-Some.record
-    (grind arith) c.self.invariant.within (rw c.size_given.ensures at c.in-Some.ensures.passes) (c.in-Some.ensures.sees i.tail))
+    (GivesRecord-seen c.args.header i.window c.take_shown.new.window c.take_shown.new.window i.tail i.header i.captured
+    i.stop c.in-Some.record
+    (grind arith) c.self.invariant.within (rw c.size_given.ensures at c.in-Some.ensures.passes)
+    (c.in-Some.ensures.sees i.tail))
 
 pub returns-in-Some-clause-keeps : goal.returns-in-Some-clause-keeps
 returns-in-Some-clause-keeps g c =
-    let s : SeesRecord c.args.header c.self.inside.tail c.in-Some.record c.take_shown.new.window c.take_shown.new.window = c.in-Some.ensures.sees c.self.inside.tail in
+    let s : SeesRecord c.args.header c.self.inside.tail c.in-Some.record c.take_shown.new.window
+    c.take_shown.new.window = c.in-Some.ensures.sees c.self.inside.tail in
     search rules
 
 pub returns-in-Some-clause-reaches : goal.returns-in-Some-clause-reaches
 returns-in-Some-clause-reaches g c =
     let i = c.self.inside in
-    let at = Stands-passed i.window c.take_shown.new.window i.tail i.header (size_of i.captured) (frame_of i.captured i.window.shown) i.stop
+    let at = Stands-passed i.window c.take_shown.new.window i.tail i.header (size_of i.captured)
+    (frame_of i.captured i.window.shown) i.stop
     (grind arith) c.self.invariant.within (rw c.size_given.ensures at c.in-Some.ensures.passes) in
     rw (← c.self.view_is)
-    (Reaches-here (state_of i.window i.tail i.header i.captured i.stop) c.take_shown.new.window c.take_shown.new.window at (record_size c.in-Some.record))
+    (Reaches-here (state_of i.window i.tail i.header i.captured i.stop) c.take_shown.new.window c.take_shown.new.window
+    at (record_size c.in-Some.record))

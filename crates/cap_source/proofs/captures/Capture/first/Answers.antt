@@ -14,7 +14,8 @@ returns-clause-answer g c =
     let next = tells.0 in (
       head_of next,
       knows old new was.next c.learn.new.known next was.sound.whole tells.1 tells.2,
-      λ t. c.noted_of.ensures ∙ first_told old c.learn.new.reader (progress_of c.learn.new.reached) was.next c.learn.new.known next c.learn.ensures.there tells.1 tells.2 t,
+      λ t. c.noted_of.ensures ∙ first_told old c.learn.new.reader
+          (progress_of c.learn.new.reached) was.next c.learn.new.known next c.learn.ensures.there tells.1 tells.2 t,
     )
 
 pub returns-clause-items : goal.returns-clause-items

@@ -7,7 +7,8 @@ use Rattle.cap_source.proofs.captures.CapturePacketFeed.head.Goals as goal
 pub returns-in_err-learn-clause-answer : goal.returns-in_err-learn-clause-answer
 returns-in_err-learn-clause-answer g c =
     let p = err_from_is_err_and c.from_residual.result c.from_residual.ensures.1 in
-    rw (p.1, p.2) (fault_told _ _ _ _ c.in_err-learn.field-0.0 c.in_err-learn.ensures.keeps c.in_err-learn.ensures.answer)
+    rw (p.1, p.2) (fault_told _ _ _ _ c.in_err-learn.field-0.0 c.in_err-learn.ensures.keeps
+    c.in_err-learn.ensures.answer)
 
 pub returns-in_err-learn-clause-keeps : goal.returns-in_err-learn-clause-keeps
 returns-in_err-learn-clause-keeps g c =

@@ -8,6 +8,8 @@ use Rattle.cap_source.proofs.listed.ListedPacketFeed.pass.Goals as goal
 pub returns-clause-passes : goal.returns-clause-passes
 returns-clause-passes c =
     let l = c.args.self.now in
-    subst (λ times. Passes (list_feed l.file l.interface l.end l.place (drop l.place l.times.items) l.next) (list_feed l.file l.interface l.end (l.place + 1) times None))
+    subst (λ times. Passes (list_feed l.file l.interface l.end l.place (drop l.place l.times.items) l.next)
+    (list_feed l.file l.interface l.end (l.place + 1) times None))
     (drop-drop 1 l.place l.times.items)
-    (list_passes l.file l.interface l.end l.place (drop l.place l.times.items) l.next (omega (arith, l.most, l.within, length-drop l.place l.times.items)) l.known c.requires.packet)
+    (list_passes l.file l.interface l.end l.place (drop l.place l.times.items) l.next
+    (omega (arith, l.most, l.within, length-drop l.place l.times.items)) l.known c.requires.packet)

@@ -9,7 +9,17 @@ invariant-loop-place g l = record {
   failed : g.W.Device.has_failed l.writer ≡ g.W.Device.has_failed l.fn.writer;
   putting :
       Putting
-      (record { told = g.W.Sink.tells_held l.fn.writer; held = g.W.Sink.held l.fn.writer; failed = g.W.Device.has_failed l.fn.writer; can_fail = g.W.Device.can_fail l.fn.writer })
-      (record { told = g.W.Sink.tells_held l.writer; held = g.W.Sink.held l.writer; failed = g.W.Device.has_failed l.writer; can_fail = g.W.Device.can_fail l.writer })
+      (record {
+        told = g.W.Sink.tells_held l.fn.writer;
+        held = g.W.Sink.held l.fn.writer;
+        failed = g.W.Device.has_failed l.fn.writer;
+        can_fail = g.W.Device.can_fail l.fn.writer;
+      })
+      (record {
+        told = g.W.Sink.tells_held l.writer;
+        held = g.W.Sink.held l.writer;
+        failed = g.W.Device.has_failed l.writer;
+        can_fail = g.W.Device.can_fail l.writer;
+      })
       (counted_texts 1 l.counted) (counted_texts (l.place + 1) (drop l.place l.counted));
 }

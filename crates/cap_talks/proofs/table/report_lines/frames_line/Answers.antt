@@ -3,4 +3,15 @@ use Rattle.cap_talks.proofs.table.report_lines.frames_line.Goals as goal
 
 pub returns : goal.returns
 returns c =
-    simp (c.put_field-7.ensures.text, c.put_field-6.ensures.text, c.put_field-5.ensures.text, c.put_field-4.ensures.text, c.put_field-3.ensures.text, c.put_field-2.ensures.text, c.put_field.ensures.text, c.put_text.ensures.text, c.new-line.ensures.text, append_assoc)
+    simp (
+      c.prepend_field-7.ensures.text,
+      c.prepend_field-6.ensures.text,
+      c.prepend_field-5.ensures.text,
+      c.prepend_field-4.ensures.text,
+      c.prepend_field-3.ensures.text,
+      c.prepend_field-2.ensures.text,
+      c.prepend_field.ensures.text,
+      c.prepend_text.ensures.text,
+      c.new-line.ensures.text,
+      append_assoc,
+    )

@@ -9,7 +9,8 @@ use Rattle.cap_talks.proofs.table.tables.with_endings.Given as goal
 abbrev pub invariant-loop-place : goal.invariant-loop-place
 invariant-loop-place g l = record {
   made :
-      l.counted.items ++ ended_from (if l.done then Some (feed_of (parts_of l.merged)).endings else None) (l.place + 1) (drop l.place l.counts)
+      l.counted.items ++ ended_from (if l.done then Some (feed_of (parts_of l.merged)).endings else None) (l.place + 1)
+      (drop l.place l.counts)
       ≡ ended_from (if l.done then Some (feed_of (parts_of l.merged)).endings else None) 1 l.counts;
   count : length l.counted.items ≡ l.place;
 }

@@ -10,12 +10,15 @@ returns-in_err-put_all-clause-text g c = λ w.
     let all = c.args.talks.now.rows in
     let line_is = c.as_slice.ensures.value ∙ c.talks_line-line.ensures ∙ ap talks_text c.len.ensures.value in
     rw (p.1, p.2)
-    (Prints-head None (g.W.Sink.held c.args.writer.now) (g.W.Sink.held c.put_all.new.writer) (talks_text (length all)) (talk_texts all)
+    (Prints-head None (g.W.Sink.held c.args.writer.now) (g.W.Sink.held c.put_all.new.writer) (talks_text (length all))
+    (talk_texts all)
     c.in_err-put_all.field-0.0 c.in_err-put_all.ensures.fault (rw line_is at (c.in_err-put_all.ensures.bytes w)))
 
 pub returns-clause-text : goal.returns-clause-text
 returns-clause-text g c = λ w.
     let all = c.args.talks.now.rows in
     let line_is = c.as_slice.ensures.value ∙ c.talks_line-line.ensures ∙ ap talks_text c.len.ensures.value in
-    Prints-behind None (g.W.Sink.held c.args.writer.now) (g.W.Sink.held c.put_all.new.writer) (g.W.Sink.held c.put_each.new.writer) (talks_text (length all)) (talk_texts all)
-    c.put_each.result (rw line_is at (c.in_ok-put_all.ensures.bytes w)) (c.put_each.ensures.text (c.in_ok-put_all.ensures.writer.told w))
+    Prints-behind None (g.W.Sink.held c.args.writer.now) (g.W.Sink.held c.put_all.new.writer)
+    (g.W.Sink.held c.put_each.new.writer) (talks_text (length all)) (talk_texts all)
+    c.put_each.result (rw line_is at (c.in_ok-put_all.ensures.bytes w))
+    (c.put_each.ensures.text (c.in_ok-put_all.ensures.writer.told w))

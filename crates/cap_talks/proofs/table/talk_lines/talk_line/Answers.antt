@@ -10,17 +10,17 @@ returns c =
     let key = c.args.key.now in
     let row = c.args.row.now in
     rw (
-      c.put_text-4.ensures.text,
-      c.put_protocol.ensures.text,
-      c.put_text-3.ensures.text,
-      c.put_end-2.ensures.text,
-      c.put_text-2.ensures.text,
-      c.put_end.ensures.text,
-      c.put_traffic-2.ensures.text,
-      c.put_traffic.ensures.text,
-      c.put_time-2.ensures.text,
-      c.put_time.ensures.text,
-      c.put_text.ensures.text,
+      c.prepend_text-4.ensures.text,
+      c.prepend_protocol.ensures.text,
+      c.prepend_text-3.ensures.text,
+      c.prepend_end-2.ensures.text,
+      c.prepend_text-2.ensures.text,
+      c.prepend_end.ensures.text,
+      c.prepend_traffic-2.ensures.text,
+      c.prepend_traffic.ensures.text,
+      c.prepend_time-2.ensures.text,
+      c.prepend_time.ensures.text,
+      c.prepend_text.ensures.text,
       c.new-line.ensures.text,
       line_parts (protocol_text key.protocol) (end_text key.lesser) (end_text key.greater)
           (traffic_text row.forward_frames row.forward_bytes) (traffic_text row.backward_frames row.backward_bytes)

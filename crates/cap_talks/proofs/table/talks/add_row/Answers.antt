@@ -8,12 +8,15 @@ use Rattle.cap_talks.proofs.table.talks.add_row.Goals as goal
 
 pub returns-in-Ok-clause-entries : goal.returns-in-Ok-clause-entries
 returns-in-Ok-clause-entries c =
-    row-put c.args.key c.args.rows.now.entries c.insert.new.self.entries c.take.new.self c.requires.key c.in-Ok.ensures.entries
-    ∙ ap (insert_entry same_talk (unpacked_talks c.args.rows.now.entries) (unpacked c.args.key)) (c.take.ensures ∙ ap (λ w. with_share w c.args.share) c.new-row.ensures)
+    row-put c.args.key c.args.rows.now.entries c.insert.new.self.entries c.take.new.self c.requires.key
+    c.in-Ok.ensures.entries
+    ∙ ap (insert_entry same_talk (unpacked_talks c.args.rows.now.entries) (unpacked c.args.key)) (c.take.ensures
+    ∙ ap (λ w. with_share w c.args.share) c.new-row.ensures)
 
 pub returns-in-Ok-clause-keys : goal.returns-in-Ok-clause-keys
 returns-in-Ok-clause-keys c =
-    keys-put c.args.key c.args.rows.now.entries c.insert.new.self.entries c.take.new.self c.requires.key c.in-Ok.ensures.entries c.requires.keys
+    keys-put c.args.key c.args.rows.now.entries c.insert.new.self.entries c.take.new.self c.requires.key
+    c.in-Ok.ensures.entries c.requires.keys
 
 pub returns-in-Ok-clause-limit : goal.returns-in-Ok-clause-limit
 returns-in-Ok-clause-limit c = search rules

@@ -1,5 +1,6 @@
 use Rattle.std.proofs.Common.{arith, ◌∙◌, sym, ap, subst, Bool, IsTrue, Some}
 use Rattle.cap_source.specs.Feed.{refusal_of}
+use Rattle.cap_source.specs.declared.feeds.FileEnd.{FileEnd}
 use Rattle.cap_source.specs.Captures.{feed_of}
 use Rattle.cap_talks.specs.counts.Counting.{packets_of, counted}
 use Rattle.cap_talks.proofs.talks.files.count_file.Goals as goal
@@ -12,7 +13,8 @@ returns-clause-counts g c = λ t.
       ap refusal_of (sym e.items) ∙ a.0,
       λ i. record {
         counts = (a.1 ∙ ap (λ l. counted (packets_of l)) e.items) i;
-        ending = Some ((c.ending-ending.ensures.ending ∙ a.2 c.args.file ∙ e.endings c.args.file) i);
+        ending = Some ((c.ending-ending.ensures.ending
+            ∙ ap (λ (end : FileEnd). end.ending) (a.2 c.args.file ∙ e.endings c.args.file)) i);
       },
     )
 

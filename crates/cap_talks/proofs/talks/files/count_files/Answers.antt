@@ -1,11 +1,9 @@
-use Rattle.std.proofs.Common.{◌≡◌, ◌+◌, ◌<◌, ◌≤◌, ◌^◌, ◌++◌, [], ◌∷◌, length, Ok, Err, sym, ap, ◌∙◌, arith, rules, length-append, subst, ℕ}
+use Rattle.std.proofs.Common.{◌≡◌, ◌+◌, ◌<◌, ◌≤◌, ◌^◌, ◌++◌, [], ◌∷◌, length, Ok, Err, ap, ◌∙◌, arith, rules}
+use Rattle.std.proofs.Common.{length-append, subst, ℕ}
 use Rattle.std.proofs.lemmas.Iterator.Adapters.{YieldsList-from_vec}
 use Rattle.std.proofs.lemmas.Iterator.Consumers.{YieldsList-turn}
 use Rattle.std.proofs.lemmas.Result.{err_from_is_err_and}
-use Rattle.std.specs.List.{list_any}
-use Rattle.std.specs.Prelude.{Vec}
-use Rattle.std.specs.declared.alloc.Global.{Global}
-use Rattle.cap_source.specs.ReadFaults.{FailsAs, FailsOf}
+use Rattle.cap_source.specs.ReadFaults.{FailsAs}
 use Rattle.cap_talks.specs.talks.Reading.{CountsFile}
 use Rattle.cap_talks.specs.declared.counts.files.Counted.{Counted}
 use Rattle.cap_talks.proofs.FileByFile.{all-at, read-more, read-fault, fails}
@@ -18,9 +16,14 @@ pub overflow_add-file : goal.overflow_add-file
 overflow_add-file g c =
     let it = c.into_iter-source-iterator in
     let given = it.ensures.into_iter_gives in
-    let turn = YieldsList-turn (YieldsList-from_vec {s = it.result} c.args.sources.items given.0 (given.1 ∙ c.args.sources.ok.0))
-    c.loop-source.yielded c.loop-source.source-iterator c.loop-source.yielded_by c.next.result c.next.new.self c.in-Some.source c.in-Some.is c.next.ensures.steps in
-    record { fits = in_range c.loop-source.file _ _ _ c.loop-source.invariant.number turn.0 c.args.sources.ok.0 c.requires.most }
+    let turn = YieldsList-turn (YieldsList-from_vec {s = it.result} c.args.sources.items given.0 (given.1
+    ∙ c.args.sources.ok.0))
+    c.loop-source.yielded c.loop-source.source-iterator c.loop-source.yielded_by c.next.result c.next.new.self
+    c.in-Some.source c.in-Some.is c.next.ensures.steps in
+    record {
+      fits = in_range c.loop-source.file _ _ _ c.loop-source.invariant.number turn.0 c.args.sources.ok.0
+          c.requires.most;
+    }
 
 pub loop-source-init : goal.loop-source-init
 loop-source-init g c = grind arith
@@ -32,12 +35,17 @@ returns-in_err-each-clause-counts g c = λ t.
     let it = c.into_iter-source-iterator in
     let given = it.ensures.into_iter_gives in
     let x = c.in-Some.source in
-    let turn = YieldsList-turn (YieldsList-from_vec {s = it.result} c.args.sources.items given.0 (given.1 ∙ c.args.sources.ok.0))
-    c.loop-source.yielded c.loop-source.source-iterator c.loop-source.yielded_by c.next.result c.next.new.self x c.in-Some.is c.next.ensures.steps in
+    let turn = YieldsList-turn (YieldsList-from_vec {s = it.result} c.args.sources.items given.0 (given.1
+    ∙ c.args.sources.ok.0))
+    c.loop-source.yielded c.loop-source.source-iterator c.loop-source.yielded_by c.next.result c.next.new.self x
+    c.in-Some.is c.next.ensures.steps in
     let told = all-at g.R.Source.tells_coming c.args.sources.items (length c.loop-source.yielded) x turn.1 turn.0 t in
     rw (p.1, p.2)
-    (read-fault g.R.Source.coming c.args.tail c.args.sources.items (length c.loop-source.yielded) x c.loop-source.counted.items c.in_err-each.field-0.0
-    turn.1 turn.0 (i.read t) (subst (λ (n : ℕ). CountsFile c.args.tail n (g.R.Source.coming x) (Err c.in_err-each.field-0.0)) i.number (c.in_err-each.ensures.counts told)))
+    (read-fault g.R.Source.coming c.args.tail c.args.sources.items
+    (length c.loop-source.yielded) x c.loop-source.counted.items c.in_err-each.field-0.0
+    turn.1 turn.0 (i.read t)
+    (subst (λ (n : ℕ). CountsFile c.args.tail n (g.R.Source.coming x) (Err c.in_err-each.field-0.0)) i.number
+    (c.in_err-each.ensures.counts told)))
 
 pub returns-in_err-each-clause-read : goal.returns-in_err-each-clause-read
 returns-in_err-each-clause-read g c =
@@ -45,11 +53,15 @@ returns-in_err-each-clause-read g c =
     let it = c.into_iter-source-iterator in
     let given = it.ensures.into_iter_gives in
     let x = c.in-Some.source in
-    let turn = YieldsList-turn (YieldsList-from_vec {s = it.result} c.args.sources.items given.0 (given.1 ∙ c.args.sources.ok.0))
-    c.loop-source.yielded c.loop-source.source-iterator c.loop-source.yielded_by c.next.result c.next.new.self x c.in-Some.is c.next.ensures.steps in
+    let turn = YieldsList-turn (YieldsList-from_vec {s = it.result} c.args.sources.items given.0 (given.1
+    ∙ c.args.sources.ok.0))
+    c.loop-source.yielded c.loop-source.source-iterator c.loop-source.yielded_by c.next.result c.next.new.self x
+    c.in-Some.is c.next.ensures.steps in
     rw (p.1, p.2)
-    (fails g.R.Device.can_fail c.args.sources.items (length c.loop-source.yielded) x c.in_err-each.field-0.0 turn.1 turn.0
-    (subst (λ (n : ℕ). FailsAs {A = Counted} n (g.R.Device.can_fail x) (Err c.in_err-each.field-0.0)) c.loop-source.invariant.number c.in_err-each.ensures.read))
+    (fails g.R.Device.can_fail c.args.sources.items
+    (length c.loop-source.yielded) x c.in_err-each.field-0.0 turn.1 turn.0
+    (subst (λ (n : ℕ). FailsAs {A = Counted} n (g.R.Device.can_fail x) (Err c.in_err-each.field-0.0))
+    c.loop-source.invariant.number c.in_err-each.ensures.read))
 
 pub loop-source-preserved : goal.loop-source-preserved
 loop-source-preserved g c =
@@ -58,16 +70,27 @@ loop-source-preserved g c =
     let given = it.ensures.into_iter_gives in
     let x = c.in-Some.source in
     let seen = c.loop-source.yielded in
-    let turn = YieldsList-turn (YieldsList-from_vec {s = it.result} c.args.sources.items given.0 (given.1 ∙ c.args.sources.ok.0))
-    seen c.loop-source.source-iterator c.loop-source.yielded_by c.next.result c.next.new.self x c.in-Some.is c.next.ensures.steps in
+    let turn = YieldsList-turn (YieldsList-from_vec {s = it.result} c.args.sources.items given.0 (given.1
+    ∙ c.args.sources.ok.0))
+    seen c.loop-source.source-iterator c.loop-source.yielded_by c.next.result c.next.new.self x c.in-Some.is
+    c.next.ensures.steps in
     let pushed : c.push.new.self.items ≡ c.loop-source.counted.items ++ c.in_ok-each.each ∷ [] = search rules in
     let longer = length-append seen (x ∷ []) in
     record {
       number = omega (arith, i.number, longer);
-      few = omega (arith, i.few, longer, ap length pushed, length-append c.loop-source.counted.items (c.in_ok-each.each ∷ []));
+      few = omega (
+        arith,
+        i.few,
+        longer,
+        ap length pushed,
+        length-append c.loop-source.counted.items (c.in_ok-each.each ∷ []),
+      );
       read = λ t.
           let told = all-at g.R.Source.tells_coming c.args.sources.items (length seen) x turn.1 turn.0 t in
           rw (longer, pushed)
-          (read-more g.R.Source.coming c.args.tail c.args.sources.items (length seen) x c.loop-source.counted.items c.in_ok-each.each
-          turn.1 turn.0 (i.read t) (subst (λ (n : ℕ). CountsFile c.args.tail n (g.R.Source.coming x) (Ok c.in_ok-each.each)) i.number (c.in_ok-each.ensures.counts told)));
+          (read-more g.R.Source.coming c.args.tail c.args.sources.items
+          (length seen) x c.loop-source.counted.items c.in_ok-each.each
+          turn.1 turn.0 (i.read t)
+          (subst (λ (n : ℕ). CountsFile c.args.tail n (g.R.Source.coming x) (Ok c.in_ok-each.each)) i.number
+          (c.in_ok-each.ensures.counts told)));
     }

@@ -8,5 +8,6 @@ abbrev pub invariant-loop-source : goal.invariant-loop-source
 invariant-loop-source g l = record {
   number : l.file ≡ 1 + length l.yielded;
   few : length l.counted.items ≡ length l.yielded;
-  read : IsTrue (list_all g.R.Source.tells_coming l.fn.sources.items) → AreRead l.tail (map g.R.Source.coming l.fn.sources.items) (length l.yielded) l.counted.items;
+  read : IsTrue (list_all g.R.Source.tells_coming l.fn.sources.items)
+      → AreRead l.tail (map g.R.Source.coming l.fn.sources.items) (length l.yielded) l.counted.items;
 }

@@ -3,7 +3,16 @@ use Rattle.cap_talks.proofs.Telling.{info-counted, tells-printed}
 use Rattle.cap_talks.proofs.talks.files.file_lines.Goals as goal
 
 pub returns-clause-text : goal.returns-clause-text
-returns-clause-text g c = λ t w. grind (arith, tells-printed, info-counted, c.in_ok-counted.ensures.counts, c.put_files.ensures.fault, c.as_slice.ensures.value, c.put_files.ensures.text)
+returns-clause-text g c =
+    λ t w. grind (
+      arith,
+      tells-printed,
+      info-counted,
+      c.in_ok-counted.ensures.counts,
+      c.put_files.ensures.fault,
+      c.as_slice.ensures.value,
+      c.put_files.ensures.text,
+    )
 
 pub returns-in_err-counted-clause-first : goal.returns-in_err-counted-clause-first
 returns-in_err-counted-clause-first g c = grind arith

@@ -8,10 +8,12 @@ pub returns-clause-text : goal.returns-clause-text
 returns-clause-text g c = λ t w.
     let reader = reader_of g.R.Source.tells_coming g.R.Device.can_fail g.R.Source.coming in
     tells-files reader c.args.tail c.args.sources.items (parts_of c.in_ok-merged.merged) c.in_ok-merged.ensures.unread
-    (g.W.Sink.held c.args.writer.now) (g.W.Sink.held c.report_merged.new.writer) c.report_merged.result (λ told. c.report_merged.ensures.text told w) t
+    (g.W.Sink.held c.args.writer.now) (g.W.Sink.held c.report_merged.new.writer) c.report_merged.result
+    (λ told. c.report_merged.ensures.text told w) t
 
 pub returns-clause-read : goal.returns-clause-read
 returns-clause-read g c =
     let reader = reader_of g.R.Source.tells_coming g.R.Device.can_fail g.R.Source.coming in
-    Fails-merged reader c.args.tail c.args.sources.items (parts_of c.in_ok-merged.merged) c.report_merged.ensures.walks.0 c.report_merged.result
+    Fails-merged reader c.args.tail c.args.sources.items
+    (parts_of c.in_ok-merged.merged) c.report_merged.ensures.walks.0 c.report_merged.result
     c.in_ok-merged.ensures.unread c.report_merged.ensures.walks.1

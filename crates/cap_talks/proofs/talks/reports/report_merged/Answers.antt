@@ -8,10 +8,14 @@ use Rattle.cap_talks.proofs.talks.reports.report_merged.Goals as goal
 pub returns-clause-text : goal.returns-clause-text
 returns-clause-text g c = λ t w.
     let e = c.new-table.ensures in
-    subst (λ (q : ℕ × List Part). TellsReport q.0 q.1 (g.W.Sink.held c.args.writer.now) c.report_table.result (g.W.Sink.held c.report_table.new.writer))
+    subst (λ (q : ℕ × List Part). TellsReport q.0 q.1 (g.W.Sink.held c.args.writer.now) c.report_table.result
+    (g.W.Sink.held c.report_table.new.writer))
     (λ i. (e.files i, e.parts i)) (c.report_table.ensures.text (subst (λ q. IsTrue (feed_of q).told) (sym e.parts) t) w)
 
 pub returns-clause-walks : goal.returns-clause-walks
 returns-clause-walks g c =
-    let new = feed_of (table_of c.report_table.new.table).parts in
-    (new, subst (λ q. Walks (feed_of q) c.report_table.result new) c.new-table.ensures.parts c.report_table.ensures.walks)
+    let new = feed_of (table_of c.report_table.new.table).parts in (
+      new,
+      subst (λ q. Walks (feed_of q) c.report_table.result new) c.new-table.ensures.parts
+          c.report_table.ensures.walks,
+    )

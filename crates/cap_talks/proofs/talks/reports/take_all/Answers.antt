@@ -20,7 +20,8 @@ loop-preserved g c = grind (arith, Reporting-more)
 
 pub returns-clause-takes : goal.returns-clause-takes
 returns-clause-takes g c =
-    TakesAll-end _ _ _ c.in_ok-step.field-0 c.is_more.result c.loop.invariant c.in_ok-step.ensures.keeps c.in_ok-step.ensures.step c.is_more.ensures c.if-is_more.false
+    TakesAll-end _ _ _ c.in_ok-step.field-0 c.is_more.result c.loop.invariant c.in_ok-step.ensures.keeps
+    c.in_ok-step.ensures.step c.is_more.ensures c.if-is_more.false
 
 pub returns-clause-walks : goal.returns-clause-walks
 returns-clause-walks g c = grind arith

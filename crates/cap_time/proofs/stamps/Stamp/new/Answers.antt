@@ -20,10 +20,13 @@ pub returns-clause-time : goal.returns-clause-time
 returns-clause-time c = ap time_of (returns-clause-stamp c) ∙ time_of-stamp_in c.args.units c.args.interface.now
 
 pub returns-clause-printed : goal.returns-clause-printed
-returns-clause-printed c = ap printed_of (returns-clause-stamp c) ∙ printed_of-stamp_in c.args.units c.args.interface.now
+returns-clause-printed c = ap printed_of (returns-clause-stamp c)
+    ∙ printed_of-stamp_in c.args.units c.args.interface.now
 
 pub returns-clause-least : goal.returns-clause-least
-returns-clause-least c = subst (λ (s : Stamp). neg_ℤ (pos (2 ^ 63)) ≤ℤ seconds_of s) (sym (returns-clause-stamp c)) (least_in c.args.units c.args.interface.now (omega (arith, ints)))
+returns-clause-least c = subst (λ (s : Stamp). neg_ℤ (pos (2 ^ 63)) ≤ℤ seconds_of s) (sym (returns-clause-stamp c))
+    (least_in c.args.units c.args.interface.now (omega (arith, ints)))
 
 pub returns-clause-most : goal.returns-clause-most
-returns-clause-most c = subst (λ (s : Stamp). seconds_of s <ℤ pos (2 ^ 65)) (sym (returns-clause-stamp c)) (most_in c.args.units c.args.interface.now (omega arith) (omega (arith, ints)))
+returns-clause-most c = subst (λ (s : Stamp). seconds_of s <ℤ pos (2 ^ 65)) (sym (returns-clause-stamp c))
+    (most_in c.args.units c.args.interface.now (omega arith) (omega (arith, ints)))

@@ -6,7 +6,8 @@ use Rattle.cap_time.proofs.stamps.Stamp.plus_seconds.Goals as goal
 
 pub returns-clause-stamp : goal.returns-clause-stamp
 unfolding stamp_plus
-returns-clause-stamp c = same_stamp _ _ _ _ _ _ _ _ _ refl (grind (arith, c.from.ensures, c.from-2.ensures)) (omega (arith, ints, c.from.ensures, c.from-2.ensures))
+returns-clause-stamp c = same_stamp _ _ _ _ _ _ _ _ _ refl (grind (arith, c.from.ensures, c.from-2.ensures))
+    (omega (arith, ints, c.from.ensures, c.from-2.ensures))
 
 pub returns-clause-time : goal.returns-clause-time
 returns-clause-time c = ap time_of (returns-clause-stamp c) ∙ time_of-plus c.args.self c.args.seconds

@@ -17,7 +17,11 @@ invariant_of-result g c =
     }
 
 pub returns-clause-stands : goal.returns-clause-stands
-returns-clause-stands g c = record { totals = c.new-totals.ensures.stands; tally = c.new.ensures.stands (next_taken (parts_of c.args.merged)) }
+returns-clause-stands g c = record {
+  totals = c.new-totals.ensures.stands;
+  tally =
+      c.new.ensures.stands (next_taken (parts_of c.args.merged));
+}
 
 pub returns-clause-going : goal.returns-clause-going
 returns-clause-going g c = refl

@@ -10,7 +10,9 @@ use Rattle.cap_talks.specs.table.Stepping.{next_taken, clocked}
 use Rattle.cap_talks.specs.table.Taken.{Taken}
 use Rattle.cap_talks.specs.table.Tallies.{LimitBy, Stands}
 use Rattle.cap_talks.specs.table.CountedUnits.{is_limit_at}
-use Rattle.cap_talks.proofs.Stepping.{known-packet, known-end, faulted, stands-asked, next-is, first-asked, run-packet, run-end, of-file, is-left, found-packet, again-packet, again-end, again-fault, stayed, went}
+use Rattle.cap_talks.proofs.Stepping.{known-packet, known-end, faulted, stands-asked, next-is, first-asked, run-packet}
+use Rattle.cap_talks.proofs.Stepping.{run-end, of-file, is-left, found-packet, again-packet, again-end, again-fault}
+use Rattle.cap_talks.proofs.Stepping.{stayed, went}
 use Rattle.cap_merge.proofs.Numbers.{numbers-within}
 use Rattle.cap_talks.proofs.table.tables.Table.step.Goals as goal
 
@@ -23,7 +25,8 @@ returns-in_err-has_packet-clause-step g c =
     let e = c.in_err-has_packet.ensures in
     let t = c.args.self.now in
     let is = err_from_is_err_and c.from_residual.result c.from_residual.ensures.1 in
-    rw (is.1, is.2) (faulted t.totals t.tally t.done p q c.in_err-has_packet.field-0.0 law e.keeps e.answer e.items e.asks e.run)
+    rw (is.1, is.2) (faulted t.totals t.tally t.done p q c.in_err-has_packet.field-0.0 law e.keeps e.answer e.items
+    e.asks e.run)
 
 pub returns-then-not-branch-clause-step : goal.returns-then-not-branch-clause-step
 returns-then-not-branch-clause-step g c =
@@ -49,8 +52,9 @@ take-requires-in-Ok-clause-first g c =
     let p = parts_of c.args.self.now.merged in
     let q = parts_of m in
     let e = c.in_ok-has_packet.ensures in
-    let meta = c.next_packet-next.result.meta.now in
-    let known = known-packet (feed_of p) (feed_of q) c.in_ok-has_packet.field-0 meta c.if-not-branch.false e.answer c.next_packet-next.ensures.packet in
+    let meta = c.next_packet-packet.result.meta.now in
+    let known = known-packet (feed_of p) (feed_of q) c.in_ok-has_packet.field-0 meta c.if-not-branch.false e.answer
+    c.next_packet-packet.ensures.packet in
     let law = merged-is-feed m g.met.F.PacketFeed.lawful in
     let t = c.args.self.now in
     (numbers-within 1 (length t.totals.files) meta.file
@@ -62,8 +66,9 @@ take-requires-in-Ok-clause-last g c =
     let p = parts_of c.args.self.now.merged in
     let q = parts_of m in
     let e = c.in_ok-has_packet.ensures in
-    let meta = c.next_packet-next.result.meta.now in
-    let known = known-packet (feed_of p) (feed_of q) c.in_ok-has_packet.field-0 meta c.if-not-branch.false e.answer c.next_packet-next.ensures.packet in
+    let meta = c.next_packet-packet.result.meta.now in
+    let known = known-packet (feed_of p) (feed_of q) c.in_ok-has_packet.field-0 meta c.if-not-branch.false e.answer
+    c.next_packet-packet.ensures.packet in
     let law = merged-is-feed m g.met.F.PacketFeed.lawful in
     let t = c.args.self.now in
     omega (
@@ -78,8 +83,9 @@ take-requires-in-Ok-clause-few g c =
     let p = parts_of c.args.self.now.merged in
     let q = parts_of m in
     let e = c.in_ok-has_packet.ensures in
-    let meta = c.next_packet-next.result.meta.now in
-    let known = known-packet (feed_of p) (feed_of q) c.in_ok-has_packet.field-0 meta c.if-not-branch.false e.answer c.next_packet-next.ensures.packet in
+    let meta = c.next_packet-packet.result.meta.now in
+    let known = known-packet (feed_of p) (feed_of q) c.in_ok-has_packet.field-0 meta c.if-not-branch.false e.answer
+    c.next_packet-packet.ensures.packet in
     let law = merged-is-feed m g.met.F.PacketFeed.lawful in
     let t = c.args.self.now in
     omega (arith, t.counted, t.places, e.keeps.left, is-left (feed_of q) meta law known.known)
@@ -90,11 +96,13 @@ returns-in-Ok-clause-step g c =
     let p = parts_of c.args.self.now.merged in
     let q = parts_of m in
     let e = c.in_ok-has_packet.ensures in
-    let meta = c.next_packet-next.result.meta.now in
-    let known = known-packet (feed_of p) (feed_of q) c.in_ok-has_packet.field-0 meta c.if-not-branch.false e.answer c.next_packet-next.ensures.packet in
+    let meta = c.next_packet-packet.result.meta.now in
+    let known = known-packet (feed_of p) (feed_of q) c.in_ok-has_packet.field-0 meta c.if-not-branch.false e.answer
+    c.next_packet-packet.ensures.packet in
     let law = merged-is-feed m g.met.F.PacketFeed.lawful in
-    let x = taken c.next_packet-next.result.clock.now meta c.next_packet-next.result.frame.now in
-    let next = next-is q meta c.next_packet-next.result.clock.now c.next_packet-next.result.frame.now known.known c.next_packet-next.ensures.clock c.next_packet-next.ensures.frame in
+    let x = taken c.next_packet-packet.result.clock.now meta c.next_packet-packet.result.frame.now in
+    let next = next-is q meta c.next_packet-packet.result.clock.now c.next_packet-packet.result.frame.now known.known
+    c.next_packet-packet.ensures.clock c.next_packet-packet.ensures.frame in
     let after = parts_of c.pass.new.self in
     record {
       item = x;
@@ -102,15 +110,26 @@ returns-in-Ok-clause-step g c =
       left = omega (arith, c.pass.ensures.passes.left, e.keeps.left);
       run = λ t.
           let told = e.keeps.told t in
-          let first = run-packet p q meta c.next_packet-next.result.clock.now c.next_packet-next.result.frame.now law told known.known c.next_packet-next.ensures.frame (c.next_packet-next.ensures.run told) (e.run t) in
+          let first = run-packet p q meta c.next_packet-packet.result.clock.now c.next_packet-packet.result.frame.now
+          law told known.known c.next_packet-packet.ensures.frame (c.next_packet-packet.ensures.run told)
+          (e.run t) in
           first ∙ ap (λ l. clocked x ∷ l) (sym (c.pass.ensures.run told ∙ ap (drop 1) (e.run t)));
-      goes = record { before = known.goes.before; after = c.pass.ensures.passes.broken; failed = ap (λ (h : FeedHeld). h.failed) c.pass.ensures.passes.held ∙ known.goes.failed };
+      goes = record {
+        before = known.goes.before;
+        after = c.pass.ensures.passes.broken;
+        failed = ap (λ (h : FeedHeld). h.failed) c.pass.ensures.passes.held ∙ known.goes.failed;
+      };
       endings = λ t file. c.pass.ensures.passes.endings (e.keeps.told t) file ∙ (e.items t).endings file;
       stands = λ xs h.
           let asked = stands-asked c.args.self.now.tally p q xs e.asks h.tally in
           let now = subst (λ (n : Option Taken). Stands c.args.self.now.tally xs n) next asked in
-          let took = c.in-Ok.ensures.stands xs now in
-          (took.0, record { totals = c.take-in-Ok.ensures.stands c.next_packet-next.result.clock.now xs h.totals; tally = took.1 (next_taken after) });
+          let took = c.in-Ok.ensures.stands xs now in (
+            took.0,
+            record {
+              totals = c.take-in-Ok.ensures.stands c.next_packet-packet.result.clock.now xs h.totals;
+              tally = took.1 (next_taken after);
+            },
+          );
       going = refl;
     }
 
@@ -120,28 +139,34 @@ returns-in-Err-Limit-clause-step g c =
     let p = parts_of c.args.self.now.merged in
     let q = parts_of m in
     let e = c.in_ok-has_packet.ensures in
-    let meta = c.next_packet-next.result.meta.now in
-    let known = known-packet (feed_of p) (feed_of q) c.in_ok-has_packet.field-0 meta c.if-not-branch.false e.answer c.next_packet-next.ensures.packet in
+    let meta = c.next_packet-packet.result.meta.now in
+    let known = known-packet (feed_of p) (feed_of q) c.in_ok-has_packet.field-0 meta c.if-not-branch.false e.answer
+    c.next_packet-packet.ensures.packet in
     let law = merged-is-feed m g.met.F.PacketFeed.lawful in
-    let x = taken c.next_packet-next.result.clock.now meta c.next_packet-next.result.frame.now in
-    let next = next-is q meta c.next_packet-next.result.clock.now c.next_packet-next.result.frame.now known.known c.next_packet-next.ensures.clock c.next_packet-next.ensures.frame in
+    let x = taken c.next_packet-packet.result.clock.now meta c.next_packet-packet.result.frame.now in
+    let next = next-is q meta c.next_packet-packet.result.clock.now c.next_packet-packet.result.frame.now known.known
+    c.next_packet-packet.ensures.clock c.next_packet-packet.ensures.frame in
     let now = λ (xs : List Taken) (h : Stands c.args.self.now.tally xs (next_taken p)).
-    subst (λ (n : Option Taken). Stands c.args.self.now.tally xs n) next (stands-asked c.args.self.now.tally p q xs e.asks h) in
+    subst (λ (n : Option Taken). Stands c.args.self.now.tally xs n) next
+    (stands-asked c.args.self.now.tally p q xs e.asks h) in
     inr (record {
       item = x;
       is = c.talk_limit.ensures;
       first = first-asked p q x e.asks next;
       next = next;
       run = λ t.
-          run-packet p q meta c.next_packet-next.result.clock.now c.next_packet-next.result.frame.now law (e.keeps.told t) known.known c.next_packet-next.ensures.frame
-          (c.next_packet-next.ensures.run (e.keeps.told t)) (e.run t);
+          run-packet p q meta c.next_packet-packet.result.clock.now c.next_packet-packet.result.frame.now law
+          (e.keeps.told t) known.known c.next_packet-packet.ensures.frame
+          (c.next_packet-packet.ensures.run (e.keeps.told t)) (e.run t);
       same = λ t. record { run = e.run t; endings = (e.items t).endings };
       goes = known.goes;
-      limit = λ xs h. subst (λ f. LimitBy (Err f) (is_limit_at xs x)) c.in-Err-Limit.field-0-is (c.in-Err-Limit.ensures.limit xs (now xs h.tally));
+      limit = λ xs h. subst (λ f. LimitBy (Err f) (is_limit_at xs x)) c.in-Err-Limit.field-0-is
+          (c.in-Err-Limit.ensures.limit xs (now xs h.tally));
       stays = record {
         stands = λ xs h. record {
           totals = h.totals;
-          tally = subst (λ (n : Option Taken). Stands c.take.new.self xs n) (sym next) (c.in-Err-Limit.ensures.err xs (now xs h.tally));
+          tally = subst (λ (n : Option Taken). Stands c.take.new.self xs n) (sym next)
+              (c.in-Err-Limit.ensures.err xs (now xs h.tally));
         };
         going = refl;
       };
@@ -153,13 +178,16 @@ returns-in-Err-Memory-clause-step g c =
     let p = parts_of c.args.self.now.merged in
     let q = parts_of m in
     let e = c.in_ok-has_packet.ensures in
-    let meta = c.next_packet-next.result.meta.now in
-    let known = known-packet (feed_of p) (feed_of q) c.in_ok-has_packet.field-0 meta c.if-not-branch.false e.answer c.next_packet-next.ensures.packet in
+    let meta = c.next_packet-packet.result.meta.now in
+    let known = known-packet (feed_of p) (feed_of q) c.in_ok-has_packet.field-0 meta c.if-not-branch.false e.answer
+    c.next_packet-packet.ensures.packet in
     let law = merged-is-feed m g.met.F.PacketFeed.lawful in
-    let x = taken c.next_packet-next.result.clock.now meta c.next_packet-next.result.frame.now in
-    let next = next-is q meta c.next_packet-next.result.clock.now c.next_packet-next.result.frame.now known.known c.next_packet-next.ensures.clock c.next_packet-next.ensures.frame in
+    let x = taken c.next_packet-packet.result.clock.now meta c.next_packet-packet.result.frame.now in
+    let next = next-is q meta c.next_packet-packet.result.clock.now c.next_packet-packet.result.frame.now known.known
+    c.next_packet-packet.ensures.clock c.next_packet-packet.ensures.frame in
     let now = λ (xs : List Taken) (h : Stands c.args.self.now.tally xs (next_taken p)).
-    subst (λ (n : Option Taken). Stands c.args.self.now.tally xs n) next (stands-asked c.args.self.now.tally p q xs e.asks h) in
+    subst (λ (n : Option Taken). Stands c.args.self.now.tally xs n) next
+    (stands-asked c.args.self.now.tally p q xs e.asks h) in
     record {
       cause = inr (record { item = x; next = next; kept = λ xs h. c.in-Err-Memory.ensures.grows xs (now xs h.tally) });
       same = λ t. record { run = e.run t; endings = (e.items t).endings };
@@ -168,7 +196,11 @@ returns-in-Err-Memory-clause-step g c =
         stands = λ xs h.
             let asked = stands-asked c.args.self.now.tally p q xs e.asks h.tally in
             let now = subst (λ (n : Option Taken). Stands c.args.self.now.tally xs n) next asked in
-            record { totals = h.totals; tally = subst (λ (n : Option Taken). Stands c.take.new.self xs n) (sym next) (c.in-Err-Memory.ensures.err xs now) };
+            record {
+              totals = h.totals;
+              tally = subst (λ (n : Option Taken). Stands c.take.new.self xs n) (sym next)
+                  (c.in-Err-Memory.ensures.err xs now);
+            };
         going = refl;
       };
     }
@@ -194,8 +226,8 @@ pub returns-then-not-branch-clause-again : goal.returns-then-not-branch-clause-a
 returns-then-not-branch-clause-again g c =
     again-end _ _ (known-end _ _ _ c.if-not-branch.true c.in_ok-has_packet.ensures.answer)
 
-pub next_packet-next-requires : goal.next_packet-next-requires
-next_packet-next-requires g c =
+pub next_packet-packet-requires : goal.next_packet-packet-requires
+next_packet-packet-requires g c =
     found-packet _ _ _ c.if-not-branch.false c.in_ok-has_packet.ensures.answer
 
 pub pass-requires : goal.pass-requires

@@ -21,12 +21,15 @@ returns-in_err-put_files-clause-text g c = λ xs stands w.
     let endings = if t.done then Some (feed_of (parts_of t.merged)).endings else None in
     let ended = c.as_slice.result.now in
     let file_lines = files_text (length ended) ++ counted_texts 1 ended in
-    let ended_is = rw (ap (ended_from endings 1) c.files.ensures.files) at (c.as_slice.ensures.value ∙ c.with_endings-counted.ensures) in
+    let ended_is = rw (ap (ended_from endings 1) c.files.ensures.files) at (c.as_slice.ensures.value
+    ∙ c.with_endings-counted.ensures) in
     let rest = total_text t.totals.packets t.totals.bytes t.totals.truncated ++ tally_text t.tally in
     rw (p.1, p.2)
-    (subst (λ text. Prints {A = Unit {0}} text None (g.W.Sink.held c.args.writer.now) (Err c.in_err-put_files.field-0.0) (g.W.Sink.held c.put_files.new.writer))
+    (subst (λ text. Prints {A = Unit {0}} text None (g.W.Sink.held c.args.writer.now) (Err c.in_err-put_files.field-0.0)
+    (g.W.Sink.held c.put_files.new.writer))
     (text-is endings t.totals t.tally xs (next_taken (parts_of t.merged)) ended stands.totals stands.tally ended_is)
-    (prints-first (g.W.Sink.held c.args.writer.now) (g.W.Sink.held c.put_files.new.writer) file_lines rest c.in_err-put_files.field-0.0 c.in_err-put_files.ensures.fault
+    (prints-first (g.W.Sink.held c.args.writer.now)
+    (g.W.Sink.held c.put_files.new.writer) file_lines rest c.in_err-put_files.field-0.0 c.in_err-put_files.ensures.fault
     (c.in_err-put_files.ensures.text w)))
 
 pub returns-in_err-put_all-clause-text : goal.returns-in_err-put_all-clause-text
@@ -36,16 +39,21 @@ returns-in_err-put_all-clause-text g c = λ xs stands w.
     let endings = if t.done then Some (feed_of (parts_of t.merged)).endings else None in
     let ended = c.as_slice.result.now in
     let file_lines = files_text (length ended) ++ counted_texts 1 ended in
-    let ended_is = rw (ap (ended_from endings 1) c.files.ensures.files) at (c.as_slice.ensures.value ∙ c.with_endings-counted.ensures) in
+    let ended_is = rw (ap (ended_from endings 1) c.files.ensures.files) at (c.as_slice.ensures.value
+    ∙ c.with_endings-counted.ensures) in
     let total = total_text t.totals.packets t.totals.bytes t.totals.truncated in
-    let line_is = c.as_slice-2.ensures.value ∙ c.total_line-line.ensures ∙ (λ i. total_text (c.packets.ensures i) (c.bytes.ensures i) (c.truncated.ensures i)) in
+    let line_is = c.as_slice-2.ensures.value ∙ c.total_line-line.ensures
+    ∙ (λ i. total_text (c.packets.ensures i) (c.bytes.ensures i) (c.truncated.ensures i)) in
     let e = c.in_ok-put_files.ensures in
     rw (p.1, p.2)
-    (subst (λ text. Prints {A = Unit {0}} text None (g.W.Sink.held c.args.writer.now) (Err c.in_err-put_all.field-0.0) (g.W.Sink.held c.put_all.new.writer))
+    (subst (λ text. Prints {A = Unit {0}} text None (g.W.Sink.held c.args.writer.now) (Err c.in_err-put_all.field-0.0)
+    (g.W.Sink.held c.put_all.new.writer))
     (text-is endings t.totals t.tally xs (next_taken (parts_of t.merged)) ended stands.totals stands.tally ended_is)
-    (Prints-behind None (g.W.Sink.held c.args.writer.now) (g.W.Sink.held c.put_files.new.writer) (g.W.Sink.held c.put_all.new.writer) file_lines (total ++ tally_text t.tally)
+    (Prints-behind None (g.W.Sink.held c.args.writer.now) (g.W.Sink.held c.put_files.new.writer)
+    (g.W.Sink.held c.put_all.new.writer) file_lines (total ++ tally_text t.tally)
     (Err c.in_err-put_all.field-0.0) (e.text w).1
-    (Prints-head None (g.W.Sink.held c.put_files.new.writer) (g.W.Sink.held c.put_all.new.writer) total (tally_text t.tally) c.in_err-put_all.field-0.0 c.in_err-put_all.ensures.fault
+    (Prints-head None (g.W.Sink.held c.put_files.new.writer) (g.W.Sink.held c.put_all.new.writer) total
+    (tally_text t.tally) c.in_err-put_all.field-0.0 c.in_err-put_all.ensures.fault
     (rw line_is at (c.in_err-put_all.ensures.bytes (e.writer.told w))))))
 
 pub returns-clause-text : goal.returns-clause-text
@@ -54,14 +62,19 @@ returns-clause-text g c = λ xs stands w.
     let endings = if t.done then Some (feed_of (parts_of t.merged)).endings else None in
     let ended = c.as_slice.result.now in
     let file_lines = files_text (length ended) ++ counted_texts 1 ended in
-    let ended_is = rw (ap (ended_from endings 1) c.files.ensures.files) at (c.as_slice.ensures.value ∙ c.with_endings-counted.ensures) in
+    let ended_is = rw (ap (ended_from endings 1) c.files.ensures.files) at (c.as_slice.ensures.value
+    ∙ c.with_endings-counted.ensures) in
     let total = total_text t.totals.packets t.totals.bytes t.totals.truncated in
-    let line_is = c.as_slice-2.ensures.value ∙ c.total_line-line.ensures ∙ (λ i. total_text (c.packets.ensures i) (c.bytes.ensures i) (c.truncated.ensures i)) in
+    let line_is = c.as_slice-2.ensures.value ∙ c.total_line-line.ensures
+    ∙ (λ i. total_text (c.packets.ensures i) (c.bytes.ensures i) (c.truncated.ensures i)) in
     let e = c.in_ok-put_files.ensures in
     let f = c.in_ok-put_all.ensures in
-    subst (λ text. Prints {A = Unit {0}} text None (g.W.Sink.held c.args.writer.now) c.put_lines.result (g.W.Sink.held c.put_lines.new.writer))
+    subst (λ text. Prints {A = Unit {0}} text None (g.W.Sink.held c.args.writer.now) c.put_lines.result
+    (g.W.Sink.held c.put_lines.new.writer))
     (text-is endings t.totals t.tally xs (next_taken (parts_of t.merged)) ended stands.totals stands.tally ended_is)
-    (Prints-behind None (g.W.Sink.held c.args.writer.now) (g.W.Sink.held c.put_files.new.writer) (g.W.Sink.held c.put_lines.new.writer) file_lines (total ++ tally_text t.tally)
+    (Prints-behind None (g.W.Sink.held c.args.writer.now) (g.W.Sink.held c.put_files.new.writer)
+    (g.W.Sink.held c.put_lines.new.writer) file_lines (total ++ tally_text t.tally)
     c.put_lines.result (e.text w).1
-    (Prints-behind None (g.W.Sink.held c.put_files.new.writer) (g.W.Sink.held c.put_all.new.writer) (g.W.Sink.held c.put_lines.new.writer) total (tally_text t.tally) c.put_lines.result
+    (Prints-behind None (g.W.Sink.held c.put_files.new.writer) (g.W.Sink.held c.put_all.new.writer)
+    (g.W.Sink.held c.put_lines.new.writer) total (tally_text t.tally) c.put_lines.result
     (rw line_is at (f.bytes (e.writer.told w))) (c.put_lines.ensures.text (f.writer.told (e.writer.told w)))))

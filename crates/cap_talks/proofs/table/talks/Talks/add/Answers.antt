@@ -8,7 +8,8 @@ use Rattle.cap_talks.proofs.table.talks.Talks.add.Goals as goal
 pub invariant_of-self : goal.invariant_of-self
 invariant_of-self c = record {
   few = search (few-kept);
-  order = order-kept c.add_unit.result _ _ c.args.unit.now c.add_unit.ensures.entries c.add_unit.ensures.err c.requires.unit.order c.self.invariant.order;
+  order = order-kept c.add_unit.result _ _ c.args.unit.now c.add_unit.ensures.entries c.add_unit.ensures.err
+      c.requires.unit.order c.self.invariant.order;
   keys = c.add_unit.ensures.keys;
 }
 

@@ -14,11 +14,15 @@ returns-in_err-put_counts-clause-text g c = λ w.
     let p = err_from_is_err_and c.from_residual.result c.from_residual.ensures.1 in
     let t = c.self.inside in
     rw (p.1, p.2)
-    (subst (λ (n : TallyState). Prints {A = Unit {0}} (tally_text n) None (g.W.Sink.held c.args.writer.now) (Err c.in_err-put_counts.field-0.0) (g.W.Sink.held c.put_counts.new.writer)) c.self.view_is
+    (subst (λ (n : TallyState). Prints {A = Unit {0}} (tally_text n) None (g.W.Sink.held c.args.writer.now)
+    (Err c.in_err-put_counts.field-0.0) (g.W.Sink.held c.put_counts.new.writer)) c.self.view_is
     (prints-first (g.W.Sink.held c.args.writer.now) (g.W.Sink.held c.put_counts.new.writer)
-    (frames_text t.classes ++ joined_text t.joined t.joiner.given_up) (talks_text (length t.talks.rows) ++ talk_texts t.talks.rows)
+    (frames_text t.classes ++ joined_text t.joined t.joiner.given_up)
+    (talks_text (length t.talks.rows) ++ talk_texts t.talks.rows)
     c.in_err-put_counts.field-0.0 c.in_err-put_counts.ensures.fault
-    (subst (λ n. Prints {A = Unit {0}} (frames_text t.classes ++ joined_text t.joined n) None (g.W.Sink.held c.args.writer.now) (Err c.in_err-put_counts.field-0.0) (g.W.Sink.held c.put_counts.new.writer)) c.given_up.ensures.value (c.in_err-put_counts.ensures.text w))))
+    (subst (λ n. Prints {A = Unit {0}} (frames_text t.classes ++ joined_text t.joined n) None
+    (g.W.Sink.held c.args.writer.now) (Err c.in_err-put_counts.field-0.0) (g.W.Sink.held c.put_counts.new.writer))
+    c.given_up.ensures.value (c.in_err-put_counts.ensures.text w))))
 
 pub returns-clause-text : goal.returns-clause-text
 unfolding tally_text
@@ -26,6 +30,9 @@ returns-clause-text g c = λ w.
     let t = c.self.inside in
     let e = c.in_ok-put_counts.ensures in
     rw (← c.self.view_is)
-    (Prints-behind None (g.W.Sink.held c.args.writer.now) (g.W.Sink.held c.put_counts.new.writer) (g.W.Sink.held c.put_talks.new.writer)
-    (frames_text t.classes ++ joined_text t.joined t.joiner.given_up) (talks_text (length t.talks.rows) ++ talk_texts t.talks.rows)
-    c.put_talks.result (rw (ap (joined_text t.joined) c.given_up.ensures.value) at ((e.text w).1)) (c.put_talks.ensures.text (e.writer.told w)))
+    (Prints-behind None (g.W.Sink.held c.args.writer.now) (g.W.Sink.held c.put_counts.new.writer)
+    (g.W.Sink.held c.put_talks.new.writer)
+    (frames_text t.classes ++ joined_text t.joined t.joiner.given_up)
+    (talks_text (length t.talks.rows) ++ talk_texts t.talks.rows)
+    c.put_talks.result (rw (ap (joined_text t.joined) c.given_up.ensures.value) at ((e.text w).1))
+    (c.put_talks.ensures.text (e.writer.told w)))

@@ -8,8 +8,10 @@ use Rattle.cap_talks.specs.declared.table.talks.TalksFault.{TalksFault}
 use Rattle.cap_talks.proofs.table.tallies.Tally.take.Goals as goal
 
 -- a datagram that waited, of the packet
-taken_on : (old mid new : TallyState) (x : Taken) (result : Result (Unit {0}) TalksFault) → ((xs : List Taken) → Stands old xs (Some x) → Stands mid xs (Some x))
-    → OnOk result ((xs : List Taken) (y : Taken) → Stands mid xs (Some y) → (is_limit_at xs y ≡ false) × ((next : Option Taken) → Stands new (y ∷ xs) next))
+taken_on : (old mid new : TallyState) (x : Taken) (result : Result (Unit {0}) TalksFault)
+    → ((xs : List Taken) → Stands old xs (Some x) → Stands mid xs (Some x))
+    → OnOk result ((xs : List Taken) (y : Taken) → Stands mid xs (Some y) → (is_limit_at xs y ≡ false)
+    × ((next : Option Taken) → Stands new (y ∷ xs) next))
     → OnOk result (Looks old x false new)
 taken_on old mid new x (Ok u) f h = λ xs s. h xs x (f xs s)
 taken_on old mid new x (Err e) f h = tt
@@ -18,10 +20,18 @@ pub returns-then-is_waiting-clause-stands : goal.returns-then-is_waiting-clause-
 returns-then-is_waiting-clause-stands c = grind (arith, taken_on, c.take_waiting.ensures.stands)
 
 pub returns-then-branch-clause-stands : goal.returns-then-branch-clause-stands
-returns-then-branch-clause-stands c = grind (arith, taken_on, c.if-branch.true, c.in_ok-look_again.ensures.looks, c.take_waiting-then-branch.ensures.stands)
+returns-then-branch-clause-stands c =
+    grind (
+      arith,
+      taken_on,
+      c.if-branch.true,
+      c.in_ok-take_other.ensures.looks,
+      c.take_waiting-then-branch.ensures.stands,
+    )
 
 -- a packet of which something is kept
-kept_on : (old mid : TallyState) (x : Taken) (result : Result (Unit {0}) TalksFault) → ((xs : List Taken) → Stands old xs (Some x) → Stands mid xs (Some x))
+kept_on : (old mid : TallyState) (x : Taken) (result : Result (Unit {0}) TalksFault)
+    → ((xs : List Taken) → Stands old xs (Some x) → Stands mid xs (Some x))
     → OnErr result ((xs : List Taken) (y : Taken) → Stands mid xs (Some y) → is_plain (look (length xs) y) ≡ false)
     → OnErr result ((xs : List Taken) → Stands old xs (Some x) → is_plain (look (length xs) x) ≡ false)
 kept_on old mid x (Ok u) f h = tt
@@ -31,4 +41,5 @@ pub returns-then-is_waiting-clause-grows : goal.returns-then-is_waiting-clause-g
 returns-then-is_waiting-clause-grows c = grind (arith, kept_on, c.take_waiting.ensures.grows)
 
 pub returns-then-branch-clause-grows : goal.returns-then-branch-clause-grows
-returns-then-branch-clause-grows c = grind (arith, kept_on, c.if-branch.true, c.in_ok-look_again.ensures.looks, c.take_waiting-then-branch.ensures.grows)
+returns-then-branch-clause-grows c =
+    grind (arith, kept_on, c.if-branch.true, c.in_ok-take_other.ensures.looks, c.take_waiting-then-branch.ensures.grows)

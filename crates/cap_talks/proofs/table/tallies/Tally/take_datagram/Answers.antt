@@ -13,7 +13,8 @@ use Rattle.cap_talks.specs.table.TallyView.{tally_view}
 use Rattle.cap_talks.specs.table.CountedUnits.{listed, whole_unit}
 use Rattle.cap_talks.proofs.Tallying.{unit-is}
 use Rattle.cap_talks.proofs.UnitOrder.{whole-order}
-use Rattle.cap_talks.proofs.Exits.{sum-taken, frames-taken, looks-datagram, sound-datagram, numbers-whole, limit-is, limit-by}
+use Rattle.cap_talks.proofs.Exits.{sum-taken, frames-taken, looks-datagram, sound-datagram, numbers-whole, limit-is}
+use Rattle.cap_talks.proofs.Exits.{limit-by}
 use Rattle.cap_talks.proofs.table.tallies.Tally.take_datagram.Goals as goal
 
 pub add_unit-requires-clause-frames : goal.add_unit-requires-clause-frames
@@ -22,7 +23,13 @@ add_unit-requires-clause-frames c =
     let s = c.self.invariant in
     let original : c.stamped_of-stamped.result.original < 4294967296 = search rules in
     let one = numbers-whole c.args.header c.args.captured.now c.stamped_of-stamped.result original in
-    omega (arith, one.0, ap (λ u. frames_of (listed u)) c.whole_unit.ensures, frames-taken t s.taken s.next (λ us. (sum_law us).frames) s.stands, s.few)
+    omega (
+      arith,
+      one.0,
+      ap (λ u. frames_of (listed u)) c.whole_unit.ensures,
+      frames-taken t s.taken s.next (λ us. (sum_law us).frames) s.stands,
+      s.few,
+    )
 
 pub add_unit-requires-clause-bytes : goal.add_unit-requires-clause-bytes
 add_unit-requires-clause-bytes c =
@@ -30,10 +37,19 @@ add_unit-requires-clause-bytes c =
     let s = c.self.invariant in
     let original : c.stamped_of-stamped.result.original < 4294967296 = search rules in
     let one = numbers-whole c.args.header c.args.captured.now c.stamped_of-stamped.result original in
-    omega (arith, one.0, one.1, ap (λ u. bytes_of (listed u)) c.whole_unit.ensures, s.bytes, frames-taken t s.taken s.next (λ us. (sum_law us).frames) s.stands, s.few)
+    omega (
+      arith,
+      one.0,
+      one.1,
+      ap (λ u. bytes_of (listed u)) c.whole_unit.ensures,
+      s.bytes,
+      frames-taken t s.taken s.next (λ us. (sum_law us).frames) s.stands,
+      s.few,
+    )
 
 pub add_unit-requires-clause-unit : goal.add_unit-requires-clause-unit
-add_unit-requires-clause-unit c = rw c.whole_unit.ensures (whole-order c.args.header c.args.captured.now c.stamped_of-stamped.result)
+add_unit-requires-clause-unit c = rw c.whole_unit.ensures
+    (whole-order c.args.header c.args.captured.now c.stamped_of-stamped.result)
 
 pub returns-in_err-add_unit-clause-limit : goal.returns-in_err-add_unit-clause-limit
 returns-in_err-add_unit-clause-limit c =
@@ -42,12 +58,14 @@ returns-in_err-add_unit-clause-limit c =
     let x = taken_of c.args.packet in
     rw (p.1, p.2, ← c.self.view_is) (λ xs h.
     limit-by c.in_err-add_unit.field-0.0 _ _
-    (limit-is t x xs (Some x) (whole_unit c.args.header c.args.captured.now (stamped_of t.place c.args.packet.meta.now)) h
+    (limit-is t x xs (Some x) (whole_unit c.args.header c.args.captured.now
+    (stamped_of t.place c.args.packet.meta.now)) h
     (unit-is x xs (datagram c.args.header c.args.captured.now)
     (c.requires.look (length xs))
     ∙ ap (λ (n : ℕ). whole_unit c.args.header c.args.captured.now (stamped_of n c.args.packet.meta.now)) (sym h.place)))
     (subst (λ u. LimitBy (Err c.in_err-add_unit.field-0.0) (is_over t.talks.rows u))
-    (c.whole_unit.ensures ∙ ap (whole_unit c.args.header c.args.captured.now) c.stamped_of-stamped.ensures) c.in_err-add_unit.ensures.limit))
+    (c.whole_unit.ensures ∙ ap (whole_unit c.args.header c.args.captured.now) c.stamped_of-stamped.ensures)
+    c.in_err-add_unit.ensures.limit))
 
 pub count_frames-requires : goal.count_frames-requires
 count_frames-requires c =
@@ -72,9 +90,18 @@ invariant_of-self-2 c =
     (λ us stands. subst (λ u. StandsFor c.add_unit.new.talks (us ++ listed u)) unit (e.stands us stands))
     (λ es stands. search rules)
     _ (c.count_frames.ensures
-    ∙ (λ i. with_frames ((c.class_of.ensures ∙ ap class_of (c.transport-seen.ensures ∙ (λ j. transport_of (c.key.ensures j).protocol captured (c.data_length.ensures.value j)))) i) 1 t.classes))
+    ∙ (λ i. with_frames ((c.class_of.ensures ∙ ap class_of (c.transport-seen.ensures
+    ∙ (λ j. transport_of (c.key.ensures j).protocol captured (c.data_length.ensures.value j)))) i) 1 t.classes))
     s (omega (arith, c.requires.few, ap (λ (n : TallyState). n.place) c.self.view_is)) (search rules)
-    (omega (arith, e.frames, e.bytes, s.bytes, one.1, ap (λ u. bytes_of (listed u)) c.whole_unit.ensures, ap (λ u. frames_of (listed u)) c.whole_unit.ensures))
+    (omega (
+      arith,
+      e.frames,
+      e.bytes,
+      s.bytes,
+      one.1,
+      ap (λ u. bytes_of (listed u)) c.whole_unit.ensures,
+      ap (λ u. frames_of (listed u)) c.whole_unit.ensures,
+    ))
 
 pub returns-clause-looks : goal.returns-clause-looks
 returns-clause-looks c =
@@ -91,7 +118,8 @@ returns-clause-looks c =
     (λ us stands. subst (λ u. StandsFor c.add_unit.new.talks (us ++ listed u)) unit (e.stands us stands))
     (λ es stands. search rules)
     _ (c.count_frames.ensures
-    ∙ (λ i. with_frames ((c.class_of.ensures ∙ ap class_of (c.transport-seen.ensures ∙ (λ j. transport_of (c.key.ensures j).protocol captured (c.data_length.ensures.value j)))) i) 1 t.classes))
+    ∙ (λ i. with_frames ((c.class_of.ensures ∙ ap class_of (c.transport-seen.ensures
+    ∙ (λ j. transport_of (c.key.ensures j).protocol captured (c.data_length.ensures.value j)))) i) 1 t.classes))
     (sym (ap (is_over t.talks.rows) unit) ∙ e.limit))
 
 pub returns-in_err-add_unit-clause-grows : goal.returns-in_err-add_unit-clause-grows

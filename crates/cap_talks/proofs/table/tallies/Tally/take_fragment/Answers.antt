@@ -1,11 +1,10 @@
-use Rattle.std.proofs.Common.{rules, ℕ, ◌∷◌, length, ap, ◌∙◌, subst, arith}
-use Rattle.std.proofs.lemmas.Result.{err_from_is_err_and}
+use Rattle.std.proofs.Common.{rules, ℕ, ◌∷◌, ap, ◌∙◌, subst, arith}
 use Rattle.cap_join.specs.Fitting.{FitsPut}
 use Rattle.cap_join.specs.Fragments.{piece_of}
 use Rattle.cap_join.specs.History.{arrives, joined_pieces, state_of}
 use Rattle.cap_join.specs.Joiners.{IsAnswer, open_limit}
 use Rattle.cap_join.specs.Joiners as joiners
-use Rattle.cap_talks.specs.table.Looking.{is_plain, taken_of}
+use Rattle.cap_talks.specs.table.Looking.{taken_of}
 use Rattle.cap_talks.specs.table.Taken.{stamped_of}
 use Rattle.cap_talks.specs.table.Tallies.{TallyState}
 use Rattle.cap_talks.specs.table.TallyView.{tally_view}
@@ -15,68 +14,83 @@ use Rattle.cap_talks.proofs.table.tallies.Tally.take_fragment.Goals as goal
 pub with_frames-self-inside-requires : goal.with_frames-self-inside-requires
 with_frames-self-inside-requires c = search (rules, sum-taken)
 
-pub invariant_of-self-in-Kept : goal.invariant_of-self-in-Kept
-invariant_of-self-in-Kept c =
+pub invariant_of-self : goal.invariant_of-self
+invariant_of-self c =
     let t = tally_view c.self.inside in
     let x = taken_of c.args.packet in
-    let e = c.in_ok-put_fragment.ensures in
+    let e = c.in-Ok-Kept.ensures in
     let p = λ (place : ℕ). piece_of c.args.header c.args.bytes.now (stamped_of place c.args.packet.meta.now) in
     let own = c.stamped_of-stamped.ensures in
     sound-kept t x (ap (λ (n : TallyState). n.waiting) c.self.view_is ∙ c.requires.none) p
     c.requires.look
-    c.put_fragment.new.joiner
-    (λ es stands. subst (λ s. joiners.StandsFor c.put_fragment.new.joiner (arrives c.args.packet.clock.now (piece_of c.args.header c.args.bytes.now s) ∷ es)) own (e.stands es stands))
-    (λ es stands. kept-of _ (joined_pieces c.args.packet.clock.now (p t.place) (state_of open_limit es)) c.in-Kept.is (subst (λ s. IsAnswer c.in_ok-put_fragment.field-0 (joined_pieces c.args.packet.clock.now (piece_of c.args.header c.args.bytes.now s) (state_of open_limit es))) own (e.answer es stands)))
+    c.put.new.self
+    (λ es stands. subst (λ s. joiners.StandsFor c.put.new.self
+    (arrives c.args.packet.clock.now (piece_of c.args.header c.args.bytes.now s) ∷ es)) own (e.stands es stands))
+    (λ es stands. kept-of _ (joined_pieces c.args.packet.clock.now (p t.place) (state_of open_limit es))
+    c.in-Ok-Kept.field-0-is
+    (subst (λ s. IsAnswer c.in-Ok-Kept.field-0
+    (joined_pieces c.args.packet.clock.now (piece_of c.args.header c.args.bytes.now s) (state_of open_limit es))) own
+    (e.answer es stands)))
     _ c.with_frames-self-inside.ensures
     c.self.invariant (omega (arith, c.requires.few, ap (λ (n : TallyState). n.place) c.self.view_is))
     (omega (arith, e.next, ap (λ s. s.place) own))
 
-pub returns-in-Kept-clause-looks : goal.returns-in-Kept-clause-looks
-returns-in-Kept-clause-looks c =
+pub returns-in-Ok-Kept-clause-looks : goal.returns-in-Ok-Kept-clause-looks
+returns-in-Ok-Kept-clause-looks c =
     let t = tally_view c.self.inside in
     let x = taken_of c.args.packet in
-    let e = c.in_ok-put_fragment.ensures in
+    let e = c.in-Ok-Kept.ensures in
     let p = λ (place : ℕ). piece_of c.args.header c.args.bytes.now (stamped_of place c.args.packet.meta.now) in
     let own = c.stamped_of-stamped.ensures in
     rw (← c.self.view_is)
     (looks-kept t x (ap (λ (n : TallyState). n.waiting) c.self.view_is ∙ c.requires.none) p
     c.requires.look
-    c.put_fragment.new.joiner
-    (λ es stands. subst (λ s. joiners.StandsFor c.put_fragment.new.joiner (arrives c.args.packet.clock.now (piece_of c.args.header c.args.bytes.now s) ∷ es)) own (e.stands es stands))
-    (λ es stands. kept-of _ (joined_pieces c.args.packet.clock.now (p t.place) (state_of open_limit es)) c.in-Kept.is (subst (λ s. IsAnswer c.in_ok-put_fragment.field-0 (joined_pieces c.args.packet.clock.now (piece_of c.args.header c.args.bytes.now s) (state_of open_limit es))) own (e.answer es stands)))
+    c.put.new.self
+    (λ es stands. subst (λ s. joiners.StandsFor c.put.new.self
+    (arrives c.args.packet.clock.now (piece_of c.args.header c.args.bytes.now s) ∷ es)) own (e.stands es stands))
+    (λ es stands. kept-of _ (joined_pieces c.args.packet.clock.now (p t.place) (state_of open_limit es))
+    c.in-Ok-Kept.field-0-is
+    (subst (λ s. IsAnswer c.in-Ok-Kept.field-0
+    (joined_pieces c.args.packet.clock.now (piece_of c.args.header c.args.bytes.now s) (state_of open_limit es))) own
+    (e.answer es stands)))
     _ c.with_frames-self-inside.ensures)
 
-pub invariant_of-self-in-Joined : goal.invariant_of-self-in-Joined
-invariant_of-self-in-Joined c =
+pub invariant_of-self-in-Ok-Joined : goal.invariant_of-self-in-Ok-Joined
+invariant_of-self-in-Ok-Joined c =
     let t = tally_view c.self.inside in
     let x = taken_of c.args.packet in
-    let e = c.in_ok-put_fragment.ensures in
+    let e = c.in-Ok-Joined.ensures in
     let p = λ (place : ℕ). piece_of c.args.header c.args.bytes.now (stamped_of place c.args.packet.meta.now) in
     let own = c.stamped_of-stamped.ensures in
     sound-waiting t x (ap (λ (n : TallyState). n.waiting) c.self.view_is ∙ c.requires.none) p
     c.requires.look
-    c.put_fragment.new.joiner
-    (λ es stands. subst (λ s. joiners.StandsFor c.put_fragment.new.joiner (arrives c.args.packet.clock.now (piece_of c.args.header c.args.bytes.now s) ∷ es)) own (e.stands es stands))
-    c.in-Joined.datagram
-    (λ es stands. joined-of _ c.in-Joined.datagram (joined_pieces c.args.packet.clock.now (p t.place) (state_of open_limit es)) c.in-Joined.is (subst (λ s. IsAnswer c.in_ok-put_fragment.field-0 (joined_pieces c.args.packet.clock.now (piece_of c.args.header c.args.bytes.now s) (state_of open_limit es))) own (e.answer es stands)))
-    c.self.invariant (omega (arith, e.next, ap (λ s. s.place) own)) (subst FitsPut c.in-Joined.is e.fits)
+    c.put.new.self
+    (λ es stands. subst (λ s. joiners.StandsFor c.put.new.self
+    (arrives c.args.packet.clock.now (piece_of c.args.header c.args.bytes.now s) ∷ es)) own (e.stands es stands))
+    c.in-Ok-Joined.datagram
+    (λ es stands. joined-of _ c.in-Ok-Joined.datagram
+    (joined_pieces c.args.packet.clock.now (p t.place) (state_of open_limit es)) c.in-Ok-Joined.field-0-is
+    (subst (λ s. IsAnswer c.in-Ok-Joined.field-0
+    (joined_pieces c.args.packet.clock.now (piece_of c.args.header c.args.bytes.now s) (state_of open_limit es))) own
+    (e.answer es stands)))
+    c.self.invariant (omega (arith, e.next, ap (λ s. s.place) own)) (subst FitsPut c.in-Ok-Joined.field-0-is e.fits)
 
-pub returns-in-Joined-clause-looks : goal.returns-in-Joined-clause-looks
-returns-in-Joined-clause-looks c =
+pub returns-in-Ok-Joined-clause-looks : goal.returns-in-Ok-Joined-clause-looks
+returns-in-Ok-Joined-clause-looks c =
     let t = tally_view c.self.inside in
     let x = taken_of c.args.packet in
-    let e = c.in_ok-put_fragment.ensures in
+    let e = c.in-Ok-Joined.ensures in
     let p = λ (place : ℕ). piece_of c.args.header c.args.bytes.now (stamped_of place c.args.packet.meta.now) in
     let own = c.stamped_of-stamped.ensures in
     rw (← c.self.view_is)
     (looks-waiting t x (ap (λ (n : TallyState). n.waiting) c.self.view_is ∙ c.requires.none) p
     c.requires.look
-    c.put_fragment.new.joiner
-    (λ es stands. subst (λ s. joiners.StandsFor c.put_fragment.new.joiner (arrives c.args.packet.clock.now (piece_of c.args.header c.args.bytes.now s) ∷ es)) own (e.stands es stands))
-    c.in-Joined.datagram
-    (λ es stands. joined-of _ c.in-Joined.datagram (joined_pieces c.args.packet.clock.now (p t.place) (state_of open_limit es)) c.in-Joined.is (subst (λ s. IsAnswer c.in_ok-put_fragment.field-0 (joined_pieces c.args.packet.clock.now (piece_of c.args.header c.args.bytes.now s) (state_of open_limit es))) own (e.answer es stands))))
-
-pub returns-in_err-put_fragment-clause-grows : goal.returns-in_err-put_fragment-clause-grows
-returns-in_err-put_fragment-clause-grows c =
-    let p = err_from_is_err_and c.from_residual.result c.from_residual.ensures.1 in
-    rw p.1 (λ xs h. ap is_plain (c.requires.look (length xs)))
+    c.put.new.self
+    (λ es stands. subst (λ s. joiners.StandsFor c.put.new.self
+    (arrives c.args.packet.clock.now (piece_of c.args.header c.args.bytes.now s) ∷ es)) own (e.stands es stands))
+    c.in-Ok-Joined.datagram
+    (λ es stands. joined-of _ c.in-Ok-Joined.datagram
+    (joined_pieces c.args.packet.clock.now (p t.place) (state_of open_limit es)) c.in-Ok-Joined.field-0-is
+    (subst (λ s. IsAnswer c.in-Ok-Joined.field-0
+    (joined_pieces c.args.packet.clock.now (piece_of c.args.header c.args.bytes.now s) (state_of open_limit es))) own
+    (e.answer es stands))))

@@ -1,0 +1,16 @@
+use Rattle.std.proofs.Common.{◌≡◌, ◌≤◌, ◌++◌, length}
+use Rattle.cap_join.specs.Ages.{AreTimeless}
+use Rattle.cap_join.proofs.queues.set_aside.Given as goal
+
+-- both are what they were, one after the other
+abbrev pub invariant-loop-key : goal.invariant-loop-key
+invariant-loop-key l = record {
+  whole : l.aside.entries ++ l.rest.entries ≡ l.fn.aside.entries ++ l.fn.rest.entries;
+  timeless : AreTimeless l.fn.aside.entries → AreTimeless l.aside.entries;
+  fewer : length l.rest.entries ≤ length l.fn.rest.entries;
+  aside_cap : l.aside.cap ≡ l.fn.aside.cap;
+  rest_cap : l.rest.cap ≡ l.fn.rest.cap;
+}
+
+abbrev pub decreases-loop-key : goal.decreases-loop-key
+decreases-loop-key l = length l.rest.entries

@@ -1,0 +1,29 @@
+-- What is written of a run in either format: its packets, or its datagrams.
+use Rattle.std.specs.Prelude.{ℕ, List, Option}
+use Rattle.cap_bytes.specs.declared.faults.Refusal.{Refusal}
+use Rattle.cap_bytes.specs.declared.numbers.Order.{Order}
+use Rattle.cap_merge.specs.Run.{Clocked}
+use Rattle.cap_source.specs.Feed.{Item}
+use Rattle.cap_source.specs.declared.packets.Format.{Format}
+use Rattle.cap_source.specs.declared.packets.Format.TheVariants.{Pcap, Pcapng}
+use Rattle.cap_write.specs.Joined.{joined_bytes, joined_refusal}
+use Rattle.cap_write.specs.PcapRun.{joined_pcap_bytes, joined_pcap_refusal, run_bytes, run_refusal}
+use Rattle.cap_write.specs.Texts.{merged_bytes, merged_refusal}
+
+-- what is written of its packets in that format and order, and the refusal that is then answered, if there is one
+abbrev pub packets_text : Format → Order → List Item → List ℕ
+packets_text Pcap order items = run_bytes order items
+packets_text Pcapng order items = merged_bytes order items
+
+abbrev pub packets_refusal : Format → List Item → Option Refusal
+packets_refusal Pcap items = run_refusal items
+packets_refusal Pcapng items = merged_refusal items
+
+-- the same of its datagrams
+abbrev pub datagrams_text : Format → Order → List (Clocked Item) → List ℕ
+datagrams_text Pcap order run = joined_pcap_bytes order run
+datagrams_text Pcapng order run = joined_bytes order run
+
+abbrev pub datagrams_refusal : Format → List (Clocked Item) → Option Refusal
+datagrams_refusal Pcap run = joined_pcap_refusal run
+datagrams_refusal Pcapng run = joined_refusal run

@@ -1,0 +1,65 @@
+-- What is written of packets in one of the formats, after what was written before.
+use Rattle.std.specs.Prelude.{◌≡◌, ◌≤◌, ⊤, ℕ, List, [], ◌∷◌, length, Option, Some, None, Result, Ok, Err}
+use Rattle.cap_bytes.specs.declared.faults.Fault.{Fault}
+use Rattle.cap_bytes.specs.declared.faults.Fault.TheVariants.{Refused}
+use Rattle.cap_bytes.specs.declared.faults.Refusal.{Refusal}
+use Rattle.cap_bytes.specs.declared.numbers.Order.{Order}
+use Rattle.cap_source.specs.Feed.{Item, packet, refused}
+use Rattle.cap_source.specs.declared.packets.Meta.{Meta}
+use Rattle.cap_time.specs.declared.resolutions.Interface.{Interface}
+use Rattle.cap_write.specs.Numbering.{Origin, refusal_in, with_origin}
+use Rattle.cap_write.specs.Pcap.{bare_refusal, records_bytes, records_refusal}
+use Rattle.cap_write.specs.PcapRun.{run_bytes, run_refusal}
+use Rattle.cap_write.specs.Texts.{text_behind}
+use Rattle.cap_write.specs.declared.forms.Form.{Form}
+use Rattle.cap_write.specs.declared.forms.Form.TheVariants.{Pcap, Pcapng}
+
+-- A file that is being written: the origins of the interfaces that a pcapng file has described, or the interface of the
+-- header that a pcap file has.
+pub data FormState : Type 0 where
+  numbered : List Origin → FormState
+  headed : Option Interface → FormState
+
+abbrev pub state_of : Form → FormState
+state_of (Pcapng origins) = numbered origins.keys
+state_of (Pcap first) = headed first
+
+-- what is written of some items, and the refusal after them
+abbrev pub form_text : Order → FormState → List Item → List ℕ
+form_text order (numbered origins) items = text_behind order origins items
+form_text order (headed None) items = run_bytes order items
+form_text order (headed (Some first)) items = records_bytes order first items
+
+abbrev pub form_refusal : FormState → List Item → Option Refusal
+form_refusal (numbered origins) items = refusal_in origins items
+form_refusal (headed None) items = run_refusal items
+form_refusal (headed (Some first)) items = records_refusal first items
+
+-- the refusal of one of the items, if more may come
+abbrev pub form_stop : FormState → List Item → Option Refusal
+form_stop (numbered origins) items = refusal_in origins items
+form_stop (headed None) [] = None
+form_stop (headed None) (item ∷ items) = run_refusal (item ∷ items)
+form_stop (headed (Some first)) items = records_refusal first items
+
+-- the file after a packet, and after some items
+abbrev pub form_after : FormState → Meta → FormState
+form_after (numbered origins) meta = numbered (with_origin origins meta)
+form_after (headed None) meta = headed (Some meta.interface)
+form_after (headed (Some first)) meta = headed (Some first)
+
+unfoldable pub form_behind : FormState → List Item → FormState
+form_behind form [] = form
+form_behind form (packet meta frame ∷ items) = form_behind (form_after form meta) items
+form_behind form (refused refusal ∷ items) = form
+
+-- A pcapng file describes at most 1,024 interfaces.
+abbrev pub IsFew : FormState → Type 0
+IsFew (numbered origins) = length origins ≤ 1024
+IsFew (headed first) = ⊤
+
+-- What is answered at the end: a pcap file without a header is refused.
+abbrev pub EndsForm : FormState → Result (Unit {0}) Fault → Type 0
+EndsForm (numbered origins) result = result ≡ Ok tt
+EndsForm (headed None) result = result ≡ Err (Refused (bare_refusal 1 []))
+EndsForm (headed (Some first)) result = result ≡ Ok tt

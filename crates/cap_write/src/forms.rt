@@ -1,0 +1,107 @@
+//! Packets that are written one by one in one of the formats.
+ghost use Rattle.std.specs.Prelude.{◌≡◌, ◌≤◌, length, [], ◌∷◌, IsTrue, OnOk, None};
+ghost use Rattle.cap_bytes.specs.Device.{WriterKeeps, writer_of};
+ghost use Rattle.cap_bytes.specs.Printing.{Prints, IsRead, is_write};
+ghost use Rattle.cap_source.specs.Feed.{packet};
+ghost use Rattle.cap_write.specs.Forms.{EndsForm, IsFew, form_after, form_stop, form_text, headed, state_of};
+ghost use Rattle.cap_write.specs.PcapRun.{run_bytes, run_refusal};
+
+use crate::interfaces::{Origins, units_of};
+use crate::packets::put_one;
+use crate::pcap::{header_of, no_interface, put_after_header};
+use cap_bytes::{Fault, Order, Sink};
+use cap_pcap::put_header;
+use cap_source::Meta;
+use cap_time::Interface;
+
+/// A file that is being written.
+#[derive(Drop)]
+pub(crate) enum Form {
+    /// A pcapng file, with the origins of the interfaces that it has described.
+    Pcapng(Origins),
+    /// A pcap file, with the interface of its header, once that is written.
+    Pcap(Option<Interface>),
+}
+
+// Writes the first packet of a pcap file, after the header of its interface, or answers why it isn't written.
+fn put_leading<W: Sink>(
+    order: Order,
+    meta: &Meta,
+    frame: &[u8],
+    writer: &mut W,
+) -> Result<(), Fault>
+    requires captured { length frame.now ≤ 262144 }
+    ensures text { IsTrue (W.tells_held writer.old)
+        → Prints (run_bytes order (packet meta.now frame.now ∷ [])) (run_refusal (packet meta.now frame.now ∷ []))
+        (W.held writer.old) result (W.held writer.new) }
+    ensures whole { OnOk result (run_refusal (packet meta.now frame.now ∷ []) ≡ None) }
+    ensures writer { WriterKeeps (writer_of W.Sink writer.old) (is_write result) (writer_of W.Sink writer.new) }
+    ensures read { IsRead result → ⊥ }
+{
+    units_of(meta)?;
+    put_header(writer, &header_of(order, &meta.interface))?;
+    put_after_header(&meta.interface, order, meta, frame, writer)
+}
+
+// Writes a packet of a pcap file, which has that header if it has one, or answers why it isn't written.
+fn put_headed<W: Sink>(
+    first: &mut Option<Interface>,
+    order: Order,
+    meta: &Meta,
+    frame: &[u8],
+    writer: &mut W,
+) -> Result<(), Fault>
+    requires captured { length frame.now ≤ 262144 }
+    ensures text { IsTrue (W.tells_held writer.old)
+        → Prints (form_text order (headed first.old) (packet meta.now frame.now ∷ []))
+        (form_stop (headed first.old) (packet meta.now frame.now ∷ []))
+        (W.held writer.old) result (W.held writer.new) }
+    ensures form { OnOk result ((headed first.new ≡ form_after (headed first.old) meta.now)
+        × (form_stop (headed first.old) (packet meta.now frame.now ∷ []) ≡ None)) }
+    ensures writer { WriterKeeps (writer_of W.Sink writer.old) (is_write result) (writer_of W.Sink writer.new) }
+    ensures read { IsRead result → ⊥ }
+{
+    if let Some(header) = *first {
+        return put_after_header(&header, order, meta, frame, writer);
+    }
+    put_leading(order, meta, frame, writer)?;
+    *first = Some(meta.interface);
+    Ok(())
+}
+
+/// Writes a packet, or answers why it isn't written.
+pub(crate) fn put_in<W: Sink>(
+    form: &mut Form,
+    order: Order,
+    meta: &Meta,
+    frame: &[u8],
+    writer: &mut W,
+) -> Result<(), Fault>
+    requires captured { length frame.now ≤ 262144 }
+    requires limit { IsFew (state_of form.old) }
+    ensures text { IsTrue (W.tells_held writer.old)
+        → Prints (form_text order (state_of form.old) (packet meta.now frame.now ∷ []))
+        (form_stop (state_of form.old) (packet meta.now frame.now ∷ []))
+        (W.held writer.old) result (W.held writer.new) }
+    ensures form { OnOk result ((state_of form.new ≡ form_after (state_of form.old) meta.now)
+        × (form_stop (state_of form.old) (packet meta.now frame.now ∷ []) ≡ None)) }
+    ensures limit { IsFew (state_of form.new) }
+    ensures writer { WriterKeeps (writer_of W.Sink writer.old) (is_write result) (writer_of W.Sink writer.new) }
+    ensures read { IsRead result → ⊥ }
+{
+    match form {
+        Form::Pcapng(origins) => put_one(origins, order, meta, frame, writer),
+        Form::Pcap(first) => put_headed(first, order, meta, frame, writer),
+    }
+}
+
+/// The answer at the end of the packets: a pcap file without a header is refused by rule 21, no-interface, of file 1.
+pub(crate) fn end_of(form: &Form) -> Result<(), Fault>
+    ensures { EndsForm (state_of form.now) result }
+{
+    match form {
+        Form::Pcapng(_) => Ok(()),
+        Form::Pcap(Some(_)) => Ok(()),
+        Form::Pcap(None) => Err(no_interface(1)),
+    }
+}
