@@ -13,7 +13,7 @@ use Rattle.cap_time.specs.declared.resolutions.Interface.{Interface}
 use Rattle.cap_blocks.specs.Grammar.{section_kind, interface_kind, enhanced_kind, order_magic, is_total, SpellsSection}
 use Rattle.cap_blocks.specs.Grammar.{SpellsBlock, block_bytes, section_body, option_bytes, offset_option}
 use Rattle.cap_blocks.specs.Grammar.{interface_options, interface_body, interface_total, packet_body}
-use Rattle.cap_blocks.specs.Laws.{IsRead, SectionAgain, InterfaceAgain, PacketAgain, offset_items}
+use Rattle.cap_blocks.specs.inner.Laws.{IsRead, SectionAgain, InterfaceAgain, PacketAgain, offset_items}
 use Rattle.cap_blocks.specs.OptionList.{options_of, code_at, length_at, padded}
 use Rattle.cap_blocks.proofs.OptionLaws.{options_of-end, options_of-more}
 use Rattle.cap_blocks.specs.Split.{Piece, MayFollow, Begins}

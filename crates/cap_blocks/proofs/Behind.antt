@@ -5,8 +5,8 @@ use Rattle.std.proofs.Common.{length-drop, nat_lt}
 use Rattle.std.proofs.lemmas.Bool.Decides.{nat_tests}
 use Rattle.std.proofs.lemmas.List.{take-append-drop, drop-append-le}
 use Rattle.cap_bytes.specs.Number.{number}
-use Rattle.cap_bytes.specs.Reach.{ReachesTo}
-use Rattle.cap_bytes.specs.Window.{State, Needs, Drops, DropsAll, Passes, coming, read_to}
+use Rattle.cap_bytes.specs.inner.Reach.{ReachesTo}
+use Rattle.cap_bytes.specs.inner.Window.{State, Needs, Drops, DropsAll, Passes, coming, read_to}
 use Rattle.cap_bytes.proofs.Parsing.{all_shown, Goes-trans}
 use Rattle.cap_bytes.proofs.Reach.{ReachesTo-later, ReachesTo-ended}
 use Rattle.cap_bytes.specs.declared.faults.Rule.{Rule}
@@ -14,7 +14,7 @@ use Rattle.cap_bytes.specs.declared.faults.Rule.TheVariants.{Cut, BlockTrailer, 
 use Rattle.cap_bytes.specs.declared.numbers.Order.{Order}
 use Rattle.cap_bytes.proofs.Spelling.{number-append, number-drop_append}
 use Rattle.cap_blocks.specs.Grammar.{section_kind, is_known, is_version}
-use Rattle.cap_blocks.specs.Parsing.{IsHeader, SeesBody}
+use Rattle.cap_blocks.specs.inner.Parsing.{IsHeader, SeesBody}
 use Rattle.cap_blocks.specs.Split.{kind_at, total_at, has_other_version, body_fault}
 use Rattle.cap_blocks.specs.declared.blocks.Block.{Block}
 use Rattle.cap_blocks.proofs.Faults.{total-section}

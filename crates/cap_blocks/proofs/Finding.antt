@@ -2,10 +2,10 @@
 use Rattle.std.proofs.Common.{◌≡◌, ℕ, ◌<◌, List, length, Option, Some, None, is_some, Bool, IsTrue, Ok, Err, ◌+◌, ◌≤◌}
 use Rattle.std.proofs.Common.{true, drop, inr, refl, sym, ◌∙◌, ap, subst, arith, length-append, length-drop}
 use Rattle.cap_bytes.specs.Items.{stop_by}
-use Rattle.cap_bytes.specs.Parsing.{SeesStop, FailsBy}
+use Rattle.cap_bytes.specs.inner.Parsing.{SeesStop, FailsBy}
 use Rattle.std.proofs.lemmas.List.{take_all}
-use Rattle.cap_bytes.specs.Reach.{ReachesTo, Reaches, size_found}
-use Rattle.cap_bytes.specs.Window.{State, Goes, Shows, Passes, coming, position, read_to}
+use Rattle.cap_bytes.specs.inner.Reach.{ReachesTo, Reaches, size_found}
+use Rattle.cap_bytes.specs.inner.Window.{State, Goes, Shows, Passes, coming, position, read_to}
 use Rattle.cap_bytes.proofs.Parsing.{Goes-trans, some_left, SeesStop-fault, FailsBy-later}
 use Rattle.cap_bytes.specs.declared.faults.Fault.{Fault}
 use Rattle.cap_bytes.specs.declared.faults.Rule.{Rule}
@@ -13,10 +13,10 @@ use Rattle.cap_bytes.specs.declared.faults.Tail.{Tail}
 use Rattle.cap_bytes.specs.declared.numbers.Order.{Order}
 use Rattle.cap_bytes.specs.declared.stops.Stop.{Stop}
 use Rattle.cap_bytes.proofs.Reach.{ReachesTo-looks}
-use Rattle.cap_blocks.specs.Reader.{block_size}
+use Rattle.cap_blocks.specs.inner.Reader.{block_size}
 use Rattle.cap_blocks.specs.Grammar.{is_known}
-use Rattle.cap_blocks.specs.Parsing.{ParsesHeader, IsHeader, Stays, SeesHeader, SeesBody, SeesBlock, Leaves}
-use Rattle.cap_blocks.specs.Parsing.{LooksAtBody}
+use Rattle.cap_blocks.specs.inner.Parsing.{ParsesHeader, IsHeader, Stays, SeesHeader, SeesBody, SeesBlock, Leaves}
+use Rattle.cap_blocks.specs.inner.Parsing.{LooksAtBody}
 use Rattle.cap_blocks.specs.Split.{order_at, header_fault, body_fault, block_fault, block_at, wanted_at, LacksRoom}
 use Rattle.cap_blocks.specs.declared.blocks.Block.{Block}
 use Rattle.cap_blocks.proofs.Behind.{SeesBody-known}

@@ -4,13 +4,13 @@ use Rattle.std.proofs.Common.{◌≡◌, ℕ, ◌==◌, ◌&&◌, List, [], leng
 use Rattle.std.proofs.Common.{false, Ok, sym, ◌∙◌, ap, arith}
 use Rattle.std.proofs.lemmas.Bool.Decides.{nat_tests}
 use Rattle.cap_bytes.specs.Items.{stop_by}
-use Rattle.cap_bytes.specs.Parsing.{SeesStop}
-use Rattle.cap_bytes.specs.Window.{State, Needs, Keeps, coming}
+use Rattle.cap_bytes.specs.inner.Parsing.{SeesStop}
+use Rattle.cap_bytes.specs.inner.Window.{State, Needs, Keeps, coming}
 use Rattle.cap_bytes.proofs.Parsing.{all_shown, some_left, SeesStop-fault, SeesStop-end}
 use Rattle.cap_bytes.specs.declared.faults.Rule.{Rule}
 use Rattle.cap_bytes.specs.declared.faults.Tail.{Tail}
 use Rattle.cap_bytes.specs.declared.numbers.Order.{Order}
-use Rattle.cap_blocks.specs.Parsing.{FindsOwnOrder, FindsOrder, ParsesHeader, IsHeader, SeesHeader}
+use Rattle.cap_blocks.specs.inner.Parsing.{FindsOwnOrder, FindsOrder, ParsesHeader, IsHeader, SeesHeader}
 use Rattle.cap_blocks.specs.Split.{is_section, own_order, order_at, header_fault, block_fault, block_at}
 use Rattle.cap_blocks.specs.declared.blocks.Block.{Block}
 use Rattle.cap_bytes.specs.declared.stops.Stop.TheVariants as stops

@@ -10,8 +10,8 @@ use Rattle.cap_bytes.specs.Number.{number}
 use Rattle.cap_bytes.specs.declared.faults.Rule.TheVariants.{OptionEnd}
 use Rattle.cap_bytes.specs.declared.numbers.Order.{Order}
 use Rattle.cap_blocks.proofs.OptionLaws.{options_of-short, options_of-end, options_of-overrun, options_of-more}
-use Rattle.cap_blocks.specs.OptionGrammar.{SpellsOption, SpellsOptions, EndsOptions, RunsPast, EveryOptions}
-use Rattle.cap_blocks.specs.OptionGrammar.{OptionsRead}
+use Rattle.cap_blocks.specs.inner.OptionGrammar.{SpellsOption, SpellsOptions, EndsOptions, RunsPast, EveryOptions}
+use Rattle.cap_blocks.specs.inner.OptionGrammar.{OptionsRead}
 use Rattle.cap_blocks.specs.OptionList.{options_of, code_at, length_at, padded}
 
 -- ---- reading what is spelled

@@ -4,16 +4,17 @@ use Rattle.std.proofs.Common.{IfSome, Bool, true, false, is_some, IsTrue, Result
 use Rattle.std.proofs.Common.{length-take-le}
 use Rattle.std.proofs.lemmas.List.{take-append-le, drop-append-le}
 use Rattle.cap_bytes.specs.Items.{given, items_by_stop}
-use Rattle.cap_bytes.specs.Reader.{State, Keeps}
+use Rattle.cap_bytes.specs.inner.Reader.{State, Keeps}
 use Rattle.cap_bytes.specs.declared.faults.Fault.{Fault}
 use Rattle.cap_bytes.specs.declared.faults.Tail.{Tail}
 use Rattle.cap_bytes.specs.declared.numbers.Order.{Order}
 use Rattle.cap_bytes.specs.declared.stops.Stop.{Stop}
-use Rattle.cap_bytes.specs.Window.{State as WindowState, Passes}
+use Rattle.cap_bytes.specs.inner.Window.{State as WindowState, Passes}
 use Rattle.cap_bytes.proofs.Readers.{Stands-passed, Gives-seen}
 use Rattle.cap_blocks.specs.Grammar.{is_known}
-use Rattle.cap_blocks.specs.Parsing.{Leaves, SeesBlock}
-use Rattle.cap_blocks.specs.Reader.{GivesBlock, GivesNext, TakesItem, items_of, size_of, body_of, shown_size, state_of}
+use Rattle.cap_blocks.specs.inner.Parsing.{Leaves, SeesBlock}
+use Rattle.cap_blocks.specs.inner.Reader.{GivesBlock, GivesNext, TakesItem, items_of, size_of, body_of, shown_size}
+use Rattle.cap_blocks.specs.inner.Reader.{state_of}
 use Rattle.cap_blocks.specs.Split.{block_at, body_in, stop_at, items_from}
 use Rattle.cap_blocks.specs.declared.blocks.Block.{Block}
 use Rattle.cap_blocks.proofs.Items.{items_from-stop, items_from-block}

@@ -11,8 +11,9 @@ use Rattle.cap_bytes.specs.declared.faults.Tail.TheVariants.{Refuse}
 use Rattle.cap_bytes.specs.declared.numbers.Order.{Order}
 use Rattle.cap_bytes.proofs.Spelling.{number-lt, number-drop_append}
 use Rattle.cap_blocks.specs.Grammar.{SpellsBlock}
-use Rattle.cap_blocks.specs.Laws.{OneBlock, OneSplit, EverySplit, SplitItems, ItemsAtFault, ItemsAtBlock, BlockRead}
-use Rattle.cap_blocks.specs.Laws.{BlockThere, block_of}
+use Rattle.cap_blocks.specs.inner.Laws.{OneBlock, OneSplit, EverySplit, SplitItems, ItemsAtFault, ItemsAtBlock}
+use Rattle.cap_blocks.specs.inner.Laws.{BlockRead}
+use Rattle.cap_blocks.specs.inner.Laws.{BlockThere, block_of}
 use Rattle.cap_blocks.specs.Split.{block_at, Piece, piece_size, MayFollow, Begins, Splits, AreBytes, stop_at}
 use Rattle.cap_blocks.specs.Split.{items_from}
 use Rattle.cap_bytes.specs.declared.stops.Stop.{Stop}

@@ -1,9 +1,9 @@
 //! The body of a block, and its total length again after it (draft-ietf-opsawg-pcapng, 3.1 and 4.1).
 ghost use Rattle.std.specs.Prelude.{◌≡◌, ◌≤◌, ◌+◌, None, Some, OnOk, true, false, length};
-ghost use Rattle.cap_bytes.specs.Reach.{Reaches, ReachesTo};
-ghost use Rattle.cap_bytes.specs.Window.{position, read_to};
+ghost use Rattle.cap_bytes.specs.inner.Reach.{Reaches, ReachesTo};
+ghost use Rattle.cap_bytes.specs.inner.Window.{position, read_to};
 ghost use Rattle.cap_blocks.specs.Grammar.{is_known};
-ghost use Rattle.cap_blocks.specs.Parsing.{IsHeader, LooksAtBody, SkipsBody, Stays};
+ghost use Rattle.cap_blocks.specs.inner.Parsing.{IsHeader, LooksAtBody, SkipsBody, Stays};
 ghost use Rattle.cap_blocks.specs.Split.{body_fault};
 
 use crate::blocks::{Block, SECTION, is_known, is_version};

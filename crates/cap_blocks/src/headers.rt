@@ -1,9 +1,9 @@
 //! The header of a block: its first 12 bytes (draft-ietf-opsawg-pcapng, 3.1 and 4.1).
 ghost use Rattle.std.specs.Prelude.{◌≡◌, ◌+◌, ◌≤◌, ◌^◌, ◌&&◌, ◌==◌, None, Some, Ok, IfSome, is_some, length};
-ghost use Rattle.cap_bytes.specs.Reach.{Reaches};
-ghost use Rattle.cap_bytes.specs.Window.{position, read_to};
+ghost use Rattle.cap_bytes.specs.inner.Reach.{Reaches};
+ghost use Rattle.cap_bytes.specs.inner.Window.{position, read_to};
 ghost use Rattle.cap_blocks.specs.Grammar.{enhanced_kind};
-ghost use Rattle.cap_blocks.specs.Parsing.{FindsOwnOrder, FindsOrder, ParsesHeader, LooksAtHeader, Stays};
+ghost use Rattle.cap_blocks.specs.inner.Parsing.{FindsOwnOrder, FindsOrder, ParsesHeader, LooksAtHeader, Stays};
 ghost use Rattle.cap_blocks.specs.Split.{is_section, is_ordered, first_fault};
 
 use crate::blocks::{Block, ENHANCED_PACKET, ORDER_MAGIC, SECTION, is_total};

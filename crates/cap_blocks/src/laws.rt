@@ -1,7 +1,8 @@
 //! The laws of the grammar of pcapng files.
-ghost use Rattle.cap_blocks.specs.Laws.{OneBlock, OneSplit, EverySplit, SplitItems, ItemsAtNone, ItemsAtFault};
-ghost use Rattle.cap_blocks.specs.Laws.{ItemsAtBlock, BlockRead, BlockThere, SectionAgain, InterfaceAgain, PacketAgain};
-ghost use Rattle.cap_blocks.specs.OptionGrammar.{EveryOptions, OptionsRead};
+ghost use Rattle.cap_blocks.specs.inner.Laws.{OneBlock, OneSplit, EverySplit, SplitItems, ItemsAtNone, ItemsAtFault};
+ghost use Rattle.cap_blocks.specs.inner.Laws.{ItemsAtBlock, BlockRead, BlockThere, SectionAgain, InterfaceAgain};
+ghost use Rattle.cap_blocks.specs.inner.Laws.{PacketAgain};
+ghost use Rattle.cap_blocks.specs.inner.OptionGrammar.{EveryOptions, OptionsRead};
 
 /// The laws of the grammar, as the contract of a function that does nothing.
 ///

@@ -15,7 +15,7 @@ pub struct Options<'a> {
 
 impl<'a> Options<'a> {
     ghost use Rattle.cap_blocks.specs.OptionList.{options_of};
-    ghost use Rattle.cap_blocks.specs.Options.{items_of};
+    ghost use Rattle.cap_blocks.specs.inner.Options.{items_of};
 
     /// The options that these bytes spell in an order.
     pub fn new(order: Order, bytes: &'a [u8]) -> Options<'a>
@@ -30,7 +30,7 @@ impl<'a> Iterator for Options<'a> {
     type Item = Result<(u16, &'a [u8]), Rule>;
 
     ghost use Rattle.std.specs.Iterator.{YieldsFirstBy, item_count};
-    ghost use Rattle.cap_blocks.specs.Options.{items_of, item_of};
+    ghost use Rattle.cap_blocks.specs.inner.Options.{items_of, item_of};
 
     ghost next_gives = { YieldsFirstBy item_of items_of };
 

@@ -1,12 +1,12 @@
 //! A reader of pcapng files.
 ghost use Rattle.std.specs.Prelude.{◌≡◌, ◌↔◌, ◌≤◌, ◌+◌, ◌^◌, length, IsTrue, IsSome, IsNone, IfSome, OnSome, Some, Ok};
-ghost use Rattle.cap_bytes.specs.Reach.{Reaches, size_found};
-ghost use Rattle.cap_bytes.specs.Reader.{opened, Keeps, HasWindow};
-ghost use Rattle.cap_blocks.specs.Reader.{GivesNext, ReachesNext, TakesItem, block_size, size_of, shown_size};
+ghost use Rattle.cap_bytes.specs.inner.Reach.{Reaches, size_found};
+ghost use Rattle.cap_bytes.specs.inner.Reader.{opened, Keeps, HasWindow};
+ghost use Rattle.cap_blocks.specs.inner.Reader.{GivesNext, ReachesNext, TakesItem, block_size, size_of, shown_size};
 ghost use Rattle.cap_blocks.specs.Grammar.{enhanced_kind, is_known};
-ghost use Rattle.cap_blocks.specs.Parsing.{LooksForBlock, SeesBlock, Stays};
+ghost use Rattle.cap_blocks.specs.inner.Parsing.{LooksForBlock, SeesBlock, Stays};
 ghost use Rattle.cap_blocks.specs.Split.{wanted_at};
-ghost use Rattle.cap_bytes.specs.Window.{Passes, coming, position, read_to};
+ghost use Rattle.cap_bytes.specs.inner.Window.{Passes, coming, position, read_to};
 ghost use Rattle.cap_bytes.specs.declared.faults.Tail.{Tail};
 
 use crate::blocks::{Block, is_known};
@@ -32,9 +32,9 @@ pub struct BlockReader<R: Source> {
 
 impl<R: Source> Model for BlockReader<R> {
     ghost use Rattle.std.specs.Prelude.{length};
-    ghost use Rattle.cap_bytes.specs.Reader.{State};
+    ghost use Rattle.cap_bytes.specs.inner.Reader.{State};
     ghost use Rattle.cap_bytes.specs.declared.numbers.Order.{Order};
-    ghost use Rattle.cap_blocks.specs.Reader.{IsSound, state_of};
+    ghost use Rattle.cap_blocks.specs.inner.Reader.{IsSound, state_of};
 
     ghost Value = { State Order };
 

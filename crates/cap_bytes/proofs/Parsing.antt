@@ -4,8 +4,8 @@ use Rattle.std.proofs.Common.{Bool, true, false, IsTrue, Err, sym, ◌∙◌, ap
 use Rattle.std.proofs.Common.{length-take}
 use Rattle.std.proofs.lemmas.List.{drop-append-le}
 use Rattle.cap_bytes.specs.Items.{stop_by}
-use Rattle.cap_bytes.specs.Parsing.{FailsBy, SeesStop}
-use Rattle.cap_bytes.specs.Window.{State, Goes, Shows, Needs, Passes, coming}
+use Rattle.cap_bytes.specs.inner.Parsing.{FailsBy, SeesStop}
+use Rattle.cap_bytes.specs.inner.Window.{State, Goes, Shows, Needs, Passes, coming}
 use Rattle.cap_bytes.specs.declared.faults.Fault.{Fault}
 use Rattle.cap_bytes.specs.declared.faults.Rule.{Rule}
 use Rattle.cap_bytes.specs.declared.faults.Tail.{Tail}

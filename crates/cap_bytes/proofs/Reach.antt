@@ -1,9 +1,9 @@
 -- How far a file is read for a piece of it.
 use Rattle.std.proofs.Common.{◌≡◌, ℕ, ◌+◌, ◌≤◌, ◌<◌, length, Option, None, Bool, true, false, IsTrue, Ok, Err, sym, ap}
 use Rattle.std.proofs.Common.{subst, length-drop, arith}
-use Rattle.cap_bytes.specs.Reach.{ReachesTo, Reaches}
-use Rattle.cap_bytes.specs.SourceState.{IsWithin}
-use Rattle.cap_bytes.specs.Window.{State, Shows, Needs, Passes, Skips, position, read_to}
+use Rattle.cap_bytes.specs.inner.Reach.{ReachesTo, Reaches}
+use Rattle.cap_bytes.specs.inner.SourceState.{IsWithin}
+use Rattle.cap_bytes.specs.inner.Window.{State, Shows, Needs, Passes, Skips, position, read_to}
 use Rattle.cap_bytes.specs.declared.faults.Fault.{Fault}
 
 IsWithin-behind : (most : Option ℕ) (k n count : ℕ) → IsWithin most n count → IsWithin most (k + n) (k + count)

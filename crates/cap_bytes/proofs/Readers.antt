@@ -2,11 +2,11 @@
 use Rattle.std.proofs.Common.{◌≡◌, ℕ, ◌+◌, ◌≤◌, List, [], ◌∷◌, length, drop, Option, Some, None, option_map, Bool}
 use Rattle.std.proofs.Common.{IsTrue, Result, Err, length-drop, arith}
 use Rattle.cap_bytes.specs.Items.{stop_where, answer_of, Item, stopped, items_by_stop, TakesItem}
-use Rattle.cap_bytes.specs.Reach.{Position, ReachesTo, Reaches}
-use Rattle.cap_bytes.specs.Reader.{State, Keeps, Waits, Gives, GivesStop, GivesNext, state_of, position}
-use Rattle.cap_bytes.specs.Parsing.{FailsBy, SeesStop}
-use Rattle.cap_bytes.specs.Window.{State as WindowState, Passes, coming, read_to}
-use Rattle.cap_bytes.specs.Window as windows
+use Rattle.cap_bytes.specs.inner.Reach.{Position, ReachesTo, Reaches}
+use Rattle.cap_bytes.specs.inner.Reader.{State, Keeps, Waits, Gives, GivesStop, GivesNext, state_of, position}
+use Rattle.cap_bytes.specs.inner.Parsing.{FailsBy, SeesStop}
+use Rattle.cap_bytes.specs.inner.Window.{State as WindowState, Passes, coming, read_to}
+use Rattle.cap_bytes.specs.inner.Window as windows
 use Rattle.cap_bytes.specs.declared.faults.Fault.{Fault}
 use Rattle.cap_bytes.specs.declared.faults.Rule.{Rule}
 use Rattle.cap_bytes.specs.declared.faults.Tail.{Tail}

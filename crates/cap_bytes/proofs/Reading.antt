@@ -7,7 +7,7 @@ use Rattle.std.proofs.lemmas.List.{drop-append-le}
 use Rattle.std.proofs.lemmas.Slice.{between_is}
 use Rattle.std.proofs.Math.Seq.{take-length, take-append-add, take-append_seam, drop-append-add}
 use Rattle.cap_bytes.specs.Device.{Takes}
-use Rattle.cap_bytes.specs.SourceState.{SourceState, Reads, IsWithin}
+use Rattle.cap_bytes.specs.inner.SourceState.{SourceState, Reads, IsWithin}
 use Rattle.cap_bytes.specs.declared.devices.Broken.{Broken}
 
 -- n bytes came into the room after the front

@@ -1,12 +1,7 @@
 pub mod Number
-pub mod Calls
 pub mod Device
-pub mod SourceState
 pub mod Items
 pub mod Printing
-pub mod Reach
-pub mod Reader
 pub mod Rules
-pub mod Parsing
 pub mod Tracked
-pub mod Window
+pub mod inner

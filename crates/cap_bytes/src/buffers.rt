@@ -1,7 +1,7 @@
 //! A buffer that is read into after what it holds.
 ghost use Rattle.std.specs.Prelude.{◌≡◌, ◌||◌, ◌+◌, ◌-◌, ◌≤◌, ◌<◌, [], length, take, is_err, IsTrue, IsErr, IfOk};
 ghost use Rattle.std.specs.Prelude.{IfSome, OnOk, OnErr, vec_len, slice_range};
-ghost use Rattle.cap_bytes.specs.SourceState.{source_of, Reads, IsWithin, Fills, Discards};
+ghost use Rattle.cap_bytes.specs.inner.SourceState.{source_of, Reads, IsWithin, Fills, Discards};
 
 use crate::devices::{Broken, Source};
 use std::alloc::AllocError;

@@ -2,7 +2,7 @@
 ghost use Rattle.std.specs.Prelude.{◌≡◌, ◌≤◌, ◌<◌, ◌++◌, [], take, drop, length, true, false, Some, is_some, vec_len};
 ghost use Rattle.std.specs.Prelude.{vec_capacity, min, ◌-◌, ◌||◌, IfOk, IsErr, IsTrue, is_err, ◌↔◌};
 ghost use Rattle.cap_bytes.specs.Device.{Gives, Takes};
-ghost use Rattle.cap_bytes.specs.Calls.{one_call_less};
+ghost use Rattle.cap_bytes.specs.inner.Calls.{one_call_less};
 
 use crate::devices::{Broken, Device, Sink, Source};
 use std::cmp::min;

@@ -1,7 +1,7 @@
 //! A window over a reader: the one cursor by which bytes are read.
 ghost use Rattle.std.specs.Prelude.{◌≡◌, ◌+◌, ◌^◌, ◌≤◌, ◌<◌, IsSome, IsTrue, IfOk, ◌↔◌, None, length};
-ghost use Rattle.cap_bytes.specs.SourceState.{source_of, IsWithin};
-ghost use Rattle.cap_bytes.specs.Window.{opened, Keeps, Needs, Passes, Skips, FailsAt};
+ghost use Rattle.cap_bytes.specs.inner.SourceState.{source_of, IsWithin};
+ghost use Rattle.cap_bytes.specs.inner.Window.{opened, Keeps, Needs, Passes, Skips, FailsAt};
 
 use crate::buffers::{Filling, discard, make_room, read_on};
 use crate::devices::Source;
@@ -28,7 +28,7 @@ pub struct Window<R: Source> {
 
 impl<R: Source> Model for Window<R> {
     ghost use Rattle.std.specs.Prelude.{◌||◌, is_some, slice_range, vec_len};
-    ghost use Rattle.cap_bytes.specs.Window.{State, IsSound};
+    ghost use Rattle.cap_bytes.specs.inner.Window.{State, IsSound};
 
     ghost Value = { State };
 

@@ -61,7 +61,7 @@ impl Model for Header {
 
     ghost Value = { HeaderFields };
 
-    ghost use Rattle.cap_ip.specs.HeaderView.{header_view};
+    ghost use Rattle.cap_ip.specs.inner.HeaderView.{header_view};
 
     ghost view = { header_view };
 

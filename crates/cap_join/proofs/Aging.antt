@@ -8,14 +8,15 @@ use Rattle.std.specs.Map.{lookup, set_value, remove_entry}
 use Rattle.cap_ip.specs.declared.headers.Key.{Key}
 use Rattle.cap_time.specs.declared.stamps.Stamp.{Stamp}
 use Rattle.cap_time.specs.Stamp.{stamp_cmp, stamp_plus}
-use Rattle.cap_time.specs.StampLaws.{stamp_cmp_total}
+use Rattle.cap_time.specs.inner.StampLaws.{stamp_cmp_total}
 use Rattle.cap_time.proofs.StampForms.{stamp_cmp_itself, stamp_upto_turned, stamp_upto_trans, stamp_cmp-later}
 use Rattle.cap_join.specs.Frames.{wait, is_too_old}
-use Rattle.cap_join.specs.Groups.{GroupState}
+use Rattle.cap_join.specs.inner.Groups.{GroupState}
 use Rattle.cap_join.specs.Joiners.{Entry}
-use Rattle.cap_join.specs.Ages.{deadline_of, is_past, sooner, latest_of, is_in_turn, NoneOld, IsDeadline, AreInTurn}
-use Rattle.cap_join.specs.Ages.{IsUpTo, AreUpTo}
-use Rattle.cap_join.specs.Tables.{live_entries}
+use Rattle.cap_join.specs.inner.Ages.{deadline_of, is_past, sooner, latest_of, is_in_turn, NoneOld, IsDeadline}
+use Rattle.cap_join.specs.inner.Ages.{AreInTurn}
+use Rattle.cap_join.specs.inner.Ages.{IsUpTo, AreUpTo}
+use Rattle.cap_join.specs.inner.Tables.{live_entries}
 
 back : (r : Ordering) → is_gt r ≡ false → is_lt (ordering_reverse r) ≡ false
 back r h = grind arith

@@ -13,7 +13,7 @@ use Rattle.cap_time.proofs.StampForms.{stamp_plus-alike}
 use Rattle.cap_ip.specs.declared.headers.Key.{Key}
 use Rattle.cap_join.specs.ByteMap.{completes}
 use Rattle.cap_join.specs.Completed.{if_complete, completed_of}
-use Rattle.cap_join.specs.EqualClocks.{IsSameTime}
+use Rattle.cap_join.specs.inner.EqualClocks.{IsSameTime}
 use Rattle.cap_join.specs.Fragments.{Piece}
 use Rattle.cap_join.specs.Frames.{is_before, is_too_old, wait}
 use Rattle.cap_join.specs.History.{Event, arrives, flushes, OpenGroup, State, same_key, key_of, opened, with_piece}

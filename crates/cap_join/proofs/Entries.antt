@@ -8,10 +8,10 @@ use Rattle.std.proofs.lemmas.Map.Keys.{IsDistinct-head, IsDistinct-tail}
 use Rattle.cap_ip.specs.declared.headers.Key.{Key}
 use Rattle.cap_time.specs.declared.stamps.Stamp.{Stamp}
 use Rattle.cap_join.specs.Frames.{is_too_old}
-use Rattle.cap_join.specs.Groups.{GroupState, IsGroupOf}
+use Rattle.cap_join.specs.inner.Groups.{GroupState, IsGroupOf}
 use Rattle.cap_join.specs.History.{OpenGroup, same_key, live_at, group_at}
 use Rattle.cap_join.specs.Joiners.{Entry, IsEntryOf, AreEntriesOf}
-use Rattle.cap_join.specs.Tables.{entry_at, live_entries, has_live}
+use Rattle.cap_join.specs.inner.Tables.{entry_at, live_entries, has_live}
 
 -- a value that is written again
 pub set_value-same : {K X : Type 0} (test : K → Bool) (es : List (K × X)) (w : X) → lookup test es ≡ Some w

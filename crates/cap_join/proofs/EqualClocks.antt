@@ -2,7 +2,7 @@
 -- alike.
 use Rattle.std.proofs.Common.{arith, ◌≡◌, List, ◌∷◌}
 use Rattle.std.specs.List.{AllZip}
-use Rattle.cap_join.specs.EqualClocks.{IsSameEvent, EqualClocksLaw}
+use Rattle.cap_join.specs.inner.EqualClocks.{IsSameEvent, EqualClocksLaw}
 use Rattle.cap_join.specs.Fragments.{Piece}
 use Rattle.cap_join.specs.History.{Event}
 use Rattle.cap_join.proofs.AlikeGroups.{IsAlikeness, IsAlikeEvent, alike-groups}

@@ -15,9 +15,9 @@ use Rattle.cap_join.specs.Holes.{Span, in_hole, IsChain}
 use Rattle.cap_join.specs.Fragments.{Piece, piece_of, end_of, IsShaped, AreShaped}
 use Rattle.cap_join.specs.ByteMap.{is_covered, covers_below, total_of, header_of, byte_at, blocks, completes, data_of}
 use Rattle.cap_join.specs.ByteMap.{greatest_end}
-use Rattle.cap_join.specs.Buffers.{Maps}
+use Rattle.cap_join.specs.inner.Buffers.{Maps}
 use Rattle.cap_join.specs.Frames.{timed, earlier, later}
-use Rattle.cap_join.specs.Groups.{GroupState, IsGroupOf, IsDatagramOf}
+use Rattle.cap_join.specs.inner.Groups.{GroupState, IsGroupOf, IsDatagramOf}
 use Rattle.cap_join.proofs.Chains.{in_hole-below}
 use Rattle.cap_join.proofs.Punching.{IsChain-here}
 

@@ -4,7 +4,7 @@ use Rattle.std.proofs.Common.{◌||◌}
 use Rattle.std.specs.Prelude.{slice_index}
 use Rattle.std.proofs.lemmas.List.{get_or-take}
 use Rattle.cap_join.specs.Holes.{Span, is_within, in_hole, word_at, IsChain, Appended}
-use Rattle.cap_join.specs.Buffers.{Grown}
+use Rattle.cap_join.specs.inner.Buffers.{Grown}
 use Rattle.cap_join.proofs.Chains.{word_at-same, IsHole-block, in_hole-above}
 
 or_left : (x y : Bool) → x ≡ true → (x || y) ≡ true

@@ -8,7 +8,7 @@ use Rattle.std.proofs.lemmas.Bool.{cases_lt}
 use Rattle.cap_join.specs.Holes.{Span, is_within, in_hole, ChangesWithin, Punched}
 use Rattle.cap_join.specs.Fragments.{Piece, end_of, IsShaped, AreShaped}
 use Rattle.cap_join.specs.ByteMap.{holds, is_covered, byte_at, greatest_end, rounded}
-use Rattle.cap_join.specs.Buffers.{Maps, Grown}
+use Rattle.cap_join.specs.inner.Buffers.{Maps, Grown}
 use Rattle.cap_join.proofs.Punching.{unchanged, or_false_right, or_false, within-below}
 use Rattle.cap_join.proofs.Growing.{IsChain-apart}
 

@@ -10,7 +10,7 @@ use Rattle.std.specs.Cmp.Lexicographic.{options_total}
 use Rattle.std.proofs.lemmas.Bool.Decides.{nat_tests}
 use Rattle.cap_time.specs.declared.stamps.Stamp.{Stamp}
 use Rattle.cap_time.specs.Stamp.{stamp_cmp, stamp_plus}
-use Rattle.cap_time.specs.StampLaws.{stamp_cmp_total}
+use Rattle.cap_time.specs.inner.StampLaws.{stamp_cmp_total}
 use Rattle.cap_ip.specs.declared.headers.Key.{Key}
 use Rattle.cap_join.specs.Fragments.{Piece}
 use Rattle.cap_join.specs.Frames.{is_before, is_too_old, wait}

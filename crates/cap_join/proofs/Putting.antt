@@ -11,11 +11,11 @@ use Rattle.cap_join.specs.declared.datagrams.Datagram.{Datagram}
 use Rattle.cap_join.specs.Fragments.{Piece}
 use Rattle.cap_join.specs.ByteMap.{completes}
 use Rattle.cap_join.specs.Frames.{is_too_old}
-use Rattle.cap_join.specs.Groups.{GroupState, IsGroupOf, IsDatagramOf}
+use Rattle.cap_join.specs.inner.Groups.{GroupState, IsGroupOf, IsDatagramOf}
 use Rattle.cap_join.specs.History.{OpenGroup, same_key, key_of, opened, live_at, group_at, without, extended}
 use Rattle.cap_join.specs.History.{without_oldest, trimmed, pieces_with, opens_with, gives_up_with}
 use Rattle.cap_join.specs.Joiners.{Entry, IsEntryOf, AreEntriesOf, Rises, IsTable, open_limit}
-use Rattle.cap_join.specs.Tables.{entry_at, live_entries, has_live, PutsAt, Puts}
+use Rattle.cap_join.specs.inner.Tables.{entry_at, live_entries, has_live, PutsAt, Puts}
 use Rattle.cap_join.proofs.Entries.{lengths, live_group, no_live, AreEntriesOf-live, Found}
 use Rattle.cap_join.proofs.Steps.{AreEntriesOf-put, live_at-extended, without-extended, AreEntriesOf-without}
 use Rattle.cap_join.proofs.Steps.{AreEntriesOf-push, AreEntriesOf-oldest, Rises-wider, Rises-filter, Rises-set_value}

@@ -11,11 +11,11 @@ use Rattle.cap_ip.specs.declared.headers.Key.{Key}
 use Rattle.cap_time.specs.declared.stamps.Stamp.{Stamp}
 use Rattle.cap_join.specs.Fragments.{Piece}
 use Rattle.cap_join.specs.Frames.{is_too_old}
-use Rattle.cap_join.specs.Groups.{GroupState}
+use Rattle.cap_join.specs.inner.Groups.{GroupState}
 use Rattle.cap_join.specs.History.{same_key}
 use Rattle.cap_join.specs.Joiners.{Entry, most_bytes, spare_in}
-use Rattle.cap_join.specs.Ages.{NoneOld, IsDeadline, AreInTurn, AreTimeless}
-use Rattle.cap_join.specs.Tables.{entry_at, live_entries, PutsAt}
+use Rattle.cap_join.specs.inner.Ages.{NoneOld, IsDeadline, AreInTurn, AreTimeless}
+use Rattle.cap_join.specs.inner.Tables.{entry_at, live_entries, PutsAt}
 use Rattle.cap_join.proofs.Entries.{alone}
 use Rattle.cap_join.proofs.Tabling.{itself, turned, live-expired}
 use Rattle.cap_join.proofs.Aging.{live-all, NoneOld-append}

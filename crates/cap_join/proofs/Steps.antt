@@ -9,11 +9,11 @@ use Rattle.std.proofs.lemmas.Map.Keys.{IsDistinct-tail}
 use Rattle.cap_ip.specs.declared.headers.Key.{Key}
 use Rattle.cap_time.specs.declared.stamps.Stamp.{Stamp}
 use Rattle.cap_join.specs.Fragments.{Piece}
-use Rattle.cap_join.specs.Groups.{GroupState, IsGroupOf}
+use Rattle.cap_join.specs.inner.Groups.{GroupState, IsGroupOf}
 use Rattle.cap_join.specs.History.{OpenGroup, same_key, key_of, with_piece, live_at, group_at, without, extended}
 use Rattle.cap_join.specs.History.{without_oldest}
 use Rattle.cap_join.specs.Joiners.{Entry, IsEntryOf, AreEntriesOf, Rises}
-use Rattle.cap_join.specs.Tables.{entry_at}
+use Rattle.cap_join.specs.inner.Tables.{entry_at}
 use Rattle.cap_join.proofs.Entries.{alone, key_test}
 
 -- without a group of its key a fragment changes no group

@@ -13,10 +13,10 @@ use Rattle.cap_ip.specs.declared.headers.Key.{Key}
 use Rattle.cap_time.specs.declared.stamps.Stamp.{Stamp}
 use Rattle.cap_join.specs.Fragments.{Piece}
 use Rattle.cap_join.specs.Frames.{is_too_old}
-use Rattle.cap_join.specs.Groups.{GroupState}
+use Rattle.cap_join.specs.inner.Groups.{GroupState}
 use Rattle.cap_join.specs.History.{same_key}
 use Rattle.cap_join.specs.Joiners.{Entry, open_limit}
-use Rattle.cap_join.specs.Tables.{entry_at, live_entries, has_live, PutsAt}
+use Rattle.cap_join.specs.inner.Tables.{entry_at, live_entries, has_live, PutsAt}
 use Rattle.cap_join.proofs.Entries.{same_key-is, alone}
 use Rattle.cap_join.proofs.Aging.{Looked}
 

@@ -6,7 +6,7 @@ use Rattle.cap_ip.specs.Read.{Reading, found, bad, cut}
 use Rattle.cap_ip.specs.declared.headers.Fragment.{Fragment}
 use Rattle.cap_join.specs.ByteMap.{completes}
 use Rattle.cap_join.specs.Fragments.{Piece, piece_of}
-use Rattle.cap_join.specs.Groups.{IsDatagramOf}
+use Rattle.cap_join.specs.inner.Groups.{IsDatagramOf}
 use Rattle.cap_join.specs.History.{Event, arrives, flushes, joined_pieces, state_of}
 use Rattle.cap_join.specs.Joiners.{open_limit}
 use Rattle.cap_join.specs.declared.arrivals.Arrived.{Arrived}

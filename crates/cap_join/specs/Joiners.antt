@@ -7,7 +7,7 @@ use Rattle.cap_join.specs.declared.datagrams.Put.{Put}
 use Rattle.cap_join.specs.declared.datagrams.Put.TheVariants.{Kept, Joined}
 use Rattle.cap_join.specs.Fragments.{Piece}
 use Rattle.cap_join.specs.ByteMap.{completes, greatest_end, rounded}
-use Rattle.cap_join.specs.Groups.{GroupState, IsGroupOf, IsDatagramOf}
+use Rattle.cap_join.specs.inner.Groups.{GroupState, IsGroupOf, IsDatagramOf}
 use Rattle.cap_join.specs.History.{Event, OpenGroup, same_key, state_of}
 
 -- a key with its group

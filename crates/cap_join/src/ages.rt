@@ -1,6 +1,6 @@
 //! Deadlines of open groups: the last time at which a group isn't too old.
 ghost use Rattle.std.specs.Prelude.{◌≡◌, true};
-ghost use Rattle.cap_join.specs.Ages.{is_past, sooner, latest_of, is_in_turn};
+ghost use Rattle.cap_join.specs.inner.Ages.{is_past, sooner, latest_of, is_in_turn};
 
 use cap_time::Stamp;
 

@@ -2,7 +2,7 @@
 ghost use Rattle.std.specs.Prelude.{◌≡◌, ℕ, List, ◌∷◌, ◌+◌, ◌*◌, ◌<◌, ◌≤◌, ◌%◌, length, take, max, IfOk, OnOk, OnErr};
 ghost use Rattle.cap_join.specs.Holes.{Span, IsChain, HasHoles, HasCursor};
 ghost use Rattle.cap_join.specs.Fragments.{Piece, IsShaped};
-ghost use Rattle.cap_join.specs.Buffers.{Maps, Grown};
+ghost use Rattle.cap_join.specs.inner.Buffers.{Maps, Grown};
 
 use crate::holes::{HoleList, add_hole, copy, fill};
 use std::alloc::AllocError;

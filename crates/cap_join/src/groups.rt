@@ -2,13 +2,13 @@
 ghost use Rattle.std.specs.Prelude.{◌≡◌, List, [], ◌∷◌, ◌+◌, ◌-◌, ◌==◌, ◌≤◌, ◌<◌, ◌<ℤ◌, ◌^◌, pos, true, false, length};
 ghost use Rattle.std.specs.Prelude.{take, Some, None, IsSome, IsTrue, IfSome, OnOk, OnErr, if◌then◌else◌};
 ghost use Rattle.cap_time.specs.Stamp.{seconds_of};
-ghost use Rattle.cap_join.specs.Fitting.{FitsDatagram};
+ghost use Rattle.cap_join.specs.inner.Fitting.{FitsDatagram};
 ghost use Rattle.cap_join.specs.Fragments.{Piece};
-ghost use Rattle.cap_join.specs.Incoming.{piece_in};
+ghost use Rattle.cap_join.specs.inner.Incoming.{piece_in};
 ghost use Rattle.cap_join.specs.ByteMap.{completes};
 ghost use Rattle.cap_join.specs.Frames.{timed, earlier, later, is_too_old};
-ghost use Rattle.cap_join.specs.Ages.{deadline_of};
-ghost use Rattle.cap_join.specs.Groups.{IsGroupOf, IsDatagramOf};
+ghost use Rattle.cap_join.specs.inner.Ages.{deadline_of};
+ghost use Rattle.cap_join.specs.inner.Groups.{IsGroupOf, IsDatagramOf};
 
 use crate::buffers::{Part, put_data};
 use crate::datagrams::{Datagram, Incoming, Stamped};
@@ -38,11 +38,11 @@ pub(crate) struct Group {
 }
 
 impl Model for Group {
-    ghost use Rattle.cap_join.specs.Groups.{GroupState};
+    ghost use Rattle.cap_join.specs.inner.Groups.{GroupState};
 
     ghost Value = { GroupState };
 
-    ghost use Rattle.cap_join.specs.GroupView.{group_view, IsSoundGroup};
+    ghost use Rattle.cap_join.specs.inner.GroupView.{group_view, IsSoundGroup};
 
     ghost view = { group_view };
 

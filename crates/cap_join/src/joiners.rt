@@ -2,7 +2,7 @@
 ghost use Rattle.std.specs.Prelude.{◌≡◌, List, [], ◌∷◌, ◌+◌, ◌≤◌, ◌<◌, ◌<ℤ◌, ◌*◌, ◌^◌, pos, length, sum, IsSome};
 ghost use Rattle.std.specs.Prelude.{IfSome, IfOk, IfErr, OnOk, OnErr};
 ghost use Rattle.cap_time.specs.Stamp.{seconds_of};
-ghost use Rattle.cap_join.specs.Fitting.{FitsPut};
+ghost use Rattle.cap_join.specs.inner.Fitting.{FitsPut};
 ghost use Rattle.cap_join.specs.Fragments.{piece_of};
 ghost use Rattle.cap_join.specs.History.{Event, arrives, flushes, state_of, joined_pieces};
 ghost use Rattle.cap_join.specs.Joiners.{StandsFor, IsAnswer, most_bytes, spare_in, held_of, open_limit};
@@ -42,7 +42,7 @@ impl Model for Joiner {
 
     ghost Value = { JoinerState };
 
-    ghost use Rattle.cap_join.specs.JoinerView.{joiner_view, IsSoundInside};
+    ghost use Rattle.cap_join.specs.inner.JoinerView.{joiner_view, IsSoundInside};
 
     ghost view = { joiner_view };
 

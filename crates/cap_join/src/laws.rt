@@ -1,8 +1,8 @@
 //! Laws of the definitions.
 ghost use Rattle.cap_join.specs.Completed.{CompletedLaw, OnceLaw};
-ghost use Rattle.cap_join.specs.EqualClocks.{EqualClocksLaw};
+ghost use Rattle.cap_join.specs.inner.EqualClocks.{EqualClocksLaw};
 ghost use Rattle.cap_join.specs.Places.{PlacesLaw};
-ghost use Rattle.cap_join.specs.Rows.{OpenLimit, OverlapMap, ThirtySeconds};
+ghost use Rattle.cap_join.specs.inner.Rows.{OpenLimit, OverlapMap, ThirtySeconds};
 
 /// The two definitions of groups agree: the one by places, which asks of the fragment before with the
 /// key, and the one by steps, in which each fragment drops all groups that are too old; and so do the

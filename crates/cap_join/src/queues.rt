@@ -3,12 +3,12 @@ ghost use Rattle.std.specs.Prelude.{◌≡◌, ◌∷◌, [], ◌++◌, ◌+◌,
 ghost use Rattle.std.specs.Prelude.{IfNone, IsSomeAnd, IfOk, IfErr, OnOk, OnErr, IsOk, is_some, remove};
 ghost use Rattle.std.specs.List.{IsDistinct};
 ghost use Rattle.std.specs.Map.{keys_of, remove_entry};
-ghost use Rattle.cap_join.specs.Incoming.{piece_in};
+ghost use Rattle.cap_join.specs.inner.Incoming.{piece_in};
 ghost use Rattle.cap_join.specs.Frames.{is_too_old};
 ghost use Rattle.cap_join.specs.History.{same_key};
 ghost use Rattle.cap_join.specs.Joiners.{open_limit, most_bytes, spare_in};
-ghost use Rattle.cap_join.specs.Ages.{NoneOld, IsDeadline, AreInTurn, AreTimeless, IsFirstTimeless};
-ghost use Rattle.cap_join.specs.Tables.{entry_at, live_entries, has_live, PutsAt};
+ghost use Rattle.cap_join.specs.inner.Ages.{NoneOld, IsDeadline, AreInTurn, AreTimeless, IsFirstTimeless};
+ghost use Rattle.cap_join.specs.inner.Tables.{entry_at, live_entries, has_live, PutsAt};
 
 use crate::ages::sooner;
 use crate::datagrams::Incoming;
@@ -35,11 +35,11 @@ pub(crate) struct Queue {
 impl Model for Queue {
     ghost use Rattle.std.specs.Prelude.{List};
     ghost use Rattle.cap_ip.specs.declared.headers.Key.{Key as QueueKey};
-    ghost use Rattle.cap_join.specs.Groups.{GroupState};
+    ghost use Rattle.cap_join.specs.inner.Groups.{GroupState};
 
     ghost Value = { List (QueueKey × GroupState) };
 
-    ghost use Rattle.cap_join.specs.QueueView.{queue_view, IsSoundQueue};
+    ghost use Rattle.cap_join.specs.inner.QueueView.{queue_view, IsSoundQueue};
 
     ghost view = { queue_view };
 

@@ -1,6 +1,6 @@
 //! The buffers of closed groups, kept for later ones.
 ghost use Rattle.std.specs.Prelude.{◌≡◌, [], ◌*◌, ◌^◌, ◌<◌, ◌≤◌, length, map, sum};
-ghost use Rattle.cap_join.specs.Spares.{with_spare, spare_limit};
+ghost use Rattle.cap_join.specs.inner.Spares.{with_spare, spare_limit};
 
 use crate::groups::Group;
 use std::alloc::{AllocError, Global};
@@ -17,11 +17,11 @@ pub(crate) struct Spares {
 }
 
 impl Model for Spares {
-    ghost use Rattle.cap_join.specs.Spares.{SpareState};
+    ghost use Rattle.cap_join.specs.inner.Spares.{SpareState};
 
     ghost Value = { SpareState };
 
-    ghost use Rattle.cap_join.specs.SparesView.{spares_view, IsSoundSpares};
+    ghost use Rattle.cap_join.specs.inner.SparesView.{spares_view, IsSoundSpares};
 
     ghost view = { spares_view };
 

@@ -3,19 +3,19 @@ ghost use Rattle.std.specs.Prelude.{◌≡◌, List, [], ◌∷◌, ◌++◌, �
 ghost use Rattle.std.specs.Prelude.{length, Some, None, IsSome, IfSome, IfNone, IsSomeAnd, IfOk, IfErr, OnOk, OnErr};
 ghost use Rattle.std.specs.Prelude.{remove, nat_lt, if◌then◌else◌};
 ghost use Rattle.cap_time.specs.Stamp.{seconds_of};
-ghost use Rattle.cap_join.specs.Fitting.{FitsDatagram, FitsPut};
-ghost use Rattle.cap_join.specs.Incoming.{key_in, piece_in, place_in};
+ghost use Rattle.cap_join.specs.inner.Fitting.{FitsDatagram, FitsPut};
+ghost use Rattle.cap_join.specs.inner.Incoming.{key_in, piece_in, place_in};
 ghost use Rattle.cap_join.specs.Frames.{is_too_old};
 ghost use Rattle.std.specs.List.{IsDistinct};
 ghost use Rattle.std.specs.Map.{keys_of, remove_entry};
 ghost use Rattle.cap_join.specs.History.{OpenGroup, same_key};
 ghost use Rattle.cap_join.specs.Joiners.{AreEntriesOf, IsTable, open_limit, most_bytes, spare_in};
-ghost use Rattle.cap_join.specs.Spares.{with_spare};
+ghost use Rattle.cap_join.specs.inner.Spares.{with_spare};
 ghost use Rattle.cap_join.specs.Fragments.{Piece};
 ghost use Rattle.cap_join.specs.ByteMap.{completes};
-ghost use Rattle.cap_join.specs.Groups.{IsGroupOf, IsDatagramOf};
-ghost use Rattle.cap_join.specs.Ages.{NoneOld, IsDeadline, AreInTurn};
-ghost use Rattle.cap_join.specs.Tables.{entries_of, entry_at, live_entries, has_live, PutsAt, Puts};
+ghost use Rattle.cap_join.specs.inner.Groups.{IsGroupOf, IsDatagramOf};
+ghost use Rattle.cap_join.specs.inner.Ages.{NoneOld, IsDeadline, AreInTurn};
+ghost use Rattle.cap_join.specs.inner.Tables.{entries_of, entry_at, live_entries, has_live, PutsAt, Puts};
 
 use crate::ages::{is_past, latest_of, sooner, stays_in_order};
 use crate::datagrams::{Datagram, Incoming, Put};
@@ -46,11 +46,11 @@ pub(crate) struct Table {
 impl Model for Table {
     ghost use Rattle.std.specs.Prelude.{List};
     ghost use Rattle.cap_ip.specs.declared.headers.Key.{Key as TableKey};
-    ghost use Rattle.cap_join.specs.Groups.{GroupState};
+    ghost use Rattle.cap_join.specs.inner.Groups.{GroupState};
 
     ghost Value = { List (TableKey × GroupState) };
 
-    ghost use Rattle.cap_join.specs.TableView.{table_view, IsSoundTable};
+    ghost use Rattle.cap_join.specs.inner.TableView.{table_view, IsSoundTable};
 
     ghost view = { table_view };
 

@@ -6,12 +6,12 @@ use Rattle.std.specs.List.{AllZip}
 use Rattle.std.specs.Prelude.{nat_lt, if◌then◌else◌}
 use Rattle.cap_join.proofs.EqualClocks.{same-groups}
 use Rattle.cap_join.specs.Completed.{if_complete}
-use Rattle.cap_join.specs.EqualClocks.{IsSameTime, IsSameEvent}
+use Rattle.cap_join.specs.inner.EqualClocks.{IsSameTime, IsSameEvent}
 use Rattle.cap_join.specs.Fragments.{Piece}
 use Rattle.cap_join.specs.History.{Event}
 use Rattle.cap_join.specs.Joiners.{open_limit}
 use Rattle.cap_join.specs.declared.datagrams.Stamped.{Stamped}
-use Rattle.cap_merge.specs.Clocks.{clock_total}
+use Rattle.cap_merge.specs.inner.Clocks.{clock_total}
 use Rattle.cap_merge.specs.Run.{Clocked}
 use Rattle.cap_source.specs.Feed.{Item, packet, refused}
 use Rattle.cap_talks.specs.table.Classes.{classes, classes_in, groups_of}

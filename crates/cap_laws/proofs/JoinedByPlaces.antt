@@ -8,7 +8,7 @@ use Rattle.cap_join.specs.Joiners.{open_limit}
 use Rattle.cap_join.specs.Places.{latest_clock, next_place, AreInOrder}
 use Rattle.cap_link.specs.Links.{network_of, is_whole}
 use Rattle.cap_merge.proofs.RunLaws.{NeverFalls, run-rises}
-use Rattle.cap_merge.specs.Clocks.{AtMost, at_most-trans}
+use Rattle.cap_merge.specs.inner.Clocks.{AtMost, at_most-trans}
 use Rattle.cap_merge.specs.Parts.{item_time, is_refusal}
 use Rattle.cap_merge.specs.Run.{Clocked, opened, run}
 use Rattle.cap_source.specs.Feed.{Item, packet, refused}

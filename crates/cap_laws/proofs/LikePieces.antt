@@ -6,7 +6,7 @@ use Rattle.std.specs.Option.{option_map_or}
 use Rattle.std.specs.Prelude.{◌==◌, map, if◌then◌else◌}
 use Rattle.cap_join.proofs.AlikeGroups.{AlikeGroups, IsAlikeEvent, IsAlikeness, alike-groups, before_same}
 use Rattle.cap_join.specs.ByteMap.{is_covered, covers_below, total_of, header_of, byte_at, blocks, completes, data_of}
-use Rattle.cap_join.specs.EqualClocks.{IsSameTime}
+use Rattle.cap_join.specs.inner.EqualClocks.{IsSameTime}
 use Rattle.cap_join.specs.Fragments.{Piece}
 use Rattle.cap_join.specs.Frames.{original_bytes, timed, earlier, later, first_frame, last_frame}
 use Rattle.cap_join.specs.History.{Event}

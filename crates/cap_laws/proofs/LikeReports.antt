@@ -10,7 +10,7 @@ use Rattle.std.specs.Prelude.{nat_lt, if◌then◌else◌}
 use Rattle.cap_ip.specs.Header.{HeaderFields}
 use Rattle.cap_join.specs.Completed.{if_complete}
 use Rattle.cap_join.proofs.AlikeGroups.{if_complete-alike, zip-both}
-use Rattle.cap_join.specs.EqualClocks.{IsSameTime}
+use Rattle.cap_join.specs.inner.EqualClocks.{IsSameTime}
 use Rattle.cap_join.specs.Fragments.{Piece, piece_of}
 use Rattle.cap_join.specs.History.{Event, joined_pieces, state_of}
 use Rattle.cap_join.specs.Joiners.{open_limit}

@@ -6,7 +6,7 @@ use Rattle.std.specs.Ordering.{is_lt}
 use Rattle.std.specs.Prelude.{map, if◌then◌else◌}
 use Rattle.cap_merge.proofs.RunLaws.{ClocksAreTold, run-clocks}
 use Rattle.cap_time.specs.Clock.{clock_cmp, later}
-use Rattle.cap_merge.specs.Clocks.{clock_total}
+use Rattle.cap_merge.specs.inner.Clocks.{clock_total}
 use Rattle.cap_merge.specs.Files.{run_of_lists}
 use Rattle.cap_merge.specs.Parts.{item_time, is_refusal}
 use Rattle.cap_merge.specs.Run.{Clocked, opened, run}

@@ -8,7 +8,7 @@ use Rattle.cap_bytes.specs.Number.{number}
 use Rattle.cap_bytes.specs.declared.numbers.Order.TheVariants.{Big}
 use Rattle.cap_link.specs.Tags.{is_tag, payload, carried}
 use Rattle.cap_link.specs.Links.{typed, network_of, is_whole}
-use Rattle.cap_link.specs.Tagged.{Tag, tagged, TagsLaw}
+use Rattle.cap_link.specs.inner.Tagged.{Tag, tagged, TagsLaw}
 use Rattle.cap_link.proofs.TagSteps.{carried-tag, carried-payload}
 
 -- two bytes of a number spell it

@@ -1,4 +1,4 @@
 pub mod Seen
 pub mod Tags
 pub mod Links
-pub mod Tagged
+pub mod inner

@@ -2,7 +2,7 @@
 ghost use Rattle.std.specs.Prelude.{◌≡◌, ◌+◌, ◌≤◌};
 ghost use Rattle.cap_link.specs.Seen.{seen};
 ghost use Rattle.cap_link.specs.Links.{typed, raw, network_of};
-ghost use Rattle.cap_link.specs.Tagged.{TagsLaw};
+ghost use Rattle.cap_link.specs.inner.Tagged.{TagsLaw};
 
 use crate::networks::Network;
 use crate::tags::{carried, ended};

@@ -10,7 +10,7 @@ use Rattle.std.specs.List.{refill}
 use Rattle.std.proofs.lemmas.List.{take_at}
 use Rattle.cap_merge.specs.declared.lanes.Lane.{Lane}
 use Rattle.cap_merge.specs.Parts.{Part, part, parts, Matches, Agrees}
-use Rattle.cap_merge.specs.Merge.{LearnsBy, Stops, LearnsAll, StopsAt, IsPacketAt, PassesAt, PassesPart}
+use Rattle.cap_merge.specs.inner.Merge.{LearnsBy, Stops, LearnsAll, StopsAt, IsPacketAt, PassesAt, PassesPart}
 
 -- The first n feeds were asked, the others are as they were.
 abbrev pub AskedUpTo : ℕ → List Part → List Part → Type 0

@@ -15,10 +15,10 @@ use Rattle.cap_time.specs.declared.stamps.Stamp.{Stamp}
 use Rattle.cap_merge.specs.declared.lanes.Coming.{Coming}
 use Rattle.cap_merge.specs.declared.lanes.Coming.TheVariants as comings
 use Rattle.cap_merge.specs.declared.lanes.Lane.{Lane}
-use Rattle.cap_merge.specs.First.{fresh_lane, lane_at, first_place}
+use Rattle.cap_merge.specs.inner.First.{fresh_lane, lane_at, first_place}
 use Rattle.cap_merge.specs.Parts.{Part, part, parts, turns, is_bounded, AreBounded}
 use Rattle.cap_merge.proofs.Placing.{place_within}
-use Rattle.cap_merge.specs.Merge.{LearnsBy, LearnsAll, StopsAt, AsksAll, PassesAt}
+use Rattle.cap_merge.specs.inner.Merge.{LearnsBy, LearnsAll, StopsAt, AsksAll, PassesAt}
 
 -- a clock that moves to a time is within them if both are
 later_bounded : (clock time : Option Stamp) → IfSome time (λ t. seconds_of t <ℤ pos (2 ^ 65)) → is_bounded clock ≡ true

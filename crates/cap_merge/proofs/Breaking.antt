@@ -6,8 +6,8 @@ use Rattle.cap_bytes.specs.declared.faults.Fault.{Fault}
 use Rattle.cap_bytes.specs.declared.faults.Fault.TheVariants.{Read, Memory}
 use Rattle.cap_source.specs.declared.feeds.Head.{Head}
 use Rattle.cap_merge.specs.Parts.{Part, has_file, is_known, broken_of, places_of, can_fail_of}
-use Rattle.cap_merge.specs.Merge.{LearnsBy, Stops, LearnsAll, StopsAt}
-use Rattle.cap_merge.specs.Sound.{AreFrom}
+use Rattle.cap_merge.specs.inner.Merge.{LearnsBy, Stops, LearnsAll, StopsAt}
+use Rattle.cap_merge.specs.inner.Sound.{AreFrom}
 
 -- the file isn't before that of the first feed
 stopped_from : (n file offset : ℕ) (ps qs : List Part) → AreFrom n qs → StopsAt (Read file offset) ps qs → n ≤ file

@@ -8,8 +8,8 @@ use Rattle.cap_bytes.specs.declared.faults.Fault.{Fault}
 use Rattle.cap_source.specs.Feed.{Feed, IsFeed, Keeps}
 use Rattle.cap_merge.specs.declared.lanes.Lane.{Lane}
 use Rattle.cap_merge.specs.Parts.{Part, parts, IsNumbered, Agrees, HasReached, is_known, run_of, feed_of, KeepsRun}
-use Rattle.cap_merge.specs.Merge.{LearnsAll, StopsAt, AsksAll}
-use Rattle.cap_merge.specs.Sound.{IsSound, sound-parts, lawful-each, AreFrom, numbered-from}
+use Rattle.cap_merge.specs.inner.Merge.{LearnsAll, StopsAt, AsksAll}
+use Rattle.cap_merge.specs.inner.Sound.{IsSound, sound-parts, lawful-each, AreFrom, numbered-from}
 use Rattle.cap_merge.proofs.Moving.{Each, Kept, ComesAlike, learns-each, stops-each, alike-itself, alike-learns_by}
 use Rattle.cap_merge.proofs.Moving.{alike-waits, run-alike, keeps-each}
 use Rattle.cap_merge.proofs.Heads.{asked-keeps, asked-sound, known_all, never}

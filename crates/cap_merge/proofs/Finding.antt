@@ -6,8 +6,8 @@ use Rattle.std.proofs.lemmas.List.{length-map}
 use Rattle.cap_merge.specs.declared.lanes.Coming.TheVariants as comings
 use Rattle.cap_merge.specs.declared.lanes.Front.{Front}
 use Rattle.cap_merge.specs.declared.lanes.Lane.{Lane}
-use Rattle.cap_merge.specs.First.{Turn, lane_at, lane_turn, lane_turns, has_item, sooner_place, first_among}
-use Rattle.cap_merge.specs.First.{first_place, front_at, found_of, passed_of, IsFound}
+use Rattle.cap_merge.specs.inner.First.{Turn, lane_at, lane_turn, lane_turns, has_item, sooner_place, first_among}
+use Rattle.cap_merge.specs.inner.First.{first_place, front_at, found_of, passed_of, IsFound}
 
 sooner_within : (ts : List Turn) (o : Option ℕ) (place : ℕ) → IfSome o (λ n. n < place)
     → IfSome (sooner_place ts o place) (λ n. n < suc place)

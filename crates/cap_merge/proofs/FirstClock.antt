@@ -4,8 +4,8 @@ use Rattle.std.specs.Prelude.{IsTrue, IfSome, ◌<ℤ◌, pos, ◌^◌}
 use Rattle.cap_time.specs.declared.stamps.Stamp.{Stamp}
 use Rattle.cap_time.specs.Stamp.{seconds_of}
 use Rattle.cap_source.specs.Feed.{Feed, IsFeed}
-use Rattle.cap_merge.specs.Clocks.{AtMost}
-use Rattle.cap_merge.specs.First.{has_next, lane_at, first_place}
+use Rattle.cap_merge.specs.inner.Clocks.{AtMost}
+use Rattle.cap_merge.specs.inner.First.{has_next, lane_at, first_place}
 use Rattle.cap_merge.specs.Parts.{Part, parts, turns, feed_of, clock_of, run_of, ClocksFrom, BeginsAt, HasReached}
 use Rattle.cap_merge.specs.Parts.{AreBounded}
 use Rattle.cap_merge.specs.declared.lanes.Lane.{Lane}

@@ -13,18 +13,18 @@ use Rattle.cap_source.specs.declared.packets.Meta.{Meta}
 use Rattle.cap_source.specs.declared.feeds.FileEnd.{FileEnd}
 use Rattle.cap_source.specs.declared.feeds.FeedHeld.{FeedHeld}
 use Rattle.cap_source.specs.Feed.{packet, refused, Feed, IsFeed, IsPacket, Keeps, Passes, HasFile}
-use Rattle.cap_merge.specs.Lists.{all-each}
+use Rattle.cap_merge.specs.inner.Lists.{all-each}
 use Rattle.cap_merge.specs.declared.lanes.Lane.{Lane}
-use Rattle.cap_merge.specs.First.{has_next, fresh_lane, lane_at, first_place}
+use Rattle.cap_merge.specs.inner.First.{has_next, fresh_lane, lane_at, first_place}
 use Rattle.cap_merge.specs.Parts.{Part, part, parts, turns, is_known, known_of, head_by, frame_by, clock_of, first_of}
 use Rattle.cap_merge.specs.Parts.{run_of, endings_of, held_of, both_held, has_file, feed_of, ClocksFrom, BeginsAt}
 use Rattle.cap_merge.specs.Parts.{IsNumbered, HasReached, clock_by}
-use Rattle.cap_merge.specs.Merge.{IsPacketAt, PassesAt, PassesPart}
-use Rattle.cap_merge.specs.Clocks.{AtMost}
-use Rattle.cap_merge.specs.Leading.{Split, NoNext, IsFirstOf, first_is}
-use Rattle.cap_merge.specs.Sound.{IsSound, AreFrom, sound-parts, lawful-each, numbered-from}
-use Rattle.cap_merge.specs.Coming.{IsReady, leads_known, reached_known, run-first}
-use Rattle.cap_merge.specs.Lawful.{ready_all, at_first}
+use Rattle.cap_merge.specs.inner.Merge.{IsPacketAt, PassesAt, PassesPart}
+use Rattle.cap_merge.specs.inner.Clocks.{AtMost}
+use Rattle.cap_merge.specs.inner.Leading.{Split, NoNext, IsFirstOf, first_is}
+use Rattle.cap_merge.specs.inner.Sound.{IsSound, AreFrom, sound-parts, lawful-each, numbered-from}
+use Rattle.cap_merge.specs.inner.Coming.{IsReady, leads_known, reached_known, run-first}
+use Rattle.cap_merge.specs.inner.Lawful.{ready_all, at_first}
 use Rattle.cap_merge.proofs.Calls.{told_all}
 use Rattle.cap_merge.proofs.FromClock.{each-from, from-each}
 use Rattle.cap_merge.proofs.Moving.{Each, each-itself, Kept, kept-itself}

@@ -6,9 +6,9 @@ use Rattle.std.specs.Ordering.{is_gt}
 use Rattle.cap_time.specs.declared.stamps.Stamp.{Stamp}
 use Rattle.cap_source.specs.declared.feeds.Head.{Head}
 use Rattle.cap_source.specs.declared.feeds.Head.TheVariants as heads
-use Rattle.cap_merge.specs.Lists.{all-each, each-all}
+use Rattle.cap_merge.specs.inner.Lists.{all-each, each-all}
 use Rattle.cap_time.specs.Clock.{clock_cmp}
-use Rattle.cap_merge.specs.Clocks.{AtMost}
+use Rattle.cap_merge.specs.inner.Clocks.{AtMost}
 use Rattle.cap_merge.specs.Parts.{Part, is_end, ClocksFrom}
 
 -- Nothing comes any more of the part, or its clock isn't below that.

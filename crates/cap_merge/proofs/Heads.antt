@@ -10,14 +10,14 @@ use Rattle.cap_time.specs.declared.stamps.Stamp.{Stamp}
 use Rattle.cap_source.specs.declared.feeds.Head.{Head}
 use Rattle.cap_source.specs.declared.feeds.Head.TheVariants as heads
 use Rattle.cap_source.specs.Feed.{IsFeed, SameItems, Knows, Breaks, Waits, GivesHead, KeepsItems}
-use Rattle.cap_merge.specs.Lists.{and-both, and-none, any-back, any-front, or-back}
+use Rattle.cap_merge.specs.inner.Lists.{and-both, and-none, any-back, any-front, or-back}
 use Rattle.cap_time.specs.Clock.{later}
 use Rattle.cap_merge.specs.Parts.{Part, LaneState, head_time, has_file, is_known, known_of, head_by, first_of, feed_of}
 use Rattle.cap_merge.specs.Parts.{ClocksFrom}
-use Rattle.cap_merge.specs.Merge.{LearnsBy, Stops, LearnsAll, StopsAt, AsksAll}
-use Rattle.cap_merge.specs.Clocks.{AtMost, at_most-trans, later-first}
-use Rattle.cap_merge.specs.Sound.{IsSound, AreFrom}
-use Rattle.cap_merge.specs.Lawful.{whole_known}
+use Rattle.cap_merge.specs.inner.Merge.{LearnsBy, Stops, LearnsAll, StopsAt, AsksAll}
+use Rattle.cap_merge.specs.inner.Clocks.{AtMost, at_most-trans, later-first}
+use Rattle.cap_merge.specs.inner.Sound.{IsSound, AreFrom}
+use Rattle.cap_merge.specs.inner.Lawful.{whole_known}
 use Rattle.cap_merge.proofs.Breaking.{known_by, stopped-place, stopped-can_fail, stopped-again, stopped-broken}
 use Rattle.cap_merge.proofs.Breaking.{learned-whole, waited-before, waited-after}
 use Rattle.cap_merge.proofs.FromClock.{From, EachFrom, each-from, from-each}

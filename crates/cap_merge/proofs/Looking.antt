@@ -9,10 +9,10 @@ use Rattle.cap_source.specs.declared.feeds.Head.TheVariants as heads
 use Rattle.cap_source.specs.declared.packets.Meta.{Meta}
 use Rattle.cap_source.specs.Feed.{Feed, IsFeed, IsPacket, GivesHead, Keeps, KeepsItems, FindsPacket, FindsItem}
 use Rattle.cap_merge.specs.declared.lanes.Coming.TheVariants as comings
-use Rattle.cap_merge.specs.First.{coming_of}
-use Rattle.cap_merge.specs.Merge.{LearnsAll, StopsAt, AsksAll, LooksAll}
+use Rattle.cap_merge.specs.inner.First.{coming_of}
+use Rattle.cap_merge.specs.inner.Merge.{LearnsAll, StopsAt, AsksAll, LooksAll}
 use Rattle.cap_merge.specs.Parts.{Part, known_of, feed_of, KeepsRun, ShowsRun, MovesClocks}
-use Rattle.cap_merge.specs.Sound.{AreFrom}
+use Rattle.cap_merge.specs.inner.Sound.{AreFrom}
 use Rattle.cap_merge.proofs.Calls.{asked-keeps-all, run-asked, run-stopped}
 use Rattle.cap_merge.proofs.Heads.{asked-keeps, knows-asked, items-asked, gives-stopped, items-stopped, clocks-asked}
 use Rattle.cap_merge.proofs.Moving.{from-each}

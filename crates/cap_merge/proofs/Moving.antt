@@ -9,9 +9,9 @@ use Rattle.cap_source.specs.declared.feeds.Head.{Head}
 use Rattle.cap_source.specs.Feed.{IsFeed, Keeps, SameItems}
 use Rattle.cap_merge.specs.Run.{placed_from, placed_all, in_order}
 use Rattle.cap_merge.specs.Parts.{Part, item_time, tracks, run_of, endings_of, places_of, can_fail_of, left_of, feed_of}
-use Rattle.cap_merge.specs.Merge.{Learns, LearnsBy, Stops, LearnsAll, StopsAt}
-use Rattle.cap_merge.specs.Clocks.{clock_total}
-use Rattle.cap_merge.specs.Sound.{IsSound, AreFrom}
+use Rattle.cap_merge.specs.inner.Merge.{Learns, LearnsBy, Stops, LearnsAll, StopsAt}
+use Rattle.cap_merge.specs.inner.Clocks.{clock_total}
+use Rattle.cap_merge.specs.inner.Sound.{IsSound, AreFrom}
 
 -- Each part and what became of it.
 abbrev pub Each : (Part → Part → Type 0) → List Part → List Part → Type 0

@@ -5,10 +5,10 @@ use Rattle.std.proofs.Math.ListN.{set}
 use Rattle.std.proofs.lemmas.Bool.{true≢false}
 use Rattle.cap_bytes.specs.declared.faults.Fault.{Fault}
 use Rattle.cap_source.specs.Feed.{Feed, IsPacket}
-use Rattle.cap_merge.specs.Lists.{and-both}
+use Rattle.cap_merge.specs.inner.Lists.{and-both}
 use Rattle.cap_merge.specs.declared.lanes.Lane.{Lane}
 use Rattle.cap_merge.specs.Parts.{Part, part, parts, is_known, known_but, OthersKnown, feed_of}
-use Rattle.cap_merge.specs.Merge.{LearnsAll, Asks, AsksAll, PassesAt}
+use Rattle.cap_merge.specs.inner.Merge.{LearnsAll, Asks, AsksAll, PassesAt}
 use Rattle.cap_merge.proofs.Firsts.{known-holds}
 
 known_behind : (p : Part) (ps : List Part) → is_known (p ∷ ps) ≡ true → (is_some p.lane.head ≡ true)

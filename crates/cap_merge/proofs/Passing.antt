@@ -10,18 +10,18 @@ use Rattle.cap_source.specs.declared.feeds.Head.{Head}
 use Rattle.cap_source.specs.declared.feeds.Head.TheVariants as heads
 use Rattle.cap_source.specs.declared.packets.Meta.{Meta}
 use Rattle.cap_source.specs.Feed.{packet, IsFeed, Keeps, Passes, IfPacket}
-use Rattle.cap_merge.specs.Lists.{All-both, all-back, all-each, and-none}
+use Rattle.cap_merge.specs.inner.Lists.{All-both, all-back, all-each, and-none}
 use Rattle.cap_time.specs.Clock.{clock_cmp}
 use Rattle.cap_merge.specs.Run.{run}
-use Rattle.cap_merge.specs.First.{has_next}
+use Rattle.cap_merge.specs.inner.First.{has_next}
 use Rattle.cap_merge.specs.Parts.{Part, LaneState, item_time, is_refusal, has_file, is_known, known_of, head_by}
 use Rattle.cap_merge.specs.Parts.{first_of, tracks, run_of, endings_of, places_of, left_of, most_of, held_of, feed_of}
-use Rattle.cap_merge.specs.Merge.{PassesPart}
-use Rattle.cap_merge.specs.Clocks.{AtMost, at_most-itself}
-use Rattle.cap_merge.specs.Leading.{Split}
-use Rattle.cap_merge.specs.Sound.{IsSound, AreFrom}
-use Rattle.cap_merge.specs.Coming.{IsReady, leads_known, reached_known, run-first, run_behind}
-use Rattle.cap_merge.specs.Lawful.{ready_all, at_first, places_at, packet_known}
+use Rattle.cap_merge.specs.inner.Merge.{PassesPart}
+use Rattle.cap_merge.specs.inner.Clocks.{AtMost, at_most-itself}
+use Rattle.cap_merge.specs.inner.Leading.{Split}
+use Rattle.cap_merge.specs.inner.Sound.{IsSound, AreFrom}
+use Rattle.cap_merge.specs.inner.Coming.{IsReady, leads_known, reached_known, run-first, run_behind}
+use Rattle.cap_merge.specs.inner.Lawful.{ready_all, at_first, places_at, packet_known}
 use Rattle.cap_merge.proofs.Breaking.{passed-whole}
 use Rattle.cap_merge.proofs.FromClock.{EachFrom}
 use Rattle.cap_merge.proofs.Moving.{Each, each-itself, Kept, kept-itself, keeps-each, from-each, sound-all}

@@ -13,13 +13,14 @@ use Rattle.cap_source.specs.Feed.{Feed, IsFeed}
 use Rattle.cap_merge.specs.declared.lanes.Coming.TheVariants as comings
 use Rattle.cap_merge.specs.declared.lanes.Lane.{Lane}
 use Rattle.cap_time.specs.Clock.{clock_cmp}
-use Rattle.cap_merge.specs.First.{coming_of}
-use Rattle.cap_merge.specs.Lists.{and-both}
+use Rattle.cap_merge.specs.inner.First.{coming_of}
+use Rattle.cap_merge.specs.inner.Lists.{and-both}
 use Rattle.cap_merge.specs.Parts.{Part, LaneState, part, parts, known_but, known_time, is_bounded, known_of, HasReached}
 use Rattle.cap_merge.specs.Parts.{AreBounded, feed_of}
-use Rattle.cap_merge.specs.Merge.{LearnsBy, Stops, LearnsAll, StopsAt, LooksAll, Shows, PeeksAt, ShowsAt, TellsNext}
-use Rattle.cap_merge.specs.Merge.{ShowsFirst}
-use Rattle.cap_merge.specs.Sound.{AreFrom}
+use Rattle.cap_merge.specs.inner.Merge.{LearnsBy, Stops, LearnsAll, StopsAt, LooksAll, Shows, PeeksAt, ShowsAt}
+use Rattle.cap_merge.specs.inner.Merge.{TellsNext}
+use Rattle.cap_merge.specs.inner.Merge.{ShowsFirst}
+use Rattle.cap_merge.specs.inner.Sound.{AreFrom}
 use Rattle.cap_merge.proofs.Heads.{known_all, same_all, unknown_stops, never}
 use Rattle.cap_merge.proofs.Looking.{Finds, finds-by, heads-known, heads-stopped, packet-comes, refusal-comes}
 use Rattle.cap_merge.proofs.Looking.{end-comes}

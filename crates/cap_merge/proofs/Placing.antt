@@ -11,12 +11,12 @@ use Rattle.cap_source.specs.Feed.{Feed}
 use Rattle.cap_merge.specs.declared.lanes.Lane.{Lane}
 use Rattle.cap_merge.specs.declared.lanes.Coming.{Coming}
 use Rattle.cap_merge.specs.declared.lanes.Coming.TheVariants as comings
-use Rattle.cap_merge.specs.First.{coming_of, fresh_lane, lane_turn, lane_turns, first_place}
+use Rattle.cap_merge.specs.inner.First.{coming_of, fresh_lane, lane_turn, lane_turns, first_place}
 use Rattle.cap_merge.specs.Run.{opened, run}
 use Rattle.cap_merge.specs.Parts.{Part, part, parts, turn, turns, is_known, known_of, head_by, first_of, new_lane}
 use Rattle.cap_merge.specs.Parts.{new_parts, item_time, is_refusal, run_of, tracks, Matches, Agrees, HasReached}
-use Rattle.cap_merge.specs.Leading.{Split, IsFirstOf, first_is}
-use Rattle.cap_merge.specs.Sound.{IsSound, each-reached}
+use Rattle.cap_merge.specs.inner.Leading.{Split, IsFirstOf, first_is}
+use Rattle.cap_merge.specs.inner.Sound.{IsSound, each-reached}
 use Rattle.cap_merge.proofs.Asking.{parts-get, length-parts, matches-there}
 use Rattle.cap_merge.proofs.Finding.{first-within}
 

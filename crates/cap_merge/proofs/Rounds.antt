@@ -6,13 +6,13 @@ use Rattle.std.specs.List.{AllByRecursion}
 use Rattle.std.specs.Ordering.{is_gt}
 use Rattle.std.proofs.lemmas.List.{map-append}
 use Rattle.cap_time.specs.declared.stamps.Stamp.{Stamp}
-use Rattle.cap_merge.specs.Lists.{All-both, all-back, all-front, map-twice}
+use Rattle.cap_merge.specs.inner.Lists.{All-both, all-back, all-front, map-twice}
 use Rattle.cap_time.specs.Clock.{clock_cmp, later}
 use Rattle.cap_merge.specs.Run.{Clocked, Track, opened, in_order, placed_cmp, Placed, clocked_of, placed_from}
 use Rattle.cap_merge.specs.Run.{placed_all, merged, HeadClock, IsFirst}
-use Rattle.cap_merge.specs.Clocks.{clock_total, AtMost, at_most-both, at_most-trans, below-at_most}
-use Rattle.cap_merge.specs.Ordered.{order-mapped}
-use Rattle.cap_merge.specs.MergedList.{passed, merged-next, merged-none}
+use Rattle.cap_merge.specs.inner.Clocks.{clock_total, AtMost, at_most-both, at_most-trans, below-at_most}
+use Rattle.cap_merge.specs.inner.Ordered.{order-mapped}
+use Rattle.cap_merge.specs.inner.MergedList.{passed, merged-next, merged-none}
 use Rattle.cap_merge.proofs.RunLaws.{Next, next-of, total, total_less, IsBetween, first_told, between_next}
 use Rattle.cap_merge.proofs.RunLaws.{opened_between, heads-implied}
 

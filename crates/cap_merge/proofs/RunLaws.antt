@@ -5,12 +5,13 @@ use Rattle.std.specs.Prelude.{map, ⊤, ◌⊎◌}
 use Rattle.std.specs.List.{AllByRecursion}
 use Rattle.std.specs.Ordering.{is_lt, is_gt}
 use Rattle.cap_time.specs.declared.stamps.Stamp.{Stamp}
-use Rattle.cap_merge.specs.Lists.{All-both, All-implied, all-back, all-front}
+use Rattle.cap_merge.specs.inner.Lists.{All-both, All-implied, all-back, all-front}
 use Rattle.cap_time.specs.Clock.{clock_cmp, later, greatest_from, greatest}
 use Rattle.cap_merge.specs.Run.{Clocked, Track, opened, merged, run, through_first, HeadClock, IsFirst}
-use Rattle.cap_merge.specs.Clocks.{AtMost, at_most-trans, later-first, later-second, later-least, not_below, is_less}
-use Rattle.cap_merge.specs.Clocks.{at_most-both, equal-at_most}
-use Rattle.cap_merge.specs.MergedList.{passed, merged-next, merged-none}
+use Rattle.cap_merge.specs.inner.Clocks.{AtMost, at_most-trans, later-first, later-second, later-least, not_below}
+use Rattle.cap_merge.specs.inner.Clocks.{is_less}
+use Rattle.cap_merge.specs.inner.Clocks.{at_most-both, equal-at_most}
+use Rattle.cap_merge.specs.inner.MergedList.{passed, merged-next, merged-none}
 
 -- Some file's next item comes first of all.
 pub record Next {A : Type 0} (time : A → Option Stamp) (ts : List (Track A)) : Type 0 where

@@ -4,7 +4,7 @@ use Rattle.cap_bytes.specs.declared.faults.Fault.{Fault}
 use Rattle.cap_bytes.specs.declared.faults.Fault.TheVariants.{Refused}
 use Rattle.cap_bytes.specs.declared.faults.Refusal.{Refusal}
 use Rattle.cap_source.specs.Feed.{Feed, SameItems, FindsPacket, FindsItem, IsFeed}
-use Rattle.cap_source.specs.Walk.{ShowsItem, GivesPacket}
+use Rattle.cap_source.specs.inner.Walk.{ShowsItem, GivesPacket}
 use Rattle.cap_source.specs.declared.feeds.Head.TheVariants as heads
 use Rattle.cap_source.specs.declared.packets.Meta.{Meta}
 

@@ -10,11 +10,11 @@ use Rattle.cap_merge.proofs.Numbers.{numbers-within}
 use Rattle.cap_merge.specs.Files.{items_of_files, run_of_files, clocked_run, endings_from, endings_of_files}
 use Rattle.cap_merge.specs.Parts.{Part, new_parts, item_time, is_refusal, feed_of, run_of, known_of, broken_of}
 use Rattle.cap_merge.specs.Parts.{endings_of, can_fail_of, has_file, IsNumbered}
-use Rattle.cap_merge.specs.Readers.{Reader, IsUnread, AreUnread, IsUnreadRun}
+use Rattle.cap_merge.specs.inner.Readers.{Reader, IsUnread, AreUnread, IsUnreadRun}
 use Rattle.cap_merge.specs.Run.{opened, run}
 use Rattle.cap_source.specs.Feed.{Feed}
 use Rattle.cap_source.specs.ReadFaults.{FailsOf}
-use Rattle.cap_source.specs.Walk.{Walks}
+use Rattle.cap_source.specs.inner.Walk.{Walks}
 
 -- one more feed after some
 pub AreUnread-more : (tail : Tail) (file : ℕ) (readers : List Reader) (feeds : List Feed) (reader : Reader)

@@ -17,7 +17,7 @@ use Rattle.cap_source.specs.Feed.{Item, packet, refused, Feed}
 use Rattle.cap_source.specs.Times.{meta_time}
 use Rattle.cap_merge.specs.declared.lanes.Lane.{Lane}
 use Rattle.cap_time.specs.Clock.{clock_cmp}
-use Rattle.cap_merge.specs.First.{Turn, coming_of, has_next, first_place}
+use Rattle.cap_merge.specs.inner.First.{Turn, coming_of, has_next, first_place}
 use Rattle.cap_merge.specs.Run.{Track, Clocked, run}
 
 abbrev pub head_time : Head → Option Stamp

@@ -1,7 +1,7 @@
 //! The packets of several capture files as one feed.
 ghost use Rattle.std.specs.Prelude.{◌≤◌, IfOk, IsOkUnless, map, vec_len};
-ghost use Rattle.cap_merge.specs.Readers.{AreUnread, IsUnreadRun, reader_of};
-ghost use Rattle.cap_merge.specs.View.{parts_of};
+ghost use Rattle.cap_merge.specs.inner.Readers.{AreUnread, IsUnreadRun, reader_of};
+ghost use Rattle.cap_merge.specs.inner.View.{parts_of};
 
 use crate::merging::Merged;
 use cap_bytes::{Fault, Source, Tail};

@@ -3,9 +3,10 @@ ghost use Rattle.std.specs.Prelude.{◌≡◌, ◌<◌, ◌≤◌, List, replica
 ghost use Rattle.std.specs.List.{list_all};
 ghost use Rattle.cap_source.specs.Feed.{Feed, IsPacket};
 ghost use Rattle.cap_merge.specs.Parts.{part, parts, known_of, both_held, known_but, OthersKnown, Matches, Agrees};
-ghost use Rattle.cap_merge.specs.First.{coming_of, fresh_lane, lane_at, has_item, lane_turn, lane_turns, comes_before};
-ghost use Rattle.cap_merge.specs.First.{sooner_place, first_place, IsFound};
-ghost use Rattle.cap_merge.specs.Merge.{Answers, Asks, AsksAll, Shows, ShowsAt, IsPacketAt, PassesAt, PassesPart};
+ghost use Rattle.cap_merge.specs.inner.First.{coming_of, fresh_lane, lane_at, has_item, lane_turn, lane_turns};
+ghost use Rattle.cap_merge.specs.inner.First.{comes_before};
+ghost use Rattle.cap_merge.specs.inner.First.{sooner_place, first_place, IsFound};
+ghost use Rattle.cap_merge.specs.inner.Merge.{Answers, Asks, AsksAll, Shows, ShowsAt, IsPacketAt, PassesAt, PassesPart};
 
 use arrayvec::ArrayVec;
 use cap_bytes::{Fault, Refusal};
@@ -43,7 +44,7 @@ pub enum Front {
 }
 
 impl Front {
-    ghost use Rattle.cap_merge.specs.First.{front_at, found_of, passed_of};
+    ghost use Rattle.cap_merge.specs.inner.First.{front_at, found_of, passed_of};
 
     /// That the item at that place comes first, if there is one.
     #[inline(always)]

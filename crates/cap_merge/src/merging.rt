@@ -13,10 +13,11 @@ ghost use Rattle.cap_merge.specs.Run.{opened, run};
 ghost use Rattle.cap_merge.specs.Parts.{item_time, is_refusal, parts, IsNumbered, Agrees, HasReached, AreBounded};
 ghost use Rattle.cap_merge.specs.Parts.{feed_of, new_parts, clock_of, run_of, OthersKnown, ClocksFrom, MovesClocks};
 ghost use Rattle.cap_merge.specs.Parts.{KeepsRun, ShowsRun, BeginsAt, turns};
-ghost use Rattle.cap_merge.specs.First.{coming_of, has_next, first_place, found_of, passed_of, IsFound, IsFound-prop};
-ghost use Rattle.cap_merge.specs.Merge.{AsksAll, LooksAll, TellsNext, ShowsFirst};
-ghost use Rattle.cap_merge.specs.PartsProps.{IsNumbered-prop, Agrees-prop, HasReached-prop, AreBounded-prop};
-ghost use Rattle.cap_merge.specs.PartsProps.{OthersKnown-prop};
+ghost use Rattle.cap_merge.specs.inner.First.{coming_of, has_next, first_place, found_of, passed_of, IsFound};
+ghost use Rattle.cap_merge.specs.inner.First.{IsFound-prop};
+ghost use Rattle.cap_merge.specs.inner.Merge.{AsksAll, LooksAll, TellsNext, ShowsFirst};
+ghost use Rattle.cap_merge.specs.inner.PartsProps.{IsNumbered-prop, Agrees-prop, HasReached-prop, AreBounded-prop};
+ghost use Rattle.cap_merge.specs.inner.PartsProps.{OthersKnown-prop};
 
 use crate::lanes::{
     Coming, Front, Lane, ask_all, clock_at, coming_at, first_lane, found, greater, is_packet_at,
@@ -59,7 +60,7 @@ pub struct RunPacket<'a> {
 }
 
 impl<F: PacketFeed> Merged<F> {
-    ghost use Rattle.cap_merge.specs.View.{parts_of, feeds_of};
+    ghost use Rattle.cap_merge.specs.inner.View.{parts_of, feeds_of};
 
     /// The feeds as one, the first being file 1, and so on. It asks them nothing yet.
     pub fn new(feeds: Vec<F>) -> Merged<F>
@@ -198,8 +199,8 @@ impl<F: PacketFeed> Merged<F> {
 }
 
 impl<F: PacketFeed> PacketFeed for Merged<F> {
-    ghost use Rattle.cap_merge.specs.MergedLaws.{merged-is-feed};
-    ghost use Rattle.cap_merge.specs.View.{parts_of};
+    ghost use Rattle.cap_merge.specs.inner.MergedLaws.{merged-is-feed};
+    ghost use Rattle.cap_merge.specs.inner.View.{parts_of};
 
     ghost feed = { λ m. feed_of (parts_of m) };
 

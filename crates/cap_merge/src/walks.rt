@@ -1,9 +1,9 @@
 //! Going through a run, packet by packet.
 ghost use Rattle.std.specs.Prelude.{IsTrue};
 ghost use Rattle.cap_merge.specs.Parts.{ShowsRun, feed_of};
-ghost use Rattle.cap_merge.specs.View.{parts_of};
+ghost use Rattle.cap_merge.specs.inner.View.{parts_of};
 ghost use Rattle.cap_source.specs.Feed.{Keeps};
-ghost use Rattle.cap_source.specs.Walk.{GivesPacket, ShowsItem};
+ghost use Rattle.cap_source.specs.inner.Walk.{GivesPacket, ShowsItem};
 
 use crate::merging::Merged;
 use cap_bytes::Fault;

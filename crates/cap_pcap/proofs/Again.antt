@@ -10,7 +10,7 @@ use Rattle.cap_bytes.specs.declared.numbers.Order.TheVariants.{Big, Little}
 use Rattle.cap_time.specs.declared.stamps.Unit.{Unit as Fraction}
 use Rattle.cap_time.specs.declared.stamps.Unit.TheVariants.{Micro, Nano}
 use Rattle.cap_pcap.specs.Grammar.{magic_of, SpellsHeader, header_bytes, head_bytes, record_bytes}
-use Rattle.cap_pcap.specs.Laws.{HeaderRead, HeaderAgain, RecordAgain}
+use Rattle.cap_pcap.specs.inner.Laws.{HeaderRead, HeaderAgain, RecordAgain}
 use Rattle.cap_pcap.specs.Split.{is_magic, order_at, unit_at, header_fault, header_at, file_items, items_from}
 use Rattle.cap_pcap.specs.declared.headers.PcapHeader.{PcapHeader}
 use Rattle.cap_pcap.proofs.Faults.{FitsHeader, header_fault-fits}

@@ -5,9 +5,9 @@ use Rattle.std.proofs.Common.{◌≡◌, ℕ, ◌+◌, ◌≤◌, ◌<◌, ◌^�
 use Rattle.std.proofs.Common.{Ok, Err, refl, sym, ◌∙◌, ap, arith, length-drop}
 use Rattle.std.proofs.lemmas.List.{nil_from_length, take_all}
 use Rattle.cap_bytes.specs.Items.{stop_by}
-use Rattle.cap_bytes.specs.Parsing.{SeesStop, FailsBy}
-use Rattle.cap_bytes.specs.Reach.{ReachesTo, Reaches, size_found}
-use Rattle.cap_bytes.specs.Window.{State, Shows, Needs, Keeps, Passes, coming, position, read_to}
+use Rattle.cap_bytes.specs.inner.Parsing.{SeesStop, FailsBy}
+use Rattle.cap_bytes.specs.inner.Reach.{ReachesTo, Reaches, size_found}
+use Rattle.cap_bytes.specs.inner.Window.{State, Shows, Needs, Keeps, Passes, coming, position, read_to}
 use Rattle.cap_bytes.specs.declared.faults.Fault.{Fault}
 use Rattle.cap_bytes.specs.declared.faults.Rule.{Rule}
 use Rattle.cap_bytes.specs.declared.faults.Rule.TheVariants.{Cut}
@@ -17,8 +17,8 @@ use Rattle.cap_bytes.specs.declared.stops.Stop.TheVariants as stops
 use Rattle.cap_bytes.proofs.Parsing.{all_shown, longer_shown, Shows-trans, FailsBy-need, FailsBy-later, some_left}
 use Rattle.cap_bytes.proofs.Parsing.{SeesStop-fault, SeesStop-end}
 use Rattle.cap_bytes.proofs.Reach.{Reaches-need, Reaches-later, ReachesTo-looks}
-use Rattle.cap_pcap.specs.Reader.{record_size}
-use Rattle.cap_pcap.specs.Parsing.{SeesHeader, SeesRecord, Measures}
+use Rattle.cap_pcap.specs.inner.Reader.{record_size}
+use Rattle.cap_pcap.specs.inner.Parsing.{SeesHeader, SeesRecord, Measures}
 use Rattle.cap_pcap.specs.Split.{header_fault, header_at, captured_at, record_fault, record_at, stop_at}
 use Rattle.cap_pcap.specs.declared.headers.PcapHeader.{PcapHeader}
 use Rattle.cap_pcap.proofs.Faults.{Fits, FitsHeader-from_none, Fits-append, captured_at-append, captured_at-front}

@@ -4,9 +4,9 @@ use Rattle.std.proofs.Common.{true, false, IsTrue, Result, refl, sym, ◌∙◌,
 use Rattle.std.proofs.Common.{length-take-le}
 use Rattle.std.proofs.lemmas.List.{take-append-le}
 use Rattle.cap_bytes.specs.Items.{stop_where, given, stopped, items_by_stop}
-use Rattle.cap_bytes.specs.Reader.{State, Keeps}
-use Rattle.cap_bytes.specs.Reach.{ReachesTo}
-use Rattle.cap_bytes.specs.Window.{State as WindowState, Passes, coming, read_to}
+use Rattle.cap_bytes.specs.inner.Reader.{State, Keeps}
+use Rattle.cap_bytes.specs.inner.Reach.{ReachesTo}
+use Rattle.cap_bytes.specs.inner.Window.{State as WindowState, Passes, coming, read_to}
 use Rattle.cap_bytes.specs.declared.faults.Fault.{Fault}
 use Rattle.cap_bytes.specs.declared.faults.Rule.{Rule}
 use Rattle.cap_bytes.specs.declared.faults.Tail.{Tail}
@@ -15,9 +15,10 @@ use Rattle.cap_bytes.proofs.Readers.{Stands, Stands-here, Stands-passed, Gives-s
 use Rattle.cap_bytes.proofs.Readers as readers
 use Rattle.cap_bytes.proofs.Reach.{ReachesTo-passed}
 use Rattle.cap_bytes.proofs.Parsing.{coming-passed, from_none, from_some}
-use Rattle.cap_pcap.specs.Reader.{HasHeader, GivesHeader, packet_of, GivesRecord, GivesNext, KeepsItems, ReachesHeader}
-use Rattle.cap_pcap.specs.Reader.{TakesItem, items_at, items_of, size_of, frame_of, state_of, IsInOrder, MayGoOn}
-use Rattle.cap_pcap.specs.Parsing.{SeesHeader, SeesRecord}
+use Rattle.cap_pcap.specs.inner.Reader.{HasHeader, GivesHeader, packet_of, GivesRecord, GivesNext, KeepsItems}
+use Rattle.cap_pcap.specs.inner.Reader.{ReachesHeader}
+use Rattle.cap_pcap.specs.inner.Reader.{TakesItem, items_at, items_of, size_of, frame_of, state_of, IsInOrder, MayGoOn}
+use Rattle.cap_pcap.specs.inner.Parsing.{SeesHeader, SeesRecord}
 use Rattle.cap_pcap.specs.Split.{header_fault, header_at, record_fault, stop_at, record_at, frame_at, file_items}
 use Rattle.cap_pcap.specs.declared.headers.PcapHeader.{PcapHeader}
 use Rattle.cap_pcap.specs.declared.records.Record.{Record}

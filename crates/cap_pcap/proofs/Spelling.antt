@@ -9,7 +9,7 @@ use Rattle.cap_bytes.specs.declared.numbers.Order.TheVariants.{Big, Little}
 use Rattle.cap_time.specs.Unit.{in_second}
 use Rattle.cap_time.specs.declared.stamps.Unit.{Unit as Fraction}
 use Rattle.cap_pcap.specs.Grammar.{magic_of, SpellsHeader, Packet, packet_size, SpellsRecord}
-use Rattle.cap_pcap.specs.Reader.{packet_of}
+use Rattle.cap_pcap.specs.inner.Reader.{packet_of}
 use Rattle.cap_pcap.specs.Split.{is_magic, order_at, unit_at, header_at, captured_at, record_at, frame_at}
 use Rattle.cap_bytes.proofs.Spelling.{number-drop_take}
 use Rattle.cap_pcap.proofs.Faults.{Fits, FitsHeader}

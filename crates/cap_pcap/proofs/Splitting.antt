@@ -9,8 +9,8 @@ use Rattle.cap_bytes.specs.declared.faults.Tail.TheVariants.{Refuse}
 use Rattle.cap_bytes.specs.declared.numbers.Order.{Order}
 use Rattle.cap_time.specs.declared.stamps.Unit.{Unit as Fraction}
 use Rattle.cap_pcap.specs.Grammar.{Packet, packet_size, SpellsRecord}
-use Rattle.cap_pcap.specs.Laws.{OneRecord, OneSplit, EverySplit, SplitItems, RecordRead}
-use Rattle.cap_pcap.specs.Reader.{packet_of}
+use Rattle.cap_pcap.specs.inner.Laws.{OneRecord, OneSplit, EverySplit, SplitItems, RecordRead}
+use Rattle.cap_pcap.specs.inner.Reader.{packet_of}
 use Rattle.cap_pcap.specs.Split.{captured_at, record_at, frame_at, stop_at, items_from, HasNoRecord, Splits, record_of}
 use Rattle.cap_pcap.specs.declared.headers.PcapHeader.{PcapHeader}
 use Rattle.cap_bytes.specs.declared.stops.Stop.{Stop}

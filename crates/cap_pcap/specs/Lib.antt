@@ -1,5 +1,3 @@
 pub mod Grammar
-pub mod Laws
-pub mod Reader
-pub mod Parsing
 pub mod Split
+pub mod inner

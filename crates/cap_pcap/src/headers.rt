@@ -2,10 +2,10 @@
 ghost use Rattle.std.specs.Prelude.{◌≡◌, true, false, ◌≤◌, ◌^◌, ◌||◌, length, IsTrue, is_err, IsOkUnless, Some, IfSome};
 ghost use Rattle.std.specs.Prelude.{IfNone};
 ghost use Rattle.cap_bytes.specs.Device.{Puts, WriterKeeps, writer_of};
-ghost use Rattle.cap_bytes.specs.Reach.{Reaches};
-ghost use Rattle.cap_bytes.specs.Window.{Keeps, position, read_to};
+ghost use Rattle.cap_bytes.specs.inner.Reach.{Reaches};
+ghost use Rattle.cap_bytes.specs.inner.Window.{Keeps, position, read_to};
 ghost use Rattle.cap_pcap.specs.Grammar.{magic_of, header_bytes};
-ghost use Rattle.cap_pcap.specs.Parsing.{HasMagic, ParsesHeader, LooksForHeader};
+ghost use Rattle.cap_pcap.specs.inner.Parsing.{HasMagic, ParsesHeader, LooksForHeader};
 ghost use Rattle.cap_pcap.specs.Split.{is_magic, unit_at};
 
 use cap_bytes::{

@@ -1,6 +1,7 @@
 //! The laws of the grammar of pcap files.
-ghost use Rattle.cap_pcap.specs.Laws.{OneRecord, OneSplit, EverySplit, SplitItems, HeaderRead, RecordRead, HeaderAgain};
-ghost use Rattle.cap_pcap.specs.Laws.{RecordAgain};
+ghost use Rattle.cap_pcap.specs.inner.Laws.{OneRecord, OneSplit, EverySplit, SplitItems, HeaderRead, RecordRead};
+ghost use Rattle.cap_pcap.specs.inner.Laws.{HeaderAgain};
+ghost use Rattle.cap_pcap.specs.inner.Laws.{RecordAgain};
 
 /// The laws of the grammar, as the contract of a function that does nothing.
 ///

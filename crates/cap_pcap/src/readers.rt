@@ -1,9 +1,9 @@
 //! A reader of pcap files.
 ghost use Rattle.std.specs.Prelude.{◌≡◌, ◌↔◌, ◌≤◌, ◌+◌, length, IsTrue, IsSome, IsNone, Some, Ok, IfSome, OnErr};
 ghost use Rattle.std.specs.Prelude.{is_some};
-ghost use Rattle.cap_bytes.specs.Reader.{opened, Keeps, HasWindow};
-ghost use Rattle.cap_pcap.specs.Reader.{items_of, GivesHeader, GivesNext, KeepsHeader, KeepsItems, ReachesHeader};
-ghost use Rattle.cap_pcap.specs.Reader.{ReachesNext, TakesItem, RefusesAgain, size_of, place_after};
+ghost use Rattle.cap_bytes.specs.inner.Reader.{opened, Keeps, HasWindow};
+ghost use Rattle.cap_pcap.specs.inner.Reader.{items_of, GivesHeader, GivesNext, KeepsHeader, KeepsItems, ReachesHeader};
+ghost use Rattle.cap_pcap.specs.inner.Reader.{ReachesNext, TakesItem, RefusesAgain, size_of, place_after};
 
 use crate::headers::{HEADER_SIZE, PcapHeader, look_for_header};
 use crate::records::{HEAD_SIZE, Record, look_for_record, take_shown};
@@ -23,9 +23,9 @@ pub struct PcapReader<R: Source> {
 
 impl<R: Source> Model for PcapReader<R> {
     ghost use Rattle.std.specs.Prelude.{length};
-    ghost use Rattle.cap_bytes.specs.Reader.{State};
+    ghost use Rattle.cap_bytes.specs.inner.Reader.{State};
     ghost use Rattle.cap_pcap.specs.declared.headers.PcapHeader.{PcapHeader};
-    ghost use Rattle.cap_pcap.specs.Reader.{IsSound, state_of};
+    ghost use Rattle.cap_pcap.specs.inner.Reader.{IsSound, state_of};
 
     ghost Value = { State PcapHeader };
 

@@ -2,12 +2,12 @@
 ghost use Rattle.std.specs.Prelude.{◌≡◌, ◌+◌, ◌≤◌, ◌^◌, length, take, IsTrue, IsNone, IfSome, OnSome, is_err};
 ghost use Rattle.std.specs.Prelude.{IsOkUnless};
 ghost use Rattle.cap_bytes.specs.Device.{Puts, WriterKeeps, writer_of};
-ghost use Rattle.cap_bytes.specs.Reach.{Reaches, size_found};
-ghost use Rattle.cap_bytes.specs.Window.{Keeps, Passes, coming, position, read_to};
+ghost use Rattle.cap_bytes.specs.inner.Reach.{Reaches, size_found};
+ghost use Rattle.cap_bytes.specs.inner.Window.{Keeps, Passes, coming, position, read_to};
 ghost use Rattle.cap_bytes.specs.declared.faults.Tail.{Tail};
 ghost use Rattle.cap_pcap.specs.Grammar.{head_bytes, record_bytes};
-ghost use Rattle.cap_pcap.specs.Parsing.{Measures, LooksForRecord, SeesRecord};
-ghost use Rattle.cap_pcap.specs.Reader.{record_size};
+ghost use Rattle.cap_pcap.specs.inner.Parsing.{Measures, LooksForRecord, SeesRecord};
+ghost use Rattle.cap_pcap.specs.inner.Reader.{record_size};
 ghost use Rattle.cap_pcap.specs.Split.{record_at, captured_at};
 
 use crate::headers::PcapHeader;

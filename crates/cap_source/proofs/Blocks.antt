@@ -10,8 +10,8 @@ use Rattle.cap_time.specs.declared.resolutions.Interface.{Interface}
 use Rattle.cap_blocks.specs.Grammar.{section_kind, interface_kind, obsolete_kind, simple_kind, enhanced_kind, is_known}
 use Rattle.cap_blocks.specs.Grammar.{is_total, least_total}
 use Rattle.cap_bytes.specs.Items.{IsEnd, Item, given, stopped}
-use Rattle.cap_bytes.specs.Reader.{State, Keeps, GivesStop}
-use Rattle.cap_blocks.specs.Reader.{items_of, GivesBlock, ReachesNext}
+use Rattle.cap_bytes.specs.inner.Reader.{State, Keeps, GivesStop}
+use Rattle.cap_blocks.specs.inner.Reader.{items_of, GivesBlock, ReachesNext}
 use Rattle.cap_blocks.specs.Split.{body_in, block_fault}
 use Rattle.cap_blocks.specs.declared.blocks.Block.{Block}
 use Rattle.cap_bytes.specs.declared.stops.Stop.{Stop}
@@ -25,9 +25,10 @@ use Rattle.cap_source.specs.Contents.{fitting, of_interface, timed_in, simple_in
 use Rattle.cap_source.specs.Feed as feeds
 use Rattle.cap_source.specs.Items.{Progress, behind, frame_in, items_at, items_in, ending_with, ending_in}
 use Rattle.cap_source.specs.Items.{unless_faulty, first_in, unless_item, is_cut}
-use Rattle.cap_source.specs.FileState.{FileState, pcapng_state, size_of, part_of, Learns, FileKeeps, GoesOn, StepsTo}
-use Rattle.cap_source.specs.FileState.{Takes, TakesShown, next_at}
-use Rattle.cap_source.specs.Reached.{counted}
+use Rattle.cap_source.specs.inner.FileState.{FileState, pcapng_state, size_of, part_of, Learns, FileKeeps, GoesOn}
+use Rattle.cap_source.specs.inner.FileState.{StepsTo}
+use Rattle.cap_source.specs.inner.FileState.{Takes, TakesShown, next_at}
+use Rattle.cap_source.specs.inner.Reached.{counted}
 use Rattle.cap_source.specs.declared.contents.Content.{Content}
 use Rattle.cap_source.specs.declared.contents.Content.TheVariants as contents
 use Rattle.cap_source.specs.declared.contents.Packet.{Packet}

@@ -31,7 +31,7 @@ use Rattle.cap_source.proofs.Saying.{OfContent, content-holds}
 use Rattle.cap_source.specs.TimeBases.{interface_in, interface_or, interface_at, options_fault, offset_in, given_or}
 use Rattle.cap_source.specs.Contents.{content_in}
 use Rattle.cap_source.specs.Feed.{Item}
-use Rattle.cap_source.specs.Fields.{FitsInterface, ItemFits, FieldsFit}
+use Rattle.cap_source.specs.inner.Fields.{FitsInterface, ItemFits, FieldsFit}
 use Rattle.cap_source.specs.Items.{Progress, behind, items_at, items_in, items_of_stop, items_from, pcap_items}
 use Rattle.cap_source.specs.Items.{interface_of}
 use Rattle.cap_source.specs.declared.contents.Content.{Content}

@@ -5,8 +5,9 @@ use Rattle.cap_bytes.specs.declared.faults.Fault.{Fault}
 use Rattle.cap_source.specs.Feed.{Knows, SameItems, Keeps, GivesHead, KeepsItems, FindsPacket, FindsItem}
 use Rattle.cap_source.specs.declared.feeds.Head.{Head}
 use Rattle.cap_source.specs.Items.{Progress}
-use Rattle.cap_source.specs.FileState.{FileState, FileKeeps, feed_of, head_of, first_by, is_whole, LearnsOr, LearnsNext}
-use Rattle.cap_source.specs.Readers.{state_of, is_there}
+use Rattle.cap_source.specs.inner.FileState.{FileState, FileKeeps, feed_of, head_of, first_by, is_whole, LearnsOr}
+use Rattle.cap_source.specs.inner.FileState.{LearnsNext}
+use Rattle.cap_source.specs.inner.Readers.{state_of, is_there}
 use Rattle.cap_source.specs.declared.readers.Next.{Next}
 use Rattle.cap_source.specs.declared.readers.Reader.{Reader}
 

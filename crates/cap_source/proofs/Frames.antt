@@ -18,7 +18,7 @@ use Rattle.cap_pcap.specs.Split.{Splits}
 use Rattle.cap_source.proofs.Blocks.{IsFit, content_fit}
 use Rattle.cap_source.specs.Contents.{content_in}
 use Rattle.cap_source.specs.Feed.{Item}
-use Rattle.cap_source.specs.Fields.{HasFrame, IsFrame, FramesFit}
+use Rattle.cap_source.specs.inner.Fields.{HasFrame, IsFrame, FramesFit}
 use Rattle.cap_source.specs.Items.{Progress, behind, frame_in, meta_in, items_at, items_in, items_of_stop, items_from}
 use Rattle.cap_source.specs.Items.{pcap_items, interface_of}
 use Rattle.cap_source.specs.declared.contents.Content.{Content}

@@ -3,13 +3,14 @@ use Rattle.std.proofs.Common.{ℕ, ◌≡◌, ◌≤◌, ◌+◌, ◌^◌, true,
 use Rattle.std.proofs.Common.{IfOk, refl, arith}
 use Rattle.std.specs.Bool.{⊤}
 use Rattle.cap_bytes.specs.declared.faults.Fault.{Fault}
-use Rattle.cap_bytes.specs.Reach.{ReachesTo}
+use Rattle.cap_bytes.specs.inner.Reach.{ReachesTo}
 use Rattle.cap_bytes.proofs.Reach.{ReachesTo-here, ReachesTo-later}
-use Rattle.cap_source.specs.FileState.{FileState, IfTaken, ReadsTo, Takes, FileKeeps, Waits, Learns, StepsTo, Answers}
-use Rattle.cap_source.specs.FileState.{TakesShown, LearnsNext, IsSound}
+use Rattle.cap_source.specs.inner.FileState.{FileState, IfTaken, ReadsTo, Takes, FileKeeps, Waits, Learns, StepsTo}
+use Rattle.cap_source.specs.inner.FileState.{Answers}
+use Rattle.cap_source.specs.inner.FileState.{TakesShown, LearnsNext, IsSound}
 use Rattle.cap_source.specs.Items.{Progress}
-use Rattle.cap_source.specs.Reached.{counted}
-use Rattle.cap_source.specs.Readers.{state_of, is_there, is_stopped}
+use Rattle.cap_source.specs.inner.Reached.{counted}
+use Rattle.cap_source.specs.inner.Readers.{state_of, is_there, is_stopped}
 use Rattle.cap_source.specs.declared.readers.Next.{Next}
 use Rattle.cap_source.specs.declared.readers.Next.TheVariants as nexts
 use Rattle.cap_source.specs.declared.readers.Reader.{Reader}

@@ -3,8 +3,8 @@ use Rattle.std.proofs.Common.{◌≡◌, Option, Some, None, Err, sym, subst}
 use Rattle.cap_bytes.specs.declared.faults.Fault.{Fault}
 use Rattle.cap_bytes.specs.declared.faults.Fault.TheVariants.{Refused, Read, Write, Memory}
 use Rattle.cap_source.specs.Feed.{Feed, FindsPacket}
-use Rattle.cap_source.specs.Growing.{OfMemory, IsAtPacket}
-use Rattle.cap_source.specs.Walk.{GivesPacket}
+use Rattle.cap_source.specs.inner.Growing.{OfMemory, IsAtPacket}
+use Rattle.cap_source.specs.inner.Walk.{GivesPacket}
 use Rattle.cap_source.specs.declared.feeds.Head.{Head}
 use Rattle.cap_source.specs.declared.feeds.Head.TheVariants as heads
 use Rattle.cap_source.specs.declared.packets.Meta.{Meta}

@@ -3,7 +3,7 @@ use Rattle.std.proofs.Common.{◌≡◌, ◌≤◌, ◌+◌, ◌^◌, ℕ, List,
 use Rattle.std.specs.Option.{ForSome}
 use Rattle.cap_bytes.specs.declared.faults.Rule.{Rule}
 use Rattle.cap_source.specs.Feed.{IsPacket, Passes}
-use Rattle.cap_source.specs.Listed.{head_at, list_feed}
+use Rattle.cap_source.specs.inner.Listed.{head_at, list_feed}
 use Rattle.cap_source.specs.declared.feeds.Head.{Head}
 use Rattle.cap_time.specs.declared.resolutions.Interface.{Interface}
 

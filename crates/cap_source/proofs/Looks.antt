@@ -3,8 +3,8 @@ use Rattle.std.proofs.Common.{◌≡◌, ◌≤◌, ◌+◌, ℕ, true, false, L
 use Rattle.std.proofs.Common.{ap, ◌∙◌, arith, nat_le, length-append}
 use Rattle.std.proofs.lemmas.Bool.Decides.{nat_tests}
 use Rattle.cap_bytes.proofs.Spelling.{number-append}
-use Rattle.cap_bytes.specs.Reach.{ReachesTo}
-use Rattle.cap_bytes.specs.Window.{State as WindowState, Shows, Keeps, coming, read_to}
+use Rattle.cap_bytes.specs.inner.Reach.{ReachesTo}
+use Rattle.cap_bytes.specs.inner.Window.{State as WindowState, Shows, Keeps, coming, read_to}
 use Rattle.cap_bytes.specs.declared.faults.Fault.{Fault}
 use Rattle.cap_bytes.specs.declared.faults.Tail.{Tail}
 use Rattle.cap_pcap.specs.Split as records
@@ -12,8 +12,8 @@ use Rattle.cap_blocks.specs.Split as splits
 use Rattle.cap_blocks.specs.Split.{is_section}
 use Rattle.cap_source.specs.Items.{Progress, interface_of, is_pcapng, items_in, ending_in, first_in, pcap_items}
 use Rattle.cap_source.specs.Items.{pcap_ending, unless_refused, items_from, ending_from, first_from}
-use Rattle.cap_source.specs.FileState.{FileKeeps, unread_state, Waits}
-use Rattle.cap_source.specs.Readers.{state_of, reader_by, has_format, LooksAtWindow}
+use Rattle.cap_source.specs.inner.FileState.{FileKeeps, unread_state, Waits}
+use Rattle.cap_source.specs.inner.Readers.{state_of, reader_by, has_format, LooksAtWindow}
 use Rattle.cap_source.specs.declared.packets.Format.{Format}
 use Rattle.cap_source.specs.declared.readers.Reader.{Reader}
 use Rattle.cap_source.specs.declared.readers.Reader.TheVariants as readers

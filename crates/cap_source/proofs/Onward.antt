@@ -3,7 +3,7 @@ use Rattle.std.proofs.Common.{IsTrue, Some, None, Ok, Err, refl, sym, ◌∙◌,
 use Rattle.cap_bytes.specs.Printing.{IsRead}
 use Rattle.cap_bytes.specs.declared.faults.Fault.{Fault}
 use Rattle.cap_source.specs.Feed.{Feed, Keeps, Goes, Passes}
-use Rattle.cap_source.specs.Walk.{GivesPacket, ShowsItem, SameEndings, Lasts, Walks}
+use Rattle.cap_source.specs.inner.Walk.{GivesPacket, ShowsItem, SameEndings, Lasts, Walks}
 use Rattle.cap_source.specs.declared.packets.Meta.{Meta}
 
 -- What is true of a feed on the way: all that every answer keeps, and no read has failed.

@@ -7,13 +7,13 @@ use Rattle.cap_bytes.specs.declared.faults.Refusal.{Refusal}
 use Rattle.cap_bytes.specs.declared.faults.Rule.{Rule}
 use Rattle.cap_time.specs.declared.resolutions.Interface.{Interface}
 use Rattle.cap_bytes.specs.Items.{IsEnd, Item, given, stopped}
-use Rattle.cap_bytes.specs.Reach.{ReachesTo}
-use Rattle.cap_bytes.specs.Reader.{State, Keeps, GivesStop}
+use Rattle.cap_bytes.specs.inner.Reach.{ReachesTo}
+use Rattle.cap_bytes.specs.inner.Reader.{State, Keeps, GivesStop}
 use Rattle.cap_bytes.proofs.Items.{rule_told}
 use Rattle.cap_bytes.proofs.Parsing.{from_none, from_some}
 use Rattle.cap_bytes.proofs.Reach.{ReachesTo-here}
-use Rattle.cap_pcap.specs.Reader.{items_of, GivesHeader, GivesRecord, HasHeader, ReadsHeader, ReachesHeader}
-use Rattle.cap_pcap.specs.Reader.{ReachesNext}
+use Rattle.cap_pcap.specs.inner.Reader.{items_of, GivesHeader, GivesRecord, HasHeader, ReadsHeader, ReachesHeader}
+use Rattle.cap_pcap.specs.inner.Reader.{ReachesNext}
 use Rattle.cap_pcap.specs.Split.{header_fault, header_at, record_fault}
 use Rattle.cap_pcap.specs.declared.headers.PcapHeader.{PcapHeader}
 use Rattle.cap_pcap.specs.declared.records.Record.{Record}
@@ -21,8 +21,8 @@ use Rattle.cap_bytes.specs.declared.stops.Stop.{Stop}
 use Rattle.cap_bytes.specs.declared.stops.Stop.TheVariants as stops
 use Rattle.cap_source.specs.Feed as feeds
 use Rattle.cap_source.specs.Items.{Progress, interface_of, meta_of, pcap_items, pcap_ending, pcap_ending_with, is_cut}
-use Rattle.cap_source.specs.FileState.{pcap_state, noted_by, header_or, first_of, size_of, part_of, Learns, Waits}
-use Rattle.cap_source.specs.FileState.{ReadsTo, Takes, FileKeeps}
+use Rattle.cap_source.specs.inner.FileState.{pcap_state, noted_by, header_or, first_of, size_of, part_of, Learns, Waits}
+use Rattle.cap_source.specs.inner.FileState.{ReadsTo, Takes, FileKeeps}
 use Rattle.cap_source.specs.declared.readers.Next.TheVariants as nexts
 
 known_header : (h : Option PcapHeader) (header : PcapHeader) (bytes : List ℕ) → h ≡ Some header

@@ -18,9 +18,9 @@ use Rattle.cap_blocks.specs.declared.blocks.Block.{Block}
 use Rattle.cap_source.specs.Contents.{of_body, timed_in, simple_in, described, content_in}
 use Rattle.cap_source.specs.Items.{Progress, fresh, first_or, after, behind, items_at, items_in, ending_with, ending_in}
 use Rattle.cap_source.specs.Items.{unless_faulty, unless_item, first_in}
-use Rattle.cap_source.specs.Places.{Standing, is_header, is_interface, is_other, is_named_interface, told}
-use Rattle.cap_source.specs.Places.{interfaces_of, known_behind, items_behind, ending_behind, first_behind}
-use Rattle.cap_source.specs.Places.{ItemsByPlaces, EndingByPlaces, FirstByPlaces, NumbersByPlaces}
+use Rattle.cap_source.specs.inner.Places.{Standing, is_header, is_interface, is_other, is_named_interface, told}
+use Rattle.cap_source.specs.inner.Places.{interfaces_of, known_behind, items_behind, ending_behind, first_behind}
+use Rattle.cap_source.specs.inner.Places.{ItemsByPlaces, EndingByPlaces, FirstByPlaces, NumbersByPlaces}
 use Rattle.cap_source.specs.TimeBases.{interface_in, interface_at, is_named}
 use Rattle.cap_source.specs.declared.contents.Packet.{Packet}
 use Rattle.cap_source.specs.declared.contents.Content.{Content}

@@ -2,8 +2,9 @@
 use Rattle.std.proofs.Common.{◌≡◌, IsTrue, Bool, true, false, Option, Some, None, is_some, refl, sym, ap, subst, ◌∙◌}
 use Rattle.std.proofs.Common.{inl, inr, arith}
 use Rattle.cap_source.specs.Feed.{Knows, ShowsPacket}
-use Rattle.cap_source.specs.FileState.{FileState, feed_of, head_of, is_packet, is_whole, Learns, LearnsOr, ShowsNext}
-use Rattle.cap_source.specs.FileState.{TakesShown}
+use Rattle.cap_source.specs.inner.FileState.{FileState, feed_of, head_of, is_packet, is_whole, Learns, LearnsOr}
+use Rattle.cap_source.specs.inner.FileState.{ShowsNext}
+use Rattle.cap_source.specs.inner.FileState.{TakesShown}
 use Rattle.cap_source.specs.declared.readers.Next.{Next}
 use Rattle.cap_source.specs.declared.readers.Next.TheVariants as nexts
 

@@ -10,7 +10,7 @@ use Rattle.cap_bytes.specs.declared.faults.Fault.{Fault}
 use Rattle.cap_bytes.specs.declared.faults.Fault.TheVariants.{Refused, Read, Write, Memory}
 use Rattle.cap_bytes.specs.declared.faults.Refusal.{Refusal}
 use Rattle.cap_source.specs.Feed.{Feed, Item, packet, refused, Keeps}
-use Rattle.cap_source.specs.Walk.{ShowsItem}
+use Rattle.cap_source.specs.inner.Walk.{ShowsItem}
 use Rattle.cap_source.specs.declared.packets.Meta.{Meta}
 
 -- what is to be written of the items to come, and what is answered then

@@ -9,7 +9,7 @@ use Rattle.std.specs.Int.{w64, cast_signed, cast_unsigned}
 use Rattle.std.specs.List.{list_any}
 use Rattle.cap_blocks.proofs.Again.{interface_again-law}
 use Rattle.cap_blocks.specs.Grammar.{interface_body}
-use Rattle.cap_blocks.specs.Laws.{offset_items}
+use Rattle.cap_blocks.specs.inner.Laws.{offset_items}
 use Rattle.cap_bytes.proofs.Spelling.{number-bytes_of, length-bytes_of}
 use Rattle.cap_bytes.specs.Number.{number, bytes_of}
 use Rattle.cap_bytes.specs.declared.faults.Rule.TheVariants as rules
@@ -18,7 +18,7 @@ use Rattle.cap_source.proofs.Options.{interface_read}
 use Rattle.cap_source.proofs.Resolutions.{from_code_is}
 use Rattle.cap_source.specs.TimeBases.{resolution_of, offset_in, no_base, option_read, options_read, interface_in}
 use Rattle.cap_source.specs.TimeBases.{is_name, is_named}
-use Rattle.cap_source.specs.Written.{InterfaceWritten}
+use Rattle.cap_source.specs.inner.Written.{InterfaceWritten}
 use Rattle.cap_time.specs.Resolution.{code_of}
 use Rattle.cap_time.specs.declared.resolutions.Interface.{Interface}
 use Rattle.cap_time.specs.declared.resolutions.Resolution.{Resolution}

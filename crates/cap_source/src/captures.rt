@@ -1,13 +1,13 @@
 //! The packets of one capture file.
 ghost use Rattle.std.specs.Prelude.{◌≡◌, [], ◌∷◌, ℕ, None, IfOk, IsTrue};
 ghost use Rattle.std.proofs.Props.{props};
-ghost use Rattle.cap_bytes.specs.SourceState.{source_of};
+ghost use Rattle.cap_bytes.specs.inner.SourceState.{source_of};
 ghost use Rattle.cap_source.specs.Feed.{Keeps, GivesHead, KeepsItems, FindsPacket, FindsItem, IsPacket, Passes};
 ghost use Rattle.cap_source.specs.Items.{file_items, file_ending, file_first};
-ghost use Rattle.cap_source.specs.FileState.{feed_of, GivesFirst, KeepsFirst, IsSound};
-ghost use Rattle.cap_source.specs.Laws.{captures_lawful};
-ghost use Rattle.cap_source.specs.Reached.{progress_of};
-ghost use Rattle.cap_source.specs.Readers.{state_of, is_there, reader_room};
+ghost use Rattle.cap_source.specs.inner.FileState.{feed_of, GivesFirst, KeepsFirst, IsSound};
+ghost use Rattle.cap_source.specs.inner.Laws.{captures_lawful};
+ghost use Rattle.cap_source.specs.inner.Reached.{progress_of};
+ghost use Rattle.cap_source.specs.inner.Readers.{state_of, is_there, reader_room};
 
 use crate::feeds::{Ending, FeedHeld, Head, PacketFeed};
 use crate::known::Known;
@@ -33,7 +33,7 @@ pub struct Capture<R: Source> {
 }
 
 impl<R: Source> Capture<R> {
-    ghost use Rattle.cap_source.specs.Captures.{number_of, first_of, position_of, unread_position, ReadsToPacket};
+    ghost use Rattle.cap_source.specs.inner.Captures.{number_of, first_of, position_of, unread_position, ReadsToPacket};
 
     /// The packets that `reader` gives, which is the file of that number. It reads nothing yet, so a faulty
     /// file header is the first item.
@@ -86,7 +86,8 @@ impl<R: Source> Capture<R> {
 }
 
 impl<R: Source> PacketFeed for Capture<R> {
-    ghost use Rattle.cap_source.specs.Captures.{feed_of as capture_feed, position_of, ReadsForHead, ReadsForPacket};
+    ghost use Rattle.cap_source.specs.inner.Captures.{feed_of as capture_feed, position_of, ReadsForHead};
+    ghost use Rattle.cap_source.specs.inner.Captures.{ReadsForPacket};
 
     ghost feed = { λ c. feed_of (state_of c.reader (progress_of c.reached)) c.next };
 

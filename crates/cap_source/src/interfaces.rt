@@ -1,7 +1,7 @@
 //! The interface blocks of a pcapng file. draft-ietf-opsawg-pcapng, 4.2.
 ghost use Rattle.std.specs.Prelude.{◌≡◌, ◌≤◌, ◌%◌, drop, length, unwrap_or, pos};
 ghost use Rattle.cap_blocks.specs.OptionList.{options_of};
-ghost use Rattle.cap_blocks.specs.Options.{item_of};
+ghost use Rattle.cap_blocks.specs.inner.Options.{item_of};
 ghost use Rattle.cap_source.specs.TimeBases.{resolution_of, resolution_in, offset_in, with_resolution, with_offset};
 ghost use Rattle.cap_source.specs.TimeBases.{option_read, options_read, no_base, microseconds, interface_with};
 ghost use Rattle.cap_source.specs.TimeBases.{interface_by, interface_in, is_name, is_named};

@@ -2,7 +2,7 @@
 ghost use Rattle.std.specs.Prelude.{◌≡◌, Some, None, is_some};
 ghost use Rattle.cap_source.specs.Feed.{IsPacket};
 ghost use Rattle.cap_source.specs.declared.feeds.Head.TheVariants as heads;
-ghost use Rattle.cap_source.specs.FileState.{head_by, is_packet, start_of};
+ghost use Rattle.cap_source.specs.inner.FileState.{head_by, is_packet, start_of};
 ghost use Rattle.cap_source.specs.declared.readers.Next.TheVariants.{Packet, Refused, End};
 
 use crate::feeds::{Ending, FileEnd};
@@ -38,7 +38,7 @@ impl Model for Known {
 
     ghost Value = { Option Next };
 
-    ghost use Rattle.cap_source.specs.KnownView.{known_view};
+    ghost use Rattle.cap_source.specs.inner.KnownView.{known_view};
 
     ghost view = { known_view };
 }

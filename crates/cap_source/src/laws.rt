@@ -1,7 +1,7 @@
 //! Laws of capture files, each the contract of a function that does nothing.
-ghost use Rattle.cap_source.specs.Fields.{FieldsFit, FramesFit};
-ghost use Rattle.cap_source.specs.Places.{ItemsByPlaces, EndingByPlaces, FirstByPlaces, NumbersByPlaces};
-ghost use Rattle.cap_source.specs.Written.{InterfaceWritten};
+ghost use Rattle.cap_source.specs.inner.Fields.{FieldsFit, FramesFit};
+ghost use Rattle.cap_source.specs.inner.Places.{ItemsByPlaces, EndingByPlaces, FirstByPlaces, NumbersByPlaces};
+ghost use Rattle.cap_source.specs.inner.Written.{InterfaceWritten};
 
 /// In every file, of either format, the fields of a packet and of its interface fit in their widths: the
 /// link type in two bytes, the snaplen and the original length in four, the units and the offset (with its

@@ -1,13 +1,15 @@
 //! What comes next of a file of either format, once its first bytes have told which.
 ghost use Rattle.std.specs.Prelude.{◌≡◌, ◌≤◌, ◌+◌, ◌^◌, false, IsTrue, IfOk, None, Some};
-ghost use Rattle.cap_bytes.specs.Reach.{Reaches, ReachesTo};
-ghost use Rattle.cap_bytes.specs.Window as windows;
+ghost use Rattle.cap_bytes.specs.inner.Reach.{Reaches, ReachesTo};
+ghost use Rattle.cap_bytes.specs.inner.Window as windows;
 ghost use Rattle.cap_source.specs.Items.{Progress};
-ghost use Rattle.cap_source.specs.FileState.{IsSound, LearnsNext, ShowsNext, Answers, TakesShown, FileKeeps, IfTaken};
-ghost use Rattle.cap_source.specs.FileState.{ReadsTo, Takes};
-ghost use Rattle.cap_source.specs.Reached.{progress_of, counted};
-ghost use Rattle.cap_source.specs.Readers.{state_of, is_there, IsReady, is_stopped, Opens, LooksAtWindow, reader_by};
-ghost use Rattle.cap_source.specs.Readers.{reader_room};
+ghost use Rattle.cap_source.specs.inner.FileState.{IsSound, LearnsNext, ShowsNext, Answers, TakesShown, FileKeeps};
+ghost use Rattle.cap_source.specs.inner.FileState.{IfTaken};
+ghost use Rattle.cap_source.specs.inner.FileState.{ReadsTo, Takes};
+ghost use Rattle.cap_source.specs.inner.Reached.{progress_of, counted};
+ghost use Rattle.cap_source.specs.inner.Readers.{state_of, is_there, IsReady, is_stopped, Opens, LooksAtWindow};
+ghost use Rattle.cap_source.specs.inner.Readers.{reader_by};
+ghost use Rattle.cap_source.specs.inner.Readers.{reader_room};
 ghost use Rattle.cap_source.specs.declared.reached.Reached.{Reached};
 
 use crate::known::Known;

@@ -1,7 +1,7 @@
 //! Packets without bytes in memory: a feed that isn't read of a file.
 ghost use Rattle.std.specs.Prelude.{◌≡◌, ◌≤◌, ◌^◌, None, drop, length, take};
 ghost use Rattle.std.specs.Option.{ForSome};
-ghost use Rattle.cap_source.specs.Listed.{head_at, list_feed, lists_lawful};
+ghost use Rattle.cap_source.specs.inner.Listed.{head_at, list_feed, lists_lawful};
 
 use crate::feeds::{Ending, FeedHeld, Head, PacketFeed};
 use crate::packets::{Format, Meta};

@@ -1,7 +1,8 @@
 //! What comes next of a pcap file.
 ghost use Rattle.std.specs.Prelude.{◌≡◌, IsTrue, IfOk, None, Some, false};
 ghost use Rattle.cap_source.specs.Items.{Progress, resolution_of_unit, interface_of, pcap_ending_with, meta_of};
-ghost use Rattle.cap_source.specs.FileState.{Answers, TakesShown, FileKeeps, IfTaken, Takes, noted_by, pcap_state};
+ghost use Rattle.cap_source.specs.inner.FileState.{Answers, TakesShown, FileKeeps, IfTaken, Takes, noted_by};
+ghost use Rattle.cap_source.specs.inner.FileState.{pcap_state};
 
 use crate::feeds::{Ending, FileEnd};
 use crate::known::Known;

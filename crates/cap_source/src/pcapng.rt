@@ -4,9 +4,9 @@ ghost use Rattle.std.specs.Prelude.{is_some, unwrap_or, vec_len, vec_capacity};
 ghost use Rattle.cap_blocks.specs.Grammar.{is_known, is_total};
 ghost use Rattle.cap_source.specs.Contents.{content_in, of_body};
 ghost use Rattle.cap_source.specs.Items.{ending_with, meta_in, behind};
-ghost use Rattle.cap_source.specs.FileState.{Answers, TakesShown, FileKeeps, IfTaken, Steps, Takes, pcapng_state};
-ghost use Rattle.cap_source.specs.FileState.{next_at};
-ghost use Rattle.cap_source.specs.Reached.{progress_of, counted, has_room};
+ghost use Rattle.cap_source.specs.inner.FileState.{Answers, TakesShown, FileKeeps, IfTaken, Steps, Takes, pcapng_state};
+ghost use Rattle.cap_source.specs.inner.FileState.{next_at};
+ghost use Rattle.cap_source.specs.inner.Reached.{progress_of, counted, has_room};
 
 use crate::contents::{Content, Packet, content_of, enhanced_packet};
 use crate::feeds::{Ending, FileEnd};

@@ -1,7 +1,7 @@
 //! How far a pcapng file was read, and what a block adds to that.
 ghost use Rattle.std.specs.Prelude.{◌≡◌, ◌<◌, ◌+◌, ◌^◌, vec_len, vec_capacity};
 ghost use Rattle.cap_source.specs.Items.{after, fresh};
-ghost use Rattle.cap_source.specs.Reached.{progress_of, counted};
+ghost use Rattle.cap_source.specs.inner.Reached.{progress_of, counted};
 
 use crate::contents::{Content, Described};
 use cap_time::Interface;

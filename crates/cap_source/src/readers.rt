@@ -2,9 +2,9 @@
 ghost use Rattle.std.specs.Prelude.{◌≡◌, ◌≤◌, IsTrue, IsSome, Some};
 ghost use Rattle.cap_source.specs.Feed.{IsPacket};
 ghost use Rattle.cap_source.specs.Items.{Progress};
-ghost use Rattle.cap_source.specs.FileState.{head_by, end_of, size_of, frame_of, ending_by};
-ghost use Rattle.cap_source.specs.Reached.{progress_of};
-ghost use Rattle.cap_source.specs.Readers.{state_of, is_there, lent_of};
+ghost use Rattle.cap_source.specs.inner.FileState.{head_by, end_of, size_of, frame_of, ending_by};
+ghost use Rattle.cap_source.specs.inner.Reached.{progress_of};
+ghost use Rattle.cap_source.specs.inner.Readers.{state_of, is_there, lent_of};
 
 use crate::feeds::{FileEnd, Head};
 use crate::known::Known;

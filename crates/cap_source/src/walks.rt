@@ -1,7 +1,7 @@
 //! Going through a feed, packet by packet.
 ghost use Rattle.std.specs.Prelude.{IsTrue};
 ghost use Rattle.cap_source.specs.Feed.{Keeps};
-ghost use Rattle.cap_source.specs.Walk.{GivesPacket, ShowsItem};
+ghost use Rattle.cap_source.specs.inner.Walk.{GivesPacket, ShowsItem};
 
 use crate::feeds::PacketFeed;
 use crate::packets::Meta;

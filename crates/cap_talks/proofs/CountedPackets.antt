@@ -8,7 +8,7 @@ use Rattle.cap_talks.specs.declared.counts.counts.Counts.{Counts}
 use Rattle.cap_source.proofs.Onward.{Went, Went-none, Went-more}
 use Rattle.cap_source.specs.Feed.{Feed, Item, packet, Keeps, Passes, SameItems, FindsPacket, FindsItem, IsFeed}
 use Rattle.cap_source.specs.Feed.{refusal_of}
-use Rattle.cap_source.specs.Walk.{GivesPacket, ShowsItem}
+use Rattle.cap_source.specs.inner.Walk.{GivesPacket, ShowsItem}
 use Rattle.cap_source.specs.declared.feeds.Head.TheVariants as heads
 use Rattle.cap_source.specs.declared.packets.Meta.{Meta}
 use Rattle.cap_talks.specs.talks.Reading.{CountsAll}

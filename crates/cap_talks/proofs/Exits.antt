@@ -7,7 +7,7 @@ use Rattle.cap_ip.specs.Header.{HeaderFields}
 use Rattle.cap_ip.specs.Transport.{transport_of}
 use Rattle.cap_join.specs.ByteMap.{completes}
 use Rattle.cap_join.specs.Fragments.{Piece}
-use Rattle.cap_join.specs.Groups.{IsDatagramOf}
+use Rattle.cap_join.specs.inner.Groups.{IsDatagramOf}
 use Rattle.cap_join.specs.History.{Event, arrives, flushes, joined_pieces, state_of}
 use Rattle.cap_join.specs.Joiners.{JoinerState, IsAnswer, open_limit}
 use Rattle.cap_join.specs.declared.datagrams.Put.{Put}
@@ -23,15 +23,15 @@ use Rattle.cap_talks.proofs.Frames.{frames-counted}
 use Rattle.cap_talks.proofs.Steps.{one-class}
 use Rattle.cap_talks.proofs.Tallying.{unit-waiting, enough-waiting, Stands-joined, state, unit-is, Stands-plain}
 use Rattle.cap_talks.proofs.Tallying.{Stands-datagram, Stands-kept, Stands-waiting}
-use Rattle.cap_talks.specs.table.Adding.{datagram_unit, datagram_class, is_over}
+use Rattle.cap_talks.specs.inner.table.Adding.{datagram_unit, datagram_class, is_over}
 use Rattle.cap_join.specs.Completed.{if_complete, completed_of}
 use Rattle.cap_talks.specs.table.Classes.{class_of, sum_of}
-use Rattle.cap_talks.specs.table.Looking.{is_plain}
+use Rattle.cap_talks.specs.inner.table.Looking.{is_plain}
 use Rattle.cap_talks.specs.table.Taken.{Taken, plain, datagram, fragment, look, stamped_of, events_of}
 use Rattle.std.specs.Prelude.{Err}
 use Rattle.cap_talks.specs.declared.table.talks.TalksFault.{TalksFault}
-use Rattle.cap_talks.specs.table.Tallies.{Joins, LimitBy, TallyState, Stands, IsSoundTally, Fits, Looks, one_if}
-use Rattle.cap_talks.specs.table.Tallies.{counted_one, with_frames, with_group}
+use Rattle.cap_talks.specs.inner.table.Tallies.{Joins, LimitBy, TallyState, Stands, IsSoundTally, Fits, Looks, one_if}
+use Rattle.cap_talks.specs.inner.table.Tallies.{counted_one, with_frames, with_group}
 use Rattle.cap_talks.specs.table.CountedUnits.{counted_in, first_unit, whole_unit, unit_at, listed, units_of}
 use Rattle.cap_talks.specs.table.CountedUnits.{is_limit_at}
 use Rattle.cap_talks.specs.declared.table.classes.Class.{Class}

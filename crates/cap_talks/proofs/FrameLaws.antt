@@ -8,7 +8,7 @@ use Rattle.std.proofs.lemmas.List.Elements.{Contains-get_or, Contains-append_rig
 use Rattle.cap_talks.specs.declared.table.units.TimedFrame.{TimedFrame}
 use Rattle.cap_time.proofs.Chosen.{chosen, not_trans}
 use Rattle.cap_talks.proofs.FrameOrder.{by_time_total, by_time_down_total, earlier_is, later_is}
-use Rattle.cap_talks.specs.table.Laws.{with_frame, firsts, lasts, IsFirstIn, FrameLaw}
+use Rattle.cap_talks.specs.inner.table.Laws.{with_frame, firsts, lasts, IsFirstIn, FrameLaw}
 use Rattle.cap_talks.specs.declared.table.units.CountedUnit.{CountedUnit}
 
 all-map : {X : Type 0} {P Q : X → Type 0} → ((x : X) → P x → Q x) → (xs : List X) → AllByRecursion P xs

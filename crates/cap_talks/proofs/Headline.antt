@@ -14,13 +14,13 @@ use Rattle.cap_source.proofs.Onward.{Lasts-goes}
 use Rattle.cap_merge.proofs.Unread.{told-readers, bytes-readers}
 use Rattle.cap_merge.specs.Files.{clocked_run, endings_of_files}
 use Rattle.cap_merge.specs.Parts.{Part, feed_of, run_of}
-use Rattle.cap_merge.specs.Readers.{Reader, IsUnreadRun}
+use Rattle.cap_merge.specs.inner.Readers.{Reader, IsUnreadRun}
 use Rattle.cap_source.specs.Feed.{Feed}
-use Rattle.cap_source.specs.Walk.{Walks}
-use Rattle.cap_talks.specs.talks.Reporting.{TookAll, TakesAll, TellsReport}
+use Rattle.cap_source.specs.inner.Walk.{Walks}
+use Rattle.cap_talks.specs.inner.talks.Reporting.{TookAll, TakesAll, TellsReport}
 use Rattle.cap_talks.specs.talks.ReportText.{taken_after, report_text, report_refusal}
 use Rattle.cap_talks.specs.table.TakenText.{text_of}
-use Rattle.cap_talks.specs.table.Stepping.{TableState, TableStands, endings_so_far}
+use Rattle.cap_talks.specs.inner.table.Stepping.{TableState, TableStands, endings_so_far}
 use Rattle.cap_talks.specs.table.Taken.{Taken}
 use Rattle.cap_talks.specs.talks.Telling.{Tells}
 use Rattle.cap_talks.proofs.Telling.{tells-printed}

@@ -8,8 +8,8 @@ use Rattle.std.specs.Cmp.Lexicographic.{options_total}
 use Rattle.std.proofs.lemmas.Cmp.{then_total, on_total, nat_cmp_total}
 use Rattle.std.proofs.lemmas.Map.Lookups.{CmpEqualImpliesEq}
 use Rattle.cap_talks.proofs.Talking.{same_end-self, and_true}
-use Rattle.cap_talks.specs.table.Keys.{same_end-is, and_left, and_right}
-use Rattle.cap_talks.specs.table.Laws.{KeyLaw}
+use Rattle.cap_talks.specs.inner.table.Keys.{same_end-is, and_left, and_right}
+use Rattle.cap_talks.specs.inner.table.Laws.{KeyLaw}
 use Rattle.cap_talks.specs.table.Talks.{is_forward, same_end, same_talk}
 use Rattle.cap_talks.specs.table.Units.{end_cmp}
 use Rattle.cap_talks.specs.declared.table.units.End.{End}

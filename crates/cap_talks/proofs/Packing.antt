@@ -12,10 +12,11 @@ use Rattle.std.proofs.lemmas.Nat.{div-mul-add, mod-mul-add, div-add-mod'}
 use Rattle.indexmap.specs.IndexMap.{insert_entry}
 use Rattle.indexmap.specs.Layout.{set_value_at}
 use Rattle.indexmap.proofs.MapLemmas.{insert_entry-first, Found-position}
-use Rattle.cap_talks.specs.table.Keys.{same_talk-is, and_left, and_right}
-use Rattle.cap_talks.specs.table.Packed.{port_number, port_of, end_number, end_of, packed, unpacked, IsNarrow}
-use Rattle.cap_talks.specs.table.Packed.{IsNarrowEnd, is_end, is_packed, same_packed, unpacked_talk, unpacked_talks}
-use Rattle.cap_talks.specs.table.Packed.{are_packed}
+use Rattle.cap_talks.specs.inner.table.Keys.{same_talk-is, and_left, and_right}
+use Rattle.cap_talks.specs.inner.table.Packed.{port_number, port_of, end_number, end_of, packed, unpacked, IsNarrow}
+use Rattle.cap_talks.specs.inner.table.Packed.{IsNarrowEnd, is_end, is_packed, same_packed, unpacked_talk}
+use Rattle.cap_talks.specs.inner.table.Packed.{unpacked_talks}
+use Rattle.cap_talks.specs.inner.table.Packed.{are_packed}
 use Rattle.cap_talks.specs.table.Rows.{is_refused, talk_limit, with_unit, with_talk, or_empty, row_at, row_in}
 use Rattle.cap_talks.specs.table.Talks.{key_of, row_of, same_talk}
 use Rattle.cap_talks.specs.declared.table.keys.PackedKey.{PackedKey}

@@ -10,15 +10,15 @@ use Rattle.cap_source.proofs.Onward.{Went, Went-none, Keeps-trans, Lasts-trans, 
 use Rattle.cap_merge.specs.Parts.{clock_of, feed_of, run_of}
 use Rattle.cap_merge.specs.Run.{Clocked}
 use Rattle.cap_source.specs.Feed.{Item, Waits, refused}
-use Rattle.cap_source.specs.Growing.{IfMemory, IsAtPacket, OfMemory}
+use Rattle.cap_source.specs.inner.Growing.{IfMemory, IsAtPacket, OfMemory}
 use Rattle.cap_source.specs.declared.feeds.Head.{Head}
 use Rattle.cap_source.specs.declared.feeds.Head.TheVariants as heads
 use Rattle.cap_time.specs.declared.stamps.Stamp.{Stamp}
 use Rattle.cap_talks.specs.table.CountedUnits.{refusal_at}
 use Rattle.cap_talks.specs.talks.ReportText.{taken_after, refusal_after}
-use Rattle.cap_talks.specs.talks.Reporting.{TookAll, TakesAll}
-use Rattle.cap_talks.specs.table.Stepping.{clocked, next_by, KeepsNext, TableState, TableStands, StepKeeps, Takes}
-use Rattle.cap_talks.specs.table.Stepping.{Steps, IsMore}
+use Rattle.cap_talks.specs.inner.talks.Reporting.{TookAll, TakesAll}
+use Rattle.cap_talks.specs.inner.table.Stepping.{clocked, next_by, KeepsNext, TableState, TableStands, StepKeeps, Takes}
+use Rattle.cap_talks.specs.inner.table.Stepping.{Steps, IsMore}
 use Rattle.cap_talks.specs.table.Taken.{Taken}
 use Rattle.cap_talks.specs.table.CountedUnits.{is_limit_at}
 use Rattle.cap_talks.specs.declared.table.tables.Step.{Step}

@@ -4,7 +4,7 @@ use Rattle.std.specs.Prelude.{OnOk, OnErr}
 use Rattle.std.specs.Ordering.{is_lt}
 use Rattle.indexmap.specs.IndexMap.{insert_entry}
 use Rattle.cap_time.specs.Stamp.{stamp_cmp}
-use Rattle.cap_time.specs.StampLaws.{stamp_cmp_total}
+use Rattle.cap_time.specs.inner.StampLaws.{stamp_cmp_total}
 use Rattle.cap_time.specs.declared.stamps.Stamp.{Stamp}
 use Rattle.cap_time.proofs.Chosen.{not_trans}
 use Rattle.cap_talks.specs.table.Talks.{Talk, earlier_frame, later_frame, frame_time, place_or, same_talk}

@@ -9,7 +9,7 @@ use Rattle.cap_bytes.specs.declared.faults.Refusal.{Refusal}
 use Rattle.cap_join.specs.declared.datagrams.Datagram.{Datagram}
 use Rattle.cap_join.specs.Joiners.{JoinerState}
 use Rattle.cap_merge.proofs.RunItems.{items-of-run, first-of-run}
-use Rattle.cap_merge.specs.Merge.{LearnsBy, LearnsAll, LooksAll}
+use Rattle.cap_merge.specs.inner.Merge.{LearnsBy, LearnsAll, LooksAll}
 use Rattle.cap_merge.specs.Parts.{Part, feed_of, run_of, clock_of, known_of, is_known, head_by, first_of, BeginsAt}
 use Rattle.cap_merge.specs.Parts.{ShowsRun}
 use Rattle.cap_merge.specs.Run.{Clocked}
@@ -19,12 +19,12 @@ use Rattle.cap_source.specs.declared.feeds.Head.{Head}
 use Rattle.cap_source.specs.declared.feeds.Head.TheVariants as heads
 use Rattle.cap_source.specs.declared.packets.Meta.{Meta}
 use Rattle.cap_time.specs.declared.stamps.Stamp.{Stamp}
-use Rattle.cap_talks.specs.table.Stepping.{AnswersAgain, next_by, next_taken, TableStands, Steps}
+use Rattle.cap_talks.specs.inner.table.Stepping.{AnswersAgain, next_by, next_taken, TableStands, Steps}
 use Rattle.cap_talks.specs.table.Taken.{Taken}
 use Rattle.cap_talks.specs.declared.table.tables.Step.{Step}
 use Rattle.cap_talks.specs.declared.table.tables.Step.TheVariants as steps
-use Rattle.cap_talks.specs.table.Totals.{TotalsState}
-use Rattle.cap_talks.specs.table.Tallies.{TallyState, Joins, Stands}
+use Rattle.cap_talks.specs.inner.table.Totals.{TotalsState}
+use Rattle.cap_talks.specs.inner.table.Tallies.{TallyState, Joins, Stands}
 
 -- ---- what was known stays
 

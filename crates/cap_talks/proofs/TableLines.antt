@@ -9,7 +9,7 @@ use Rattle.cap_talks.specs.counts.FileLines.{file_text, ending_at}
 use Rattle.cap_talks.specs.counts.FileLines.{ended_from, counted_texts}
 use Rattle.cap_talks.specs.table.TakenText.{file_line, metas_of}
 use Rattle.cap_talks.specs.table.Taken.{Taken}
-use Rattle.cap_talks.specs.table.Totals.{counts_from}
+use Rattle.cap_talks.specs.inner.table.Totals.{counts_from}
 use Rattle.cap_talks.specs.declared.counts.counts.Counts.{Counts}
 
 -- a file of that number is one of them

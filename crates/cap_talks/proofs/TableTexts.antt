@@ -10,8 +10,8 @@ use Rattle.cap_talks.specs.table.TakenText.{bytes_of, truncated_of}
 use Rattle.cap_talks.specs.table.Taken.{Taken}
 use Rattle.cap_talks.specs.table.Talks.{rows_of}
 use Rattle.cap_talks.specs.table.TalkLines.{talk_texts, talks_text}
-use Rattle.cap_talks.specs.table.Tallies.{TallyState, Stands, tally_text}
-use Rattle.cap_talks.specs.table.Totals.{TotalsState, TotalsStand}
+use Rattle.cap_talks.specs.inner.table.Tallies.{TallyState, Stands, tally_text}
+use Rattle.cap_talks.specs.inner.table.Totals.{TotalsState, TotalsStand}
 use Rattle.cap_talks.specs.declared.counts.files.Counted.{Counted}
 use Rattle.cap_talks.proofs.TableLines.{ended-length, lines-counted}
 use Rattle.cap_talks.proofs.Waiting.{given-up}

@@ -11,7 +11,7 @@ use Rattle.cap_talks.proofs.FrameOrder.{least-more, greatest-more}
 use Rattle.cap_talks.specs.table.Talks.{Talk, is_forward, backward, earlier_frame, later_frame, least_frame}
 use Rattle.cap_talks.specs.table.Talks.{greatest_frame, frame_time, place_or, key_of, frames_of, bytes_of, row_of}
 use Rattle.cap_talks.specs.table.Talks.{same_end, same_talk, units_of, keys_of, rows_of}
-use Rattle.cap_talks.specs.table.Keys.{same_talk-is}
+use Rattle.cap_talks.specs.inner.table.Keys.{same_talk-is}
 use Rattle.cap_talks.specs.table.Rows.{frame_of, with_unit, or_empty, with_talk}
 use Rattle.cap_talks.specs.declared.table.rows.TalkKey.{TalkKey}
 use Rattle.cap_talks.specs.declared.table.rows.TalkRow.{TalkRow}

@@ -7,7 +7,7 @@ use Rattle.cap_ip.specs.Transport.{transport_of}
 use Rattle.cap_ip.specs.declared.transports.Transport.{Transport}
 use Rattle.cap_join.specs.ByteMap.{completes}
 use Rattle.cap_join.specs.Fragments.{Piece}
-use Rattle.cap_join.specs.Groups.{IsDatagramOf}
+use Rattle.cap_join.specs.inner.Groups.{IsDatagramOf}
 use Rattle.cap_join.specs.History.{arrives, flushes, joined_pieces, state_of}
 use Rattle.cap_join.specs.Joiners.{JoinerState, open_limit}
 use Rattle.cap_join.specs.Joiners as joiners
@@ -16,12 +16,12 @@ use Rattle.cap_talks.specs.table.Rows.{TalksState, is_refused, talk_limit}
 use Rattle.cap_talks.specs.table.Rows as talks
 use Rattle.cap_talks.proofs.Recount.{some_of}
 use Rattle.cap_talks.proofs.Steps.{classes-plain, classes-datagram, classes-kept, classes-completed}
-use Rattle.cap_talks.specs.table.Adding.{datagram_unit, datagram_class}
+use Rattle.cap_talks.specs.inner.table.Adding.{datagram_unit, datagram_class}
 use Rattle.cap_talks.specs.table.Classes.{class_of, classes, counts_of, group_class, groups_of, joined_transport, times}
 use Rattle.cap_join.specs.Completed.{completed_of}
 use Rattle.cap_talks.specs.table.Taken.{Taken, Look, plain, datagram, fragment, look, stamped_of, events_with}
 use Rattle.cap_talks.specs.table.Taken.{events_of}
-use Rattle.cap_talks.specs.table.Tallies.{TallyState, Stands, counted_one, with_frames, with_group}
+use Rattle.cap_talks.specs.inner.table.Tallies.{TallyState, Stands, counted_one, with_frames, with_group}
 use Rattle.cap_talks.specs.table.CountedUnits.{whole_unit, group_unit, first_unit, unit_by, unit_at, listed, units_of}
 use Rattle.cap_talks.specs.table.CountedUnits.{counted_in, joined_in}
 use Rattle.cap_talks.specs.declared.table.classes.Class.{Class}

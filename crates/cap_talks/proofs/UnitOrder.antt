@@ -5,20 +5,20 @@ use Rattle.std.specs.Ordering.{is_lt}
 use Rattle.cap_ip.specs.Header.{HeaderFields}
 use Rattle.cap_join.specs.Fragments.{Piece}
 use Rattle.cap_join.specs.Frames.{earlier, later, timed, first_frame, last_frame}
-use Rattle.cap_join.specs.Groups.{IsDatagramOf}
+use Rattle.cap_join.specs.inner.Groups.{IsDatagramOf}
 use Rattle.cap_join.specs.declared.datagrams.Datagram.{Datagram}
 use Rattle.cap_join.specs.declared.datagrams.Stamped.{Stamped}
 use Rattle.cap_talks.specs.table.Rows.{are_in_order, IsUnitInOrder}
 use Rattle.cap_talks.specs.declared.table.units.End.{End}
 use Rattle.cap_talks.specs.declared.table.units.TimedFrame.{TimedFrame}
 use Rattle.cap_time.specs.Stamp.{stamp_cmp}
-use Rattle.cap_time.specs.StampLaws.{stamp_cmp_total}
+use Rattle.cap_time.specs.inner.StampLaws.{stamp_cmp_total}
 use Rattle.cap_time.specs.declared.stamps.Stamp.{Stamp}
 use Rattle.cap_time.proofs.Chosen.{not_trans}
 use Rattle.cap_talks.specs.table.CountedUnits.{timed_frame, unit_of, whole_unit}
-use Rattle.cap_talks.specs.table.Adding.{datagram_unit}
+use Rattle.cap_talks.specs.inner.table.Adding.{datagram_unit}
 use Rattle.cap_talks.specs.table.Taken.{Taken}
-use Rattle.cap_talks.specs.table.Tallies.{TallyState, Joins, Stands}
+use Rattle.cap_talks.specs.inner.table.Tallies.{TallyState, Joins, Stands}
 
 by_ends : (protocol frames bytes : ℕ) (first last : Option TimedFrame) (ends : Option (End × End))
     → are_in_order first last ≡ true

@@ -7,7 +7,7 @@ use Rattle.cap_join.specs.Joiners.{JoinerState, StandsFor, open_limit}
 use Rattle.cap_join.specs.declared.datagrams.Datagram.{Datagram}
 use Rattle.cap_talks.specs.table.CountedUnits.{given_up_in}
 use Rattle.cap_talks.specs.table.Taken.{Taken, fragment, look, events_of, events_with}
-use Rattle.cap_talks.specs.table.Tallies.{TallyState, WaitsFor, Stands, IsSoundTally, one_if}
+use Rattle.cap_talks.specs.inner.table.Tallies.{TallyState, WaitsFor, Stands, IsSoundTally, one_if}
 use Rattle.cap_talks.proofs.LoneFragments.{no-lone}
 use Rattle.cap_talks.proofs.Room.{few-open, waiting-room}
 

@@ -1,3 +1,4 @@
 pub mod counts
 pub mod table
 pub mod talks
+pub mod inner

@@ -2,4 +2,3 @@ pub mod InfoText
 pub mod Reading
 pub mod Telling
 pub mod ReportText
-pub mod Reporting

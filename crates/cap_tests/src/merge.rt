@@ -2,7 +2,7 @@
 ghost use Rattle.std.specs.Prelude.{◌≡◌, ◌∷◌, [], IfOk};
 ghost use Rattle.cap_source.specs.Feed.{HasFile};
 ghost use Rattle.cap_merge.specs.Parts.{feed_of};
-ghost use Rattle.cap_merge.specs.View.{parts_of};
+ghost use Rattle.cap_merge.specs.inner.View.{parts_of};
 
 use crate::checks::{holds, same};
 use crate::files::{bytes_of, fails_twice, merged_of, pair_of, reader_of, sources_of};

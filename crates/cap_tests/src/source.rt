@@ -81,7 +81,7 @@ fn has_interface<R: Source>(rt: &impl Abort, feed: &mut Capture<R>) {
 }
 
 // How the file ended, which is the only one.
-#[tactic(auto, using(cap_source::specs::Laws::has_file_alone))]
+#[tactic(auto, using(cap_source::specs::inner::Laws::has_file_alone))]
 fn ended<F: PacketFeed>(feed: &F) -> Ending
     requires end { (F.feed feed.now).known ≡ Some Head.End }
     requires files { (F.feed feed.now).files ≡ 7 ∷ [] }

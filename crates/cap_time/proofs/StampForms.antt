@@ -15,11 +15,11 @@ use Rattle.cap_time.specs.declared.resolutions.Interface.{Interface}
 use Rattle.cap_time.specs.declared.stamps.Stamp.{Stamp}
 use Rattle.cap_time.specs.Resolution.{units_of}
 use Rattle.cap_time.specs.Time.{time_at, time_cmp, time_plus, printed_form, printed_plus, floor_of, remainder_of}
-use Rattle.cap_time.specs.TimeLaws.{time_cmp-alike}
+use Rattle.cap_time.specs.inner.TimeLaws.{time_cmp-alike}
 use Rattle.cap_time.specs.Stamp.{offset_of, seconds_of, numerator_of, printed_of, time_of, time_in, stamp_cmp, stamp_in}
 use Rattle.cap_time.specs.Stamp.{stamp_plus, whole_of}
-use Rattle.cap_time.specs.StampLaws.{stamp_cmp-parts, stamp_cmp_total, fraction_cmp, same_parts, numerator_below}
-use Rattle.cap_time.specs.StampLaws.{CountAlike}
+use Rattle.cap_time.specs.inner.StampLaws.{stamp_cmp-parts, stamp_cmp_total, fraction_cmp, same_parts, numerator_below}
+use Rattle.cap_time.specs.inner.StampLaws.{CountAlike}
 use Rattle.cap_time.proofs.PrintedForm.{printed_form-time_at, time_at-stamped, time_at-later}
 
 -- a stamp's printed form is that of its time

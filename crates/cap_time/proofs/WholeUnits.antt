@@ -4,11 +4,11 @@ use Rattle.std.proofs.lemmas.Nat.{div-mul-add, mod-mul-add}
 use Rattle.std.specs.Ordering.{int_cmp, nat_cmp}
 use Rattle.std.specs.Cmp.{ranked}
 use Rattle.cap_time.specs.Time.{time_at, IsWhole, IsNeverWhole}
-use Rattle.cap_time.specs.TimeLaws.{time_cmp-units}
+use Rattle.cap_time.specs.inner.TimeLaws.{time_cmp-units}
 use Rattle.std.specs.Prelude.{Bool, Some, None, MatchOption, ◌==◌, if◌then◌else◌}
 use Rattle.cap_time.specs.declared.stamps.Stamp.{Stamp}
 use Rattle.cap_time.specs.Stamp.{seconds_of, numerator_of, denominator_of, time_of, whole_of}
-use Rattle.cap_time.specs.StampLaws.{both_equal}
+use Rattle.cap_time.specs.inner.StampLaws.{both_equal}
 use Rattle.cap_time.specs.declared.stamps.Unit.{Unit as Fraction}
 use Rattle.cap_time.specs.Unit.{in_second}
 

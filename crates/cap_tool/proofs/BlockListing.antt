@@ -7,13 +7,13 @@ use Rattle.cap_bytes.specs.declared.faults.Fault.{Fault}
 use Rattle.cap_bytes.specs.declared.faults.Fault.TheVariants.{Refused, Read, Write, Memory}
 use Rattle.cap_bytes.specs.declared.faults.Refusal.{Refusal}
 use Rattle.cap_bytes.specs.Items.{IsEnd, Item, given}
-use Rattle.cap_bytes.specs.Reader.{State, Keeps}
+use Rattle.cap_bytes.specs.inner.Reader.{State, Keeps}
 use Rattle.cap_bytes.specs.declared.numbers.Order.{Order}
-use Rattle.cap_blocks.specs.Reader.{GivesBlock, TakesItem, items_of}
+use Rattle.cap_blocks.specs.inner.Reader.{GivesBlock, TakesItem, items_of}
 use Rattle.cap_blocks.specs.declared.blocks.Block.{Block}
 use Rattle.cap_bytes.specs.declared.stops.Stop.{Stop}
 use Rattle.cap_bytes.proofs.Putting.{Putting-all}
-use Rattle.cap_tool.specs.BlockWalk.{Lasts}
+use Rattle.cap_tool.specs.inner.BlockWalk.{Lasts}
 use Rattle.cap_tool.specs.BlockText.{block_lines, block_text, refusal_by, refusal_of}
 use Rattle.cap_bytes.specs.Printing.{Prints}
 

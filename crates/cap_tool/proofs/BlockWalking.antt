@@ -2,11 +2,11 @@
 use Rattle.std.proofs.Common.{◌≡◌, ℕ, ◌≤◌, ◌∷◌, [], Bool, IsTrue, Option, Some, None, Result, Ok, Err, refl, sym, ◌∙◌}
 use Rattle.std.proofs.Common.{subst, arith}
 use Rattle.std.specs.Prelude.{IfSome, IfNone, IsSome}
-use Rattle.cap_blocks.specs.Reader.{GivesBlock, GivesNext}
+use Rattle.cap_blocks.specs.inner.Reader.{GivesBlock, GivesNext}
 use Rattle.cap_blocks.specs.declared.blocks.Block.{Block}
 use Rattle.cap_bytes.specs.Device.{Writer}
-use Rattle.cap_bytes.specs.Reader.{GivesStop, State}
-use Rattle.cap_bytes.specs.Reader as readers
+use Rattle.cap_bytes.specs.inner.Reader.{GivesStop, State}
+use Rattle.cap_bytes.specs.inner.Reader as readers
 use Rattle.cap_bytes.specs.declared.faults.Fault.{Fault}
 use Rattle.cap_bytes.specs.declared.faults.Fault.TheVariants.{Refused, Read, Write, Memory}
 use Rattle.cap_bytes.specs.declared.faults.Rule.{Rule}
@@ -14,7 +14,7 @@ use Rattle.cap_bytes.specs.declared.numbers.Order.{Order}
 use Rattle.cap_bytes.specs.declared.stops.Stop.{Stop}
 use Rattle.cap_source.specs.ReadFaults.{FailsOf}
 use Rattle.cap_tool.proofs.BlockListing.{Printing}
-use Rattle.cap_tool.specs.BlockWalk.{Lasts, WalksBlocks}
+use Rattle.cap_tool.specs.inner.BlockWalk.{Lasts, WalksBlocks}
 
 lasts-trans : (old mid new : State Order) → Lasts old mid → Lasts mid new → Lasts old new
 lasts-trans old mid new a b = record { broken = b.broken ∙ a.broken; failed = b.failed ∙ a.failed }

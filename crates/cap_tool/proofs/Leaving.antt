@@ -9,10 +9,10 @@ use Rattle.cap_bytes.specs.declared.numbers.Order.{Order}
 use Rattle.cap_merge.proofs.Unread.{told-readers, bytes-readers}
 use Rattle.cap_merge.specs.Files.{endings_of_files}
 use Rattle.cap_merge.specs.Parts.{Part, feed_of}
-use Rattle.cap_merge.specs.Readers.{Reader, IsUnreadRun}
+use Rattle.cap_merge.specs.inner.Readers.{Reader, IsUnreadRun}
 use Rattle.cap_source.specs.Feed.{Feed, HasFile, Item, Keeps}
 use Rattle.cap_source.specs.Items.{file_first, file_items}
-use Rattle.cap_source.specs.Walk.{SameEndings, Walks}
+use Rattle.cap_source.specs.inner.Walk.{SameEndings, Walks}
 use Rattle.cap_source.specs.declared.feeds.FileEnd.{FileEnd}
 use Rattle.cap_source.specs.declared.feeds.Head.TheVariants as heads
 use Rattle.cap_source.specs.declared.packets.Format.{Format}
@@ -20,7 +20,7 @@ use Rattle.cap_source.specs.declared.packets.Format.TheVariants.{Pcap, Pcapng}
 use Rattle.cap_talks.proofs.TableLines.{is-numbered}
 use Rattle.std.proofs.lemmas.List.{length-map}
 use Rattle.cap_tool.specs.Converted.{convert_text, convert_refusal}
-use Rattle.cap_tool.specs.FileText.{file_text, file_refusal}
+use Rattle.cap_tool.specs.inner.FileText.{file_text, file_refusal}
 use Rattle.cap_tool.specs.Left.{left_of, sum_in, skipped_in, named_in, Drops}
 use Rattle.cap_tool.specs.declared.left.Left.{Left}
 

@@ -8,7 +8,7 @@ use Rattle.cap_bytes.specs.declared.faults.Tail.{Tail}
 use Rattle.cap_bytes.specs.declared.numbers.Order.{Order}
 use Rattle.cap_merge.proofs.Unread.{told-readers, bytes-readers, run-items}
 use Rattle.cap_merge.specs.Parts.{Part, feed_of, run_of}
-use Rattle.cap_merge.specs.Readers.{Reader, IsUnreadRun}
+use Rattle.cap_merge.specs.inner.Readers.{Reader, IsUnreadRun}
 use Rattle.cap_source.specs.declared.packets.Format.{Format}
 use Rattle.cap_tool.specs.JoinText.{join_text_in, join_refusal_in}
 use Rattle.cap_tool.specs.MergeText.{merge_text_in, merge_refusal_in}

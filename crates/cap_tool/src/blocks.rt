@@ -1,11 +1,11 @@
 //! `capt blocks`: one line for each block of a pcapng file, as it is found.
 ghost use Rattle.std.specs.Prelude.{◌∷◌, [], IsTrue};
-ghost use Rattle.cap_blocks.specs.Reader.{GivesNext, TakesItem, items_of};
-ghost use Rattle.cap_tool.specs.BlockWalk.{WalksBlocks};
+ghost use Rattle.cap_blocks.specs.inner.Reader.{GivesNext, TakesItem, items_of};
+ghost use Rattle.cap_tool.specs.inner.BlockWalk.{WalksBlocks};
 ghost use Rattle.cap_tool.specs.BlockText.{block_lines, block_list, block_refusal, refusal_of};
 ghost use Rattle.cap_bytes.specs.Device.{WriterKeeps, writer_of};
 ghost use Rattle.cap_bytes.specs.Printing.{Prints, is_write};
-ghost use Rattle.cap_bytes.specs.Reader.{Keeps};
+ghost use Rattle.cap_bytes.specs.inner.Reader.{Keeps};
 ghost use Rattle.cap_source.specs.ReadFaults.{FailsOf};
 
 use crate::lines::write_block;

@@ -5,8 +5,8 @@ ghost use Rattle.cap_bytes.specs.Device.{WriterKeeps, writer_of};
 ghost use Rattle.cap_bytes.specs.Printing.{Prints, is_write};
 ghost use Rattle.cap_source.specs.Feed.{refusal_of};
 ghost use Rattle.cap_source.specs.ReadFaults.{FailsOf};
-ghost use Rattle.cap_source.specs.Walk.{Walks};
-ghost use Rattle.cap_source.specs.Growing.{IfMemory};
+ghost use Rattle.cap_source.specs.inner.Walk.{Walks};
+ghost use Rattle.cap_source.specs.inner.Growing.{IfMemory};
 
 use crate::lines::write_packet;
 use cap_bytes::{Fault, Sink, Source, Tail, put_all};

@@ -18,9 +18,9 @@ use Rattle.cap_source.specs.Feed.{Item, packet}
 use Rattle.cap_source.specs.declared.packets.Meta.{Meta}
 use Rattle.cap_time.specs.declared.stamps.Stamp.{Stamp}
 use Rattle.cap_write.proofs.Forming.{Prints-untimed, no-time, stop-nothing, text-nothing}
-use Rattle.cap_write.specs.Interfaces.{HasUnits}
-use Rattle.cap_write.specs.Datagrams.{IsFilled, answered}
-use Rattle.cap_write.specs.Forms.{FormState, form_after, form_behind, form_stop, form_text}
+use Rattle.cap_write.specs.inner.Interfaces.{HasUnits}
+use Rattle.cap_write.specs.inner.Datagrams.{IsFilled, answered}
+use Rattle.cap_write.specs.inner.Forms.{FormState, form_after, form_behind, form_stop, form_text}
 use Rattle.cap_write.specs.Joined.{Complete, joined_of, completed_in, completed, datagram_meta, items_of_packet}
 
 answered-pieces : (ps : List Piece) (arrived : Arrived) → IsFragmentOf ps arrived → answered arrived ≡ joined_of ps

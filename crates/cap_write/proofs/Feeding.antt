@@ -8,7 +8,7 @@ use Rattle.cap_bytes.specs.declared.numbers.Order.{Order}
 use Rattle.cap_source.proofs.Onward.{Went}
 use Rattle.cap_source.proofs.Walking.{Plan, IsPlan, GoesOn, GivesUp, Walking}
 use Rattle.cap_source.specs.Feed.{Feed}
-use Rattle.cap_source.specs.Walk.{SameEndings}
+use Rattle.cap_source.specs.inner.Walk.{SameEndings}
 use Rattle.cap_source.specs.declared.packets.Meta.{Meta}
 use Rattle.cap_write.proofs.Places.{position_or_len-none, position_or_len-some}
 use Rattle.cap_write.specs.Numbering.{Origin, numbered_of, numbered, with_origin, write_fault, refusal_at, refusal_in}

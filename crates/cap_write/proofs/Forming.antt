@@ -14,16 +14,16 @@ use Rattle.cap_pcap.specs.Grammar.{header_bytes}
 use Rattle.cap_source.proofs.Onward.{Went, Goes-behind}
 use Rattle.cap_source.proofs.Walking.{Plan, IsPlan, GoesOn, Prints-whole, Prints-front}
 use Rattle.cap_source.specs.Feed.{Feed, Item, packet, refused}
-use Rattle.cap_source.specs.Growing.{IfMemory}
-use Rattle.cap_source.specs.Walk.{GivesPacket, ShowsItem, Walks}
+use Rattle.cap_source.specs.inner.Growing.{IfMemory}
+use Rattle.cap_source.specs.inner.Walk.{GivesPacket, ShowsItem, Walks}
 use Rattle.cap_source.specs.declared.packets.Meta.{Meta}
 use Rattle.cap_time.specs.declared.resolutions.Interface.{Interface}
 use Rattle.cap_write.proofs.Feeding as feeding
 use Rattle.cap_write.proofs.Numbers.{write_fault-untimed}
 use Rattle.cap_write.proofs.Records as records
-use Rattle.cap_write.specs.Forms.{FormState, numbered, headed, form_text, form_refusal, form_stop, form_after}
-use Rattle.cap_write.specs.Forms.{form_behind, EndsForm}
-use Rattle.cap_write.specs.Interfaces.{HasUnits}
+use Rattle.cap_write.specs.inner.Forms.{FormState, numbered, headed, form_text, form_refusal, form_stop, form_after}
+use Rattle.cap_write.specs.inner.Forms.{form_behind, EndsForm}
+use Rattle.cap_write.specs.inner.Interfaces.{HasUnits}
 use Rattle.cap_write.specs.Numbering.{Origin, refusal_at, refusal_by, refusal_in, with_origin, write_fault, numbered_of}
 use Rattle.cap_write.specs.Numbering.{numbered as numbered_in}
 use Rattle.cap_write.specs.Pcap.{header_of, packet_record, record_fault, records_bytes, records_refusal}

@@ -14,11 +14,11 @@ use Rattle.cap_merge.specs.Run.{Clocked}
 use Rattle.cap_source.proofs.Onward.{Went, Went-more, Ends-more}
 use Rattle.cap_source.proofs.Walking.{Plan, Walking, Walking-by}
 use Rattle.cap_source.specs.Feed.{Feed, Item, packet, refused, Keeps, Passes}
-use Rattle.cap_source.specs.Walk.{GivesPacket, ShowsItem, SameEndings}
+use Rattle.cap_source.specs.inner.Walk.{GivesPacket, ShowsItem, SameEndings}
 use Rattle.cap_source.specs.declared.packets.Meta.{Meta}
 use Rattle.cap_time.specs.declared.stamps.Stamp.{Stamp}
 use Rattle.cap_write.proofs.Forming.{Prints-part, behind}
-use Rattle.cap_write.specs.Forms.{FormState, IsFew, form_behind, form_refusal, form_stop, form_text}
+use Rattle.cap_write.specs.inner.Forms.{FormState, IsFew, form_behind, form_refusal, form_stop, form_text}
 use Rattle.cap_write.specs.Joined.{items_of_packet, events_after, joined_items}
 
 run-first : (mid shown new : List Part) (meta : Meta) (frame : List ℕ) (clock : Option Stamp)

@@ -20,7 +20,7 @@ use Rattle.cap_join.specs.declared.arrivals.Arrived.{Arrived}
 use Rattle.cap_join.specs.declared.arrivals.Arrived.TheVariants as as_
 use Rattle.cap_join.specs.declared.datagrams.Stamped.{Stamped}
 use Rattle.cap_time.specs.declared.stamps.Stamp.{Stamp}
-use Rattle.cap_write.specs.Datagrams.{IsShort}
+use Rattle.cap_write.specs.inner.Datagrams.{IsShort}
 
 -- a fragment that was read is a piece of its datagram, and all of its data is there
 piece_at : (o : Option Fragment) (n m : ℕ) → IfSome o (IsPiece n) → (IsSome o → m ≡ n) → IfSome o (IsPiece m)

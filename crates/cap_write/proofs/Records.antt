@@ -11,15 +11,15 @@ use Rattle.cap_pcap.specs.declared.records.RecordTime.{RecordTime}
 use Rattle.cap_source.proofs.Onward.{Went}
 use Rattle.cap_source.proofs.Walking.{Plan, IsPlan, GoesOn, GivesUp, Walking}
 use Rattle.cap_source.specs.Feed.{Feed}
-use Rattle.cap_source.specs.Walk.{SameEndings}
+use Rattle.cap_source.specs.inner.Walk.{SameEndings}
 use Rattle.cap_source.specs.declared.packets.Meta.{Meta}
 use Rattle.cap_time.specs.declared.resolutions.Interface.{Interface}
 use Rattle.cap_time.specs.declared.stamps.Unit.{Unit as Fraction}
-use Rattle.cap_write.specs.Interfaces.{HasUnits}
+use Rattle.cap_write.specs.inner.Interfaces.{HasUnits}
 use Rattle.cap_write.specs.Numbering.{refusal_at}
 use Rattle.cap_write.specs.Pcap.{fraction_of, units_fault, record_fault, packet_record, records_bytes, records_refusal}
 use Rattle.cap_write.specs.Texts.{text_or}
-use Rattle.cap_write.specs.Times.{HasTime, HasRecord}
+use Rattle.cap_write.specs.inner.Times.{HasTime, HasRecord}
 
 abbrev pub fault_by : Option ℕ → Bool → Fraction → Interface → Option Rule
 fault_by units same fraction interface =

@@ -14,8 +14,8 @@ use Rattle.cap_source.specs.ReadFaults.{FailsOf}
 use Rattle.std.proofs.lemmas.Bool.Decides.{nat_tests}
 use Rattle.cap_source.specs.Feed.{Feed, HasFile, Keeps, Knows, GivesHead, IsFeed, IfPacket, IsPacket, IsPacketOf}
 use Rattle.cap_source.specs.Feed.{SameItems}
-use Rattle.cap_source.specs.Growing.{OfMemory, IfMemory}
-use Rattle.cap_source.specs.Walk.{GivesPacket, SameEndings, Walks}
+use Rattle.cap_source.specs.inner.Growing.{OfMemory, IfMemory}
+use Rattle.cap_source.specs.inner.Walk.{GivesPacket, SameEndings, Walks}
 use Rattle.cap_source.specs.declared.feeds.Head.{Head}
 use Rattle.cap_source.specs.declared.feeds.Head.TheVariants as heads
 use Rattle.cap_source.specs.declared.packets.Meta.{Meta}

@@ -13,7 +13,7 @@ use Rattle.cap_source.proofs.Walking.{Plan, GoesOn, GivesUp, Prints-whole, Print
 use Rattle.cap_source.specs.Feed.{Item, packet}
 use Rattle.cap_source.specs.declared.packets.Meta.{Meta}
 use Rattle.cap_write.proofs.Numbers.{write_fault-untimed}
-use Rattle.cap_write.specs.Interfaces.{HasUnits, Numbers}
+use Rattle.cap_write.specs.inner.Interfaces.{HasUnits, Numbers}
 use Rattle.cap_write.specs.Numbering.{Origin, refusal_at, refusal_by, write_fault}
 use Rattle.cap_write.specs.Texts.{text_or, one_bytes}
 

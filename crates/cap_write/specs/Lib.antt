@@ -1,10 +1,6 @@
-pub mod Datagrams
-pub mod Forms
-pub mod Interfaces
 pub mod Joined
 pub mod Numbering
 pub mod Pcap
 pub mod PcapRun
-pub mod PlacedPackets
 pub mod Texts
-pub mod Times
+pub mod inner

@@ -6,8 +6,8 @@ ghost use Rattle.cap_ip.specs.Written.{header_bytes};
 ghost use Rattle.cap_join.specs.Arrivals.{events_with};
 ghost use Rattle.cap_join.specs.History.{Event};
 ghost use Rattle.cap_join.specs.Joiners.{StandsFor};
-ghost use Rattle.cap_write.specs.Datagrams.{IsFilled, IsShort, Stands, answered};
-ghost use Rattle.cap_write.specs.PlacedPackets.{stamped_in, whole_in};
+ghost use Rattle.cap_write.specs.inner.Datagrams.{IsFilled, IsShort, Stands, answered};
+ghost use Rattle.cap_write.specs.inner.PlacedPackets.{stamped_in, whole_in};
 ghost use Rattle.cap_write.specs.Joined.{has_form, complete_of, completed_in, completed, events_after};
 
 use crate::placed_packets::{Joining, PlacedPacket};

@@ -5,9 +5,9 @@ ghost use Rattle.cap_bytes.specs.Printing.{Prints, is_write};
 ghost use Rattle.cap_write.specs.Pcap.{pcap_bytes, pcap_refusal};
 ghost use Rattle.cap_write.specs.Texts.{pcapng_bytes, pcapng_refusal};
 ghost use Rattle.cap_source.specs.Feed.{Keeps};
-ghost use Rattle.cap_source.specs.Walk.{Walks, SameEndings};
-ghost use Rattle.cap_source.specs.Growing.{IfMemory, IsAtPacket};
-ghost use Rattle.cap_source.specs.Captures.{feed_of, number_of, first_of};
+ghost use Rattle.cap_source.specs.inner.Walk.{Walks, SameEndings};
+ghost use Rattle.cap_source.specs.inner.Growing.{IfMemory, IsAtPacket};
+ghost use Rattle.cap_source.specs.inner.Captures.{feed_of, number_of, first_of};
 
 use crate::interfaces::FileStart;
 use crate::pcap::put_pcap;

@@ -3,7 +3,7 @@ ghost use Rattle.std.specs.Prelude.{◌≡◌, ◌≤◌, length, [], ◌∷◌,
 ghost use Rattle.cap_bytes.specs.Device.{WriterKeeps, writer_of};
 ghost use Rattle.cap_bytes.specs.Printing.{Prints, IsRead, is_write};
 ghost use Rattle.cap_source.specs.Feed.{packet};
-ghost use Rattle.cap_write.specs.Forms.{EndsForm, IsFew, form_after, form_stop, form_text, headed, state_of};
+ghost use Rattle.cap_write.specs.inner.Forms.{EndsForm, IsFew, form_after, form_stop, form_text, headed, state_of};
 ghost use Rattle.cap_write.specs.PcapRun.{run_bytes, run_refusal};
 
 use crate::interfaces::{Origins, units_of};

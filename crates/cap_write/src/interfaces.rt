@@ -1,7 +1,7 @@
 //! The numbers of interfaces in a written file, by first use.
 ghost use Rattle.std.specs.Prelude.{◌≡◌, ◌≤◌, length, IsSome};
 ghost use Rattle.cap_write.specs.Numbering.{is_first, is_full, refusal_at};
-ghost use Rattle.cap_write.specs.Interfaces.{HasUnits, Numbers};
+ghost use Rattle.cap_write.specs.inner.Interfaces.{HasUnits, Numbers};
 
 use cap_bytes::{Fault, Refusal, Rule};
 use cap_source::Meta;

@@ -3,8 +3,8 @@ ghost use Rattle.std.specs.Prelude.{◌≡◌, IsTrue, OnOk, None};
 ghost use Rattle.cap_bytes.specs.Device.{WriterKeeps, writer_of};
 ghost use Rattle.cap_bytes.specs.Printing.{Prints, is_write};
 ghost use Rattle.cap_source.specs.Feed.{Keeps};
-ghost use Rattle.cap_source.specs.Walk.{Walks, SameEndings};
-ghost use Rattle.cap_source.specs.Growing.{IfMemory, IsAtPacket};
+ghost use Rattle.cap_source.specs.inner.Walk.{Walks, SameEndings};
+ghost use Rattle.cap_source.specs.inner.Growing.{IfMemory, IsAtPacket};
 ghost use Rattle.cap_write.specs.PcapRun.{run_bytes, run_refusal};
 ghost use Rattle.cap_write.specs.Texts.{merged_bytes, merged_refusal};
 

@@ -5,8 +5,8 @@ ghost use Rattle.cap_bytes.specs.Device.{Puts, WriterKeeps, writer_of};
 ghost use Rattle.cap_bytes.specs.Printing.{Prints, IsRead, is_write};
 ghost use Rattle.cap_blocks.specs.Grammar.{interface_bytes, packet_bytes};
 ghost use Rattle.cap_source.specs.Feed.{Keeps};
-ghost use Rattle.cap_source.specs.Walk.{Walks, SameEndings};
-ghost use Rattle.cap_source.specs.Growing.{IfMemory, IsAtPacket};
+ghost use Rattle.cap_source.specs.inner.Walk.{Walks, SameEndings};
+ghost use Rattle.cap_source.specs.inner.Growing.{IfMemory, IsAtPacket};
 ghost use Rattle.cap_write.specs.Numbering.{number_of, with_origin, refusal_in, refusal_by, write_fault};
 ghost use Rattle.cap_write.specs.Texts.{text_behind, one_bytes};
 

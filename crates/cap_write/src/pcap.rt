@@ -3,11 +3,11 @@ ghost use Rattle.std.specs.Prelude.{◌≡◌, ◌≤◌, [], length, IsTrue, Is
 ghost use Rattle.cap_bytes.specs.Device.{WriterKeeps, writer_of};
 ghost use Rattle.cap_bytes.specs.Printing.{Prints, IsRead, is_write};
 ghost use Rattle.cap_source.specs.Feed.{Keeps};
-ghost use Rattle.cap_source.specs.Walk.{Walks, SameEndings};
-ghost use Rattle.cap_source.specs.Growing.{IfMemory};
+ghost use Rattle.cap_source.specs.inner.Walk.{Walks, SameEndings};
+ghost use Rattle.cap_source.specs.inner.Growing.{IfMemory};
 ghost use Rattle.cap_write.specs.Pcap.{fraction_of, header_of, packet_record, record_fault, records_bytes};
 ghost use Rattle.cap_write.specs.Pcap.{records_refusal, pcap_bytes, pcap_refusal, bare_refusal};
-ghost use Rattle.cap_write.specs.Times.{HasTime, HasRecord, IsBare};
+ghost use Rattle.cap_write.specs.inner.Times.{HasTime, HasRecord, IsBare};
 ghost use Rattle.cap_write.specs.Texts.{text_or};
 ghost use Rattle.cap_write.specs.Numbering.{refusal_by};
 

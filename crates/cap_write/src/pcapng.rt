@@ -3,9 +3,9 @@ ghost use Rattle.std.specs.Prelude.{◌≡◌, ◌⊎◌, IsErr, IsSome, IsTrue,
 ghost use Rattle.cap_bytes.specs.Device.{Puts, WriterKeeps, writer_of};
 ghost use Rattle.cap_bytes.specs.Printing.{Prints, is_write};
 ghost use Rattle.cap_source.specs.Feed.{Keeps};
-ghost use Rattle.cap_source.specs.Walk.{Walks, SameEndings};
-ghost use Rattle.cap_source.specs.Growing.{IfMemory, IsAtPacket};
-ghost use Rattle.cap_write.specs.Interfaces.{Holds};
+ghost use Rattle.cap_source.specs.inner.Walk.{Walks, SameEndings};
+ghost use Rattle.cap_source.specs.inner.Growing.{IfMemory, IsAtPacket};
+ghost use Rattle.cap_write.specs.inner.Interfaces.{Holds};
 ghost use Rattle.cap_write.specs.Texts.{first_origins, first_bytes, front_bytes, pcapng_bytes, pcapng_refusal};
 
 use crate::interfaces::{FileStart, Origins};

@@ -1,7 +1,7 @@
 -- Readers of files in memory are known by the files' bytes.
 use Rattle.std.specs.Prelude.{◌≡◌, ◌∷◌, [], List, true, false, ℕ, map}
 use Rattle.std.proofs.Common.{refl, ap, ◌∙◌, sym}
-use Rattle.cap_merge.specs.Readers.{Reader, reader_of}
+use Rattle.cap_merge.specs.inner.Readers.{Reader, reader_of}
 use Rattle.capt_c.specs.Jobs.{bytes_of}
 use Rattle.capt_c.specs.Sources.{rest_of}
 use Rattle.capt_c.specs.Tables.{reader_of_file}

@@ -3,9 +3,9 @@ use Rattle.std.specs.Prelude.{◌≡◌, ℕ, List, [], true, false, Option, Som
 use Rattle.cap_bytes.specs.Printing.{Prints}
 use Rattle.cap_bytes.specs.declared.faults.Fault.{Fault}
 use Rattle.cap_bytes.specs.declared.faults.Tail.{Tail}
-use Rattle.cap_merge.specs.Readers.{IsUnreadRun, Reader}
-use Rattle.cap_talks.specs.table.Stepping.{Steps, StepKeeps, TableState, TableStands, endings_so_far}
-use Rattle.cap_talks.specs.table.TableView.{table_of}
+use Rattle.cap_merge.specs.inner.Readers.{IsUnreadRun, Reader}
+use Rattle.cap_talks.specs.inner.table.Stepping.{Steps, StepKeeps, TableState, TableStands, endings_so_far}
+use Rattle.cap_talks.specs.inner.table.TableView.{table_of}
 use Rattle.cap_talks.specs.table.Taken.{Taken}
 use Rattle.cap_talks.specs.table.TakenText.{text_of}
 use Rattle.cap_talks.specs.declared.table.tables.Step.{Step}

@@ -1,8 +1,8 @@
 //! The report over captures in memory, packet by packet.
 ghost use Rattle.std.specs.Prelude.{◌≡◌, ◌≤◌, [], IfOk, IsOkUnless, Some, false, length, map};
-ghost use Rattle.cap_merge.specs.Readers.{IsUnreadRun};
-ghost use Rattle.cap_talks.specs.table.Stepping.{TableStands};
-ghost use Rattle.cap_talks.specs.table.TableView.{table_of};
+ghost use Rattle.cap_merge.specs.inner.Readers.{IsUnreadRun};
+ghost use Rattle.cap_talks.specs.inner.table.Stepping.{TableStands};
+ghost use Rattle.cap_talks.specs.inner.table.TableView.{table_of};
 ghost use Rattle.capt_c.specs.Answers.{tail_of};
 ghost use Rattle.capt_c.specs.Tables.{OpensTable, StepsTable, WritesTable, reader_of_file, status_of_step};
 ghost use Rattle.capt_c.specs.Tables.{place_of_step};

@@ -10,7 +10,7 @@ use Rattle.std.specs.Int.{w64}
 use Rattle.cap_blocks.proofs.Again.{interface_again-law, packet_again-law}
 use Rattle.cap_blocks.proofs.Items.{items_from-none}
 use Rattle.cap_blocks.specs.Grammar.{interface_kind, enhanced_kind, interface_body, packet_body, interface_bytes}
-use Rattle.cap_blocks.specs.Laws.{block_of}
+use Rattle.cap_blocks.specs.inner.Laws.{block_of}
 use Rattle.cap_blocks.specs.Split as blocks
 use Rattle.cap_blocks.specs.Split.{Piece}
 use Rattle.cap_blocks.specs.declared.blocks.Block.{Block}

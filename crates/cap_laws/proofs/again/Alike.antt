@@ -4,7 +4,7 @@ use Rattle.std.specs.Prelude.{map}
 use Rattle.std.specs.List.{AllZip, AllByRecursion}
 use Rattle.cap_time.specs.declared.stamps.Stamp.{Stamp}
 use Rattle.cap_merge.specs.Run.{Clocked, opened, merged}
-use Rattle.cap_merge.specs.Lists.{map-twice}
+use Rattle.cap_merge.specs.inner.Lists.{map-twice}
 use Rattle.cap_merge.proofs.Rounds.{map_track, map_clocked, merged-mapped}
 
 -- the items of some files, merged

@@ -6,7 +6,7 @@ use Rattle.std.proofs.lemmas.Bool.Decides.{nat_tests}
 use Rattle.cap_blocks.proofs.Again.{section_again-law}
 use Rattle.cap_blocks.proofs.Parts.{length-section_body}
 use Rattle.cap_blocks.specs.Grammar.{section_kind, section_body, section_bytes, interface_bytes, block_bytes}
-use Rattle.cap_blocks.specs.Laws.{block_of}
+use Rattle.cap_blocks.specs.inner.Laws.{block_of}
 use Rattle.cap_blocks.specs.Split as blocks
 use Rattle.cap_blocks.specs.Split.{is_section, Piece}
 use Rattle.cap_bytes.proofs.Spelling.{number-append, length-bytes_of}

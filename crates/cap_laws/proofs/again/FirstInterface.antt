@@ -17,7 +17,7 @@ use Rattle.cap_source.proofs.Fields.{FitsPacket, one_more, content-fits, IsOfByt
 use Rattle.cap_source.proofs.Saying.{OfContent}
 use Rattle.cap_source.specs.Contents.{content_in}
 use Rattle.cap_source.specs.Feed.{Item, packet, refused}
-use Rattle.cap_source.specs.Fields.{FitsInterface}
+use Rattle.cap_source.specs.inner.Fields.{FitsInterface}
 use Rattle.cap_source.specs.Items.{Progress, fresh, behind, first_or, first_in, first_from, unless_item, unless_refused}
 use Rattle.cap_source.specs.Items.{items_at, items_in, items_from, is_pcapng, pcap_items, interface_of, file_items}
 use Rattle.cap_source.specs.Items.{file_first}

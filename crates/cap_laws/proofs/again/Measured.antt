@@ -3,7 +3,7 @@ use Rattle.std.proofs.Common.{arith, ◌≡◌, List, ◌∷◌}
 use Rattle.std.specs.List.{AllByRecursion}
 use Rattle.std.specs.Prelude.{map}
 use Rattle.cap_source.specs.Feed.{Item, packet}
-use Rattle.cap_source.specs.Fields.{HasFrame}
+use Rattle.cap_source.specs.inner.Fields.{HasFrame}
 use Rattle.cap_write.specs.Numbering.{Origin, with_origin, numbered}
 use Rattle.cap_laws.specs.again.Laws.{measured}
 

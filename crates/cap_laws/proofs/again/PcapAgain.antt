@@ -16,7 +16,7 @@ use Rattle.cap_bytes.specs.declared.stops.Stop.TheVariants as stops
 use Rattle.cap_pcap.specs.Split as records
 use Rattle.cap_source.proofs.Fields.{fields_fit-law}
 use Rattle.cap_source.specs.Feed.{Item, packet, refused}
-use Rattle.cap_source.specs.Fields.{ItemFits}
+use Rattle.cap_source.specs.inner.Fields.{ItemFits}
 use Rattle.cap_source.specs.Items.{file_items, file_first, first_from, interface_of, meta_of, pcap_items}
 use Rattle.cap_source.specs.declared.packets.Meta.{Meta}
 use Rattle.cap_time.proofs.WholeUnits.{whole_of_pair, in_second_positive}

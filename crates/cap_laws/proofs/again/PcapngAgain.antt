@@ -10,7 +10,7 @@ use Rattle.cap_blocks.proofs.Items.{items_from-none}
 use Rattle.cap_source.proofs.Fields.{fields_fit-law}
 use Rattle.cap_source.proofs.Frames.{frames_fit-law}
 use Rattle.cap_source.specs.Feed.{Item, packet, refusal_of}
-use Rattle.cap_source.specs.Fields.{ItemFits}
+use Rattle.cap_source.specs.inner.Fields.{ItemFits}
 use Rattle.cap_source.specs.Items.{file_items, file_first, first_in}
 use Rattle.cap_time.specs.declared.resolutions.Interface.{Interface}
 use Rattle.cap_write.specs.Numbering.{Origin, numbered, refusal_in}

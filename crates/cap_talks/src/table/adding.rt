@@ -5,10 +5,10 @@ ghost use Rattle.cap_source.specs.Times.{meta_time};
 ghost use Rattle.cap_talks.specs.table.Rows.{StandsFor, IsUnitInOrder, frames_in, bytes_in};
 ghost use Rattle.cap_talks.specs.table.Talks.{frames_of, bytes_of};
 ghost use Rattle.cap_talks.specs.declared.table.units.CountedUnit.{CountedUnit};
-ghost use Rattle.cap_talks.specs.table.Adding.{datagram_unit, datagram_class, is_over};
+ghost use Rattle.cap_talks.specs.inner.table.Adding.{datagram_unit, datagram_class, is_over};
 ghost use Rattle.cap_talks.specs.table.Classes.{class_of};
 ghost use Rattle.cap_talks.specs.table.Taken.{stamped_of};
-ghost use Rattle.cap_talks.specs.table.Tallies.{LimitBy};
+ghost use Rattle.cap_talks.specs.inner.table.Tallies.{LimitBy};
 ghost use Rattle.cap_talks.specs.table.CountedUnits.{listed, timed_frame, whole_unit};
 
 use crate::table::classes::Class;
@@ -80,7 +80,7 @@ pub(crate) fn whole_unit(
 }
 
 /// The unit that a joined datagram is.
-#[tactic(auto, unfolding(crate::specs::table::Adding::datagram_unit))]
+#[tactic(auto, unfolding(crate::specs::inner::table::Adding::datagram_unit))]
 pub(crate) fn joined_unit(datagram: &Datagram) -> Option<CountedUnit>
     requires short { length datagram.now.payload.items ≤ 65520 }
     ensures { result ≡ datagram_unit datagram.now }
@@ -101,7 +101,7 @@ pub(crate) fn joined_unit(datagram: &Datagram) -> Option<CountedUnit>
 }
 
 /// The class of a joined datagram's frames.
-#[tactic(auto, unfolding(crate::specs::table::Adding::datagram_class))]
+#[tactic(auto, unfolding(crate::specs::inner::table::Adding::datagram_class))]
 pub(crate) fn joined_class(datagram: &Datagram) -> Class
     requires short { length datagram.now.payload.items ≤ 65520 }
     ensures { result ≡ datagram_class datagram.now }

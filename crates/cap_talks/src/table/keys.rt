@@ -4,8 +4,8 @@ ghost use Rattle.std.proofs.Common.{rules};
 ghost use Rattle.std.specs.Cmp.Rules.{hashing};
 ghost use Rattle.std.specs.Hash as fed;
 ghost use Rattle.cap_talks.specs.table.Talks.{key_of, is_forward};
-ghost use Rattle.cap_talks.specs.table.Packed.{both_numbers, port_number, port_of, end_number, end_of, packed};
-ghost use Rattle.cap_talks.specs.table.Packed.{unpacked, IsNarrow, IsNarrowEnd, is_end, is_packed};
+ghost use Rattle.cap_talks.specs.inner.table.Packed.{both_numbers, port_number, port_of, end_number, end_of, packed};
+ghost use Rattle.cap_talks.specs.inner.table.Packed.{unpacked, IsNarrow, IsNarrowEnd, is_end, is_packed};
 
 use crate::table::rows::TalkKey;
 use crate::table::units::{CountedUnit, End};

@@ -1,7 +1,7 @@
 //! Laws of conversations.
 ghost use Rattle.std.specs.Prelude.{List};
-ghost use Rattle.cap_talks.specs.table.Laws.{KeyLaw, FrameLaw, SumLaw};
-ghost use Rattle.cap_talks.specs.table.Worked.{TalkLines, TalkLimit};
+ghost use Rattle.cap_talks.specs.inner.table.Laws.{KeyLaw, FrameLaw, SumLaw};
+ghost use Rattle.cap_talks.specs.inner.table.Worked.{TalkLines, TalkLimit};
 ghost use Rattle.cap_talks.specs.declared.table.units.CountedUnit.{CountedUnit};
 
 /// What a conversation is: two units belong to the same one if they have the same protocol and the same two

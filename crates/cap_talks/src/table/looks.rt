@@ -4,7 +4,7 @@ ghost use Rattle.cap_ip.specs.Read.{read_of};
 ghost use Rattle.cap_join.specs.declared.datagrams.Stamped.{Stamped};
 ghost use Rattle.cap_time.specs.declared.stamps.Stamp.{Stamp};
 ghost use Rattle.cap_talks.specs.table.Classes.{lone_class};
-ghost use Rattle.cap_talks.specs.table.Looking.{look_of, IsAll, taken};
+ghost use Rattle.cap_talks.specs.inner.table.Looking.{look_of, IsAll, taken};
 ghost use Rattle.cap_talks.specs.table.Taken.{look_in, look, stamped_of};
 
 use crate::table::adding::class_of;

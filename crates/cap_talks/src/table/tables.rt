@@ -5,12 +5,12 @@ ghost use Rattle.std.specs.List.{range_with_len};
 ghost use Rattle.cap_bytes.specs.Device.{WriterKeeps, writer_of};
 ghost use Rattle.cap_bytes.specs.Printing.{Prints, is_write};
 ghost use Rattle.cap_merge.specs.Parts.{feed_of, is_end};
-ghost use Rattle.cap_merge.specs.View.{parts_of};
+ghost use Rattle.cap_merge.specs.inner.View.{parts_of};
 ghost use Rattle.cap_source.specs.Feed.{HasFile};
-ghost use Rattle.cap_talks.specs.table.Props.{IsNumbered-prop};
+ghost use Rattle.cap_talks.specs.inner.table.Props.{IsNumbered-prop};
 ghost use Rattle.cap_talks.specs.counts.FileLines.{ended_from, ending_at};
-ghost use Rattle.cap_talks.specs.table.Holding.{held_of};
-ghost use Rattle.cap_talks.specs.table.Stepping.{TableStands, StepKeeps, Steps, AnswersAgain, endings_so_far};
+ghost use Rattle.cap_talks.specs.inner.table.Holding.{held_of};
+ghost use Rattle.cap_talks.specs.inner.table.Stepping.{TableStands, StepKeeps, Steps, AnswersAgain, endings_so_far};
 ghost use Rattle.cap_talks.specs.table.CountedUnits.{refusal_at};
 ghost use Rattle.cap_talks.specs.table.TakenText.{text_of};
 ghost use Rattle.cap_talks.specs.table.Taken.{Taken};
@@ -76,7 +76,7 @@ fn talk_limit(meta: &Meta) -> Refusal
 }
 
 impl<F: PacketFeed> Table<F> {
-    ghost use Rattle.cap_talks.specs.table.TableView.{table_of};
+    ghost use Rattle.cap_talks.specs.inner.table.TableView.{table_of};
 
     /// The table of a merge of files, of which it has taken no packet yet.
     pub fn new(alloc: Global, merged: Merged<F>) -> Table<F>

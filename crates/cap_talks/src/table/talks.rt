@@ -3,7 +3,7 @@ ghost use Rattle.std.specs.Prelude.{◌≡◌, ◌+◌, ◌≤◌, ◌<◌, ◌^
 ghost use Rattle.std.specs.Prelude.{OnOk, OnErr};
 ghost use Rattle.indexmap.specs.IndexMap.{insert_entry};
 ghost use Rattle.indexmap.specs.Layout.{set_value_at};
-ghost use Rattle.cap_talks.specs.table.Packed.{unpacked, IsNarrow, unpacked_talks, are_packed};
+ghost use Rattle.cap_talks.specs.inner.table.Packed.{unpacked, IsNarrow, unpacked_talks, are_packed};
 ghost use Rattle.cap_talks.specs.table.Talks.{key_of, row_of, same_talk};
 ghost use Rattle.cap_talks.specs.table.Rows.{StandsFor, is_refused, is_limit, talk_limit, frames_in, bytes_in};
 ghost use Rattle.cap_talks.specs.table.Rows.{frames_of_row, bytes_of_row, row_in, with_share, with_talk, IsUnitInOrder};
@@ -43,7 +43,7 @@ impl Model for Talks {
 
     ghost Value = { TalksState };
 
-    ghost use Rattle.cap_talks.specs.table.TalksView.{talks_view, IsSoundInside};
+    ghost use Rattle.cap_talks.specs.inner.table.TalksView.{talks_view, IsSoundInside};
 
     ghost view = { talks_view };
 

@@ -6,11 +6,12 @@ ghost use Rattle.cap_bytes.specs.Device.{WriterKeeps, writer_of};
 ghost use Rattle.cap_bytes.specs.Printing.{Prints, is_write};
 ghost use Rattle.cap_join.specs.Fragments.{piece_of};
 ghost use Rattle.cap_join.specs.Joiners.{most_bytes};
-ghost use Rattle.cap_talks.specs.table.Looking.{is_datagram, is_plain, taken_of};
+ghost use Rattle.cap_talks.specs.inner.table.Looking.{is_datagram, is_plain, taken_of};
 ghost use Rattle.cap_talks.specs.table.TakenText.{frames_text, joined_text};
 ghost use Rattle.cap_talks.specs.table.Taken.{Taken, datagram, fragment, look, stamped_of};
-ghost use Rattle.cap_talks.specs.table.Tallies.{Stands, LimitBy, one_if, tally_text, waiting_bytes, counted_one, Looks};
-ghost use Rattle.cap_talks.specs.table.Tallies.{WaitsIf, with_frames, with_group};
+ghost use Rattle.cap_talks.specs.inner.table.Tallies.{Stands, LimitBy, one_if, tally_text, waiting_bytes, counted_one};
+ghost use Rattle.cap_talks.specs.inner.table.Tallies.{Looks};
+ghost use Rattle.cap_talks.specs.inner.table.Tallies.{WaitsIf, with_frames, with_group};
 ghost use Rattle.cap_source.specs.Times.{meta_time};
 ghost use Rattle.cap_talks.specs.declared.table.talks.TalksFault.TheVariants.{Memory};
 ghost use Rattle.cap_talks.specs.table.Classes.{sum_of};
@@ -44,11 +45,11 @@ pub(crate) struct Tally {
 }
 
 impl Model for Tally {
-    ghost use Rattle.cap_talks.specs.table.Tallies.{TallyState};
+    ghost use Rattle.cap_talks.specs.inner.table.Tallies.{TallyState};
 
     ghost Value = { TallyState };
 
-    ghost use Rattle.cap_talks.specs.table.TallyView.{tally_view, IsSoundInside};
+    ghost use Rattle.cap_talks.specs.inner.table.TallyView.{tally_view, IsSoundInside};
 
     ghost view = { tally_view };
 

@@ -3,9 +3,9 @@ ghost use Rattle.std.specs.Prelude.{◌≡◌, ◌+◌, ◌-◌, ◌≤◌, ◌<
 ghost use Rattle.std.specs.Prelude.{slice_index_or, slice_set, if◌then◌else◌};
 ghost use Rattle.cap_source.specs.Times.{meta_time};
 ghost use Rattle.cap_talks.specs.counts.Counting.{counted, with_packet};
-ghost use Rattle.cap_talks.specs.table.Looking.{taken};
+ghost use Rattle.cap_talks.specs.inner.table.Looking.{taken};
 ghost use Rattle.cap_talks.specs.table.Taken.{Taken};
-ghost use Rattle.cap_talks.specs.table.Totals.{TotalsStand, is_room};
+ghost use Rattle.cap_talks.specs.inner.table.Totals.{TotalsStand, is_room};
 ghost use Rattle.cap_time.specs.declared.stamps.Stamp.{Stamp};
 
 use crate::counts::Counts;
@@ -24,11 +24,11 @@ pub(crate) struct Totals {
 }
 
 impl Model for Totals {
-    ghost use Rattle.cap_talks.specs.table.Totals.{TotalsState};
+    ghost use Rattle.cap_talks.specs.inner.table.Totals.{TotalsState};
 
     ghost Value = { TotalsState };
 
-    ghost use Rattle.cap_talks.specs.table.TotalsView.{totals_view, IsSoundInside};
+    ghost use Rattle.cap_talks.specs.inner.table.TotalsView.{totals_view, IsSoundInside};
 
     ghost view = { totals_view };
 

@@ -3,7 +3,7 @@ ghost use Rattle.std.specs.Prelude.{◌≡◌, ◌*◌, refl, IsTrue, if◌then�
 ghost use Rattle.std.specs.Ordering.{as_partial_cmp, nat_cmp, is_lt};
 ghost use Rattle.cap_time.specs.Clock.{later};
 ghost use Rattle.cap_time.specs.Stamp.{numerator_of, denominator_of, stamp_cmp};
-ghost use Rattle.cap_time.specs.StampLaws.{CountAlike};
+ghost use Rattle.cap_time.specs.inner.StampLaws.{CountAlike};
 
 use crate::stamps::Stamp;
 use std::cmp::Ordering;
@@ -82,7 +82,7 @@ pub fn reach(clock: &mut Option<Stamp>, time: &Option<Stamp>)
 
 impl PartialEq for Stamp {
     ghost use Rattle.cap_time.specs.Stamp.{stamp_eq};
-    ghost use Rattle.cap_time.specs.StampLaws.{stamp_eq_partial};
+    ghost use Rattle.cap_time.specs.inner.StampLaws.{stamp_eq_partial};
 
     ghost eq = { stamp_eq };
 
@@ -94,14 +94,14 @@ impl PartialEq for Stamp {
 }
 
 impl Eq for Stamp {
-    ghost use Rattle.cap_time.specs.StampLaws.{stamp_eq_equivalence};
+    ghost use Rattle.cap_time.specs.inner.StampLaws.{stamp_eq_equivalence};
 
     ghost laws = { stamp_eq_equivalence };
 }
 
 impl PartialOrd for Stamp {
     ghost use Rattle.cap_time.specs.Stamp.{stamp_cmp};
-    ghost use Rattle.cap_time.specs.StampLaws.{stamp_partial_order};
+    ghost use Rattle.cap_time.specs.inner.StampLaws.{stamp_partial_order};
 
     ghost partial_cmp = { as_partial_cmp stamp_cmp };
 
@@ -114,7 +114,7 @@ impl PartialOrd for Stamp {
 
 impl Ord for Stamp {
     ghost use Rattle.cap_time.specs.Stamp.{stamp_cmp};
-    ghost use Rattle.cap_time.specs.StampLaws.{stamp_cmp_total};
+    ghost use Rattle.cap_time.specs.inner.StampLaws.{stamp_cmp_total};
 
     ghost cmp = { stamp_cmp };
 
@@ -136,7 +136,7 @@ impl Ord for Stamp {
 }
 
 impl Hash for Stamp {
-    ghost use Rattle.cap_time.specs.StampLaws.{stamp_hash, stamp_hash-same};
+    ghost use Rattle.cap_time.specs.inner.StampLaws.{stamp_hash, stamp_hash-same};
 
     ghost hash_input = { stamp_hash };
 

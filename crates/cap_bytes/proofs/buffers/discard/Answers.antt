@@ -1,6 +1,6 @@
 use Rattle.std.proofs.Common.{◌≤◌, refl, take, length, length-take-le, zero-add, rules, arith}
 use Rattle.cap_bytes.proofs.Lists.{length-slice_range}
-use Rattle.cap_bytes.specs.SourceState.{source_of}
+use Rattle.cap_bytes.specs.inner.SourceState.{source_of}
 use Rattle.cap_bytes.proofs.Reading.{Dropping-more, Dropping-last}
 use Rattle.cap_bytes.proofs.buffers.discard.Goals as goal
 

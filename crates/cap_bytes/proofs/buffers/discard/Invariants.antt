@@ -1,4 +1,4 @@
-use Rattle.cap_bytes.specs.SourceState.{source_of}
+use Rattle.cap_bytes.specs.inner.SourceState.{source_of}
 use Rattle.cap_bytes.proofs.Reading.{Dropping}
 use Rattle.cap_bytes.proofs.buffers.discard.Given as goal
 

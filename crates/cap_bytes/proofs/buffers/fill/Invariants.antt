@@ -1,5 +1,5 @@
 use Rattle.std.proofs.Common.{◌-◌, length, take}
-use Rattle.cap_bytes.specs.SourceState.{source_of}
+use Rattle.cap_bytes.specs.inner.SourceState.{source_of}
 use Rattle.cap_bytes.proofs.Reading.{Filled}
 use Rattle.cap_bytes.proofs.buffers.fill.Given as goal
 

@@ -1,5 +1,5 @@
 use Rattle.std.proofs.Common.{◌≡◌, ℕ, List, length, take, sym, ◌∙◌, ap, subst, take_at}
-use Rattle.cap_join.specs.Buffers.{Maps}
+use Rattle.cap_join.specs.inner.Buffers.{Maps}
 use Rattle.cap_join.proofs.buffers.put_data.Goals as goal
 
 pub returns-clause-maps : goal.returns-clause-maps

@@ -1,7 +1,7 @@
 use Rattle.std.proofs.Common.{ap, ◌∙◌}
 use Rattle.lru.specs.LruCache.{LruCache, demoted}
 use Rattle.cap_ip.specs.declared.headers.Key.{Key}
-use Rattle.cap_join.specs.Groups.{GroupState}
+use Rattle.cap_join.specs.inner.Groups.{GroupState}
 use Rattle.cap_join.specs.History.{same_key}
 use Rattle.cap_join.proofs.Tabling.{added}
 use Rattle.cap_join.proofs.queues.append.Goals as goal

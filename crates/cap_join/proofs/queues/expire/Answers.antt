@@ -3,11 +3,11 @@ use Rattle.std.specs.List.{IsDistinct}
 use Rattle.std.specs.Map.{keys_of, remove_entry}
 use Rattle.lru.specs.LruCache.{LruCache}
 use Rattle.cap_ip.specs.declared.headers.Key.{Key}
-use Rattle.cap_join.specs.Groups.{GroupState}
+use Rattle.cap_join.specs.inner.Groups.{GroupState}
 use Rattle.cap_join.specs.History.{same_key}
 use Rattle.cap_join.specs.Joiners.{Entry}
-use Rattle.cap_join.specs.Ages.{AreInTurn}
-use Rattle.cap_join.specs.Tables.{live_entries}
+use Rattle.cap_join.specs.inner.Ages.{AreInTurn}
+use Rattle.cap_join.specs.inner.Tables.{live_entries}
 use Rattle.cap_join.proofs.Aging.{AreInTurn-remove_entry}
 use Rattle.cap_join.proofs.Tabling.{IsDistinct-remove_entry, length-removed}
 use Rattle.cap_join.proofs.Queueing.{unique-rest, AreInTurn-rest, expired_whole, live-whole, live-none, removed-few}

@@ -3,8 +3,8 @@ use Rattle.std.specs.List.{IsDistinct}
 use Rattle.std.specs.Map.{keys_of}
 use Rattle.cap_join.specs.History.{same_key}
 use Rattle.cap_join.specs.Joiners.{open_limit}
-use Rattle.cap_join.specs.Ages.{AreInTurn, AreTimeless}
-use Rattle.cap_join.specs.Tables.{live_entries}
+use Rattle.cap_join.specs.inner.Ages.{AreInTurn, AreTimeless}
+use Rattle.cap_join.specs.inner.Tables.{live_entries}
 use Rattle.cap_join.proofs.queues.expire.Given as goal
 
 -- what isn't too old of the groups stays

@@ -1,7 +1,7 @@
 use Rattle.std.proofs.Common.{◌≡◌, ◌∙◌, [], true, Option, sym, subst, arith}
 use Rattle.std.specs.Prelude.{IsSomeAnd}
 use Rattle.cap_join.specs.Frames.{is_too_old}
-use Rattle.cap_join.specs.Groups.{GroupState}
+use Rattle.cap_join.specs.inner.Groups.{GroupState}
 use Rattle.cap_join.proofs.Aging.{Looked, Looked-more, Looked-turn}
 use Rattle.cap_join.proofs.Tabling.{Looked-found}
 use Rattle.cap_join.proofs.queues.first_old.Goals as goal

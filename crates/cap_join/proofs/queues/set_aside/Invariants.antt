@@ -1,5 +1,5 @@
 use Rattle.std.proofs.Common.{◌≡◌, ◌≤◌, ◌++◌, length}
-use Rattle.cap_join.specs.Ages.{AreTimeless}
+use Rattle.cap_join.specs.inner.Ages.{AreTimeless}
 use Rattle.cap_join.proofs.queues.set_aside.Given as goal
 
 -- both are what they were, one after the other

@@ -3,11 +3,11 @@ use Rattle.std.specs.Prelude.{IsSome}
 use Rattle.std.specs.Map.{remove_entry}
 use Rattle.lru.specs.LruCache.{LruCache}
 use Rattle.cap_ip.specs.declared.headers.Key.{Key}
-use Rattle.cap_join.specs.Groups.{GroupState}
+use Rattle.cap_join.specs.inner.Groups.{GroupState}
 use Rattle.cap_join.specs.History.{same_key}
 use Rattle.cap_join.specs.Joiners.{Entry}
-use Rattle.cap_join.specs.Tables.{entry_at}
-use Rattle.cap_join.specs.Ages.{AreTimeless}
+use Rattle.cap_join.specs.inner.Tables.{entry_at}
+use Rattle.cap_join.specs.inner.Ages.{AreTimeless}
 use Rattle.cap_join.proofs.Queueing.{appended-few, found_last, set_last, timeless-push, ok_now, first_pair, first_left}
 use Rattle.cap_join.proofs.Queueing.{moved_whole}
 use Rattle.cap_join.proofs.queues.set_first_aside.Goals as goal

@@ -1,7 +1,7 @@
 use Rattle.std.proofs.Common.{◌≡◌, ◌∙◌, List, Option, sym, ap, subst, arith}
 use Rattle.cap_time.specs.declared.stamps.Stamp.{Stamp}
 use Rattle.cap_join.specs.Joiners.{Entry}
-use Rattle.cap_join.specs.Ages.{deadline_of, sooner, IsDeadline, AreInTurn}
+use Rattle.cap_join.specs.inner.Ages.{deadline_of, sooner, IsDeadline, AreInTurn}
 use Rattle.cap_join.proofs.Aging.{Leaves, Leaves-more, Leaves-turn}
 use Rattle.cap_join.proofs.queues.soonest.Goals as goal
 

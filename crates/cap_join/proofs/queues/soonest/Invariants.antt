@@ -1,5 +1,5 @@
 use Rattle.std.proofs.Common.{◌≡◌, true}
-use Rattle.cap_join.specs.Ages.{AreInTurn}
+use Rattle.cap_join.specs.inner.Ages.{AreInTurn}
 use Rattle.cap_join.proofs.Aging.{Leaves}
 use Rattle.cap_join.proofs.queues.soonest.Given as goal
 

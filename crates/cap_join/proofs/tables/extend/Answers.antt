@@ -3,9 +3,9 @@ use Rattle.std.specs.Map.{remove_entry}
 use Rattle.cap_ip.specs.Header.{HeaderFields}
 use Rattle.cap_ip.specs.declared.headers.Key.{Key}
 use Rattle.cap_join.specs.Fragments.{Piece}
-use Rattle.cap_join.specs.Incoming.{piece_in, place_in}
+use Rattle.cap_join.specs.inner.Incoming.{piece_in, place_in}
 use Rattle.cap_join.specs.History.{same_key, key_of}
-use Rattle.cap_join.specs.Tables.{entry_at, has_live, PutsAt}
+use Rattle.cap_join.specs.inner.Tables.{entry_at, has_live, PutsAt}
 use Rattle.cap_join.proofs.Grouping.{piece_of-header}
 use Rattle.cap_join.proofs.Putting.{there, found_after, Puts-kept, Puts-joined, IsTable-put, IsTable-removed}
 use Rattle.cap_join.proofs.tables.extend.Goals as goal

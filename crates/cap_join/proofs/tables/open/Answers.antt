@@ -4,14 +4,14 @@ use Rattle.cap_ip.specs.Header.{HeaderFields}
 use Rattle.cap_ip.specs.declared.headers.Key.{Key}
 use Rattle.cap_join.specs.declared.datagrams.Stamped.{Stamped}
 use Rattle.cap_join.specs.Fragments.{Piece}
-use Rattle.cap_join.specs.Incoming.{piece_in, place_in}
+use Rattle.cap_join.specs.inner.Incoming.{piece_in, place_in}
 use Rattle.cap_join.specs.ByteMap.{completes}
 use Rattle.cap_join.specs.Frames.{is_too_old}
-use Rattle.cap_join.specs.Groups.{IsGroupOf}
+use Rattle.cap_join.specs.inner.Groups.{IsGroupOf}
 use Rattle.cap_time.specs.declared.stamps.Stamp.{Stamp}
 use Rattle.cap_join.specs.History.{key_of}
 use Rattle.cap_join.specs.Joiners.{Entry}
-use Rattle.cap_join.specs.Tables.{has_live, live_entries}
+use Rattle.cap_join.specs.inner.Tables.{has_live, live_entries}
 use Rattle.cap_join.proofs.Grouping.{piece_of-header, piece_of-stamped}
 use Rattle.cap_join.proofs.Aging.{new-fresh}
 use Rattle.cap_join.proofs.Tabling.{Opened, Opened-added}

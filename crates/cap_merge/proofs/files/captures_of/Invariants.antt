@@ -1,6 +1,6 @@
 use Rattle.std.proofs.Common.{◌≡◌, ◌+◌, length, map}
-use Rattle.cap_merge.specs.Readers.{AreUnread, reader_of}
-use Rattle.cap_source.specs.Captures.{feed_of}
+use Rattle.cap_merge.specs.inner.Readers.{AreUnread, reader_of}
+use Rattle.cap_source.specs.inner.Captures.{feed_of}
 use Rattle.cap_merge.proofs.files.captures_of.Given as goal
 
 -- the readers so far are captures

@@ -1,8 +1,8 @@
 use Rattle.std.proofs.lemmas.List.{length-map}
 use Rattle.std.proofs.Common.{map, arith}
-use Rattle.cap_source.specs.Captures.{feed_of}
+use Rattle.cap_source.specs.inner.Captures.{feed_of}
 use Rattle.cap_merge.proofs.Unread.{AreUnread-length, AreUnread-numbered, IsUnreadRun-feeds}
-use Rattle.cap_merge.specs.Readers.{reader_of}
+use Rattle.cap_merge.specs.inner.Readers.{reader_of}
 use Rattle.cap_merge.proofs.files.merge_files.Goals as goal
 
 pub new-requires-clause-some : goal.new-requires-clause-some

@@ -1,5 +1,5 @@
 use Rattle.std.proofs.Common.{◌∙◌, arith, add-one}
-use Rattle.cap_merge.specs.First.{lane_turns}
+use Rattle.cap_merge.specs.inner.First.{lane_turns}
 use Rattle.cap_merge.proofs.Finding.{among-none, among-more, lanes-within, among-all}
 use Rattle.cap_merge.proofs.lanes.first_of_several.Goals as goal
 

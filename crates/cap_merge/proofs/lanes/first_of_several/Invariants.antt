@@ -1,5 +1,5 @@
 use Rattle.std.proofs.Common.{◌≡◌}
-use Rattle.cap_merge.specs.First.{lane_turns, first_among}
+use Rattle.cap_merge.specs.inner.First.{lane_turns, first_among}
 use Rattle.cap_merge.proofs.lanes.first_of_several.Given as goal
 
 abbrev pub invariant-loop-place : goal.invariant-loop-place

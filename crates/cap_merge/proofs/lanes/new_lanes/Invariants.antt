@@ -1,6 +1,6 @@
 use Rattle.std.proofs.Common.{◌≡◌, length}
 use Rattle.std.specs.Prelude.{replicate}
-use Rattle.cap_merge.specs.First.{fresh_lane}
+use Rattle.cap_merge.specs.inner.First.{fresh_lane}
 use Rattle.cap_merge.proofs.lanes.new_lanes.Given as goal
 
 abbrev pub invariant-loop : goal.invariant-loop

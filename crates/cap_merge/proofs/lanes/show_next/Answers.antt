@@ -1,8 +1,8 @@
 use Rattle.std.proofs.Common.{◌≡◌, true, length, Some, sym, ap, ◌∙◌}
 use Rattle.std.specs.Prelude.{map}
 use Rattle.cap_merge.specs.declared.lanes.Coming.TheVariants.{Packet}
-use Rattle.cap_merge.specs.First.{lane_at}
-use Rattle.cap_merge.specs.Merge.{ShowsAt}
+use Rattle.cap_merge.specs.inner.First.{lane_at}
+use Rattle.cap_merge.specs.inner.Merge.{ShowsAt}
 use Rattle.cap_merge.specs.Parts.{parts, Agrees}
 use Rattle.cap_merge.proofs.Asking.{kept-written}
 use Rattle.cap_merge.proofs.lanes.show_next.Goals as goal

@@ -1,7 +1,7 @@
 use Rattle.std.proofs.Common.{◌≡◌, true, false, List, ◌∷◌, refl, sym, ap, ◌∙◌}
 use Rattle.std.specs.List.{list_any}
 use Rattle.cap_blocks.specs.OptionList.{OptionItem, options_of}
-use Rattle.cap_blocks.specs.Options.{items_of}
+use Rattle.cap_blocks.specs.inner.Options.{items_of}
 use Rattle.cap_source.specs.TimeBases.{is_name, is_named}
 use Rattle.cap_source.proofs.interfaces.is_named.Goals as goal
 

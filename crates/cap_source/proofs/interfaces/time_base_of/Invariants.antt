@@ -1,6 +1,6 @@
 use Rattle.std.proofs.Common.{◌≡◌}
 use Rattle.cap_blocks.specs.OptionList.{options_of}
-use Rattle.cap_blocks.specs.Options.{items_of}
+use Rattle.cap_blocks.specs.inner.Options.{items_of}
 use Rattle.cap_source.specs.TimeBases.{options_read, no_base}
 use Rattle.cap_source.proofs.interfaces.time_base_of.Given as goal
 

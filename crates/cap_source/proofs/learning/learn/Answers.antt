@@ -2,9 +2,9 @@ use Rattle.std.proofs.Common.{◌∙◌, sym}
 use Rattle.cap_source.proofs.Going.{taken_map, IfTaken-so, ReadsTo-here, LearnsNext-known, LearnsNext-asked}
 use Rattle.cap_source.proofs.Going.{IsSound-asked, LearnsNext-shown, IsSound-shown, counted_limit, counted_kept}
 use Rattle.cap_source.proofs.Going.{free_of}
-use Rattle.cap_source.specs.FileState.{ReadsTo, Takes}
-use Rattle.cap_source.specs.Reached.{progress_of}
-use Rattle.cap_source.specs.Readers.{state_of}
+use Rattle.cap_source.specs.inner.FileState.{ReadsTo, Takes}
+use Rattle.cap_source.specs.inner.Reached.{progress_of}
+use Rattle.cap_source.specs.inner.Readers.{state_of}
 use Rattle.cap_source.proofs.learning.learn.Goals as goal
 
 pub returns-then-take_shown-clause-answer : goal.returns-then-take_shown-clause-answer

@@ -1,7 +1,7 @@
 use Rattle.cap_source.proofs.Going.{FileKeeps-trans, Answers-behind, counted_opened, taken_opened}
-use Rattle.cap_source.specs.FileState.{pcap_state, pcapng_state}
-use Rattle.cap_source.specs.Reached.{progress_of}
-use Rattle.cap_source.specs.Readers.{state_of}
+use Rattle.cap_source.specs.inner.FileState.{pcap_state, pcapng_state}
+use Rattle.cap_source.specs.inner.Reached.{progress_of}
+use Rattle.cap_source.specs.inner.Readers.{state_of}
 use Rattle.cap_source.proofs.learning.next_of.Goals as goal
 
 pub returns-in-Pcap-clause-answer : goal.returns-in-Pcap-clause-answer

@@ -1,5 +1,5 @@
 use Rattle.cap_source.proofs.Looks.{opened_reads, opened_by, opened_keeps, unread_keeps}
-use Rattle.cap_source.specs.Readers.{state_of}
+use Rattle.cap_source.specs.inner.Readers.{state_of}
 use Rattle.cap_bytes.proofs.Reach.{ReachesTo-here}
 use Rattle.std.proofs.Common.{◌+◌}
 use Rattle.cap_source.proofs.learning.open.Goals as goal

@@ -1,4 +1,4 @@
-use Rattle.cap_source.specs.Reached.{progress_of}
+use Rattle.cap_source.specs.inner.Reached.{progress_of}
 use Rattle.cap_source.proofs.learning.take_shown.Goals as goal
 
 pub returns-in-Pcap-clause-answer : goal.returns-in-Pcap-clause-answer

@@ -1,6 +1,6 @@
 use Rattle.cap_source.proofs.Going.{FileKeeps-trans, Answers-behind, taken_behind}
 use Rattle.cap_source.proofs.Pcaps.{header_reads, header_refused, header_waits, pcap_keeps}
-use Rattle.cap_source.specs.FileState.{pcap_state}
+use Rattle.cap_source.specs.inner.FileState.{pcap_state}
 use Rattle.cap_source.specs.declared.readers.Next.TheVariants as nexts
 use Rattle.cap_source.proofs.pcap.next_of_pcap.Goals as goal
 

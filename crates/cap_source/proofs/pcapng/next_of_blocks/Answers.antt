@@ -1,8 +1,8 @@
 use Rattle.std.proofs.Common.{◌∙◌, sym, rules}
 use Rattle.cap_source.proofs.Going.{FileKeeps-trans, FileKeeps-refl, Waits-refl, Waits-further, none_of, Learns-behind}
 use Rattle.cap_source.proofs.Going.{ReadsTo-here, ReadsTo-further, taken_last}
-use Rattle.cap_source.specs.FileState.{pcapng_state}
-use Rattle.cap_source.specs.Reached.{progress_of}
+use Rattle.cap_source.specs.inner.FileState.{pcapng_state}
+use Rattle.cap_source.specs.inner.Reached.{progress_of}
 use Rattle.cap_source.proofs.pcapng.next_of_blocks.Goals as goal
 
 pub returns-then-is_some-clause-answer : goal.returns-then-is_some-clause-answer

@@ -1,6 +1,6 @@
 use Rattle.std.proofs.Common.{◌≡◌, ◌≤◌, ◌-◌, ◌^◌, None, IsTrue}
-use Rattle.cap_source.specs.FileState.{FileKeeps, ReadsTo, Waits, pcapng_state}
-use Rattle.cap_source.specs.Reached.{progress_of, counted, has_room}
+use Rattle.cap_source.specs.inner.FileState.{FileKeeps, ReadsTo, Waits, pcapng_state}
+use Rattle.cap_source.specs.inner.Reached.{progress_of, counted, has_room}
 use Rattle.cap_source.proofs.pcapng.next_of_blocks.Given as goal
 
 abbrev pub invariant-loop-known : goal.invariant-loop-known

@@ -1,7 +1,7 @@
 use Rattle.std.proofs.Common.{◌∙◌, length}
 use Rattle.cap_bytes.proofs.Parsing.{from_some}
 use Rattle.cap_source.specs.Contents.{of_body}
-use Rattle.cap_source.specs.Reached.{progress_of}
+use Rattle.cap_source.specs.inner.Reached.{progress_of}
 use Rattle.cap_source.specs.declared.contents.Content.TheVariants as contents
 use Rattle.cap_source.proofs.Blocks.{behind-packet, block_taken, block_stepped, block_kept, content_lent, enhanced_size}
 use Rattle.cap_source.proofs.Blocks.{packet_shown}

@@ -1,6 +1,6 @@
 use Rattle.std.proofs.Common.{◌≡◌, ◌++◌, ◌∷◌, [], drop, refl, sym, subst, List}
 use Rattle.cap_source.specs.Feed.{Feed, HasFile}
-use Rattle.cap_source.specs.Listed.{list_feed}
+use Rattle.cap_source.specs.inner.Listed.{list_feed}
 use Rattle.cap_merge.specs.Parts.{feed_of, new_parts}
 use Rattle.cap_tests.proofs.merge.merge_of.Goals as goal
 

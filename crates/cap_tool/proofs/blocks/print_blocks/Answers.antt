@@ -1,6 +1,6 @@
 use Rattle.std.proofs.Common.{◌≡◌, ◌+◌, ◌++◌, Some, None, Ok, sym, ◌∙◌, ap, rules}
 use Rattle.std.proofs.lemmas.Result.{err_from_is_err_and}
-use Rattle.cap_blocks.specs.Reader.{GivesBlock, TakesItem, items_of}
+use Rattle.cap_blocks.specs.inner.Reader.{GivesBlock, TakesItem, items_of}
 use Rattle.cap_tool.proofs.BlockListing.{Printing-more, Printing-none, Prints-block_fault, Prints-block_end}
 use Rattle.cap_tool.proofs.BlockListing.{block_lines-given}
 use Rattle.cap_tool.proofs.BlockWalking.{lasts-given, walks-end, walks-fault}

@@ -1,5 +1,5 @@
 use Rattle.std.proofs.Common.{IsTrue, sym, subst, Bool}
-use Rattle.cap_source.specs.Captures.{feed_of}
+use Rattle.cap_source.specs.inner.Captures.{feed_of}
 use Rattle.cap_tool.proofs.Leaving.{Walks-done, Left-one, Prints-file}
 use Rattle.cap_write.proofs.Starting.{FailsOf-one}
 use Rattle.cap_tool.proofs.counting.convert_and_count.Goals as goal

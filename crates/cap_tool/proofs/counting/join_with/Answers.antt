@@ -2,8 +2,8 @@ use Rattle.std.proofs.lemmas.Result.{err_from_is_err_and}
 use Rattle.std.proofs.Common.{arith}
 use Rattle.cap_merge.proofs.Unread.{Fails-merged}
 use Rattle.cap_merge.specs.Parts.{feed_of}
-use Rattle.cap_merge.specs.Readers.{reader_of}
-use Rattle.cap_merge.specs.View.{parts_of}
+use Rattle.cap_merge.specs.inner.Readers.{reader_of}
+use Rattle.cap_merge.specs.inner.View.{parts_of}
 use Rattle.cap_tool.proofs.Leaving.{Walks-done, Drops-merged}
 use Rattle.cap_tool.proofs.Merging.{Prints-joined, Prints-nothing}
 use Rattle.cap_tool.proofs.counting.join_with.Goals as goal

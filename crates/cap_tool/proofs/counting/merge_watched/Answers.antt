@@ -1,9 +1,9 @@
 use Rattle.std.proofs.lemmas.List.{length-map}
 use Rattle.std.proofs.Common.{map, arith}
-use Rattle.cap_source.specs.Captures.{feed_of}
+use Rattle.cap_source.specs.inner.Captures.{feed_of}
 use Rattle.cap_tool.specs.TimeWatched.{inner_of}
 use Rattle.cap_merge.proofs.Unread.{AreUnread-length, AreUnread-numbered, IsUnreadRun-feeds}
-use Rattle.cap_merge.specs.Readers.{reader_of}
+use Rattle.cap_merge.specs.inner.Readers.{reader_of}
 use Rattle.cap_tool.proofs.counting.merge_watched.Goals as goal
 
 pub new-requires-clause-some : goal.new-requires-clause-some

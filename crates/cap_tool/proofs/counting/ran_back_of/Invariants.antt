@@ -1,5 +1,5 @@
 use Rattle.std.proofs.Common.{◌≡◌, ◌≤◌, ◌+◌, ◌*◌, ◌^◌, drop}
-use Rattle.cap_tool.specs.RanBack.{ran_back_in}
+use Rattle.cap_tool.specs.inner.RanBack.{ran_back_in}
 use Rattle.cap_tool.proofs.counting.ran_back_of.Given as goal
 
 -- the packets of the feeds so far and those of the others are those of all

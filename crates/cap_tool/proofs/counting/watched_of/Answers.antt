@@ -3,9 +3,9 @@ use Rattle.std.proofs.Common.{map-id, length-append}
 use Rattle.std.proofs.lemmas.List.{map-append, length-map}
 use Rattle.std.proofs.lemmas.Iterator.Adapters.{YieldsList-from_vec}
 use Rattle.std.proofs.lemmas.Iterator.Consumers.{YieldsList-end, YieldsList-turn}
-use Rattle.cap_source.specs.Captures.{feed_of}
+use Rattle.cap_source.specs.inner.Captures.{feed_of}
 use Rattle.cap_merge.proofs.Unread.{AreUnread-more}
-use Rattle.cap_merge.specs.Readers.{IsUnread, AreUnread, reader_of}
+use Rattle.cap_merge.specs.inner.Readers.{IsUnread, AreUnread, reader_of}
 use Rattle.cap_tool.specs.TimeWatched.{inner_of}
 use Rattle.cap_tool.proofs.counting.watched_of.Goals as goal
 

@@ -4,7 +4,7 @@ use Rattle.cap_bytes.proofs.Putting.{Putting-front}
 use Rattle.cap_source.proofs.Growing.{memory-asked}
 use Rattle.cap_source.proofs.Onward.{Went-more, Walks-end, Walks-fault, Walks-stop}
 use Rattle.cap_source.proofs.Walking.{Walking-more, Prints-fault, Prints-end}
-use Rattle.cap_source.specs.Walk.{ShowsItem}
+use Rattle.cap_source.specs.inner.Walk.{ShowsItem}
 use Rattle.cap_tool.proofs.Listing.{plan_of, plan_of-is, plan_of-next}
 use Rattle.cap_tool.specs.ListText.{list_lines, packet_text}
 use Rattle.cap_tool.proofs.list.list_packets.Goals as goal

@@ -1,7 +1,7 @@
 use Rattle.std.proofs.Common.{arith, ◌∙◌, ap, Err}
 use Rattle.cap_source.proofs.Onward.{Keeps-trans}
 use Rattle.std.proofs.lemmas.Result.{err_from_is_err_and}
-use Rattle.cap_source.specs.Captures.{feed_of, first_of}
+use Rattle.cap_source.specs.inner.Captures.{feed_of, first_of}
 use Rattle.cap_write.specs.Pcap.{pcap_bytes}
 use Rattle.cap_write.proofs.Starting.{Prints-unread, Writer-unread, Walks-unread, Walks-first, Ends-first}
 use Rattle.cap_write.proofs.Starting.{memory-unread}

@@ -2,7 +2,7 @@ use Rattle.std.proofs.Common.{arith, rules, ◌∙◌, ap, Err, inl}
 use Rattle.cap_source.proofs.Growing.{memory-more, at-unknown}
 use Rattle.cap_source.proofs.Onward.{Keeps-trans}
 use Rattle.std.proofs.lemmas.Result.{err_from_is_err_and}
-use Rattle.cap_source.specs.Captures.{feed_of, number_of, first_of}
+use Rattle.cap_source.specs.inner.Captures.{feed_of, number_of, first_of}
 use Rattle.cap_write.specs.Texts.{pcapng_bytes}
 use Rattle.cap_write.proofs.Starting.{Prints-unread, Writer-unread, Walks-unread, Walks-first, Ends-first}
 use Rattle.cap_write.proofs.Starting.{memory-unread, memory-wider}

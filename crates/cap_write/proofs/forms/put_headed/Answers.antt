@@ -1,6 +1,6 @@
 use Rattle.std.proofs.Common.{ap}
 use Rattle.cap_write.proofs.Forming.{OnOk-map, Prints-headed, after-headed}
-use Rattle.cap_write.specs.Forms.{headed}
+use Rattle.cap_write.specs.inner.Forms.{headed}
 use Rattle.cap_write.proofs.forms.put_headed.Goals as goal
 
 pub returns-in-Some-clause-text : goal.returns-in-Some-clause-text

@@ -1,6 +1,6 @@
 use Rattle.std.proofs.Common.{ap}
 use Rattle.cap_write.proofs.Forming.{OnOk-map, Prints-numbered, after-numbered}
-use Rattle.cap_write.specs.Forms.{state_of}
+use Rattle.cap_write.specs.inner.Forms.{state_of}
 use Rattle.cap_write.proofs.forms.put_in.Goals as goal
 
 pub returns-in-Pcapng-clause-text : goal.returns-in-Pcapng-clause-text

@@ -4,7 +4,7 @@ use Rattle.cap_bytes.proofs.Putting.{Prints-head, Prints-behind}
 use Rattle.cap_pcap.specs.Grammar.{header_bytes}
 use Rattle.cap_source.specs.Feed.{packet}
 use Rattle.cap_write.proofs.Forming.{OnOk-map, Prints-headed, Prints-untimed, Prints-leading, after-leading}
-use Rattle.cap_write.specs.Forms.{headed}
+use Rattle.cap_write.specs.inner.Forms.{headed}
 use Rattle.cap_write.specs.Pcap.{header_of, records_bytes}
 use Rattle.cap_write.specs.PcapRun.{run_refusal}
 use Rattle.cap_write.proofs.forms.put_leading.Goals as goal

@@ -6,8 +6,8 @@ use Rattle.cap_write.proofs.Completed.{Prints-no-time, items-filled, Prints-data
 use Rattle.cap_write.proofs.Completed.{Prints-none, named-none}
 use Rattle.cap_write.proofs.Forming.{OnOk-map}
 use Rattle.cap_source.specs.Feed.{packet}
-use Rattle.cap_write.specs.Forms.{form_after, form_behind, form_stop, state_of}
-use Rattle.cap_write.specs.PlacedPackets.{items_in}
+use Rattle.cap_write.specs.inner.Forms.{form_after, form_behind, form_stop, state_of}
+use Rattle.cap_write.specs.inner.PlacedPackets.{items_in}
 use Rattle.cap_write.proofs.joined.put_completed.Goals as goal
 
 pub returns-in_err-units_of-clause-text : goal.returns-in_err-units_of-clause-text

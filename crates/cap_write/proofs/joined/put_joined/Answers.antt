@@ -1,16 +1,16 @@
 use Rattle.std.proofs.Common.{Some, None, Ok, arith, rules, refl, []}
 use Rattle.std.proofs.lemmas.Result.{err_from_is_err_and}
-use Rattle.cap_merge.specs.MergedLaws.{merged-is-feed}
+use Rattle.cap_merge.specs.inner.MergedLaws.{merged-is-feed}
 use Rattle.cap_merge.specs.Parts.{feed_of}
-use Rattle.cap_merge.specs.View.{parts_of}
+use Rattle.cap_merge.specs.inner.View.{parts_of}
 use Rattle.cap_source.proofs.Growing.{memory-asked, memory-more, memory-here, at-unknown, at-packet}
 use Rattle.cap_source.proofs.Onward.{Keeps-trans, Went-none, Ends-none, Ends-end}
-use Rattle.cap_source.specs.Walk.{ShowsItem}
+use Rattle.cap_source.specs.inner.Walk.{ShowsItem}
 use Rattle.cap_write.proofs.Forming.{OnOk-ended, Prints-ended, Prints-stop, Walks-ended, memory-ended, unwritten-ended}
 use Rattle.cap_write.proofs.Joining.{Joining-more, Joining-part, feeding, shows-fault, shows-end, place-small}
 use Rattle.cap_write.proofs.Starting.{Walking-none, Walking-writer, unwritten, known-packet}
 use Rattle.cap_write.proofs.Writing.{WriterKeeps-behind}
-use Rattle.cap_write.specs.Forms.{state_of}
+use Rattle.cap_write.specs.inner.Forms.{state_of}
 use Rattle.cap_write.proofs.joined.put_joined.Goals as goal
 
 pub returns-in_err-meta-clause-text : goal.returns-in_err-meta-clause-text

@@ -1,7 +1,7 @@
 use Rattle.cap_merge.specs.Parts.{feed_of}
-use Rattle.cap_merge.specs.View.{parts_of}
+use Rattle.cap_merge.specs.inner.View.{parts_of}
 use Rattle.cap_write.proofs.Joining.{Joining}
-use Rattle.cap_write.specs.Forms.{state_of}
+use Rattle.cap_write.specs.inner.Forms.{state_of}
 use Rattle.cap_write.proofs.joined.put_joined.Given as goal
 
 -- the datagrams of the packets that were given are written, and the others are to be

@@ -1,6 +1,6 @@
 use Rattle.std.proofs.Common.{Ok, Some, drop}
 use Rattle.std.proofs.lemmas.Result.{err_from_is_err_and}
-use Rattle.cap_source.specs.Walk.{ShowsItem}
+use Rattle.cap_source.specs.inner.Walk.{ShowsItem}
 use Rattle.cap_write.proofs.Forming.{Prints-run-untimed}
 use Rattle.cap_write.proofs.merged.write_merged_pcap.Goals as goal
 

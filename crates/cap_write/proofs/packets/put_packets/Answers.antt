@@ -3,7 +3,7 @@ use Rattle.std.proofs.lemmas.Result.{err_from_is_err_and}
 use Rattle.cap_source.proofs.Growing.{memory-asked, memory-more, memory-here, at-unknown, at-packet}
 use Rattle.cap_source.proofs.Onward.{Went-more, Went-none, Ends-none, Ends-more, Ends-end}
 use Rattle.cap_source.proofs.Walking.{GoesOn, Walking-more, Prints-fault, Prints-end}
-use Rattle.cap_source.specs.Walk.{ShowsItem}
+use Rattle.cap_source.specs.inner.Walk.{ShowsItem}
 use Rattle.cap_write.proofs.Feeding.{plan_of, plan_of-is, plan_of-next, plan_of-refused}
 use Rattle.cap_write.proofs.Written.{Prints-one}
 use Rattle.cap_write.specs.Numbering.{numbered_of, with_origin, write_fault}

@@ -1,6 +1,6 @@
 use Rattle.std.proofs.Common.{◌≡◌, ◌∷◌, Some, Ok, List, drop, sym, ap, ◌∙◌}
 use Rattle.cap_source.specs.Feed.{Item, packet}
-use Rattle.cap_source.specs.Walk.{GivesPacket, ShowsItem}
+use Rattle.cap_source.specs.inner.Walk.{GivesPacket, ShowsItem}
 use Rattle.cap_source.specs.declared.feeds.Head.TheVariants as heads
 use Rattle.capt_c.proofs.Agreeing.{agrees-known}
 use Rattle.capt_c.proofs.reading.step.Goals as goal

@@ -3,10 +3,10 @@ use Rattle.std.proofs.lemmas.Result.{err_from_is_err_and}
 use Rattle.cap_bytes.proofs.Readers.{Stands-passed, GivesNext-stopped, GivesNext-failed, Reaches-given, Reaches-failed}
 use Rattle.cap_bytes.proofs.Readers.{Reaches-stopped}
 use Rattle.cap_bytes.proofs.Parsing.{none_from}
-use Rattle.cap_bytes.specs.Reach.{size_found}
+use Rattle.cap_bytes.specs.inner.Reach.{size_found}
 use Rattle.cap_bytes.specs.declared.stops.Stop.{Stop}
 use Rattle.cap_blocks.specs.Grammar.{is_known}
-use Rattle.cap_blocks.specs.Reader.{GivesBlock, block_size, state_of, size_of, body_of}
+use Rattle.cap_blocks.specs.inner.Reader.{GivesBlock, block_size, state_of, size_of, body_of}
 use Rattle.cap_blocks.specs.Split.{block_fault, wanted_at, LacksRoom}
 use Rattle.cap_blocks.proofs.Reading.{GivesBlock-found}
 use Rattle.cap_blocks.proofs.readers.BlockReader.read_block.Goals as goal

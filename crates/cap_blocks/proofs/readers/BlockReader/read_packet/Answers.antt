@@ -1,7 +1,7 @@
 use Rattle.std.proofs.Common.{true, rules, ap, arith}
 use Rattle.cap_bytes.proofs.Readers.{Stands-passed, Reaches-here}
-use Rattle.cap_blocks.specs.Parsing.{SeesBlock}
-use Rattle.cap_blocks.specs.Reader.{block_size, state_of, size_of, body_of}
+use Rattle.cap_blocks.specs.inner.Parsing.{SeesBlock}
+use Rattle.cap_blocks.specs.inner.Reader.{block_size, state_of, size_of, body_of}
 use Rattle.cap_blocks.specs.Grammar.{is_known}
 use Rattle.cap_blocks.proofs.Reading.{GivesBlock-found}
 use Rattle.cap_blocks.proofs.readers.BlockReader.read_packet.Goals as goal

@@ -1,5 +1,5 @@
 use Rattle.std.proofs.Common.{ap, arith, length, length-take}
-use Rattle.cap_join.specs.Groups.{GroupState}
+use Rattle.cap_join.specs.inner.Groups.{GroupState}
 use Rattle.cap_join.proofs.groups.Group.held_bytes.Goals as goal
 
 pub returns-clause-value : goal.returns-clause-value

@@ -1,9 +1,9 @@
 use Rattle.std.proofs.Common.{◌≡◌, ℕ, Option, Some, None, ◌≤◌, length, arith, take, sym, ◌∙◌, subst, ap, refl}
 use Rattle.std.proofs.Common.{take-take, length-take}
 use Rattle.std.specs.Option.{unwrap_or}
-use Rattle.cap_join.specs.Groups.{GroupState, IsGroupOf}
+use Rattle.cap_join.specs.inner.Groups.{GroupState, IsGroupOf}
 use Rattle.cap_join.proofs.Grouping.{IsDatagramOf-group, total-held}
-use Rattle.cap_join.specs.GroupView.{group_view}
+use Rattle.cap_join.specs.inner.GroupView.{group_view}
 use Rattle.cap_join.proofs.groups.Group.into_datagram.Goals as goal
 
 or_held : (o : Option ℕ) (held most : ℕ) → ((n : ℕ) → o ≡ Some n → n ≤ most) → held ≤ most → unwrap_or o held ≤ most

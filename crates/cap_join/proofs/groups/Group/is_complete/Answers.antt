@@ -1,5 +1,5 @@
 use Rattle.std.proofs.Common.{sym, ◌∙◌, subst, arith, take}
-use Rattle.cap_join.specs.Groups.{GroupState, IsGroupOf}
+use Rattle.cap_join.specs.inner.Groups.{GroupState, IsGroupOf}
 use Rattle.cap_join.proofs.Grouping.{completes-none, completes-some, covers_below-hole, total_of-reached}
 use Rattle.cap_join.proofs.groups.Group.is_complete.Goals as goal
 

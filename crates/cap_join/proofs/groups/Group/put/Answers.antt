@@ -1,8 +1,8 @@
 use Rattle.std.proofs.Common.{ℕ, ◌+◌, ◌∷◌, sym, ◌∙◌, subst, ap, refl, arith}
-use Rattle.cap_join.specs.Incoming.{piece_in}
+use Rattle.cap_join.specs.inner.Incoming.{piece_in}
 use Rattle.cap_join.specs.Frames.{earlier, later}
-use Rattle.cap_join.specs.Groups.{GroupState, IsGroupOf}
-use Rattle.cap_join.specs.GroupView.{group_view}
+use Rattle.cap_join.specs.inner.Groups.{GroupState, IsGroupOf}
+use Rattle.cap_join.specs.inner.GroupView.{group_view}
 use Rattle.cap_join.proofs.Grouping.{IsGroupOf-put}
 use Rattle.cap_join.proofs.groups.Group.put.Goals as goal
 

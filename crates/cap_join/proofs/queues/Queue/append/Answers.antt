@@ -4,7 +4,7 @@ use Rattle.std.specs.List.{IsDistinct}
 use Rattle.std.specs.Map.{keys_of, remove_entry}
 use Rattle.cap_join.specs.History.{same_key}
 use Rattle.cap_join.specs.Joiners.{Entry, open_limit}
-use Rattle.cap_join.specs.Tables.{entry_at}
+use Rattle.cap_join.specs.inner.Tables.{entry_at}
 use Rattle.cap_join.proofs.Tabling.{IsDistinct-added}
 use Rattle.cap_join.proofs.Queueing.{aged-rest, appended-rest, appended-few, made_cases}
 use Rattle.cap_join.proofs.queues.Queue.append.Goals as goal

@@ -4,7 +4,7 @@ use Rattle.std.specs.List.{IsDistinct}
 use Rattle.std.specs.Map.{keys_of}
 use Rattle.cap_join.specs.History.{same_key}
 use Rattle.cap_join.specs.Joiners.{Entry, open_limit}
-use Rattle.cap_join.specs.Ages.{AreTimeless}
+use Rattle.cap_join.specs.inner.Ages.{AreTimeless}
 use Rattle.cap_join.proofs.Tabling.{IsDistinct-first}
 use Rattle.cap_join.proofs.Queueing.{first-left, first-right, first-few, timeless-first}
 use Rattle.cap_join.proofs.queues.Queue.pop_first.Goals as goal

@@ -2,7 +2,7 @@ use Rattle.std.proofs.Common.{◌≡◌, ◌<◌, ◌++◌, ◌+◌, ℕ, List, 
 use Rattle.std.specs.List.{IsDistinct}
 use Rattle.std.specs.Map.{keys_of}
 use Rattle.cap_ip.specs.declared.headers.Key.{Key}
-use Rattle.cap_join.specs.Incoming.{piece_in}
+use Rattle.cap_join.specs.inner.Incoming.{piece_in}
 use Rattle.cap_join.specs.History.{same_key}
 use Rattle.cap_join.specs.Joiners.{open_limit}
 use Rattle.cap_join.proofs.Tabling.{keys_of-set_value, put_cases}

@@ -1,5 +1,5 @@
 use Rattle.std.proofs.Common.{subst, sym}
-use Rattle.cap_join.specs.Ages.{IsDeadline, AreInTurn}
+use Rattle.cap_join.specs.inner.Ages.{IsDeadline, AreInTurn}
 use Rattle.cap_join.proofs.Queueing.{AreInTurn-rest, IsDeadline-rest}
 use Rattle.cap_join.proofs.queues.Queue.soonest.Goals as goal
 

@@ -1,6 +1,6 @@
 use Rattle.std.proofs.Common.{arith, ℕ, Vec, Global, length}
 use Rattle.std.proofs.lemmas.List.{length-map}
-use Rattle.cap_join.specs.SparesView.{spares_view}
+use Rattle.cap_join.specs.inner.SparesView.{spares_view}
 use Rattle.cap_join.proofs.Sparing.{sum-short}
 use Rattle.cap_join.proofs.spares.Spares.bytes.Goals as goal
 

@@ -3,7 +3,7 @@ use Rattle.std.specs.Map.{remove_entry}
 use Rattle.cap_time.specs.declared.stamps.Stamp.{Stamp}
 use Rattle.cap_join.specs.History.{same_key}
 use Rattle.cap_join.specs.Joiners.{Entry}
-use Rattle.cap_join.specs.Ages.{deadline_of, sooner, latest_of, is_in_turn, IsDeadline, AreInTurn, AreUpTo}
+use Rattle.cap_join.specs.inner.Ages.{deadline_of, sooner, latest_of, is_in_turn, IsDeadline, AreInTurn, AreUpTo}
 use Rattle.cap_join.proofs.Aging.{IsDeadline-remove_entry, AreInTurn-remove_entry, AreUpTo-remove_entry}
 use Rattle.cap_join.proofs.Aging.{IsDeadline-push, AreInTurn-push, AreUpTo-push}
 use Rattle.cap_join.proofs.Tabling.{IsDistinct-added}

@@ -1,5 +1,5 @@
 use Rattle.std.proofs.Common.{sym, subst, arith}
-use Rattle.cap_join.specs.Ages.{AreInTurn, AreUpTo}
+use Rattle.cap_join.specs.inner.Ages.{AreInTurn, AreUpTo}
 use Rattle.cap_join.proofs.Aging.{live-all, AreInTurn-live, AreUpTo-live}
 use Rattle.cap_join.proofs.tables.Table.drop_old.Goals as goal
 

@@ -3,7 +3,7 @@ use Rattle.std.specs.List.{IsDistinct}
 use Rattle.std.specs.Map.{keys_of}
 use Rattle.cap_join.specs.History.{same_key}
 use Rattle.cap_join.specs.Joiners.{Entry}
-use Rattle.cap_join.specs.Ages.{IsDeadline, AreInTurn, AreUpTo}
+use Rattle.cap_join.specs.inner.Ages.{IsDeadline, AreInTurn, AreUpTo}
 use Rattle.cap_join.proofs.Aging.{IsDeadline-first, AreInTurn-first, AreUpTo-first}
 use Rattle.cap_join.proofs.Tabling.{IsDistinct-first, drop-first}
 use Rattle.cap_join.proofs.tables.Table.make_place.Goals as goal

@@ -3,7 +3,7 @@ use Rattle.std.specs.List.{IsDistinct}
 use Rattle.std.specs.Map.{keys_of}
 use Rattle.cap_join.specs.History.{same_key}
 use Rattle.cap_join.specs.Joiners.{Entry}
-use Rattle.cap_join.specs.Ages.{IsDeadline, AreInTurn, AreUpTo}
+use Rattle.cap_join.specs.inner.Ages.{IsDeadline, AreInTurn, AreUpTo}
 use Rattle.cap_join.proofs.Aging.{IsDeadline-remove_entry, AreInTurn-remove_entry, AreUpTo-remove_entry}
 use Rattle.cap_join.proofs.Tabling.{IsDistinct-remove_entry}
 use Rattle.cap_join.proofs.tables.Table.remove.Goals as goal

@@ -1,5 +1,5 @@
 use Rattle.std.proofs.Common.{sym, ap, ◌∙◌, map}
-use Rattle.cap_merge.specs.First.{first_place}
+use Rattle.cap_merge.specs.inner.First.{first_place}
 use Rattle.cap_merge.proofs.Placing.{turns-agree}
 use Rattle.cap_merge.proofs.merging.Merged.first_place.Goals as goal
 

@@ -1,7 +1,7 @@
 use Rattle.std.proofs.Common.{refl, sym, ap, ◌∙◌, map}
 use Rattle.std.proofs.lemmas.List.{length-map}
 use Rattle.cap_merge.specs.Parts.{parts, feed_of, others_known}
-use Rattle.cap_merge.specs.Sound.{each-reached}
+use Rattle.cap_merge.specs.inner.Sound.{each-reached}
 use Rattle.cap_merge.proofs.Bounds.{asked-bounded}
 use Rattle.cap_merge.proofs.Calls.{asked-numbered, asked-sound-each, asked-known}
 use Rattle.cap_merge.proofs.Finding.{found-here, none-passed}

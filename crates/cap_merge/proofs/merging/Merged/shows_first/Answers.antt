@@ -2,7 +2,7 @@ use Rattle.std.proofs.Common.{refl, sym, ap, ◌∙◌, map, Ok, Result, Bool, t
 use Rattle.std.proofs.lemmas.List.{length-map}
 use Rattle.cap_bytes.specs.declared.faults.Fault.{Fault}
 use Rattle.cap_merge.specs.Parts.{parts, others_known}
-use Rattle.cap_merge.specs.Sound.{each-reached}
+use Rattle.cap_merge.specs.inner.Sound.{each-reached}
 use Rattle.cap_merge.proofs.Bounds.{asked-bounded}
 use Rattle.cap_merge.proofs.Calls.{asked-numbered, asked-sound-each, asked-known, numbered-kept}
 use Rattle.cap_merge.proofs.Finding.{found-here, none-passed, packet-alone}

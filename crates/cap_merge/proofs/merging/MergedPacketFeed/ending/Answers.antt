@@ -1,5 +1,5 @@
 use Rattle.std.proofs.Common.{arith}
-use Rattle.cap_merge.specs.Sound.{numbered-from}
+use Rattle.cap_merge.specs.inner.Sound.{numbered-from}
 use Rattle.cap_merge.proofs.Firsts.{ended-file, known-here, has-here, ends-here}
 use Rattle.cap_merge.proofs.merging.MergedPacketFeed.ending.Goals as goal
 

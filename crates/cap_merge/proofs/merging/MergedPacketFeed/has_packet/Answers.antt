@@ -1,6 +1,6 @@
 use Rattle.std.proofs.Common.{map, Ok, true}
 use Rattle.cap_merge.specs.Parts.{parts}
-use Rattle.cap_merge.specs.Sound.{lawful-each, numbered-from}
+use Rattle.cap_merge.specs.inner.Sound.{lawful-each, numbered-from}
 use Rattle.cap_merge.proofs.Peeking.{finds-all}
 use Rattle.cap_merge.proofs.merging.MergedPacketFeed.has_packet.Goals as goal
 

@@ -2,7 +2,7 @@ use Rattle.std.proofs.Common.{map}
 use Rattle.std.proofs.lemmas.Result.{err_from_is_err_and}
 use Rattle.cap_source.specs.declared.feeds.Head.TheVariants.{Packet, Refused, End}
 use Rattle.cap_merge.specs.Parts.{parts, feed_of}
-use Rattle.cap_merge.specs.Sound.{lawful-each, numbered-from}
+use Rattle.cap_merge.specs.inner.Sound.{lawful-each, numbered-from}
 use Rattle.cap_merge.proofs.Looking.{heads-known, heads-stopped, is-packet, refusal-comes, end-comes}
 use Rattle.cap_merge.proofs.merging.MergedPacketFeed.head.Goals as goal
 

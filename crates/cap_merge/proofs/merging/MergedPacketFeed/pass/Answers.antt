@@ -1,6 +1,6 @@
 use Rattle.std.proofs.Common.{refl, sym, ◌∙◌, map}
 use Rattle.cap_merge.specs.Parts.{parts}
-use Rattle.cap_merge.specs.Sound.{each-reached}
+use Rattle.cap_merge.specs.inner.Sound.{each-reached}
 use Rattle.cap_merge.proofs.Placing.{place_within, none-placed}
 use Rattle.cap_merge.proofs.Bounds.{passed-bounded}
 use Rattle.cap_merge.proofs.Calls.{numbered-kept}

@@ -1,5 +1,5 @@
 use Rattle.std.proofs.Common.{ap, sym, ◌∙◌}
-use Rattle.cap_bytes.specs.Reader.{State}
+use Rattle.cap_bytes.specs.inner.Reader.{State}
 use Rattle.cap_pcap.specs.declared.headers.PcapHeader.{PcapHeader}
 use Rattle.cap_pcap.proofs.Reading.{TakesItem_next}
 use Rattle.cap_pcap.proofs.readers.PcapReader.next_record.Goals as goal

@@ -1,6 +1,6 @@
 use Rattle.std.proofs.Common.{Some, Ok}
 use Rattle.cap_bytes.proofs.Parsing.{none_from}
-use Rattle.cap_pcap.specs.Reader.{HasHeader, ReachesHeader, state_of}
+use Rattle.cap_pcap.specs.inner.Reader.{HasHeader, ReachesHeader, state_of}
 use Rattle.cap_pcap.proofs.Reading.{unread, HasHeader-seen, ReachesHeader-seen}
 use Rattle.cap_pcap.proofs.readers.PcapReader.read_header.Goals as goal
 

@@ -3,9 +3,9 @@ use Rattle.std.proofs.lemmas.Result.{err_from_is_err_and}
 use Rattle.cap_bytes.proofs.Readers.{Stands-passed, GivesNext-stopped, GivesNext-failed, Reaches-given, Reaches-failed}
 use Rattle.cap_bytes.proofs.Readers.{Reaches-stopped}
 use Rattle.cap_bytes.proofs.Parsing.{none_from}
-use Rattle.cap_bytes.specs.Reach.{size_found}
+use Rattle.cap_bytes.specs.inner.Reach.{size_found}
 use Rattle.cap_bytes.specs.declared.stops.Stop.{Stop}
-use Rattle.cap_pcap.specs.Reader.{GivesRecord, record_size, state_of, size_of, frame_of}
+use Rattle.cap_pcap.specs.inner.Reader.{GivesRecord, record_size, state_of, size_of, frame_of}
 use Rattle.cap_pcap.specs.Split.{record_fault, captured_at}
 use Rattle.cap_pcap.proofs.Reading.{GivesRecord-seen}
 use Rattle.cap_pcap.proofs.readers.PcapReader.read_record.Goals as goal

@@ -1,7 +1,7 @@
 use Rattle.std.proofs.Common.{rules, arith}
 use Rattle.cap_bytes.proofs.Readers.{Stands-passed, Reaches-here}
-use Rattle.cap_pcap.specs.Parsing.{SeesRecord}
-use Rattle.cap_pcap.specs.Reader.{record_size, state_of, size_of, frame_of}
+use Rattle.cap_pcap.specs.inner.Parsing.{SeesRecord}
+use Rattle.cap_pcap.specs.inner.Reader.{record_size, state_of, size_of, frame_of}
 use Rattle.cap_pcap.proofs.Reading.{GivesRecord-seen}
 use Rattle.cap_pcap.proofs.readers.PcapReader.read_shown.Goals as goal
 

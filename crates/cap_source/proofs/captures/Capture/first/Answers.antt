@@ -1,8 +1,8 @@
 use Rattle.std.proofs.Common.{◌∙◌}
 use Rattle.cap_source.proofs.Firsts.{knows, first_told, first_kept}
-use Rattle.cap_source.specs.FileState.{head_of}
-use Rattle.cap_source.specs.Reached.{progress_of}
-use Rattle.cap_source.specs.Readers.{state_of}
+use Rattle.cap_source.specs.inner.FileState.{head_of}
+use Rattle.cap_source.specs.inner.Reached.{progress_of}
+use Rattle.cap_source.specs.inner.Readers.{state_of}
 use Rattle.cap_source.proofs.captures.Capture.first.Goals as goal
 
 pub returns-clause-answer : goal.returns-clause-answer

@@ -1,6 +1,6 @@
 use Rattle.std.proofs.Common.{ap}
 use Rattle.std.proofs.lemmas.Result.{err_from_is_err_and}
-use Rattle.cap_source.specs.FileState.{head_of}
+use Rattle.cap_source.specs.inner.FileState.{head_of}
 use Rattle.cap_source.proofs.Firsts.{head_told, items_told, fault_found, fault_item, keeps_told}
 use Rattle.cap_source.proofs.captures.CapturePacketFeed.has_packet.Goals as goal
 

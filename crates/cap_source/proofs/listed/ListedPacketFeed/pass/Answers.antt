@@ -2,7 +2,7 @@ use Rattle.std.proofs.Common.{◌+◌, None, drop, subst, arith, length-drop}
 use Rattle.std.proofs.lemmas.List.{drop-drop}
 use Rattle.cap_source.proofs.Lists.{list_passes}
 use Rattle.cap_source.specs.Feed.{Passes}
-use Rattle.cap_source.specs.Listed.{list_feed}
+use Rattle.cap_source.specs.inner.Listed.{list_feed}
 use Rattle.cap_source.proofs.listed.ListedPacketFeed.pass.Goals as goal
 
 pub returns-clause-passes : goal.returns-clause-passes

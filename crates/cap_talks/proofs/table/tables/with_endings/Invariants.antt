@@ -1,7 +1,7 @@
 use Rattle.std.proofs.Common.{◌≡◌, ◌+◌, ◌++◌, drop, length, Some, None}
 use Rattle.std.specs.Prelude.{if◌then◌else◌}
 use Rattle.cap_merge.specs.Parts.{feed_of}
-use Rattle.cap_merge.specs.View.{parts_of}
+use Rattle.cap_merge.specs.inner.View.{parts_of}
 use Rattle.cap_talks.specs.counts.FileLines.{ended_from}
 use Rattle.cap_talks.proofs.table.tables.with_endings.Given as goal
 

@@ -1,6 +1,6 @@
 use Rattle.std.proofs.Common.{ap, rules, ◌∙◌}
 use Rattle.indexmap.specs.IndexMap.{insert_entry}
-use Rattle.cap_talks.specs.table.Packed.{unpacked, unpacked_talks}
+use Rattle.cap_talks.specs.inner.table.Packed.{unpacked, unpacked_talks}
 use Rattle.cap_talks.specs.table.Rows.{with_share}
 use Rattle.cap_talks.specs.table.Talks.{same_talk}
 use Rattle.cap_talks.proofs.Packing.{row-put, keys-put}

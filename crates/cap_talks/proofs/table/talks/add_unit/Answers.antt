@@ -1,7 +1,7 @@
 use Rattle.std.proofs.Common.{ap, sym, subst, ◌∙◌, [], arith}
 use Rattle.indexmap.specs.IndexMap.{insert_entry}
 use Rattle.indexmap.specs.Layout.{set_value_at}
-use Rattle.cap_talks.specs.table.Packed.{IsNarrow, unpacked_talks, are_packed}
+use Rattle.cap_talks.specs.inner.table.Packed.{IsNarrow, unpacked_talks, are_packed}
 use Rattle.cap_talks.specs.table.Rows.{frames_of_row, bytes_of_row, row_in, with_share, is_in_order}
 use Rattle.cap_talks.specs.declared.table.rows.Share.{Share}
 use Rattle.cap_talks.specs.table.Talks.{key_of, row_of, same_talk}

@@ -1,7 +1,7 @@
 use Rattle.std.proofs.Common.{arith, ◌∙◌, sym, ap, subst, Bool, IsTrue, Some}
 use Rattle.cap_source.specs.Feed.{refusal_of}
 use Rattle.cap_source.specs.declared.feeds.FileEnd.{FileEnd}
-use Rattle.cap_source.specs.Captures.{feed_of}
+use Rattle.cap_source.specs.inner.Captures.{feed_of}
 use Rattle.cap_talks.specs.counts.Counting.{packets_of, counted}
 use Rattle.cap_talks.proofs.talks.files.count_file.Goals as goal
 

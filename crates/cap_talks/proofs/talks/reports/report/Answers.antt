@@ -1,6 +1,6 @@
 use Rattle.cap_merge.proofs.Unread.{Fails-merged}
-use Rattle.cap_merge.specs.Readers.{reader_of}
-use Rattle.cap_merge.specs.View.{parts_of}
+use Rattle.cap_merge.specs.inner.Readers.{reader_of}
+use Rattle.cap_merge.specs.inner.View.{parts_of}
 use Rattle.cap_talks.proofs.Headline.{tells-files}
 use Rattle.cap_talks.proofs.talks.reports.report.Goals as goal
 

@@ -1,8 +1,8 @@
 use Rattle.std.proofs.Common.{IsTrue, ℕ, List, sym, subst}
-use Rattle.cap_source.specs.Walk.{Walks}
+use Rattle.cap_source.specs.inner.Walk.{Walks}
 use Rattle.cap_merge.specs.Parts.{Part, feed_of}
-use Rattle.cap_talks.specs.table.TableView.{table_of}
-use Rattle.cap_talks.specs.talks.Reporting.{TellsReport}
+use Rattle.cap_talks.specs.inner.table.TableView.{table_of}
+use Rattle.cap_talks.specs.inner.talks.Reporting.{TellsReport}
 use Rattle.cap_talks.proofs.talks.reports.report_merged.Goals as goal
 
 pub returns-clause-text : goal.returns-clause-text

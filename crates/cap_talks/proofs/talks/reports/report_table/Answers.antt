@@ -1,5 +1,5 @@
 use Rattle.std.proofs.lemmas.Result.{err_from_is_err_and}
-use Rattle.cap_talks.specs.table.TableView.{table_of}
+use Rattle.cap_talks.specs.inner.table.TableView.{table_of}
 use Rattle.cap_talks.proofs.Headline.{tells-report, tells-nothing, walks-written, writer-same}
 use Rattle.cap_talks.proofs.Reporting.{memory-unless, taken-memory}
 use Rattle.cap_talks.proofs.talks.reports.report_table.Goals as goal

@@ -1,7 +1,7 @@
 use Rattle.std.proofs.Common.{arith}
 use Rattle.std.proofs.lemmas.Result.{err_from_is_err_and}
 use Rattle.cap_talks.proofs.Reporting.{Reporting-begin, Reporting-more, TakesAll-end, TakesAll-fault}
-use Rattle.cap_talks.specs.table.TableView.{table_of}
+use Rattle.cap_talks.specs.inner.table.TableView.{table_of}
 use Rattle.cap_talks.proofs.talks.reports.take_all.Goals as goal
 
 pub loop-init : goal.loop-init

@@ -1,6 +1,6 @@
 use Rattle.cap_merge.specs.Parts.{feed_of}
-use Rattle.cap_merge.specs.View.{parts_of}
-use Rattle.cap_talks.specs.table.TableView.{table_of}
+use Rattle.cap_merge.specs.inner.View.{parts_of}
+use Rattle.cap_talks.specs.inner.table.TableView.{table_of}
 use Rattle.cap_talks.proofs.Reporting.{Reporting}
 use Rattle.cap_talks.proofs.talks.reports.take_all.Given as goal
 

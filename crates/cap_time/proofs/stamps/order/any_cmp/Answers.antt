@@ -2,7 +2,7 @@ use Rattle.std.proofs.Common.{◌≡◌, ◌∙◌, sym, arith, Ordering, Equal}
 use Rattle.std.specs.Ordering.{int_cmp, ordering_then}
 use Rattle.std.proofs.lemmas.Int.{ints}
 use Rattle.cap_time.specs.Stamp.{seconds_of}
-use Rattle.cap_time.specs.StampLaws.{stamp_cmp-parts, fraction_cmp}
+use Rattle.cap_time.specs.inner.StampLaws.{stamp_cmp-parts, fraction_cmp}
 use Rattle.cap_time.proofs.stamps.order.any_cmp.Goals as goal
 
 -- the first comparison decides if it isn't `Equal`

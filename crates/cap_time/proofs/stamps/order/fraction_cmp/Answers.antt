@@ -1,5 +1,5 @@
 use Rattle.std.proofs.Common.{arith, rules}
-use Rattle.cap_time.specs.TimeLaws.{nat_cmp-scaled}
+use Rattle.cap_time.specs.inner.TimeLaws.{nat_cmp-scaled}
 use Rattle.cap_time.proofs.stamps.order.fraction_cmp.Goals as goal
 
 pub returns-then-a-b : goal.returns-then-a-b

@@ -1,5 +1,5 @@
 use Rattle.std.proofs.Common.{ap, arith, rules}
-use Rattle.cap_merge.specs.MergedLaws.{merged-is-feed}
+use Rattle.cap_merge.specs.inner.MergedLaws.{merged-is-feed}
 use Rattle.cap_source.specs.declared.feeds.FeedHeld.{FeedHeld}
 use Rattle.cap_talks.proofs.table.tables.Table.held.Goals as goal
 

@@ -1,14 +1,14 @@
 use Rattle.std.proofs.Common.{◌∷◌, drop, length, List, Option, Err, inr, sym, ap, ◌∙◌, subst, arith, refl}
 use Rattle.std.proofs.lemmas.Result.{err_from_is_err_and}
 use Rattle.cap_source.proofs.Onward.{Keeps-trans}
-use Rattle.cap_merge.specs.MergedLaws.{merged-is-feed}
+use Rattle.cap_merge.specs.inner.MergedLaws.{merged-is-feed}
 use Rattle.cap_merge.specs.Parts.{feed_of}
-use Rattle.cap_merge.specs.View.{parts_of}
+use Rattle.cap_merge.specs.inner.View.{parts_of}
 use Rattle.cap_source.specs.declared.feeds.FeedHeld.{FeedHeld}
-use Rattle.cap_talks.specs.table.Looking.{taken}
-use Rattle.cap_talks.specs.table.Stepping.{next_taken, clocked}
+use Rattle.cap_talks.specs.inner.table.Looking.{taken}
+use Rattle.cap_talks.specs.inner.table.Stepping.{next_taken, clocked}
 use Rattle.cap_talks.specs.table.Taken.{Taken}
-use Rattle.cap_talks.specs.table.Tallies.{LimitBy, Stands}
+use Rattle.cap_talks.specs.inner.table.Tallies.{LimitBy, Stands}
 use Rattle.cap_talks.specs.table.CountedUnits.{is_limit_at}
 use Rattle.cap_talks.proofs.Stepping.{known-packet, known-end, faulted, stands-asked, next-is, first-asked, run-packet}
 use Rattle.cap_talks.proofs.Stepping.{run-end, of-file, is-left, found-packet, again-packet, again-end, again-fault}

@@ -4,12 +4,12 @@ use Rattle.std.proofs.lemmas.Result.{err_from_is_err_and}
 use Rattle.cap_bytes.proofs.Putting.{Prints-head, Prints-behind}
 use Rattle.cap_bytes.specs.Printing.{Prints}
 use Rattle.cap_merge.specs.Parts.{feed_of}
-use Rattle.cap_merge.specs.View.{parts_of}
+use Rattle.cap_merge.specs.inner.View.{parts_of}
 use Rattle.cap_talks.specs.counts.FileLines.{files_text}
 use Rattle.cap_talks.specs.counts.FileLines.{ended_from, counted_texts}
 use Rattle.cap_talks.specs.table.TakenText.{total_text}
-use Rattle.cap_talks.specs.table.Stepping.{next_taken}
-use Rattle.cap_talks.specs.table.Tallies.{tally_text}
+use Rattle.cap_talks.specs.inner.table.Stepping.{next_taken}
+use Rattle.cap_talks.specs.inner.table.Tallies.{tally_text}
 use Rattle.cap_talks.proofs.TableTexts.{text-is}
 use Rattle.cap_talks.proofs.Written.{prints-first}
 use Rattle.cap_talks.proofs.table.tables.Table.write_so_far.Goals as goal

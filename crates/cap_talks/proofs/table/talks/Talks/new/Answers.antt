@@ -1,5 +1,5 @@
 use Rattle.std.proofs.Common.{ap}
-use Rattle.cap_talks.specs.table.Packed.{unpacked_talks}
+use Rattle.cap_talks.specs.inner.table.Packed.{unpacked_talks}
 use Rattle.cap_talks.specs.table.Talks.{rows_of}
 use Rattle.cap_talks.proofs.table.talks.Talks.new.Goals as goal
 

@@ -1,5 +1,5 @@
 use Rattle.std.proofs.Common.{arith, rules}
-use Rattle.cap_talks.specs.table.TallyView.{tally_view}
+use Rattle.cap_talks.specs.inner.table.TallyView.{tally_view}
 use Rattle.cap_talks.proofs.Waiting.{groups-few}
 use Rattle.cap_talks.proofs.table.tallies.Tally.groups.Goals as goal
 

@@ -3,7 +3,7 @@ use Rattle.std.proofs.lemmas.Result.{err_from_is_err_and}
 use Rattle.cap_bytes.proofs.Putting.{Prints-behind}
 use Rattle.cap_bytes.specs.Printing.{Prints}
 use Rattle.cap_talks.specs.table.TakenText.{frames_text, joined_text}
-use Rattle.cap_talks.specs.table.Tallies.{TallyState, tally_text}
+use Rattle.cap_talks.specs.inner.table.Tallies.{TallyState, tally_text}
 use Rattle.cap_talks.specs.table.TalkLines.{talk_texts, talks_text}
 use Rattle.cap_talks.proofs.Written.{prints-first}
 use Rattle.cap_talks.proofs.table.tallies.Tally.put_lines.Goals as goal

@@ -1,8 +1,8 @@
 use Rattle.std.proofs.Common.{◌≡◌, false, ◌∷◌, List, length, Some, Err, arith}
 use Rattle.std.specs.Prelude.{OnOk, OnErr, Result, Ok, Option}
-use Rattle.cap_talks.specs.table.Looking.{is_plain}
+use Rattle.cap_talks.specs.inner.table.Looking.{is_plain}
 use Rattle.cap_talks.specs.table.Taken.{Taken, look}
-use Rattle.cap_talks.specs.table.Tallies.{TallyState, Stands, Looks}
+use Rattle.cap_talks.specs.inner.table.Tallies.{TallyState, Stands, Looks}
 use Rattle.cap_talks.specs.table.CountedUnits.{is_limit_at}
 use Rattle.cap_talks.specs.declared.table.talks.TalksFault.{TalksFault}
 use Rattle.cap_talks.proofs.table.tallies.Tally.take.Goals as goal

@@ -4,12 +4,12 @@ use Rattle.cap_ip.specs.Transport.{transport_of}
 use Rattle.cap_talks.specs.table.Rows.{StandsFor}
 use Rattle.cap_talks.specs.table.Talks.{frames_of, bytes_of}
 use Rattle.cap_talks.proofs.SumLaws.{sum_law}
-use Rattle.cap_talks.specs.table.Adding.{is_over}
+use Rattle.cap_talks.specs.inner.table.Adding.{is_over}
 use Rattle.cap_talks.specs.table.Classes.{class_of}
-use Rattle.cap_talks.specs.table.Looking.{is_plain, taken_of}
+use Rattle.cap_talks.specs.inner.table.Looking.{is_plain, taken_of}
 use Rattle.cap_talks.specs.table.Taken.{datagram, stamped_of}
-use Rattle.cap_talks.specs.table.Tallies.{TallyState, LimitBy, with_frames}
-use Rattle.cap_talks.specs.table.TallyView.{tally_view}
+use Rattle.cap_talks.specs.inner.table.Tallies.{TallyState, LimitBy, with_frames}
+use Rattle.cap_talks.specs.inner.table.TallyView.{tally_view}
 use Rattle.cap_talks.specs.table.CountedUnits.{listed, whole_unit}
 use Rattle.cap_talks.proofs.Tallying.{unit-is}
 use Rattle.cap_talks.proofs.UnitOrder.{whole-order}

@@ -1,13 +1,13 @@
 use Rattle.std.proofs.Common.{rules, ℕ, ◌∷◌, ap, ◌∙◌, subst, arith}
-use Rattle.cap_join.specs.Fitting.{FitsPut}
+use Rattle.cap_join.specs.inner.Fitting.{FitsPut}
 use Rattle.cap_join.specs.Fragments.{piece_of}
 use Rattle.cap_join.specs.History.{arrives, joined_pieces, state_of}
 use Rattle.cap_join.specs.Joiners.{IsAnswer, open_limit}
 use Rattle.cap_join.specs.Joiners as joiners
-use Rattle.cap_talks.specs.table.Looking.{taken_of}
+use Rattle.cap_talks.specs.inner.table.Looking.{taken_of}
 use Rattle.cap_talks.specs.table.Taken.{stamped_of}
-use Rattle.cap_talks.specs.table.Tallies.{TallyState}
-use Rattle.cap_talks.specs.table.TallyView.{tally_view}
+use Rattle.cap_talks.specs.inner.table.Tallies.{TallyState}
+use Rattle.cap_talks.specs.inner.table.TallyView.{tally_view}
 use Rattle.cap_talks.proofs.Exits.{sum-taken, looks-kept, sound-kept, looks-waiting, sound-waiting, kept-of, joined-of}
 use Rattle.cap_talks.proofs.table.tallies.Tally.take_fragment.Goals as goal
 

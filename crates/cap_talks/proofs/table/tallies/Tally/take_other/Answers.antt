@@ -1,8 +1,8 @@
 use Rattle.std.proofs.Common.{sym, ap, ◌∙◌, arith}
-use Rattle.cap_talks.specs.table.Looking.{look_of, taken_of}
+use Rattle.cap_talks.specs.inner.table.Looking.{look_of, taken_of}
 use Rattle.cap_talks.specs.table.Taken.{stamped_of}
-use Rattle.cap_talks.specs.table.Tallies.{TallyState}
-use Rattle.cap_talks.specs.table.TallyView.{tally_view}
+use Rattle.cap_talks.specs.inner.table.Tallies.{TallyState}
+use Rattle.cap_talks.specs.inner.table.TallyView.{tally_view}
 use Rattle.cap_talks.proofs.Exits.{sum-taken, looks-plain, sound-plain}
 use Rattle.cap_talks.proofs.table.tallies.Tally.take_other.Goals as goal
 

@@ -3,9 +3,9 @@ use Rattle.std.proofs.lemmas.Result.{err_from_is_err_and}
 use Rattle.cap_talks.specs.table.Rows.{StandsFor}
 use Rattle.cap_talks.specs.table.Talks.{frames_of, bytes_of}
 use Rattle.cap_talks.proofs.SumLaws.{sum_law}
-use Rattle.cap_talks.specs.table.Adding.{is_over}
-use Rattle.cap_talks.specs.table.Tallies.{TallyState, Fits, counted_one, with_group}
-use Rattle.cap_talks.specs.table.TallyView.{tally_view}
+use Rattle.cap_talks.specs.inner.table.Adding.{is_over}
+use Rattle.cap_talks.specs.inner.table.Tallies.{TallyState, Fits, counted_one, with_group}
+use Rattle.cap_talks.specs.inner.table.TallyView.{tally_view}
 use Rattle.cap_talks.specs.table.CountedUnits.{listed}
 use Rattle.cap_talks.proofs.UnitOrder.{waiting-order}
 use Rattle.cap_talks.proofs.Exits.{sum-taken, frames-taken, joined-taken, numbers-joined, enough-for, stands-joined}

@@ -1,0 +1,5 @@
+pub mod Laws
+pub mod OptionGrammar
+pub mod Options
+pub mod Parsing
+pub mod Reader

@@ -1,0 +1,14 @@
+pub mod Ages
+pub mod Buffers
+pub mod EqualClocks
+pub mod Fitting
+pub mod GroupView
+pub mod Groups
+pub mod Incoming
+pub mod JoinerView
+pub mod QueueView
+pub mod Rows
+pub mod Spares
+pub mod SparesView
+pub mod TableView
+pub mod Tables

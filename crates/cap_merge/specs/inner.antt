@@ -1,0 +1,14 @@
+pub mod Clocks
+pub mod Coming
+pub mod First
+pub mod Lawful
+pub mod Leading
+pub mod Lists
+pub mod Merge
+pub mod MergedLaws
+pub mod MergedList
+pub mod Ordered
+pub mod PartsProps
+pub mod Readers
+pub mod Sound
+pub mod View

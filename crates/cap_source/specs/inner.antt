@@ -1,0 +1,12 @@
+pub mod Captures
+pub mod Fields
+pub mod FileState
+pub mod Growing
+pub mod KnownView
+pub mod Laws
+pub mod Listed
+pub mod Places
+pub mod Reached
+pub mod Readers
+pub mod Walk
+pub mod Written

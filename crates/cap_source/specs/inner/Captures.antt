@@ -1,0 +1,66 @@
+-- The packets of one capture file, as contracts see them.
+use Rattle.std.specs.Prelude.{ℕ, Bool, true, false, Option, None, Result, Ok, Err, ⊤}
+use Rattle.cap_bytes.specs.declared.devices.Device as Device
+use Rattle.cap_bytes.specs.declared.devices.Source as Source
+use Rattle.cap_time.specs.declared.resolutions.Interface.{Interface}
+use Rattle.cap_bytes.specs.inner.Reach.{Position, ReachesTo}
+use Rattle.cap_bytes.specs.inner.SourceState.{SourceState}
+use Rattle.cap_bytes.specs.declared.faults.Fault.{Fault}
+use Rattle.cap_source.specs.Feed.{Feed}
+use Rattle.cap_source.specs.declared.feeds.Head.{Head}
+use Rattle.cap_source.specs.declared.feeds.Head.TheVariants as heads
+use Rattle.cap_source.specs.inner.FileState.{feed_of as file_feed, first_by}
+use Rattle.cap_source.specs.inner.Reached.{progress_of}
+use Rattle.cap_source.specs.inner.Readers.{state_of}
+use Rattle.cap_source.specs.declared.captures.Capture.{Capture}
+
+-- the file as a feed
+abbrev pub feed_of : {R : Type 0} {source : Source.Ghosts R} {device : Device.Ghosts R} → Capture R source device → Feed
+feed_of capture = file_feed (state_of capture.reader (progress_of capture.reached)) capture.next
+
+-- its first interface, if it stands before what comes next or the end: of instance 0
+abbrev pub first_of : {R : Type 0} {source : Source.Ghosts R} {device : Device.Ghosts R} → Capture R source device
+    → Option Interface
+first_of capture = first_by capture.next (state_of capture.reader (progress_of capture.reached))
+
+-- its number, which is the one of the feed's files
+abbrev pub number_of : {R : Type 0} {source : Source.Ghosts R} {device : Device.Ghosts R} → Capture R source device → ℕ
+number_of capture = (state_of capture.reader (progress_of capture.reached)).file
+
+-- how far it was read
+abbrev pub position_of : {R : Type 0} {source : Source.Ghosts R} {device : Device.Ghosts R}
+    → Capture R source device → Position
+position_of capture =
+    record {
+      offset = (state_of capture.reader (progress_of capture.reached)).offset;
+      read = (state_of capture.reader (progress_of capture.reached)).read;
+      most = (state_of capture.reader (progress_of capture.reached)).most;
+      told = (state_of capture.reader (progress_of capture.reached)).told;
+      broken = (state_of capture.reader (progress_of capture.reached)).broken;
+    }
+
+-- of which nothing was read
+abbrev pub unread_position : SourceState → Position
+unread_position source =
+    record {
+      offset = 0;
+      read = 0;
+      most = source.most;
+      told = source.told;
+      broken = None;
+    }
+
+-- How far is read for what comes next: if a packet does, no read began once all of its record or block had come.
+abbrev pub ReadsToPacket : Position → Position → Type 0
+ReadsToPacket old new = ReachesTo old.most new.offset old.read new.read
+
+abbrev pub ReadsForHead : Position → Result Head Fault → Position → Type 0
+ReadsForHead old (Ok (heads.Packet meta)) new = ReadsToPacket old new
+ReadsForHead old (Ok (heads.Refused refusal)) new = ⊤
+ReadsForHead old (Ok heads.End) new = ⊤
+ReadsForHead old (Err fault) new = ⊤
+
+abbrev pub ReadsForPacket : Position → Result Bool Fault → Position → Type 0
+ReadsForPacket old (Ok true) new = ReadsToPacket old new
+ReadsForPacket old (Ok false) new = ⊤
+ReadsForPacket old (Err fault) new = ⊤

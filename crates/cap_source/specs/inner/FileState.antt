@@ -1,0 +1,431 @@
+-- What a file's reader still gives, of either format, and what is learned of what comes next.
+use Rattle.std.specs.Prelude.{◌≡◌, ◌+◌, ◌-◌, ◌^◌, ◌≤◌, ◌<◌, ℕ, List, [], ◌∷◌, length, take, drop, Bool, true, false}
+use Rattle.std.specs.Prelude.{not, IsTrue, Option, Some, None, IfSome, IfNone, Result, Ok, Err, ⊤, ◌⊎◌, is_some}
+use Rattle.cap_bytes.specs.inner.Reach.{ReachesTo}
+use Rattle.cap_bytes.specs.inner.Reader.{State}
+use Rattle.cap_bytes.specs.inner.Window.{State as WindowState}
+use Rattle.cap_bytes.specs.inner.Window as windows
+use Rattle.cap_bytes.specs.declared.faults.Fault.{Fault}
+use Rattle.cap_bytes.specs.declared.faults.Fault.TheVariants.{Refused, Read, Write, Memory}
+use Rattle.cap_bytes.specs.declared.faults.Rule.{Rule}
+use Rattle.cap_bytes.specs.declared.faults.Tail.{Tail}
+use Rattle.cap_bytes.specs.declared.numbers.Order.{Order}
+use Rattle.cap_time.specs.declared.resolutions.Interface.{Interface}
+use Rattle.cap_pcap.specs.inner.Reader as pcaps
+use Rattle.cap_pcap.specs.Split as records
+use Rattle.cap_pcap.specs.declared.headers.PcapHeader.{PcapHeader}
+use Rattle.cap_bytes.specs.declared.stops.Stop.{Stop}
+use Rattle.cap_blocks.specs.inner.Reader as blocks
+use Rattle.cap_source.specs.Feed.{Feed, Item, packet, refused, Knows, GivesHead, SameItems}
+use Rattle.cap_blocks.specs.declared.blocks.Block.{Block}
+use Rattle.cap_source.specs.declared.contents.Content.{Content}
+use Rattle.cap_source.specs.declared.packets.Meta.{Meta}
+use Rattle.cap_source.specs.declared.contents.Content.TheVariants as contents
+use Rattle.cap_source.specs.Items.{Progress, meta_in, ending_with, items_in, ending_in, first_in, interface_of}
+use Rattle.cap_source.specs.Items.{pcap_items, pcap_ending, unless_refused, items_from, ending_from, first_from}
+use Rattle.cap_source.specs.inner.Reached.{counted}
+use Rattle.cap_source.specs.declared.feeds.FileEnd.{FileEnd}
+use Rattle.cap_source.specs.declared.feeds.Head.{Head}
+use Rattle.cap_source.specs.declared.feeds.Head.TheVariants as heads
+use Rattle.cap_source.specs.declared.readers.Next.{Next}
+use Rattle.cap_source.specs.declared.readers.Next.TheVariants as nexts
+
+-- The file of that number as its reader still gives it: the items to come, how the file ends, and its first interface
+-- if it stands before the next item or the end, if the device tells its bytes; `noted` is that interface as far as the
+-- file was read. The next record or block begins at `offset` or later. The file was read up to `read`, and its device
+-- gives `most` bytes at a time at most, if it tells that. `lent` is what the reader lends of the one that was given
+-- last. `stops` says that the reader has come to an end. `broken` is where the header, the record or the block begins
+-- in which a read failed, once one has. `counted` blocks were counted.
+pub record FileState : Type 0 where
+  pub file : ℕ
+  pub told : Bool
+  pub items : List Item
+  pub ending : FileEnd
+  pub first : Option Interface
+  pub noted : Option Interface
+  pub offset : ℕ
+  pub read : ℕ
+  pub most : Option ℕ
+  pub lent : Option (List ℕ)
+  pub stops : Bool
+  pub broken : Option ℕ
+  pub failed : Bool
+  pub can_fail : Bool
+  pub held : ℕ
+  pub interfaces : ℕ
+  pub counted : ℕ
+
+-- a file of which nothing was read
+abbrev pub unread_state : WindowState → Tail → Progress → FileState
+unread_state window tail progress =
+    record {
+      file = window.file;
+      told = window.told;
+      items = items_from tail window.file progress window.offset (windows.coming window);
+      ending = ending_from tail window.file progress window.offset (windows.coming window);
+      first = first_from tail window.file progress window.offset (windows.coming window);
+      noted = progress.first;
+      offset = window.offset;
+      read = windows.read_to window;
+      most = window.most;
+      lent = None;
+      stops = false;
+      broken = window.broken;
+      failed = window.failed;
+      can_fail = window.can_fail;
+      held = window.held;
+      interfaces = length progress.interfaces;
+      counted = counted progress;
+    }
+
+-- the header of a pcap file: the one that was read, or that of the bytes to come
+abbrev pub header_or : Option PcapHeader → List ℕ → PcapHeader
+header_or (Some header) bytes = header
+header_or None bytes = records.header_at bytes
+
+-- its interface, unless its header is refused
+abbrev pub first_unless : Option Stop → ℕ → List ℕ → Option Interface
+first_unless (Some stop) offset bytes = None
+first_unless None offset bytes = unless_refused (records.header_fault offset bytes)
+    (interface_of (records.header_at bytes))
+
+abbrev pub first_of : Option PcapHeader → Option Stop → ℕ → List ℕ → Option Interface
+first_of (Some header) stop offset bytes = Some (interface_of header)
+first_of None stop offset bytes = first_unless stop offset bytes
+
+-- its interface as far as the file was read
+abbrev pub noted_by : Option PcapHeader → Option Interface
+noted_by None = None
+noted_by (Some header) = Some (interface_of header)
+
+-- a pcap file
+abbrev pub pcap_state : State PcapHeader → Progress → FileState
+pcap_state reader progress =
+    record {
+      file = reader.file;
+      told = reader.told;
+      items = pcap_items reader.file (interface_of (header_or reader.known reader.coming)) (pcaps.items_of reader);
+      ending = pcap_ending (pcaps.items_of reader);
+      first = first_of reader.known reader.stop reader.offset reader.coming;
+      noted = noted_by reader.known;
+      offset = reader.offset;
+      read = reader.read;
+      most = reader.most;
+      lent = reader.lent;
+      stops = is_some reader.stop;
+      broken = reader.broken;
+      failed = reader.failed;
+      can_fail = reader.can_fail;
+      held = reader.held;
+      interfaces = length progress.interfaces;
+      counted = counted progress;
+    }
+
+-- a pcapng file
+abbrev pub pcapng_state : State Order → Progress → FileState
+pcapng_state reader progress =
+    record {
+      file = reader.file;
+      told = reader.told;
+      items = items_in reader.file progress (blocks.items_of reader);
+      ending = ending_in progress (blocks.items_of reader);
+      first = first_in progress (blocks.items_of reader);
+      noted = progress.first;
+      offset = reader.offset;
+      read = reader.read;
+      most = reader.most;
+      lent = reader.lent;
+      stops = is_some reader.stop;
+      broken = reader.broken;
+      failed = reader.failed;
+      can_fail = reader.can_fail;
+      held = reader.held;
+      interfaces = length progress.interfaces;
+      counted = counted progress;
+    }
+
+-- what every answer keeps of a file
+pub record FileKeeps (old new : FileState) : Type 0 where
+  pub file : new.file ≡ old.file
+  pub most : new.most ≡ old.most
+  pub told : IsTrue old.told → IsTrue new.told
+  pub can_fail : IsTrue new.can_fail → IsTrue old.can_fail
+  pub offset : old.offset ≤ new.offset
+  pub limit : old.offset ≤ 2 ^ 40 → new.offset ≤ 2 ^ 40
+  pub held : old.held ≤ 524288 → new.held ≤ 524288
+  pub interfaces : old.interfaces ≤ 1024 → new.interfaces ≤ 1024
+  pub counted : old.counted ≤ old.offset → new.counted ≤ new.offset
+
+-- A record or block is taken, or several, the last of which ends where the next one begins: no read began once all of
+-- it had come.
+abbrev pub ReadsTo : FileState → FileState → Type 0
+ReadsTo old new = ReachesTo old.most new.offset old.read new.read
+
+-- The file goes on, or a packet comes next: then that holds.
+abbrev pub IfTaken : Option Next → Type 0 → Type 0
+IfTaken None P = P
+IfTaken (Some (nexts.Packet meta place)) P = P
+IfTaken (Some (nexts.Refused refusal ending)) P = ⊤
+IfTaken (Some (nexts.End ending)) P = ⊤
+
+-- The same of a file of which something was to come: that takes 4 bytes at least.
+abbrev pub Takes : FileState → FileState → Type 0
+Takes old new = (old.offset + 4 ≤ new.offset) × ReadsTo old new
+
+-- what is to come of a file is the same
+pub record SameRest (old new : FileState) : Type 0 where
+  pub items : new.items ≡ old.items
+  pub ending : new.ending ≡ old.ending
+  pub first : new.first ≡ old.first
+
+-- where the captured bytes of a packet end in what is lent, and how long that is, each counted from 1
+abbrev pub end_of : Option Next → ℕ
+end_of None = 0
+end_of (Some (nexts.Packet meta place)) = place + meta.captured + 1
+end_of (Some (nexts.Refused refusal ending)) = 0
+end_of (Some (nexts.End ending)) = 0
+
+abbrev pub size_of : Option (List ℕ) → ℕ
+size_of None = 0
+size_of (Some bytes) = length bytes + 1
+
+-- where the captured bytes of a packet begin in what is lent
+abbrev pub start_of : Option Next → ℕ
+start_of None = 0
+start_of (Some (nexts.Packet meta place)) = place
+start_of (Some (nexts.Refused refusal ending)) = 0
+start_of (Some (nexts.End ending)) = 0
+
+-- how many bytes are captured of a packet
+abbrev pub captured_of : Option Next → ℕ
+captured_of None = 0
+captured_of (Some (nexts.Packet meta place)) = meta.captured
+captured_of (Some (nexts.Refused refusal ending)) = 0
+captured_of (Some (nexts.End ending)) = 0
+
+-- the place after the first byte of a packet's record or block
+abbrev pub behind_of : Option Next → ℕ
+behind_of None = 0
+behind_of (Some (nexts.Packet meta place)) = meta.offset + 1
+behind_of (Some (nexts.Refused refusal ending)) = 0
+behind_of (Some (nexts.End ending)) = 0
+
+-- where the next record or block begins, or that of a packet that comes next
+abbrev pub place_of : Option Next → ℕ → ℕ
+place_of None offset = offset
+place_of (Some (nexts.Packet meta place)) offset = meta.offset
+place_of (Some (nexts.Refused refusal ending)) offset = offset
+place_of (Some (nexts.End ending)) offset = offset
+
+-- the file that is named by what comes next
+abbrev pub file_of : Option Next → ℕ → ℕ
+file_of None file = file
+file_of (Some (nexts.Packet meta place)) file = meta.file
+file_of (Some (nexts.Refused refusal ending)) file = refusal.file
+file_of (Some (nexts.End ending)) file = file
+
+-- the captured bytes of a packet
+abbrev pub part_of : Option (List ℕ) → ℕ → ℕ → List ℕ
+part_of None place captured = []
+part_of (Some bytes) place captured = take captured (drop place bytes)
+
+abbrev pub frame_of : Option Next → Option (List ℕ) → List ℕ
+frame_of None lent = []
+frame_of (Some (nexts.Packet meta place)) lent = part_of lent place meta.captured
+frame_of (Some (nexts.Refused refusal ending)) lent = []
+frame_of (Some (nexts.End ending)) lent = []
+
+-- the reader has not come to an end, unless that is known
+abbrev pub is_free : Option Next → Bool → Bool
+is_free None stops = not stops
+is_free (Some (nexts.Packet meta place)) stops = not stops
+is_free (Some (nexts.Refused refusal ending)) stops = true
+is_free (Some (nexts.End ending)) stops = true
+
+-- no read has failed, if it is known what comes next
+abbrev pub is_whole : Option Next → Option ℕ → Bool
+is_whole None broken = true
+is_whole (Some next) broken = not (is_some broken)
+
+-- what is always true of what comes next of a file
+pub record IsNext (next : Option Next) (state : FileState) : Type 0 where
+  pub file : file_of next state.file ≡ state.file
+  pub lent : end_of next ≤ size_of state.lent
+  pub captured : captured_of next ≤ 262144
+  pub behind : behind_of next ≤ state.offset
+
+-- the items to come, by what comes next
+abbrev pub items_by : Option Next → List ℕ → List Item → List Item
+items_by None frame rest = rest
+items_by (Some (nexts.Packet meta place)) frame rest = packet meta frame ∷ rest
+items_by (Some (nexts.Refused refusal ending)) frame rest = refused refusal ∷ []
+items_by (Some (nexts.End ending)) frame rest = []
+
+-- how the file ends
+abbrev pub ending_by : Option Next → FileEnd → FileEnd
+ending_by None later = later
+ending_by (Some (nexts.Packet meta place)) later = later
+ending_by (Some (nexts.Refused refusal ending)) later = ending
+ending_by (Some (nexts.End ending)) later = ending
+
+-- its first interface, if it stands before what comes next
+abbrev pub first_by : Option Next → FileState → Option Interface
+first_by None state = state.first
+first_by (Some next) state = state.noted
+
+abbrev pub head_of : Next → Head
+head_of (nexts.Packet meta place) = heads.Packet meta
+head_of (nexts.Refused refusal ending) = heads.Refused refusal
+head_of (nexts.End ending) = heads.End
+
+abbrev pub head_by : Option Next → Option Head
+head_by None = None
+head_by (Some next) = Some (head_of next)
+
+-- the fault of a read that failed in what begins there
+abbrev pub break_at : ℕ → Option ℕ → Option Fault
+break_at file None = None
+break_at file (Some offset) = Some (Read file offset)
+
+-- where the next record or block begins, or the one in which a read failed
+abbrev pub offset_at : Option ℕ → ℕ → ℕ
+offset_at None offset = offset
+offset_at (Some first) offset = first
+
+-- a packet is known to come next
+abbrev pub is_packet : Option Next → Bool
+is_packet None = false
+is_packet (Some (nexts.Packet meta place)) = true
+is_packet (Some (nexts.Refused refusal ending)) = false
+is_packet (Some (nexts.End ending)) = false
+
+-- the file, of which that comes next if it is known, as a feed
+abbrev pub feed_of : FileState → Option Next → Feed
+feed_of state next =
+    record {
+      files = state.file ∷ [];
+      told = state.told;
+      items = items_by next (frame_of next state.lent) state.items;
+      endings = λ file. ending_by next state.ending;
+      known = head_by next;
+      frame = frame_of next state.lent;
+      broken = break_at state.file state.broken;
+      places = λ file. place_of next (offset_at state.broken state.offset);
+      left = 2 ^ 40 - place_of next state.offset;
+      can_fail = λ file. state.can_fail;
+      held = record { window = state.held; interfaces = state.interfaces; failed = state.failed };
+    }
+
+-- No read has failed of a file, and none does.
+pub record Goes (old new : FileState) : Type 0 where
+  pub before : old.broken ≡ None
+  pub after : new.broken ≡ None
+  pub failed : new.failed ≡ old.failed
+
+-- What comes next of a file is learned.
+pub record Learns (old : FileState) (next : Next) (new : FileState) : Type 0 where
+  pub is : IsNext (Some next) new
+  pub place : old.offset ≤ place_of (Some next) new.offset
+  pub free : IsTrue (is_free (Some next) new.stops)
+  pub goes : Goes old new
+  pub items : IsTrue old.told → items_by (Some next) (frame_of (Some next) new.lent) new.items ≡ old.items
+  pub ending : IsTrue old.told → ending_by (Some next) new.ending ≡ old.ending
+  pub first : IsTrue old.told → new.noted ≡ old.first
+
+-- A read of it fails in this call, or failed in an earlier one: then the offset is the same.
+pub record Fails (old : FileState) (file offset : ℕ) (new : FileState) : Type 0 where
+  pub stops : new.stops ≡ false
+  pub file_is : file ≡ old.file
+  pub again : IfSome old.broken (λ first. offset ≡ first)
+  pub first : IfNone old.broken (old.offset ≤ offset)
+  pub after : new.broken ≡ Some offset
+  pub failed : IsTrue new.failed
+  pub can_fail : IsTrue old.can_fail
+
+-- Nothing is learned, and what is to come is the same.
+pub record Waits (old new : FileState) : Type 0 where
+  pub stops : new.stops ≡ false
+  pub broken : new.broken ≡ old.broken
+  pub failed : new.failed ≡ old.failed
+  pub rest : IsTrue old.told → SameRest old new
+
+-- what a look at what comes next answers, and what is known of that after it
+abbrev pub Answers : {A : Type 0} → FileState → Result A Fault → Option Next → FileState → Type 0
+Answers old (Ok x) after new = (next : Next) × (after ≡ Some next) × Learns old next new
+Answers old (Err (Refused refusal)) after new = ⊥
+Answers old (Err (Read file offset)) after new = (after ≡ None) × Fails old file offset new
+Answers old (Err Write) after new = ⊥
+Answers old (Err Memory) after new = (after ≡ None) × Waits old new × (old.broken ≡ None)
+
+-- what a look at what is shown already answers: whether it was enough
+abbrev pub TakesShown : FileState → Bool → Option Next → FileState → Type 0
+TakesShown old true after new = (next : Next) × (after ≡ Some next) × Learns old next new
+TakesShown old false after new = ⊤
+
+-- the same of a look at one block, after which a pcapng file may go on
+pub record GoesOn (old new : FileState) : Type 0 where
+  pub waits : Waits old new
+  pub further : old.offset < new.offset
+
+abbrev pub StepsTo : FileState → Option Next → FileState → Type 0
+StepsTo old (Some next) new = Learns old next new
+StepsTo old None new = GoesOn old new
+
+abbrev pub Steps : {A : Type 0} → FileState → Result A Fault → Option Next → FileState → Type 0
+Steps old (Ok x) after new = StepsTo old after new
+Steps old (Err (Refused refusal)) after new = ⊥
+Steps old (Err (Read file offset)) after new = (after ≡ None) × Fails old file offset new
+Steps old (Err Write) after new = ⊥
+Steps old (Err Memory) after new = (after ≡ None) × Waits old new × (old.broken ≡ None)
+
+-- what comes next if a block says that, if anything does
+abbrev pub next_at : ℕ → Progress → Block → Result Content Rule → Option Next
+next_at file progress block (Ok contents.Section) = None
+next_at file progress block (Ok (contents.Interface described)) = None
+next_at file progress block (Ok (contents.Packet p)) = Some (nexts.Packet (meta_in file progress block p) p.place)
+next_at file progress block (Ok contents.Other) = None
+next_at file progress block (Err rule) =
+    Some (nexts.Refused (record { file = file; offset = block.offset; rule = rule }) (ending_with progress false))
+
+-- what is always true of a file and of what comes next of it, if that is known
+pub record IsSound (state : FileState) (next : Option Next) : Type 0 where
+  pub is : IsNext next state
+  pub free : IsTrue (is_free next state.stops)
+  pub whole : IsTrue (is_whole next state.broken)
+  pub limit : state.offset ≤ 2 ^ 40
+  pub held : state.held ≤ 524288
+  pub interfaces : state.interfaces ≤ 1024
+  pub counted : state.counted ≤ state.offset
+
+-- What is learned, or was known before.
+abbrev pub LearnsOr : FileState → Option Next → Next → FileState → Type 0
+LearnsOr old None next new = Learns old next new
+LearnsOr old (Some known) next new = (next ≡ known) × (new ≡ old)
+
+-- what asking for what comes next answers
+abbrev pub LearnsNext : {A : Type 0} → FileState → Option Next → Result A Fault → FileState → Option Next → Type 0
+LearnsNext old known (Ok x) new after = (next : Next) × (after ≡ Some next) × LearnsOr old known next new
+LearnsNext old known (Err (Refused refusal)) new after = ⊥
+LearnsNext old known (Err (Read file offset)) new after = (known ≡ None) × (after ≡ None) × Fails old file offset new
+LearnsNext old known (Err Write) new after = ⊥
+LearnsNext old known (Err Memory) new after = (known ≡ None) × (after ≡ None) × Waits old new × (old.broken ≡ None)
+
+-- what asking whether a packet is shown answers
+abbrev pub ShowsNext : FileState → Option Next → Bool → FileState → Option Next → Type 0
+ShowsNext old known true new after = (meta : Meta) × (place : ℕ) × (after ≡ Some (nexts.Packet meta place))
+    × LearnsOr old known (nexts.Packet meta place) new
+ShowsNext old known false new after = ((new ≡ old) × (after ≡ known))
+    ⊎ ((next : Next) × (after ≡ Some next) × LearnsOr old known next new)
+
+-- what asking for the first interface answers, of the file as a feed
+abbrev pub GivesFirst : Feed → Option Interface → Result (Option Interface) Fault → Feed → Type 0
+GivesFirst old first (Ok given) new = (head : Head) × Knows old head new × (IsTrue old.told → given ≡ first)
+GivesFirst old first (Err fault) new = GivesHead old (Err fault) new
+
+-- what it does to the items to come, and to the first interface
+abbrev pub KeepsFirst : Feed → Option Interface → Result (Option Interface) Fault → Feed → Option Interface → Type 0
+KeepsFirst old first (Ok given) new later = SameItems old new × (later ≡ first)
+KeepsFirst old first (Err (Refused refusal)) new later = ⊥
+KeepsFirst old first (Err (Read file offset)) new later = ⊤
+KeepsFirst old first (Err Write) new later = ⊥
+KeepsFirst old first (Err Memory) new later = SameItems old new × (later ≡ first)

@@ -1,0 +1,15 @@
+pub mod Adding
+pub mod Holding
+pub mod Keys
+pub mod Laws
+pub mod Looking
+pub mod Packed
+pub mod Props
+pub mod Stepping
+pub mod TableView
+pub mod TalksView
+pub mod Tallies
+pub mod TallyView
+pub mod Totals
+pub mod TotalsView
+pub mod Worked

@@ -1,0 +1,122 @@
+-- What a tally keeps, and what it stands for.
+use Rattle.std.specs.Prelude.{◌≡◌, ℕ, List, ◌∷◌, ◌++◌, ◌+◌, ◌-◌, ◌*◌, ◌≤◌, ◌^◌, Bool, true, false, length, Option, Some}
+use Rattle.std.specs.Prelude.{None, Result, Ok, Err, ⊤, if◌then◌else◌}
+use Rattle.cap_join.specs.ByteMap.{completes}
+use Rattle.cap_join.specs.Fragments.{Piece}
+use Rattle.cap_join.specs.inner.Groups.{IsDatagramOf}
+use Rattle.cap_join.specs.History.{joined_pieces, state_of}
+use Rattle.cap_join.specs.Joiners.{JoinerState, open_limit}
+use Rattle.cap_join.specs.Joiners as joiners
+use Rattle.cap_join.specs.declared.datagrams.Datagram.{Datagram}
+use Rattle.cap_join.specs.inner.Fitting.{FitsDatagram}
+use Rattle.cap_talks.specs.table.Rows.{TalksState, frames_in, bytes_in}
+use Rattle.cap_talks.specs.table.Rows as talks
+use Rattle.cap_talks.specs.table.Classes.{classes, counts_of, is_class}
+use Rattle.cap_talks.specs.table.TakenText.{frames_text, joined_text}
+use Rattle.cap_talks.specs.table.TalkLines.{talk_texts, talks_text}
+use Rattle.cap_talks.specs.table.Taken.{Taken, fragment, look, events_of}
+use Rattle.cap_talks.specs.table.CountedUnits.{units_of, joined_in, is_limit_at}
+use Rattle.cap_talks.specs.declared.table.classes.Class.{Class}
+use Rattle.cap_talks.specs.declared.table.classes.Class.TheVariants as class
+use Rattle.cap_talks.specs.declared.table.classes.ClassCounts.{ClassCounts}
+use Rattle.cap_talks.specs.declared.table.talks.TalksFault.{TalksFault}
+use Rattle.cap_talks.specs.declared.table.talks.TalksFault.TheVariants as faults
+
+-- How many packets were taken, how many of each class there are, how many joined datagrams count, the conversations,
+-- the joiner, and a joined datagram that waits for its conversation.
+pub record TallyState : Type 0 where
+  pub place : ℕ
+  pub classes : ClassCounts
+  pub joined : ℕ
+  pub talks : TalksState
+  pub joiner : JoinerState
+  pub waiting : Option Datagram
+
+-- A joiner stands for the events of some packets and of the next one, which completed the datagram that waits.
+pub record WaitsFor (d : Datagram) (joiner : JoinerState) (xs : List Taken) (next : Option Taken) : Type 0 where
+  pub packet : Taken
+  pub is_next : next ≡ Some packet
+  pub piece : Piece
+  pub is_fragment : look (length xs) packet ≡ fragment piece
+  pub stands : joiners.StandsFor joiner (events_of (packet ∷ xs))
+  pub whole : completes (joined_pieces packet.clock piece (state_of open_limit (events_of xs))) ≡ true
+  pub datagram : IsDatagramOf d (joined_pieces packet.clock piece (state_of open_limit (events_of xs)))
+
+abbrev pub Joins : Option Datagram → JoinerState → List Taken → Option Taken → Type 0
+Joins None joiner xs next = joiners.StandsFor joiner (events_of xs)
+Joins (Some d) joiner xs next = WaitsFor d joiner xs next
+
+-- A tally stands for some packets that were taken, the latest first. `next` is the packet that is known to come next,
+-- if one is.
+pub record Stands (t : TallyState) (xs : List Taken) (next : Option Taken) : Type 0 where
+  pub place : t.place ≡ length xs
+  pub classes : t.classes ≡ counts_of (classes xs)
+  pub joined : t.joined ≡ joined_in xs
+  pub talks : talks.StandsFor t.talks (units_of xs)
+  pub joins : Joins t.waiting t.joiner xs next
+
+-- a waiting datagram fits into the numbers
+abbrev pub Fits : Option Datagram → ℕ → Type 0
+Fits None place = ⊤
+Fits (Some d) place = FitsDatagram d
+
+abbrev pub one_if : Option Datagram → ℕ
+one_if None = 0
+one_if (Some d) = 1
+
+pub record IsSoundTally (t : TallyState) : Type 0 where
+  pub taken : List Taken
+  pub next : Option Taken
+  pub stands : Stands t taken next
+  pub few : t.place ≤ 2 ^ 62
+  pub places : t.joiner.next ≤ t.place + one_if t.waiting
+  pub bytes : bytes_in t.talks.rows ≤ frames_in t.talks.rows * 2 ^ 32
+  pub fits : Fits t.waiting t.place
+
+-- the bytes of a joined datagram that waits
+abbrev pub waiting_bytes : Option Datagram → ℕ
+waiting_bytes None = 0
+waiting_bytes (Some d) = length d.payload.items
+
+-- the lines of a tally
+unfoldable pub tally_text : TallyState → List ℕ
+tally_text t =
+    frames_text t.classes ++ joined_text t.joined t.joiner.given_up
+    ++ (talks_text (length t.talks.rows) ++ talk_texts t.talks.rows)
+
+-- n more packets of a class
+abbrev pub with_frames : Class → ℕ → ClassCounts → ClassCounts
+with_frames class.OtherLink n counts = record counts { other_link = counts.other_link + n }
+with_frames class.NotIpv4 n counts = record counts { not_ipv4 = counts.not_ipv4 + n }
+with_frames class.Short n counts = record counts { short = counts.short + n }
+with_frames class.Cut n counts = record counts { cut = counts.cut + n }
+with_frames class.Bad n counts = record counts { bad = counts.bad + n }
+with_frames class.Unjoined n counts = record counts { unjoined = counts.unjoined + n }
+with_frames class.Counted n counts = record counts { counted = counts.counted + n }
+
+-- the counts after a packet completes a group of n fragments, itself one of them: they move from the unjoined ones to a
+-- class
+abbrev pub with_group : Class → ℕ → ClassCounts → ClassCounts
+with_group c n counts = with_frames c n (record counts { unjoined = counts.unjoined + 1 - n })
+
+-- one, of a class that counts
+abbrev pub counted_one : Class → ℕ
+counted_one c = if is_class class.Counted c then 1 else 0
+
+-- If it is answered that a packet was counted, the tally stands for it too; else a datagram waits.
+abbrev pub Looks : TallyState → Taken → Bool → TallyState → Type 0
+Looks old x true new = (xs : List Taken) → Stands old xs (Some x) → Stands new xs (Some x)
+Looks old x false new =
+    (xs : List Taken) → Stands old xs (Some x) → (is_limit_at xs x ≡ false)
+    × ((next : Option Taken) → Stands new (x ∷ xs) next)
+
+-- a datagram waits, if that is answered
+abbrev pub WaitsIf : Option Datagram → Bool → Type 0
+WaitsIf None waits = waits ≡ false
+WaitsIf (Some d) waits = waits ≡ true
+
+-- What a call for one packet more answers: `Limit` exactly if the packet's conversation would be one too many.
+abbrev pub LimitBy : Result (Unit {0}) TalksFault → Bool → Type 0
+LimitBy (Ok _) limit = limit ≡ false
+LimitBy (Err faults.Limit) limit = limit ≡ true
+LimitBy (Err faults.Memory) limit = ⊤

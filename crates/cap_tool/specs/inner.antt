@@ -1,0 +1,3 @@
+pub mod BlockWalk
+pub mod FileText
+pub mod RanBack

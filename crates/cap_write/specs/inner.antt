@@ -1,0 +1,5 @@
+pub mod Datagrams
+pub mod Forms
+pub mod Interfaces
+pub mod PlacedPackets
+pub mod Times
